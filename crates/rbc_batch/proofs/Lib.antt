@@ -1,0 +1,12 @@
+pub mod Cuts
+pub mod MapEdits
+pub mod MapFacts
+pub mod Settles
+pub mod Tells
+pub mod MapPlaces
+pub mod Posts
+pub mod Fews
+pub mod Counts
+pub mod Steps
+pub mod Accepted
+pub mod Texts

@@ -1,0 +1,36 @@
+-- A finite map from numbers, as the list of its pairs, ascending in the key.
+use Rattle.std.specs.Prelude.{ℕ, ◌+◌, Bool, true, ◌==◌, nat_lt, nat_le, if◌then◌else◌, List, [], ◌∷◌, map, IsTrue, ◌&&◌}
+use Rattle.std.specs.List.{list_any, position_or_len}
+
+-- whether the map has a value at a key
+abbrev pub has : {V : Type 0} → List (ℕ × V) → ℕ → Bool
+has pairs key = list_any (λ pair. pair.0 == key) pairs
+
+-- the value at a key, or what stands for none
+abbrev pub value_or : {V : Type 0} → V → List (ℕ × V) → ℕ → V
+value_or none [] key = none
+value_or none (pair ∷ pairs) key = if pair.0 == key then pair.1 else value_or none pairs key
+
+-- the map with this value at the key, whatever it had there
+abbrev pub with_value : {V : Type 0} → ℕ → V → List (ℕ × V) → List (ℕ × V)
+with_value key value [] = (key, value) ∷ []
+with_value key value (pair ∷ pairs) =
+    if nat_lt key pair.0 then (key, value) ∷ pair ∷ pairs
+    else (if pair.0 == key then (key, value) ∷ pairs
+    else pair ∷ with_value key value pairs)
+
+-- where a key stands, or would stand: the first place whose key is not below it
+abbrev pub place_of : {V : Type 0} → ℕ → List (ℕ × V) → ℕ
+place_of key pairs = position_or_len (λ pair. nat_le key pair.0) pairs
+
+abbrev pub keys : {V : Type 0} → List (ℕ × V) → List ℕ
+keys pairs = map (λ pair. pair.0) pairs
+
+-- each key is above the one before it, and the first one is not below the least
+abbrev pub rises_from : ℕ → List ℕ → Bool
+rises_from least [] = true
+rises_from least (key ∷ keys) = nat_le least key && rises_from (key + 1) keys
+
+-- the pairs ascend, so no key stands twice
+abbrev pub IsMap : {V : Type 0} → List (ℕ × V) → Type 0
+IsMap pairs = IsTrue (rises_from 0 (keys pairs))

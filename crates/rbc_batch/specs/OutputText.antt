@@ -1,0 +1,30 @@
+-- The output text of a desk (own rule).
+use Rattle.std.specs.Prelude.{ℕ, List, ◌++◌, codes}
+use Rattle.std.specs.Fmt.{decimal}
+use Rattle.std.specs.List.{flat_map, enumerate_from}
+use Rattle.hex.specs.Hex.{encode_upper}
+use Rattle.ertms_codec.specs.Messages.{spelling_of}
+use Rattle.rbc_batch.specs.declared.desk.Reply.{Reply}
+use Rattle.rbc_batch.specs.declared.desk.Reply.TheVariants.{Done, Refused}
+use Rattle.rbc_batch.specs.declared.outbox.Mail.{Mail}
+use Rattle.rbc_batch.specs.Serial.{Desk}
+
+-- `ok COUNT` or `refused CODE`
+abbrev pub reply_text : Reply → List ℕ
+reply_text (Done sent) = codes "ok " ++ decimal sent
+reply_text (Refused code) = codes "refused " ++ decimal code
+
+-- `INPUT REPLY`
+abbrev pub result_line : ℕ × Reply → List ℕ
+result_line (input, reply) = decimal input ++ codes " " ++ reply_text reply ++ codes "\n"
+
+-- `ENGINE INPUT HEX`
+abbrev pub mail_line : ℕ → Mail → List ℕ
+mail_line engine mail = decimal engine ++ codes " " ++ decimal mail.input ++ codes " " ++ encode_upper (spelling_of mail.message) ++ codes "\n"
+
+abbrev pub outbox_lines : ℕ × List Mail → List ℕ
+outbox_lines (engine, mails) = flat_map (mail_line engine) mails
+
+-- the results from 1 on, and then the outboxes by engine
+abbrev pub output_of : Desk → List ℕ
+output_of desk = flat_map result_line (enumerate_from 1 desk.results) ++ flat_map outbox_lines desk.outboxes

@@ -1,0 +1,18 @@
+-- What stands behind a separator, cut at each further one.
+use Rattle.std.specs.Prelude.{ℕ, ◌+◌, List, [], ◌==◌, length, Option, Some, None}
+use Rattle.std.specs.List.{slice_split}
+use denote.Ref.{Bor}
+
+abbrev pub pieces_behind : ℕ → Option (Bor (List ℕ)) → List (List ℕ)
+pieces_behind separator None = []
+pieces_behind separator (Some text) = slice_split (λ byte. byte == separator) text.now
+
+-- what stands behind a separator, and nothing where there is none
+abbrev pub text_behind : Option (Bor (List ℕ)) → List ℕ
+text_behind None = []
+text_behind (Some text) = text.now
+
+-- how much text is left
+abbrev pub length_left : Option (Bor (List ℕ)) → ℕ
+length_left None = 0
+length_left (Some text) = length text.now + 1

@@ -1,0 +1,98 @@
+//! A batch from a reader to a writer.
+
+ghost use Rattle.std.specs.Prelude.{◌≡◌, ◌≤◌, ◌<◌, length, IfOk, IfSome, IsErrOf};
+ghost use Rattle.rbc_batch.specs.BatchText.{inputs_of};
+ghost use Rattle.rbc_batch.specs.Serial.{serial, new_desk};
+ghost use Rattle.rbc_batch.specs.Process.{Answers, IsUntouched};
+
+use crate::desk::Desk;
+use crate::parse;
+use crate::read::read_batch;
+use crate::render::render;
+use crate::write::write_text;
+use std::alloc::{AllocError, Global};
+use std::error::Error;
+use std::fmt;
+use std::io::{Read, Write};
+
+/// Why a batch was not done.
+#[derive(Clone, Copy, Debug, PartialEq, Eq)]
+pub enum ProcessError {
+    /// The reader failed, or gave no end in 20,000,000 calls. Nothing was written.
+    Read,
+    /// The batch has more than 16,777,216 bytes. Nothing was written.
+    TooLong,
+    /// Memory was refused. Nothing was written.
+    Memory,
+    /// The writer failed, took nothing, or was interrupted 1,000 times in all. Exactly the first `sent`
+    /// bytes of the output text are out.
+    Write { sent: u64 },
+}
+
+impl fmt::Display for ProcessError {
+    ghost use Rattle.std.specs.Prelude.{Some};
+    ghost use Rattle.rbc_batch.specs.Process.{fault_text};
+
+    ghost output = { λ error. Some (fault_text error) };
+
+    fn fmt<W: fmt::Write>(&self, f: &mut fmt::Formatter<W>) -> fmt::Result {
+        match self {
+            ProcessError::Read => write!(f, "read fault"),
+            ProcessError::TooLong => write!(f, "batch too long"),
+            ProcessError::Memory => write!(f, "out of memory"),
+            ProcessError::Write { sent } => write!(f, "write fault after {sent} bytes"),
+        }
+    }
+}
+
+impl Error for ProcessError {}
+
+impl From<AllocError> for ProcessError {
+    ghost use Rattle.std.specs.Prelude.{◌≡◌};
+    ghost use Rattle.rbc_batch.specs.declared.batch.ProcessError.TheVariants.{Memory};
+
+    ghost from_gives = { λ _ e. e ≡ Memory };
+
+    fn from(_: AllocError) -> ProcessError {
+        ProcessError::Memory
+    }
+}
+
+/// The desk after all lines of a batch, one after another, from a new desk.
+fn run_batch(alloc: Global, batch: &[u8]) -> Result<Desk, AllocError>
+    requires { length batch.now ≤ 16777216 }
+    ensures desk { IfOk result (λ desk. desk ≡ serial new_desk (inputs_of batch.now)) }
+    ensures few { IfOk result (λ desk. length desk.results ≤ length batch.now) }
+{
+    let mut desk = Desk::new(alloc);
+    let mut rest = batch;
+    while !rest.is_empty() {
+        let (line, behind) = parse::first_line(rest);
+        desk.step(alloc, parse::input(alloc, line)?)?;
+        rest = behind;
+    }
+    Ok(desk)
+}
+
+/// Reads a batch to its end, runs its lines one after another from a new desk, and writes the output
+/// text. Nothing is written before the whole is computed.
+///
+/// # Errors
+///
+/// As [`ProcessError`] has them. Where the reader tells its bytes, `TooLong` comes only where they are
+/// more than 16,777,216.
+pub fn process<R: Read, W: Write>(
+    rt: &impl AllocGlobal,
+    reader: &mut R,
+    writer: &mut W,
+) -> Result<(), ProcessError>
+    ensures answers { Answers (R.remaining reader.old) (R.remaining reader.new) (W.contents writer.old) (W.contents writer.new) result }
+    ensures too_long { IsErrOf result ProcessError.TooLong → IfSome (R.remaining reader.old) (λ batch. 16777216 < length batch) }
+    ensures untouched { IsUntouched result writer.old writer.new }
+{
+    let alloc = rt.alloc();
+    let batch = read_batch(alloc, reader)?;
+    let desk = run_batch(alloc, &batch)?;
+    let text = render(alloc, &desk)?;
+    write_text(writer, &text).map_err(|sent| ProcessError::Write { sent: sent as u64 })
+}

@@ -1,0 +1,20 @@
+//! From the text of a batch to the text of its results and messages.
+#![tactic(auto)]
+
+mod batch;
+mod desk;
+mod input;
+mod law;
+mod maps;
+mod outbox;
+mod parse;
+mod read;
+mod render;
+mod train;
+mod write;
+
+pub use batch::{ProcessError, process};
+pub use law::told_law;
+
+#[cfg(test)]
+mod tests;

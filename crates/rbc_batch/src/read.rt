@@ -1,0 +1,45 @@
+//! Reading the whole of a batch.
+
+ghost use Rattle.std.specs.Prelude.{◌≡◌, ◌≤◌, ◌<◌, length, IfOk, IfErr, IsErrOf, IfSome};
+ghost use Rattle.rbc_batch.specs.Process.{IsAllRead, IsBeforeWriting};
+
+use crate::batch::ProcessError;
+use std::alloc::Global;
+use std::io::{ErrorKind, Read};
+
+/// A batch has at most so many bytes.
+const MOST_BYTES: usize = 16_777_216;
+
+/// So many calls of a reader are made, of which one has to give the end.
+const MOST_CALLS: u32 = 20_000_000;
+
+/// How many bytes are asked for at once.
+const PIECE: usize = 65_536;
+
+/// All that the reader has left.
+pub fn read_batch<R: Read>(alloc: Global, reader: &mut R) -> Result<Vec<u8>, ProcessError>
+    ensures read { IfOk result (λ batch. IsAllRead (R.remaining reader.old) (R.remaining reader.new) batch.items) }
+    ensures short { IfOk result (λ batch. length batch.items ≤ 16777216) }
+    ensures too_long { IsErrOf result ProcessError.TooLong → IfSome (R.remaining reader.old) (λ bytes. 16777216 < length bytes) }
+    ensures before { IfErr result (λ e. IsBeforeWriting e) }
+{
+    let mut batch = Vec::new(alloc);
+    let mut piece = [0u8; PIECE];
+    for _ in 0..MOST_CALLS {
+        match reader.read(&mut piece) {
+            Ok(0) => return Ok(batch),
+            Ok(count) => {
+                if MOST_BYTES - batch.len() < count {
+                    return Err(ProcessError::TooLong);
+                }
+                batch.extend_from_slice(&piece[..count])?;
+            }
+            Err(error) => {
+                if error.kind() != ErrorKind::Interrupted {
+                    return Err(ProcessError::Read);
+                }
+            }
+        }
+    }
+    Err(ProcessError::Read)
+}

@@ -1,0 +1,117 @@
+//! The output text of a desk.
+
+ghost use Rattle.std.specs.Prelude.{◌≡◌, ◌++◌, ◌*◌, ◌≤◌, ◌<◌, ◌^◌, length, OnOk, IfOk, map};
+ghost use Rattle.std.specs.Fmt.{decimal};
+ghost use Rattle.std.specs.List.{flat_map, enumerate_from};
+ghost use Rattle.hex.specs.Hex.{encode_upper};
+ghost use Rattle.ertms_codec.specs.Messages.{Fits};
+ghost use Rattle.rbc_batch.specs.OutputText.{reply_text, result_line, mail_line, outbox_lines, output_of};
+
+use crate::desk::{Desk, Reply};
+use crate::outbox::{Mail, Outbox};
+use ertms_codec::write_to_train;
+use itoa::Buffer;
+use std::alloc::{AllocError, Global};
+
+/// Appends a decimal.
+fn push_decimal(text: &mut Vec<u8>, number: u32) -> Result<(), AllocError>
+    ensures { OnOk result (text.new.items ≡ text.old.items ++ decimal number) }
+{
+    let mut buffer = Buffer::new();
+    text.extend_from_slice(buffer.format(number).as_bytes())
+}
+
+/// Appends `ok COUNT` or `refused CODE`.
+fn push_reply(text: &mut Vec<u8>, reply: Reply) -> Result<(), AllocError>
+    ensures { OnOk result (text.new.items ≡ text.old.items ++ reply_text reply) }
+{
+    match reply {
+        Reply::Done(sent) => {
+            text.extend_from_slice(b"ok ")?;
+            push_decimal(text, sent)
+        }
+        Reply::Refused(code) => {
+            text.extend_from_slice(b"refused ")?;
+            push_decimal(text, u32::from(code))
+        }
+    }
+}
+
+/// Appends the line of a result.
+fn push_result(text: &mut Vec<u8>, input: u32, reply: Reply) -> Result<(), AllocError>
+    ensures { OnOk result (text.new.items ≡ text.old.items ++ result_line (input, reply)) }
+{
+    push_decimal(text, input)?;
+    text.extend_from_slice(b" ")?;
+    push_reply(text, reply)?;
+    text.extend_from_slice(b"\n")
+}
+
+/// Appends bytes as hexadecimal digits, in upper case.
+fn push_hex(text: &mut Vec<u8>, bytes: &[u8]) -> Result<(), AllocError>
+    requires { length bytes.now ≤ 32 }
+    ensures { OnOk result (text.new.items ≡ text.old.items ++ encode_upper bytes.now) }
+{
+    let mut buffer = [0u8; 64];
+    let digits = &mut buffer[..2 * bytes.len()];
+    hex::encode_to_slice(bytes, digits).unwrap();
+    digits.make_ascii_uppercase();
+    text.extend_from_slice(digits)
+}
+
+/// Appends the line of a message to an engine.
+fn push_mail(text: &mut Vec<u8>, engine: u32, mail: &Mail) -> Result<(), AllocError>
+    requires { Fits mail.now.message }
+    ensures { OnOk result (text.new.items ≡ text.old.items ++ mail_line engine mail.now) }
+{
+    let mut buffer = [0u8; 32];
+    let used = write_to_train(&mail.message, &mut buffer);
+    push_decimal(text, engine)?;
+    text.extend_from_slice(b" ")?;
+    push_decimal(text, mail.input)?;
+    text.extend_from_slice(b" ")?;
+    push_hex(text, &buffer[..used])?;
+    text.extend_from_slice(b"\n")
+}
+
+/// Appends the lines of an engine's outbox.
+fn push_outbox(text: &mut Vec<u8>, engine: u32, outbox: &Outbox) -> Result<(), AllocError>
+    ensures { OnOk result (text.new.items ≡ text.old.items ++ outbox_lines (engine, outbox.now)) }
+{
+    for mail in outbox.mails() {
+        push_mail(text, engine, mail)?;
+    }
+    Ok(())
+}
+
+/// Appends the lines of the results, which are numbered from 1.
+fn push_results(text: &mut Vec<u8>, results: &[Reply]) -> Result<(), AllocError>
+    requires { length results.now < 2 ^ 32 }
+    ensures { OnOk result (text.new.items ≡ text.old.items ++ flat_map result_line (enumerate_from 1 results.now)) }
+{
+    for (place, reply) in results.iter().enumerate() {
+        push_result(text, place as u32 + 1, *reply)?;
+    }
+    Ok(())
+}
+
+/// Appends the lines of all outboxes.
+fn push_outboxes(text: &mut Vec<u8>, outboxes: &[(u32, Outbox)]) -> Result<(), AllocError>
+    ensures { OnOk result (text.new.items ≡ text.old.items ++ flat_map outbox_lines outboxes.now) }
+{
+    for (engine, outbox) in outboxes {
+        push_outbox(text, *engine, outbox)?;
+    }
+    Ok(())
+}
+
+/// The output text of a desk.
+pub fn render(alloc: Global, desk: &Desk) -> Result<Vec<u8>, AllocError>
+    requires { length desk.now.results < 2 ^ 32 }
+    ensures { IfOk result (λ text. text.items ≡ output_of desk.now) }
+{
+    let mut text = Vec::new(alloc);
+    push_results(&mut text, desk.results())?;
+    push_outboxes(&mut text, desk.outboxes())?;
+    Ok(text)
+}

@@ -1,0 +1,32 @@
+//! Writing the whole of an output text.
+
+ghost use Rattle.std.specs.Prelude.{◌≡◌, ◌++◌, ◌≤◌, ◌<◌, take, length, IfErr, IfOk, OnOk};
+ghost use Rattle.std.specs.Io.KnownBytes.{Appends};
+
+use std::io::{ErrorKind, Write};
+
+/// A writer may be interrupted fewer times than this.
+const MOST_INTERRUPTIONS: u32 = 1_000;
+
+/// Writes a text. An error is the number of bytes that are out, exactly the first ones of the text: the
+/// writer failed, took nothing, or was interrupted too often.
+pub fn write_text<W: Write>(writer: &mut W, text: &[u8]) -> Result<(), usize>
+    ensures ok { OnOk result (Appends (W.contents writer.old) (W.contents writer.new) text.now) }
+    ensures part { IfErr result (λ sent. (sent ≤ length text.now) × Appends (W.contents writer.old) (W.contents writer.new) (take sent text.now)) }
+{
+    let mut sent = 0;
+    let mut interruptions = 0;
+    while sent < text.len() {
+        match writer.write(&text[sent..]) {
+            Ok(0) => return Err(sent),
+            Ok(count) => sent += count,
+            Err(error) => {
+                interruptions += 1;
+                if error.kind() != ErrorKind::Interrupted || interruptions >= MOST_INTERRUPTIONS {
+                    return Err(sent);
+                }
+            }
+        }
+    }
+    Ok(())
+}
