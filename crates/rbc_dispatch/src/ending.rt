@@ -1,0 +1,85 @@
+//! How the program ends where its task was not done.
+use crate::fault::Fault;
+use clap::error::ErrorKind;
+use rbc_batch::ProcessError;
+use std::alloc::AllocError;
+use std::io;
+use std::io::Write;
+use std::process::ExitCode;
+
+/// Why the program ends with its task not done.
+#[derive(Debug, Drop)]
+pub enum Ending {
+    /// The words ask for help, or are no words of the program's.
+    Words(clap::Error),
+    /// The task that the words name met a fault.
+    Fault(Fault),
+}
+
+impl Ending {
+    ghost use Rattle.std.specs.Prelude.{◌≡◌, ◌≢◌, OnOk};
+    ghost use Rattle.std.specs.Process.{exit_status};
+    ghost use Rattle.rbc_dispatch.specs.Ending.{PrintsFault, status_of};
+
+    /// The exit status: 0 for help, 2 for wrong words and 1 for a fault.
+    pub fn exit_code(&self) -> ExitCode
+        ensures { exit_status result ≡ status_of self.now }
+    {
+        match self {
+            Ending::Words(error) if !error.use_stderr() => ExitCode::SUCCESS,
+            Ending::Words(_) => ExitCode::from(2),
+            Ending::Fault(_) => ExitCode::FAILURE,
+        }
+    }
+
+    /// Prints help on `output`, and on `errors` the text on wrong words or the line of the fault.
+    /// An error may leave a part of it printed.
+    pub fn print<O: Write, E: Write>(&self, output: &mut O, errors: &mut E) -> io::Result<()>
+        ensures line { OnOk result
+            (PrintsFault self.now (E.contents errors.old) (E.contents errors.new)) }
+        ensures output { status_of self.now ≢ 0 → output.new ≡ output.old }
+        ensures errors { status_of self.now ≡ 0 → errors.new ≡ errors.old }
+    {
+        match self {
+            Ending::Words(error) if !error.use_stderr() => write!(output, "{error}"),
+            Ending::Words(error) => write!(errors, "{error}"),
+            Ending::Fault(fault) => writeln!(errors, "{fault}"),
+        }
+    }
+}
+
+impl From<clap::Error> for Ending {
+    ghost use Rattle.std.specs.Prelude.{◌≡◌};
+    ghost use Rattle.rbc_dispatch.specs.Ending.{ending_of};
+
+    ghost from_gives = { λ error ending. ending ≡ ending_of error };
+
+    fn from(error: clap::Error) -> Ending {
+        match error.kind() {
+            ErrorKind::OutOfMemory => Ending::Fault(Fault::OutOfMemory),
+            _ => Ending::Words(error),
+        }
+    }
+}
+
+impl From<AllocError> for Ending {
+    ghost use Rattle.rbc_dispatch.specs.Words.{IsWantOfMemory};
+
+    ghost from_gives = { λ _ ending. IsWantOfMemory ending };
+
+    fn from(_refused: AllocError) -> Ending {
+        Ending::Fault(Fault::OutOfMemory)
+    }
+}
+
+impl From<ProcessError> for Ending {
+    ghost use Rattle.std.specs.Prelude.{◌≡◌};
+    ghost use Rattle.rbc_dispatch.specs.declared.ending.Ending.TheVariants.{Fault as fault};
+    ghost use Rattle.rbc_dispatch.specs.declared.fault.Fault.TheVariants.{Batch};
+
+    ghost from_gives = { λ error ending. ending ≡ fault (Batch error) };
+
+    fn from(error: ProcessError) -> Ending {
+        Ending::Fault(Fault::Batch(error))
+    }
+}

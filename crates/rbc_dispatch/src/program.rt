@@ -1,0 +1,68 @@
+//! The program, over any streams.
+ghost use Rattle.std.specs.Prelude.{◌≡◌, ◌≢◌, ◌≤◌, [], ◌∷◌, IfErr, OnOk, map, codes, string_bytes};
+ghost use Rattle.std.specs.Process.{exit_status};
+ghost use Rattle.clap.specs.Words.{fault_of};
+ghost use Rattle.rbc_dispatch.specs.Ending.{status_of};
+ghost use Rattle.rbc_dispatch.specs.Words.{command_line};
+
+use crate::ending::Ending;
+use crate::words;
+use crate::words::Task;
+use rbc_batch::process;
+use std::env::Env;
+use std::io::{Read, Write};
+use std::process::ExitCode;
+
+/// Does what the words of the process ask for, and returns the exit status. `output` should have no
+/// buffer of its own, so that what a write fault counts is what went out.
+pub fn run<R, I, O, E>(rt: &R, input: &mut I, output: &mut O, errors: &mut E) -> ExitCode
+where
+    R: AllocGlobal + Env,
+    I: Read,
+    O: Write,
+    E: Write,
+    ensures { exit_status result ≤ 2 }
+{
+    let outcome = match words::read(rt) {
+        Ok(words) => perform(rt, words.as_slice(), input, output),
+        Err(ending) => Err(ending),
+    };
+    conclude(outcome, output, errors)
+}
+
+/// Prints what an outcome has to say, and returns its exit status, which stands where the text
+/// cannot be printed.
+fn conclude<O, E>(outcome: Result<(), Ending>, output: &mut O, errors: &mut E) -> ExitCode
+where
+    O: Write,
+    E: Write,
+    ensures done { OnOk outcome (exit_status result ≡ 0) }
+    ensures ended { IfErr outcome (λ ending. exit_status result ≡ status_of ending) }
+{
+    match outcome {
+        Ok(()) => ExitCode::SUCCESS,
+        Err(ending) => {
+            let _ = ending.print(output, errors);
+            ending.exit_code()
+        }
+    }
+}
+
+/// Does the task that the words after the program's name ask for. Words that are refused leave the
+/// streams untouched.
+fn perform<R, I, O>(rt: &R, words: &[String], input: &mut I, output: &mut O) -> Result<(), Ending>
+where
+    R: AllocGlobal,
+    I: Read,
+    O: Write,
+    ensures run { map string_bytes words.now ≡ codes "run" ∷ []
+        → IfErr result (λ ending. status_of ending ≡ 1) }
+    ensures only { OnOk result (fault_of command_line (map string_bytes words.now) ≡ []) }
+    ensures refused { fault_of command_line (map string_bytes words.now) ≢ []
+        → (input.new ≡ input.old) × (output.new ≡ output.old) }
+{
+    match words::parse(rt.alloc(), words)? {
+        Task::Run => process(rt, input, output)?,
+    }
+    Ok(())
+}
