@@ -4,6 +4,8 @@
 //! written one after another, each with its most significant bit first).
 #![tactic(auto)]
 
+mod reader;
 mod writer;
 
+pub use reader::{BitReader, ShortBits};
 pub use writer::{BitWriter, FullBits};
