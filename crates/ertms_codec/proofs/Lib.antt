@@ -1,1 +1,12 @@
-mod Written
+pub mod FieldLists
+pub mod Fields
+pub mod FromTrainAgain
+pub mod FromTrainLaws
+pub mod FromTrainSteps
+pub mod PacketLists
+pub mod Places
+pub mod PositionFields
+pub mod ToTrainAgain
+pub mod ToTrainLaws
+pub mod ToTrainSteps
+pub mod Written

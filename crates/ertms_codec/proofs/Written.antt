@@ -1,18 +1,27 @@
 -- Lemmas on fields that were written.
-use Rattle.std.proofs.Common.{◌≡◌, ℕ, ◌+◌, List, ◌++◌, ◌∙◌, take, Bool, true, false, if◌then◌else◌, refl, arith, append_assoc}
+use Rattle.std.proofs.Common.{◌≡◌, ℕ, ◌+◌, ◌-◌, ◌*◌, List, [], ◌∷◌, ◌++◌, ◌∙◌, length, take, replicate, Bool, true, false, if◌then◌else◌, refl, arith, append_assoc}
 use Rattle.std.specs.Int.{from_bool}
+use Rattle.std.proofs.lemmas.List.{length-replicate}
 use Rattle.std.proofs.lemmas.List.Concat.{flat_map-append}
 use Rattle.std.proofs.lemmas.List.Sums.{sum_by-append}
 use Rattle.ertms_bits.specs.Bits.{bits_of_bytes, bytes_for, bytes_of}
 use Rattle.ertms_bits.proofs.Bits.{drop_same}
-use Rattle.ertms_codec.specs.Layout.{Field, width_of, bytes_of_fields}
+use Rattle.ertms_codec.specs.declared.to_train.ToTrain.{ToTrain}
+use Rattle.ertms_codec.specs.Layout.{Field, width_of, bytes_of_fields, HoldValues}
+use Rattle.ertms_codec.specs.ToTrain.{Fits, HoldsReference, Spells, fields_of}
 use Rattle.ertms_codec.specs.Written.{Writes}
+
+-- fields that hold their values, and others behind them
+holds-append : (xs ys : List Field) → HoldValues xs → HoldValues ys → HoldValues (xs ++ ys)
+holds-append [] ys first second = second
+holds-append (x ∷ xs) ys first second = (first.0, holds-append xs ys first.1 second)
 
 -- fields were written, and then others behind them
 pub Writes-append : {xs ys : List Field} {start middle end : ℕ} {before between after : List ℕ} → Writes xs start before middle between → Writes ys middle between end after → Writes (xs ++ ys) start before end after
 Writes-append {xs} {ys} {start} {middle} {end} {before} {between} {after} first second =
     let widths : width_of (xs ++ ys) ≡ width_of xs + width_of ys = sum_by-append _ xs ys in
     record {
+      holds = holds-append xs ys first.holds second.holds;
       moved = omega arith;
       within = second.within;
       bits = rw (second.bits, first.bits, flat_map-append, append_assoc);
@@ -24,6 +33,20 @@ pub spelled : (fields : List Field) (end used : ℕ) (before after bytes : List 
 spelled fields end used before after bytes written is made =
     let widths : end ≡ width_of fields = omega arith in
     rw (made, written.bits, is, widths)
+
+-- and these bytes spell the message that has them, with fill bits 0
+pub spells : (m : ToTrain) (end used : ℕ) (before after bytes : List ℕ) → Fits m → HoldsReference m → Writes (fields_of m) 0 before end after → used ≡ bytes_for end → bits_of_bytes bytes ≡ take end (bits_of_bytes after) ++ replicate (8 * used - end) 0 → Spells bytes m
+spells m end used before after bytes fits reference written is filled =
+    let fill : List ℕ = replicate (8 * used - end) 0 in
+    let long : length fill ≡ 8 * used - end = length-replicate (8 * used - end) 0 in
+    record {
+      fits = fits;
+      holds = written.holds;
+      reference = reference;
+      fill = fill;
+      few = omega arith;
+      bits = rw (filled, written.bits);
+    }
 
 -- a flag as the number that its field holds
 pub from_bool_is : (flag : Bool) → from_bool flag ≡ (if flag then 1 else 0)

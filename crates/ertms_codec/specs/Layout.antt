@@ -1,7 +1,7 @@
--- How a list of fields is laid out in bits and in bytes (SUBSET-026, chapter 7.3).
-use Rattle.std.specs.Prelude.{ℕ, ◌<◌, ◌^◌, List}
-use Rattle.std.specs.List.{flat_map, sum_by}
-use Rattle.ertms_bits.specs.Bits.{bits_of, bytes_for, bytes_of}
+-- How variables are laid out in bits and in bytes (SUBSET-026, chapter 7.3).
+use Rattle.std.specs.Prelude.{ℕ, ◌<◌, ◌^◌, List, drop}
+use Rattle.std.specs.List.{flat_map, sum_by, AllByRecursion}
+use Rattle.ertms_bits.specs.Bits.{bits_of, bytes_for, bytes_of, number_of}
 
 -- a variable of the standard as it stands in a message: how many bits it takes, and its value
 pub record Field : Type 0 where
@@ -25,3 +25,10 @@ bytes_of_fields fields = bytes_of (bytes_for (width_of fields)) (bits_of_fields 
 -- a field is wide enough for its value
 abbrev pub HoldsValue : Field → Type 0
 HoldsValue f = f.value < 2 ^ f.width
+
+abbrev pub HoldValues : List Field → Type 0
+HoldValues fields = AllByRecursion HoldsValue fields
+
+-- the number that stands in so many bits, from a place on that is counted in bits
+abbrev pub value_at : ℕ → ℕ → List ℕ → ℕ
+value_at place width bits = number_of width (drop place bits)

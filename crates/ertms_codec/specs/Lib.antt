@@ -1,3 +1,10 @@
+pub mod FromTrain
 pub mod Layout
-pub mod Messages
+pub mod Reading
+pub mod Refusals
+pub mod RefusalsFromTrain
+pub mod RefusalsToTrain
+pub mod Texts
+pub mod ToTrain
+pub mod Variables
 pub mod Written

@@ -1,10 +1,12 @@
 -- What a writer of fields has done to its place and to its buffer.
 use Rattle.std.specs.Prelude.{◌≡◌, ℕ, ◌+◌, ◌*◌, ◌≤◌, List, ◌++◌, length, take, drop}
 use Rattle.ertms_bits.specs.Bits.{bits_of_bytes, bytes_for}
-use Rattle.ertms_codec.specs.Layout.{Field, width_of, bits_of_fields}
+use Rattle.ertms_codec.specs.Layout.{Field, width_of, bits_of_fields, HoldValues}
 
--- fields were written from a place in some bytes up to an end: what stood before the place stays, and so do the bytes behind
+-- fields that hold their values were written from a place in some bytes up to an end: what stood before the
+-- place stays, and so do the bytes behind
 pub record Writes (fields : List Field) (place : ℕ) (before : List ℕ) (end : ℕ) (after : List ℕ) : Type 0 where
+  pub holds : HoldValues fields
   pub moved : end ≡ place + width_of fields
   pub within : end ≤ 8 * length after
   pub bits : take end (bits_of_bytes after) ≡ take place (bits_of_bytes before) ++ bits_of_fields fields

@@ -1,8 +1,21 @@
 //! Messages between a radio block centre and its trains, as values and as bytes.
 #![tactic(auto)]
 
-mod message;
+mod error;
+mod from_train;
+mod from_train_reader;
+mod packets;
+mod reading;
+mod text;
+mod to_train;
+mod to_train_reader;
+mod variable;
 mod write;
 
-pub use message::{Head, ToTrain};
+pub use error::DecodeError;
+pub use from_train::{FromTrain, Position};
+pub use from_train_reader::read_from_train;
+pub use text::{DescribeError, describe};
+pub use to_train::{Head, ToTrain};
+pub use to_train_reader::read_to_train;
 pub use write::write_to_train;

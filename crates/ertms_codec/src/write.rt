@@ -1,12 +1,16 @@
 //! Writing a message to a train.
 
-ghost use Rattle.std.specs.Prelude.{◌≡◌, ◌+◌, ◌*◌, ◌<◌, ◌≤◌, ◌^◌, [], ◌∷◌, length, take, drop};
+ghost use Rattle.std.specs.Prelude.{◌≡◌, ◌+◌, ◌-◌, ◌*◌, ◌<◌, ◌≤◌, ◌^◌, [], ◌∷◌, ◌++◌, length, take, drop, replicate};
 ghost use Rattle.ertms_bits.specs.Bits.{bits_of_bytes, bytes_for, bytes_of};
 ghost use Rattle.ertms_codec.specs.Layout.{field, width_of};
-ghost use Rattle.ertms_codec.specs.Messages.{Fits, number_of_message, body_of, length_of_message, fields_of, spelling_of};
+ghost use Rattle.ertms_codec.specs.ToTrain.{Fits, Spells, HoldsReference, number_of_message, body_of, length_of_message, fields_of, spelling_of};
 ghost use Rattle.ertms_codec.specs.Written.{Writes};
 
-use crate::message::ToTrain;
+use crate::to_train::ToTrain;
+use crate::variable::{
+    D_EMERGENCYSTOP, D_REF, D_TSR, L_MESSAGE, L_PACKET, L_TSR, M_ACK, NID_EM, NID_LRBG,
+    NID_MESSAGE, NID_PACKET, NID_TSR, Q_DIR, Q_FRONT, Q_SCALE, T_TRAIN, V_TSR,
+};
 use ertms_bits::BitWriter;
 
 /// How many bits the header takes.
@@ -18,6 +22,7 @@ pub fn write_to_train(message: &ToTrain, buffer: &mut [u8; 32]) -> usize
     requires { Fits message.now }
     ensures used { result ≡ length_of_message message.now }
     ensures written { take result buffer.new ≡ spelling_of message.now }
+    ensures spelled { Spells (take result buffer.new) message.now }
     ensures behind { drop result buffer.new ≡ drop result buffer.old }
 {
     let mut place = BitWriter::new();
@@ -33,21 +38,64 @@ fn put_header(place: &mut BitWriter, buffer: &mut [u8; 32], message: &ToTrain)
     ensures { Writes (take 5 (fields_of message.now)) place.old buffer.old place.new buffer.new }
 {
     let head = message.head();
-    put(place, buffer, 8, number_of(message)); // NID_MESSAGE
-    put(place, buffer, 10, length_of(message)); // L_MESSAGE
-    put(place, buffer, 32, u64::from(head.stamp)); // T_TRAIN
-    put(place, buffer, 1, u64::from(head.ack)); // M_ACK
-    put(place, buffer, 24, u64::from(head.lrbg)); // NID_LRBG
+    put(place, buffer, NID_MESSAGE, number_of(message));
+    put(place, buffer, L_MESSAGE, length_of(message));
+    put(place, buffer, T_TRAIN, u64::from(head.stamp));
+    put(place, buffer, M_ACK, u64::from(head.ack));
+    put(place, buffer, NID_LRBG, u64::from(head.lrbg));
 }
 
 /// Puts what stands behind the header of a message.
 fn put_body(place: &mut BitWriter, buffer: &mut [u8; 32], message: &ToTrain)
     requires start { place.old ≡ HEADER_WIDTH }
     requires fits { Fits message.now }
-    ensures { Writes (body_of message.now) place.old buffer.old place.new buffer.new }
+    ensures written { Writes (body_of message.now) place.old buffer.old place.new buffer.new }
+    ensures reference { HoldsReference message.now }
 {
     match message {
-        ToTrain::Stop { id, .. } => put(place, buffer, 4, u64::from(*id)), // NID_EM
+        ToTrain::Stop { id, .. } | ToTrain::Revoke { id, .. } => {
+            put(place, buffer, NID_EM, u64::from(*id));
+        }
+        ToTrain::StopAt {
+            id,
+            scale,
+            reference,
+            dir,
+            distance,
+            ..
+        } => {
+            put(place, buffer, NID_EM, u64::from(*id));
+            put(place, buffer, Q_SCALE, u64::from(*scale));
+            put(place, buffer, D_REF, u64::from(reference.cast_unsigned()));
+            put(place, buffer, Q_DIR, u64::from(*dir));
+            put(place, buffer, D_EMERGENCYSTOP, u64::from(*distance));
+        }
+        ToTrain::Restrict {
+            dir,
+            scale,
+            id,
+            start,
+            length,
+            front,
+            speed,
+            ..
+        } => {
+            put(place, buffer, NID_PACKET, 65);
+            put(place, buffer, Q_DIR, u64::from(*dir));
+            put(place, buffer, L_PACKET, 71);
+            put(place, buffer, Q_SCALE, u64::from(*scale));
+            put(place, buffer, NID_TSR, u64::from(*id));
+            put(place, buffer, D_TSR, u64::from(*start));
+            put(place, buffer, L_TSR, u64::from(*length));
+            put(place, buffer, Q_FRONT, u64::from(*front));
+            put(place, buffer, V_TSR, u64::from(*speed));
+        }
+        ToTrain::Lift { dir, id, .. } => {
+            put(place, buffer, NID_PACKET, 66);
+            put(place, buffer, Q_DIR, u64::from(*dir));
+            put(place, buffer, L_PACKET, 31);
+            put(place, buffer, NID_TSR, u64::from(*id));
+        }
     }
 }
 
@@ -56,12 +104,15 @@ fn put_fill_bits(place: BitWriter, buffer: &mut [u8]) -> usize
     requires { place ≤ 8 * length buffer.old }
     ensures used { result ≡ bytes_for place }
     ensures bytes { take result buffer.new ≡ bytes_of result (take place (bits_of_bytes buffer.old)) }
+    ensures bits { bits_of_bytes (take result buffer.new)
+        ≡ take place (bits_of_bytes buffer.old) ++ replicate (8 * result - place) 0 }
     ensures behind { drop result buffer.new ≡ drop result buffer.old }
 {
     place.finish(buffer)
 }
 
 /// Puts one variable, in so many bits.
+#[inline(always)]
 fn put(place: &mut BitWriter, buffer: &mut [u8; 32], width: u32, value: u64)
     requires value { value < 2 ^ width }
     requires room { place.old + width ≤ 8 * length buffer.old }
@@ -76,7 +127,10 @@ fn number_of(message: &ToTrain) -> u64
     ensures small { result < 256 }
 {
     match message {
+        ToTrain::StopAt { .. } => 15,
         ToTrain::Stop { .. } => 16,
+        ToTrain::Revoke { .. } => 18,
+        ToTrain::Restrict { .. } | ToTrain::Lift { .. } => 24,
     }
 }
 
@@ -94,53 +148,101 @@ fn body_width(message: &ToTrain) -> u64
     ensures small { HEADER_WIDTH + result ≤ 256 }
 {
     match message {
-        ToTrain::Stop { .. } => 4,
+        ToTrain::StopAt { .. } => 39,
+        ToTrain::Stop { .. } | ToTrain::Revoke { .. } => 4,
+        ToTrain::Restrict { .. } => 71,
+        ToTrain::Lift { .. } => 31,
     }
 }
 
 #[cfg(test)]
 mod tests {
     use super::*;
-    use crate::message::Head;
+    use crate::to_train::Head;
 
-    fn stop(stamp: u32, lrbg: u32, id: u8) -> ToTrain {
-        let head = Head {
-            stamp,
-            ack: false,
-            lrbg,
-        };
-        ToTrain::Stop { head, id }
+    const UNKNOWN_GROUP: u32 = 16_777_215;
+
+    /// Whether a message is written as these bytes, and what is behind them stays.
+    fn is_written(message: ToTrain, bytes: &[u8]) -> bool {
+        if !message.fits() {
+            return false;
+        }
+        let mut buffer = [0xaa; 32];
+        let used = write_to_train(&message, &mut buffer);
+        used == bytes.len()
+            && buffer.starts_with(bytes)
+            && buffer.iter().skip(used).all(|byte| *byte == 0xaa)
     }
 
-    #[test]
-    fn spells_messages(rt: HostRuntime) {
-        let unknown = 16_777_215;
-        for (message, bytes) in [
-            (
-                stop(1, unknown, 0),
-                [0x10, 0x02, 0x80, 0, 0, 0, 0x5f, 0xff, 0xff, 0xe0],
-            ),
-            (
-                stop(1001, 5, 0),
-                [0x10, 0x02, 0x80, 0, 0, 0xfa, 0x40, 0, 0, 0xa0],
-            ),
-            (
-                stop(9, unknown, 8),
-                [0x10, 0x02, 0x80, 0, 0, 0x02, 0x5f, 0xff, 0xff, 0xf0],
-            ),
-        ] {
-            assert!(rt; message.fits());
-            let mut buffer = [0xaa; 32];
-            let mut expected = [0xaa; 32];
-            expected[..10].copy_from_slice(&bytes);
-            assert_eq!(rt; write_to_train(&message, &mut buffer), 10);
-            assert_eq!(rt; buffer, expected);
+    fn head(stamp: u32, ack: bool, lrbg: u32) -> Head {
+        Head { stamp, ack, lrbg }
+    }
+
+    fn stop_at(scale: u8, dir: u8, distance: u16) -> ToTrain {
+        ToTrain::StopAt {
+            head: head(1001, false, 5),
+            id: 0,
+            scale,
+            reference: 0,
+            dir,
+            distance,
         }
     }
 
     #[test]
-    fn refuses_variables_out_of_range(rt: HostRuntime) {
-        assert!(rt; !stop(1, 16_777_216, 0).fits());
-        assert!(rt; !stop(1, 5, 16).fits());
+    fn writes_emergency_stops(rt: HostRuntime) {
+        let stop = ToTrain::Stop {
+            head: head(1, false, UNKNOWN_GROUP),
+            id: 0,
+        };
+        assert!(rt; is_written(stop, b"\x10\x02\x80\0\0\0\x5f\xff\xff\xe0"));
+        let revoke = ToTrain::Revoke {
+            head: head(16, true, UNKNOWN_GROUP),
+            id: 0,
+        };
+        assert!(rt; is_written(revoke, b"\x12\x02\x80\0\0\x04\x3f\xff\xff\xe0"));
+    }
+
+    #[test]
+    fn writes_conditional_emergency_stops(rt: HostRuntime) {
+        for (message, bytes) in [
+            (
+                stop_at(0, 1, 10_000),
+                b"\x0f\x03\xc0\0\0\xfa\x40\0\0\xa0\0\0\x29\xc4\0",
+            ),
+            (
+                stop_at(1, 1, 4_000),
+                b"\x0f\x03\xc0\0\0\xfa\x40\0\0\xa0\x80\0\x23\xe8\0",
+            ),
+            (
+                stop_at(0, 0, 7_000),
+                b"\x0f\x03\xc0\0\0\xfa\x40\0\0\xa0\0\0\x06\xd6\0",
+            ),
+        ] {
+            assert!(rt; is_written(message, bytes));
+        }
+    }
+
+    #[test]
+    fn writes_speed_restrictions(rt: HostRuntime) {
+        let restrict = ToTrain::Restrict {
+            head: head(1001, true, 5),
+            dir: 1,
+            scale: 0,
+            id: 0,
+            start: 0,
+            length: 1000,
+            front: true,
+            speed: 8,
+        };
+        let restriction = b"\x18\x04\xc0\0\0\xfa\x60\0\0\xa8\x28\x11\xc0\0\0\0\xfa\x22\0";
+        assert!(rt; is_written(restrict, restriction));
+        let lift = ToTrain::Lift {
+            head: head(1002, true, 5),
+            dir: 2,
+            id: 0,
+        };
+        let revocation = b"\x18\x03\x80\0\0\xfa\xa0\0\0\xa8\x50\x07\xc0\0";
+        assert!(rt; is_written(lift, revocation));
     }
 }

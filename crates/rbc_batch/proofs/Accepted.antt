@@ -2,7 +2,7 @@
 use Rattle.std.proofs.Common.{◌≡◌, ◌≢◌, ℕ, suc, ◌+◌, ◌<◌, ◌≤◌, Bool, true, false, cond, leb, List, [], ◌∷◌, ◌++◌, length, get_or, refl, sym, ap, ◌∙◌, subst, arith, Ok, Err, length-append}
 use Rattle.std.specs.List.{AllByRecursion, insert}
 use Rattle.std.proofs.lemmas.Bool.{eq-eqb, lt-leb, both_ways}
-use Rattle.ertms_codec.specs.declared.message.ToTrain.{ToTrain}
+use Rattle.ertms_codec.specs.declared.to_train.ToTrain.{ToTrain}
 use Rattle.rbc_batch.specs.declared.input.Input.TheVariants.{Enrol, Stop}
 use Rattle.rbc_batch.specs.declared.input.Segment.{Segment}
 use Rattle.rbc_batch.specs.declared.outbox.Mail.{Mail}

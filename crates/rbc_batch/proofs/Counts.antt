@@ -1,7 +1,7 @@
 -- How many messages are sent to trains.
 use Rattle.std.proofs.Common.{◌≡◌, ℕ, ◌+◌, List, ◌∷◌, length, ap, ◌∙◌}
 use Rattle.std.proofs.lemmas.List.Sums.{sum_by-cons}
-use Rattle.ertms_codec.specs.declared.message.ToTrain.{ToTrain}
+use Rattle.ertms_codec.specs.declared.to_train.ToTrain.{ToTrain}
 use Rattle.rbc_batch.specs.declared.input.Segment.{Segment}
 use Rattle.rbc_batch.specs.World.{Train}
 use Rattle.rbc_batch.specs.Settling.{messages_of}

@@ -3,7 +3,7 @@ use Rattle.std.proofs.Common.{◌≡◌, ℕ, zero, suc, ◌+◌, ◌-◌, ◌<�
 use Rattle.std.specs.List.{filter, scan, zip, range_with_len, All, AllByRecursion}
 use Rattle.std.proofs.lemmas.List.{length-take, take_all, drop_all, append-nil}
 use Rattle.std.proofs.lemmas.List.Elements.{All-from_recursion}
-use Rattle.ertms_codec.specs.Messages.{Fits}
+use Rattle.ertms_codec.specs.ToTrain.{Fits}
 use Rattle.rbc_batch.specs.declared.train.Action.{Action}
 use Rattle.rbc_batch.specs.declared.train.Action.TheVariants.{Tell}
 use Rattle.rbc_batch.specs.declared.input.Segment.{Segment}

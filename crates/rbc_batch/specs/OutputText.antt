@@ -3,7 +3,7 @@ use Rattle.std.specs.Prelude.{ℕ, List, ◌++◌, codes}
 use Rattle.std.specs.Fmt.{decimal}
 use Rattle.std.specs.List.{flat_map, enumerate_from}
 use Rattle.hex.specs.Hex.{encode_upper}
-use Rattle.ertms_codec.specs.Messages.{spelling_of}
+use Rattle.ertms_codec.specs.ToTrain.{spelling_of}
 use Rattle.rbc_batch.specs.declared.desk.Reply.{Reply}
 use Rattle.rbc_batch.specs.declared.desk.Reply.TheVariants.{Done, Refused}
 use Rattle.rbc_batch.specs.declared.outbox.Mail.{Mail}

@@ -1,7 +1,7 @@
 -- Mails that can be written.
 use Rattle.std.specs.Prelude.{List}
 use Rattle.std.specs.List.{All}
-use Rattle.ertms_codec.specs.Messages.{Fits}
+use Rattle.ertms_codec.specs.ToTrain.{Fits}
 use Rattle.rbc_batch.specs.declared.outbox.Mail.{Mail}
 
 -- each message has its variables in their ranges

@@ -1,7 +1,7 @@
 -- Steps of a desk, and a run of them, one after another (own rule).
 use Rattle.std.specs.Prelude.{ℕ, ◌+◌, List, [], ◌∷◌, ◌++◌, map, length, Result, Ok, Err}
 use Rattle.std.specs.List.{fold, sum_by}
-use Rattle.ertms_codec.specs.declared.message.ToTrain.{ToTrain}
+use Rattle.ertms_codec.specs.declared.to_train.ToTrain.{ToTrain}
 use Rattle.rbc_batch.specs.declared.input.Input.{Input}
 use Rattle.rbc_batch.specs.declared.input.Segment.{Segment}
 use Rattle.rbc_batch.specs.declared.desk.Reply.{Reply}

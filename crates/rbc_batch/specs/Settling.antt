@@ -1,8 +1,8 @@
 -- What settling does to one train: which stops it is told, under which identifier and stamp (own rule).
 use Rattle.std.specs.Prelude.{ℕ, ◌+◌, ◌-◌, Bool, true, false, not, ◌&&◌, ◌==◌, List, map, take}
 use Rattle.std.specs.List.{filter, fold, scan, zip, list_any, range_with_len}
-use Rattle.ertms_codec.specs.declared.message.ToTrain.{ToTrain}
-use Rattle.ertms_codec.specs.declared.message.ToTrain.TheVariants as message
+use Rattle.ertms_codec.specs.declared.to_train.ToTrain.{ToTrain}
+use Rattle.ertms_codec.specs.declared.to_train.ToTrain.TheVariants as message
 use Rattle.rbc_batch.specs.declared.input.Segment.{Segment}
 use Rattle.rbc_batch.specs.declared.train.Slot.{Slot}
 use Rattle.rbc_batch.specs.declared.train.Slot.TheVariants.{Used}

@@ -2,7 +2,7 @@
 
 ghost use Rattle.std.specs.Prelude.{◌≡◌, [], ◌++◌, map, OnOk};
 ghost use Rattle.std.specs.List.{All};
-ghost use Rattle.ertms_codec.specs.Messages.{Fits};
+ghost use Rattle.ertms_codec.specs.ToTrain.{Fits};
 ghost use Rattle.rbc_batch.specs.Maps.{IsMap};
 ghost use Rattle.rbc_batch.specs.Sendable.{AreSendable};
 ghost use Rattle.rbc_batch.specs.Serial.{mail, post};

@@ -1,6 +1,6 @@
 use Rattle.std.proofs.Common.{◌≡◌, ℕ, ◌<◌, ◌+◌, ◌∷◌, true, List, length, set, get_or, drop, subst, sym, ap, ap₂, ◌∙◌, arith}
 use Rattle.std.proofs.lemmas.List.Edits.{map_over_more}
-use Rattle.ertms_codec.specs.declared.message.ToTrain.{ToTrain}
+use Rattle.ertms_codec.specs.declared.to_train.ToTrain.{ToTrain}
 use Rattle.rbc_batch.specs.declared.outbox.Mail.{Mail}
 use Rattle.rbc_batch.specs.Maps.{keys, rises_from}
 use Rattle.rbc_batch.specs.World.{Train}

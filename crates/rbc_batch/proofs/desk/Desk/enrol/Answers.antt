@@ -1,5 +1,5 @@
 use Rattle.std.proofs.Common.{◌≡◌, ◌∙◌, ◌<◌, ◌+◌, ◌++◌, ◌∷◌, List, [], ℕ, false, length, sym, ap, ap₂, subst, arith, leb}
-use Rattle.ertms_codec.specs.declared.message.ToTrain.{ToTrain}
+use Rattle.ertms_codec.specs.declared.to_train.ToTrain.{ToTrain}
 use Rattle.rbc_batch.specs.declared.desk.Reply.TheVariants.{Done}
 use Rattle.rbc_batch.specs.declared.input.Input.TheVariants.{Enrol}
 use Rattle.rbc_batch.specs.Maps.{place_of, has}

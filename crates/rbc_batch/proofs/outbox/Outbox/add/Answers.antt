@@ -1,7 +1,7 @@
 use Rattle.std.proofs.Common.{arith}
 use Rattle.std.proofs.lemmas.Grind.{common_steps}
 use Rattle.std.proofs.lemmas.List.Elements.{All-push, All-same}
-use Rattle.ertms_codec.specs.Messages.{Fits}
+use Rattle.ertms_codec.specs.ToTrain.{Fits}
 use Rattle.rbc_batch.specs.declared.outbox.Mail.{Mail}
 use Rattle.rbc_batch.proofs.outbox.Outbox.add.Goals as goal
 

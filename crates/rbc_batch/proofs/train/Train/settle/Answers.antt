@@ -2,7 +2,7 @@ use Rattle.std.proofs.Common.{◌≡◌, ap, arith, length, length-append}
 use Rattle.rbc_batch.proofs.Fews.{few_messages, fitting_messages}
 use Rattle.std.proofs.lemmas.Grind.{common_steps}
 use Rattle.std.proofs.lemmas.List.Elements.{All-same}
-use Rattle.ertms_codec.specs.Messages.{Fits}
+use Rattle.ertms_codec.specs.ToTrain.{Fits}
 use Rattle.rbc_batch.specs.Settling.{messages_of}
 use Rattle.rbc_batch.proofs.train.Train.settle.Goals as goal
 

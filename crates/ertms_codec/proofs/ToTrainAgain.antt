@@ -1,0 +1,157 @@
+-- What is spelled as a message to a train is read as that message.
+use Rattle.std.proofs.Common.{◌≡◌, ℕ, ◌+◌, ◌*◌, ◌<◌, ◌≤◌, ◌∙◌, Bool, true, false, List, length, drop, Result, Ok, Err, refl, sym, ap, subst, inl, inr, arith, length-drop, drop-drop}
+use Rattle.std.specs.Prelude.{◌==◌, if◌then◌else◌, IfOk, IfErr}
+use Rattle.std.specs.Int.{w16, cast_signed}
+use Rattle.std.proofs.lemmas.Int.{to_z-of_z}
+use Rattle.ertms_bits.specs.Bits.{number_of, bits_of_bytes}
+use Rattle.ertms_bits.proofs.Bits.{length-bits_of_bytes}
+use Rattle.ertms_codec.specs.declared.error.DecodeError.{DecodeError}
+use Rattle.ertms_codec.specs.declared.to_train.Head.{Head}
+use Rattle.ertms_codec.specs.declared.to_train.ToTrain.{ToTrain}
+use Rattle.ertms_codec.specs.declared.to_train.ToTrain.TheVariants.{StopAt, Stop, Revoke, Restrict, Lift}
+use Rattle.ertms_codec.specs.Layout.{width_of, value_at}
+use Rattle.ertms_codec.specs.ToTrain.{Fits, Spells, fields_of, head_of, number_of_message, length_of_message}
+use Rattle.ertms_codec.specs.Refusals.{number_in, HasItsLength}
+use Rattle.ertms_codec.specs.RefusalsToTrain.{Refuses, IsToTrain, IsLongEnough, IsSized, head_at, message_at}
+use Rattle.ertms_codec.specs.Reading.{IsReadToTrain}
+use Rattle.ertms_codec.proofs.Fields.{Behind, at_places}
+
+-- the variables of a message that is spelled stand at their places
+stands : (bytes : List ℕ) (m : ToTrain) (s : Spells bytes m) → Behind (fields_of m) 0 (bits_of_bytes bytes) s.fill
+stands bytes m s = at_places (fields_of m) 0 (bits_of_bytes bytes) s.fill (omega arith) s.holds s.bits
+
+-- a flag from the bit that it is
+flag_back : (flag : Bool) (value : ℕ) → (if flag then 1 else 0) ≡ value → flag ≡ (value == 1)
+flag_back true value e = rw (← e)
+flag_back false value e = rw (← e)
+
+head_made : (head : Head) (bits : List ℕ) → head.stamp ≡ value_at 18 32 bits → (if head.ack then 1 else 0) ≡ value_at 50 1 bits → head.lrbg ≡ value_at 51 24 bits → head ≡ head_at bits
+head_made head bits stamp ack lrbg = rw (← stamp, ← flag_back head.ack (value_at 50 1 bits) ack, ← lrbg)
+
+-- the header of a message that is spelled
+head_is : (bytes : List ℕ) (m : ToTrain) → Spells bytes m → head_of m ≡ head_at (bits_of_bytes bytes)
+head_is bytes m s =
+    let at = (stands bytes m s).are in
+    head_made (head_of m) (bits_of_bytes bytes) at.1.1.0 at.1.1.1.0 at.1.1.1.1.0
+
+number_is : (bytes : List ℕ) (m : ToTrain) → Spells bytes m → number_in bytes ≡ number_of_message m
+number_is bytes m s = sym (stands bytes m s).are.0
+
+-- L_MESSAGE is the number of bytes
+length_is : (bytes : List ℕ) (m : ToTrain) → Spells bytes m → width_of (fields_of m) ≤ 8 * length_of_message m → 8 * length_of_message m < width_of (fields_of m) + 8 → length bytes ≡ length_of_message m
+length_is bytes m s least most =
+    let total = length-bits_of_bytes bytes in
+    let few = s.few in
+    omega (arith, total, (stands bytes m s).within)
+
+sized_is : (bytes : List ℕ) (m : ToTrain) → Spells bytes m → length bytes ≡ length_of_message m → 3 ≤ length_of_message m → HasItsLength bytes
+sized_is bytes m s long least = (omega arith, sym (stands bytes m s).are.1.0 ∙ sym long)
+
+-- a message but 24 that is spelled is read
+stop_read : (bytes : List ℕ) (m : ToTrain) → Spells bytes m → IsToTrain (number_of_message m) → number_of_message m < 24 → IsLongEnough (number_of_message m) (length_of_message m) → width_of (fields_of m) ≤ 8 * length_of_message m → 8 * length_of_message m < width_of (fields_of m) + 8 → 3 ≤ length_of_message m → m ≡ message_at (bits_of_bytes bytes) → IsReadToTrain bytes m
+stop_read bytes m s known other enough least most three same =
+    let number = number_is bytes m s in
+    let long = length_is bytes m s least most in
+    record {
+      sized = sized_is bytes m s long three;
+      known = rw number known;
+      enough = rw (number, long) enough;
+      packet = λ e. absurd (omega (arith, number, e));
+      spare = subst Fits same s.fits;
+      is = same;
+    }
+
+-- message 24 that is spelled is read
+packet_read : (bytes : List ℕ) (m : ToTrain) → Spells bytes m → number_of_message m ≡ 24 → (number size : ℕ) → IsSized number size → number ≡ value_at 75 8 (bits_of_bytes bytes) → size ≡ value_at 85 13 (bits_of_bytes bytes) → width_of (fields_of m) ≡ 75 + size → width_of (fields_of m) ≤ 8 * length_of_message m → 8 * length_of_message m < width_of (fields_of m) + 8 → 10 ≤ length_of_message m → m ≡ message_at (bits_of_bytes bytes) → IsReadToTrain bytes m
+packet_read bytes m s general number size kind number_at size_at whole least most ten same =
+    let bits = bits_of_bytes bytes in
+    let long = length_is bytes m s least most in
+    let total = length-bits_of_bytes bytes in
+    let left = length-drop 75 bits in
+    let size_in : value_at 10 13 (drop 75 bits) ≡ size = ap (number_of 13) (drop-drop 10 75 bits) ∙ sym size_at in
+    let behind = (stands bytes m s).within in
+    let few = s.few in
+    let at_least : 31 ≤ size = elim kind [ inl e ↦ omega (arith, e.1) | inr e ↦ omega (arith, e.1) ] in
+    record {
+      sized = sized_is bytes m s long (omega arith);
+      known = inr (inr (inr (number_is bytes m s ∙ general)));
+      enough = record {
+        conditional = λ e. absurd (omega (arith, number_is bytes m s, e));
+        unconditional = λ e. absurd (omega (arith, number_is bytes m s, e));
+        revocation = λ e. absurd (omega (arith, number_is bytes m s, e));
+        general = λ e. omega arith;
+      };
+      packet = λ e.
+          record {
+            header = omega arith;
+            sized = subst (λ n. IsSized n (value_at 10 13 (drop 75 bits))) number_at (subst (IsSized number) (sym size_in) kind);
+            within = omega arith;
+            fill = omega arith;
+          };
+      spare = subst Fits same s.fits;
+      is = same;
+    }
+
+-- what is spelled is read
+pub again : (bytes : List ℕ) (m : ToTrain) → Spells bytes m → IsReadToTrain bytes m
+again bytes (StopAt head id scale reference dir distance) s =
+    let bits = bits_of_bytes bytes in
+    let at = (stands bytes (StopAt head id scale reference dir distance) s).are in
+    let body = at.1.1.1.1.1 in
+    let signed : reference ≡ cast_signed w16 (value_at 81 16 bits) = sym (to_z-of_z w16 reference s.reference) ∙ ap (cast_signed w16) body.1.1.0 in
+    let same : StopAt head id scale reference dir distance ≡ message_at bits = rw (← at.0, ← head_is bytes (StopAt head id scale reference dir distance) s, ← body.0, ← body.1.0, ← signed, ← body.1.1.1.0, ← body.1.1.1.1.0) in
+    let enough : IsLongEnough 15 15 = record { conditional = λ e. refl; unconditional = λ e. absurd (omega arith); revocation = λ e. absurd (omega arith); general = λ e. absurd (omega arith) } in
+    stop_read bytes (StopAt head id scale reference dir distance) s (inl refl) (omega arith) enough (omega arith) (omega arith) (omega arith) same
+again bytes (Stop head id) s =
+    let bits = bits_of_bytes bytes in
+    let at = (stands bytes (Stop head id) s).are in
+    let same : Stop head id ≡ message_at bits = rw (← at.0, ← head_is bytes (Stop head id) s, ← at.1.1.1.1.1.0) in
+    let enough : IsLongEnough 16 10 = record { conditional = λ e. absurd (omega arith); unconditional = λ e. refl; revocation = λ e. absurd (omega arith); general = λ e. absurd (omega arith) } in
+    stop_read bytes (Stop head id) s (inr (inl refl)) (omega arith) enough (omega arith) (omega arith) (omega arith) same
+again bytes (Revoke head id) s =
+    let bits = bits_of_bytes bytes in
+    let at = (stands bytes (Revoke head id) s).are in
+    let same : Revoke head id ≡ message_at bits = rw (← at.0, ← head_is bytes (Revoke head id) s, ← at.1.1.1.1.1.0) in
+    let enough : IsLongEnough 18 10 = record { conditional = λ e. absurd (omega arith); unconditional = λ e. absurd (omega arith); revocation = λ e. refl; general = λ e. absurd (omega arith) } in
+    stop_read bytes (Revoke head id) s (inr (inr (inl refl))) (omega arith) enough (omega arith) (omega arith) (omega arith) same
+again bytes (Restrict head dir scale id start length front speed) s =
+    let bits = bits_of_bytes bytes in
+    let at = (stands bytes (Restrict head dir scale id start length front speed) s).are in
+    let body = at.1.1.1.1.1 in
+    let size = body.1.1 in
+    let rest = size.1 in
+    let flag = flag_back front (value_at 138 1 bits) rest.1.1.1.1.0 in
+    let same : Restrict head dir scale id start length front speed ≡ message_at bits = rw (← at.0, ← body.0, ← head_is bytes (Restrict head dir scale id start length front speed) s, ← body.1.0, ← rest.0, ← rest.1.0, ← rest.1.1.0, ← rest.1.1.1.0, ← flag, ← rest.1.1.1.1.1.0) in
+    packet_read bytes (Restrict head dir scale id start length front speed) s refl 65 71 (inl (refl, refl)) body.0 size.0 refl (omega arith) (omega arith) (omega arith) same
+again bytes (Lift head dir id) s =
+    let bits = bits_of_bytes bytes in
+    let at = (stands bytes (Lift head dir id) s).are in
+    let body = at.1.1.1.1.1 in
+    let size = body.1.1 in
+    let same : Lift head dir id ≡ message_at bits = rw (← at.0, ← body.0, ← head_is bytes (Lift head dir id) s, ← body.1.0, ← size.1.0) in
+    packet_read bytes (Lift head dir id) s refl 66 31 (inr (refl, refl)) body.0 size.0 refl (omega arith) (omega arith) (omega arith) same
+
+-- what is read is not refused
+not_refused : (bytes : List ℕ) (m : ToTrain) (e : DecodeError) → IsReadToTrain bytes m → ¬ Refuses bytes e
+not_refused bytes m e r refused =
+    elim refused [
+      | inl x ↦ x.0 r.sized
+      | inr x ↦ elim x.1 [
+        | inl x ↦ x.0 r.known
+        | inr x ↦ elim x.1 [
+          | inl x ↦ x.0 r.enough
+          | inr x ↦ elim x.1 [
+            | inl x ↦ x.0 r.packet
+            | inr x ↦ elim x.1 [
+              | inl x ↦ x.0 r.spare
+              | inr x ↦ x.1
+            ]
+          ]
+        ]
+      ]
+    ]
+
+-- only this message is read
+pub only : (bytes : List ℕ) (result : Result ToTrain DecodeError) (m : ToTrain) → IfOk result (λ m. IsReadToTrain bytes m) → IfErr result (λ e. Refuses bytes e) → Spells bytes m → result ≡ Ok m
+only bytes (Ok other) m ok err s = ap (λ (x : ToTrain). Ok x) (ok.is ∙ sym (again bytes m s).is)
+only bytes (Err e) m ok err s = absurd (not_refused bytes m e (again bytes m s) err)

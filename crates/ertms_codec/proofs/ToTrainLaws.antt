@@ -1,0 +1,117 @@
+-- What is read of a message to a train is spelled so, and what is spelled so is read.
+use Rattle.std.proofs.Common.{◌≡◌, ℕ, ◌+◌, ◌*◌, ◌^◌, ◌<◌, ◌≤◌, ◌∙◌, List, length, drop, refl, sym, ap, subst, inl, inr, arith, length-drop, drop-drop}
+use Rattle.std.specs.Prelude.{◌==◌, if◌then◌else◌}
+use Rattle.std.specs.Int.{w16}
+use Rattle.std.proofs.lemmas.Int.{of_z-to_z}
+use Rattle.std.proofs.Math.Facts.{sfits_to_z}
+use Rattle.ertms_bits.specs.Bits.{number_of, bits_of_bytes}
+use Rattle.ertms_bits.proofs.Bits.{length-bits_of_bytes}
+use Rattle.ertms_bits.proofs.Numbers.{AreBits, AreBits-drop, AreBits-bits_of_bytes, number_of-below}
+use Rattle.ertms_codec.specs.declared.to_train.Head.{Head}
+use Rattle.ertms_codec.specs.declared.to_train.ToTrain.{ToTrain}
+use Rattle.ertms_codec.specs.Layout.{width_of, value_at}
+use Rattle.ertms_codec.specs.ToTrain.{Fits, HoldsReference, Spells, fields_of, body_of, head_of, number_of_message, length_of_message}
+use Rattle.ertms_codec.specs.Refusals.{number_in, HasItsLength}
+use Rattle.ertms_codec.specs.RefusalsToTrain.{IsToTrain, IsLongEnough, IsOnePacket, HasItsPacket, head_at, stop_at, packet_at, message_at}
+use Rattle.ertms_codec.specs.Reading.{IsReadToTrain}
+use Rattle.ertms_codec.proofs.Fields.{AreAt, spelled_at, hold_at, flag_is}
+
+-- a number at a place is below that power of two
+at_below : (place width : ℕ) (bits : List ℕ) → AreBits bits → value_at place width bits < 2 ^ width
+at_below place width bits are = number_of-below width (drop place bits) (AreBits-drop place bits are)
+
+-- a flag at a place
+flag_at : (place : ℕ) (bits : List ℕ) → AreBits bits → (if value_at place 1 bits == 1 then 1 else 0) ≡ value_at place 1 bits
+flag_at place bits are = flag_is (value_at place 1 bits) (at_below place 1 bits are)
+
+-- a message whose variables are at their places, in as many bytes as it has
+record IsLaidOut (bytes : List ℕ) (m : ToTrain) : Type 0 where
+  are : AreAt 0 (fields_of m) (bits_of_bytes bytes)
+  reference : HoldsReference m
+  within : width_of (fields_of m) ≤ length (bits_of_bytes bytes)
+  fill : length (bits_of_bytes bytes) < width_of (fields_of m) + 8
+
+-- the header is at its places
+header_at : (bytes : List ℕ) (m : ToTrain) → head_of m ≡ head_at (bits_of_bytes bytes) → number_in bytes ≡ number_of_message m → value_at 8 10 (bits_of_bytes bytes) ≡ length_of_message m → AreAt 75 (body_of m) (bits_of_bytes bytes) → AreAt 0 (fields_of m) (bits_of_bytes bytes)
+header_at bytes m head number size body =
+    let bits = bits_of_bytes bytes in
+    let ack : (if (head_of m).ack then 1 else 0) ≡ value_at 50 1 bits = rw head (flag_at 50 bits (AreBits-bits_of_bytes bytes)) in
+    (sym number, (sym size, (ap (λ (h : Head). h.stamp) head, (ack, (ap (λ (h : Head). h.lrbg) head, body)))))
+
+laid_out-stop : (bytes : List ℕ) (m : ToTrain) → head_of m ≡ head_at (bits_of_bytes bytes) → HasItsLength bytes → number_in bytes ≡ number_of_message m → length bytes ≡ length_of_message m → width_of (fields_of m) ≤ 8 * length_of_message m → 8 * length_of_message m < width_of (fields_of m) + 8 → AreAt 75 (body_of m) (bits_of_bytes bytes) → HoldsReference m → IsLaidOut bytes m
+laid_out-stop bytes m head sized number long within fill body reference =
+    let total = length-bits_of_bytes bytes in
+    record { are = header_at bytes m head number (sized.1 ∙ long) body; reference = reference; within = omega (arith, total); fill = omega (arith, total) }
+
+-- the bits of message 24 by those of its packet
+sized_by : (bytes : List ℕ) (size width : ℕ) → IsOnePacket (drop 75 (bits_of_bytes bytes)) → value_at 10 13 (drop 75 (bits_of_bytes bytes)) ≡ size → (75 + size ≤ 8 * length bytes) × (8 * length bytes < 75 + size + 8)
+sized_by bytes size width packet e =
+    let total = length-bits_of_bytes bytes in
+    let left = length-drop 75 (bits_of_bytes bytes) in
+    let header = packet.header in
+    let within = packet.within in
+    let fill = packet.fill in
+    (omega (arith, total, left), omega (arith, total, left))
+
+laid_out-general : (bytes : List ℕ) → HasItsLength bytes → number_in bytes ≡ 24 → IsOnePacket (drop 75 (bits_of_bytes bytes)) → IsLaidOut bytes (packet_at (value_at 75 8 (bits_of_bytes bytes)) (bits_of_bytes bytes))
+laid_out-general bytes sized number packet =
+    let bits = bits_of_bytes bytes in
+    let are = AreBits-bits_of_bytes bytes in
+    let size : value_at 10 13 (drop 75 bits) ≡ value_at 85 13 bits = ap (number_of 13) (drop-drop 10 75 bits) in
+    elim packet.sized [
+      | inl e ↦
+          let between = sized_by bytes 71 71 packet e.1 in
+          let kind : packet_at (value_at 75 8 bits) bits ≡ packet_at 65 bits = ap (λ n. packet_at n bits) e.0 in
+          let front = flag_at 138 bits are in
+          rw kind (laid_out-stop bytes (packet_at 65 bits) refl sized number (omega (arith, between.0, between.1)) (omega arith) (omega arith)
+          (sym e.0, (refl, (sym (sym size ∙ e.1), (refl, (refl, (refl, (refl, (front, (refl, tt))))))))) tt)
+      | inr e ↦
+          let between = sized_by bytes 31 31 packet e.1 in
+          let kind : packet_at (value_at 75 8 bits) bits ≡ packet_at 66 bits = ap (λ n. packet_at n bits) e.0 in
+          rw kind (laid_out-stop bytes (packet_at 66 bits) refl sized number (omega (arith, between.0, between.1)) (omega arith) (omega arith)
+          (sym e.0, (refl, (sym (sym size ∙ e.1), (refl, tt)))) tt)
+    ]
+
+laid_out : (bytes : List ℕ) → HasItsLength bytes → IsToTrain (number_in bytes) → IsLongEnough (number_in bytes) (length bytes) → HasItsPacket bytes → IsLaidOut bytes (message_at (bits_of_bytes bytes))
+laid_out bytes sized known enough packet =
+    let bits = bits_of_bytes bytes in
+    let reference = of_z-to_z w16 (value_at 81 16 bits) (at_below 81 16 bits (AreBits-bits_of_bytes bytes)) in
+    let signed = sfits_to_z {w = w16} {n = value_at 81 16 bits} (record { fits = at_below 81 16 bits (AreBits-bits_of_bytes bytes) }) in
+    elim known [
+      | inl e ↦
+          let kind : message_at bits ≡ stop_at 15 bits = rw e in
+          rw kind (laid_out-stop bytes (stop_at 15 bits) refl sized e (enough.conditional e) (omega arith) (omega arith) (refl, (refl, (reference, (refl, (refl, tt))))) signed)
+      | inr rest ↦ elim rest [
+        | inl e ↦
+            let kind : message_at bits ≡ stop_at 16 bits = rw e in
+            rw kind (laid_out-stop bytes (stop_at 16 bits) refl sized e (enough.unconditional e) (omega arith) (omega arith) (refl, tt) tt)
+        | inr rest ↦ elim rest [
+          | inl e ↦
+              let kind : message_at bits ≡ stop_at 18 bits = rw e in
+              rw kind (laid_out-stop bytes (stop_at 18 bits) refl sized e (enough.revocation e) (omega arith) (omega arith) (refl, tt) tt)
+          | inr e ↦
+              let kind : message_at bits ≡ packet_at (value_at 75 8 bits) bits = rw e in
+              rw kind (laid_out-general bytes sized e (packet e))
+        ]
+      ]
+    ]
+
+-- what is laid out and fits is spelled so
+spells : (bytes : List ℕ) (m : ToTrain) → IsLaidOut bytes m → Fits m → Spells bytes m
+spells bytes m l fits =
+    let bits = bits_of_bytes bytes in
+    let are = AreBits-bits_of_bytes bytes in
+    let all : 0 + width_of (fields_of m) ≡ width_of (fields_of m) = omega arith in
+    record {
+      fits = fits;
+      holds = hold_at (fields_of m) 0 bits are l.are;
+      reference = l.reference;
+      fill = drop (0 + width_of (fields_of m)) bits;
+      few = omega (arith, l.fill, l.within, length-drop (0 + width_of (fields_of m)) bits);
+      bits = spelled_at (fields_of m) 0 bits are (omega (arith, l.within)) l.are;
+    }
+
+-- what is read is spelled so
+pub found : (bytes : List ℕ) (m : ToTrain) → IsReadToTrain bytes m → Spells bytes m
+found bytes m r =
+    subst (Spells bytes) (sym r.is) (spells bytes (message_at (bits_of_bytes bytes)) (laid_out bytes r.sized r.known r.enough r.packet) r.spare)

@@ -1,0 +1,67 @@
+-- What the readers have found so far.
+use Rattle.std.specs.Prelude.{◌≡◌, ℕ, ◌+◌, ◌<◌, ◌≤◌, ◌^◌, List, length, drop}
+use Rattle.ertms_bits.specs.Bits.{number_of, bits_of_bytes}
+use Rattle.ertms_codec.specs.declared.to_train.ToTrain.{ToTrain}
+use Rattle.ertms_codec.specs.declared.error.DecodeError.{DecodeError}
+use Rattle.ertms_codec.specs.declared.error.DecodeError.TheVariants.{Packet, Field}
+use Rattle.ertms_codec.specs.declared.from_train.FromTrain.{FromTrain}
+use Rattle.ertms_codec.specs.declared.from_train.FromTrain.TheVariants.{Report, StopAck}
+use Rattle.ertms_codec.specs.Layout.{value_at}
+use Rattle.ertms_codec.specs.Refusals.{Unless, Never, number_in, HasItsLength}
+use Rattle.ertms_codec.specs.FromTrain.{PositionFits}
+use Rattle.ertms_codec.specs.RefusalsToTrain as to_train
+use Rattle.ertms_codec.specs.RefusalsFromTrain as from_train
+
+-- a variable of so many bits was taken from the front
+pub record Takes (width : ℕ) (before : List ℕ) (taken : ℕ) (after : List ℕ) : Type 0 where
+  pub value : taken ≡ number_of width before
+  pub small : taken < 2 ^ width
+  pub rest : after ≡ drop width before
+  pub left : length after + width ≡ length before
+
+-- bits begin with a packet, as long as its L_PACKET says
+pub record BeginsWithPacket (bits : List ℕ) : Type 0 where
+  pub header : 21 ≤ length bits
+  pub least : 21 ≤ value_at 8 13 bits
+  pub within : value_at 8 13 bits ≤ length bits
+
+-- no step fails, and the message is that at the places of its table
+pub record IsReadToTrain (bytes : List ℕ) (m : ToTrain) : Type 0 where
+  pub sized : HasItsLength bytes
+  pub known : to_train.IsToTrain (number_in bytes)
+  pub enough : to_train.IsLongEnough (number_in bytes) (length bytes)
+  pub packet : to_train.HasItsPacket bytes
+  pub spare : to_train.HasNoSpare bytes
+  pub is : m ≡ to_train.message_at (bits_of_bytes bytes)
+
+-- the bits are packets to their end, and the position that they begin with has no spare value
+pub record ReadsPosition (bits : List ℕ) : Type 0 where
+  pub packets : from_train.HavePackets bits
+  pub fits : PositionFits (from_train.position_at bits)
+
+-- why the bits are refused as packets that begin with a position
+abbrev pub RefusesPosition : List ℕ → DecodeError → Type 0
+RefusesPosition bits = Unless (from_train.HavePackets bits) Packet (Unless (PositionFits (from_train.position_at bits)) Field Never)
+
+-- message 136 by the bits behind its header
+pub record IsReport (bits : List ℕ) (stamp engine : ℕ) (m : FromTrain) : Type 0 where
+  pub read : ReadsPosition bits
+  pub is : m ≡ Report stamp engine (from_train.position_at bits)
+
+-- message 147 by the bits behind its header
+pub record IsStopAcknowledgement (bits : List ℕ) (stamp engine : ℕ) (m : FromTrain) : Type 0 where
+  pub read : ReadsPosition (drop 6 bits)
+  pub is : m ≡ StopAck stamp engine (value_at 0 4 bits) (value_at 4 2 bits) (from_train.position_at (drop 6 bits))
+
+-- the last two steps hold of a message of this number, and it is that at the places of its table
+pub record IsReadBehind (number : ℕ) (bits : List ℕ) (m : FromTrain) : Type 0 where
+  pub packets : from_train.HasItsPackets number bits
+  pub spare : from_train.HasNoSpare number bits
+  pub is : m ≡ from_train.message_at bits
+
+-- no step fails, and the message is that at the places of its table
+pub record IsReadFromTrain (bytes : List ℕ) (m : FromTrain) : Type 0 where
+  pub sized : HasItsLength bytes
+  pub known : from_train.IsFromTrain (number_in bytes)
+  pub enough : from_train.IsLongEnough (number_in bytes) (length bytes)
+  pub behind : IsReadBehind (number_in bytes) (bits_of_bytes bytes) m

@@ -1,0 +1,98 @@
+-- The steps that bytes pass to be a message from a train (own rule, over the layouts of SUBSET-026, chapters 7
+-- and 8). Places are counted in bits from the first bit of the message, or of the packet.
+use Rattle.std.specs.Prelude.{◌≡◌, ◌⊎◌, ℕ, ◌+◌, ◌*◌, ◌≤◌, List, length, drop, Option, Some, None, ◌==◌, if◌then◌else◌}
+use Rattle.ertms_bits.specs.Bits.{bits_of_bytes}
+use Rattle.ertms_codec.specs.declared.error.DecodeError.{DecodeError}
+use Rattle.ertms_codec.specs.declared.error.DecodeError.TheVariants.{Length, Message, Packet, Field}
+use Rattle.ertms_codec.specs.declared.from_train.Position.{Position}
+use Rattle.ertms_codec.specs.declared.from_train.FromTrain.{FromTrain}
+use Rattle.ertms_codec.specs.declared.from_train.FromTrain.TheVariants.{Report, Ack, StopAck}
+use Rattle.ertms_codec.specs.Layout.{value_at}
+use Rattle.ertms_codec.specs.FromTrain.{has_length, has_system, ArePackets, PositionFits}
+use Rattle.ertms_codec.specs.Refusals.{Unless, Never, number_in, HasItsLength}
+
+abbrev pub IsFromTrain : ℕ → Type 0
+IsFromTrain number = (number ≡ 136) ⊎ ((number ≡ 146) ⊎ (number ≡ 147))
+
+-- so many bytes are as many as the message has, or as its variables before the packets take
+pub record IsLongEnough (number bytes : ℕ) : Type 0 where
+  pub report : number ≡ 136 → 74 ≤ 8 * bytes
+  pub acknowledgement : number ≡ 146 → bytes ≡ 14
+  pub of_a_stop : number ≡ 147 → 80 ≤ 8 * bytes
+
+-- packet 1 has NID_PRVLRBG of 24 bits more
+abbrev pub shift_in : List ℕ → ℕ
+shift_in packet = if value_at 0 8 packet == 1 then 24 else 0
+
+-- the bits that L_TRAININT takes, by the bits from Q_LENGTH on
+abbrev pub length_width : List ℕ → ℕ
+length_width train = if has_length (value_at 0 2 train) then 15 else 0
+
+-- the bits that NID_NTC takes, by the bits from Q_LENGTH on
+abbrev pub system_width : List ℕ → ℕ
+system_width train = if has_system (value_at (15 + length_width train) 3 train) then 8 else 0
+
+-- where Q_LENGTH stands
+abbrev pub train_place : List ℕ → ℕ
+train_place packet = 96 + shift_in packet
+
+-- the bits that the variables of a position packet take
+abbrev pub position_width : List ℕ → ℕ
+position_width packet =
+    let train = drop (train_place packet) packet in
+    114 + shift_in packet + (length_width train + system_width train)
+
+-- bits begin with packet 0 or 1, whose L_PACKET is as long as its variables at least
+pub record BeginWithPosition (packet : List ℕ) : Type 0 where
+  pub header : 21 ≤ length packet
+  pub number : value_at 0 8 packet ≤ 1
+  pub enough : position_width packet ≤ value_at 8 13 packet
+  pub within : value_at 8 13 packet ≤ length packet
+
+-- bits begin with packet 0 or 1, and behind what its L_PACKET counts are any packets and fill bits
+pub record HavePackets (packet : List ℕ) : Type 0 where
+  pub position : BeginWithPosition packet
+  pub further : ArePackets (drop (value_at 8 13 packet) packet)
+
+abbrev pub previous_at : List ℕ → Option ℕ
+previous_at packet = if value_at 0 8 packet == 1 then Some (value_at 47 24 packet) else None
+
+-- the position whose variables stand at the places of its packet
+abbrev pub position_at : List ℕ → Position
+position_at packet =
+    record {
+      previous = previous_at packet;
+      scale = value_at 21 2 packet;
+      lrbg = value_at 23 24 packet;
+      distance = value_at (47 + shift_in packet) 15 packet;
+      dir = value_at (62 + shift_in packet) 2 packet;
+      side = value_at (64 + shift_in packet) 2 packet;
+      over = value_at (66 + shift_in packet) 15 packet;
+      under = value_at (81 + shift_in packet) 15 packet;
+    }
+
+-- the message whose variables stand at the places of its table
+abbrev pub message_at : List ℕ → FromTrain
+message_at bits =
+    if value_at 0 8 bits == 136 then Report (value_at 18 32 bits) (value_at 50 24 bits) (position_at (drop 74 bits))
+    else if value_at 0 8 bits == 146 then Ack (value_at 18 32 bits) (value_at 50 24 bits) (value_at 74 32 bits)
+    else StopAck (value_at 18 32 bits) (value_at 50 24 bits) (value_at 74 4 bits) (value_at 78 2 bits) (position_at (drop 80 bits))
+
+-- the packets of a message of this number
+pub record HasItsPackets (number : ℕ) (bits : List ℕ) : Type 0 where
+  pub report : number ≡ 136 → HavePackets (drop 74 bits)
+  pub of_a_stop : number ≡ 147 → HavePackets (drop 80 bits)
+
+-- no variable of a message of this number has a spare value
+pub record HasNoSpare (number : ℕ) (bits : List ℕ) : Type 0 where
+  pub report : number ≡ 136 → PositionFits (position_at (drop 74 bits))
+  pub of_a_stop : number ≡ 147 → PositionFits (position_at (drop 80 bits))
+
+-- the first step that fails
+abbrev pub Refuses : List ℕ → DecodeError → Type 0
+Refuses bytes =
+    Unless (HasItsLength bytes) Length
+    (Unless (IsFromTrain (number_in bytes)) Message
+    (Unless (IsLongEnough (number_in bytes) (length bytes)) Length
+    (Unless (HasItsPackets (number_in bytes) (bits_of_bytes bytes)) Packet
+    (Unless (HasNoSpare (number_in bytes) (bits_of_bytes bytes)) Field Never))))

@@ -1,0 +1,54 @@
+//! What both readers share.
+
+ghost use Rattle.std.specs.Prelude.{◌≡◌, ◌+◌, ◌*◌, ◌<◌, ◌≤◌, ◌^◌, length, drop, IfOk, IfErr, OnOk};
+ghost use Rattle.ertms_bits.specs.Bits.{bits_of_bytes};
+ghost use Rattle.ertms_codec.specs.Layout.{value_at};
+ghost use Rattle.ertms_codec.specs.Refusals.{number_in, HasItsLength};
+ghost use Rattle.ertms_codec.specs.Reading.{Takes};
+ghost use Rattle.ertms_codec.specs.declared.error.DecodeError.TheVariants.{Length as length_refusal};
+
+use crate::error::DecodeError;
+use crate::variable::{L_MESSAGE, NID_MESSAGE};
+use ertms_bits::BitReader;
+
+/// The next variable of so many bits, of which the caller knows that it is there.
+pub fn next(bits: &mut BitReader<'_>, width: u32) -> u64
+    requires some { 1 ≤ width }
+    requires within { width ≤ 64 }
+    requires there { width ≤ length bits.old }
+    ensures { Takes width bits.old result bits.new }
+{
+    bits.take(width).unwrap()
+}
+
+/// Passes over so many bits, of which the caller knows that they are there.
+pub fn pass_over(bits: &mut BitReader<'_>, count: usize)
+    requires { count ≤ length bits.old }
+    ensures rest { bits.new ≡ drop count bits.old }
+    ensures left { length bits.new + count ≡ length bits.old }
+{
+    bits.skip(count).unwrap();
+}
+
+/// NID_MESSAGE of a message of `len` bytes, behind which L_MESSAGE is read.
+///
+/// # Errors
+///
+/// `Length` only where there are fewer than 3 bytes, or L_MESSAGE is not their number.
+pub fn message_number(bytes: &[u8], bits: &mut BitReader<'_>) -> Result<u64, DecodeError>
+    requires { bits.old ≡ bits_of_bytes bytes.now }
+    ensures length { IfOk result (λ _. HasItsLength bytes.now) }
+    ensures number { IfOk result (λ number. number ≡ number_in bytes.now) }
+    ensures rest { OnOk result (bits.new ≡ drop 18 (bits_of_bytes bytes.now)) }
+    ensures err { IfErr result (λ e. (¬ HasItsLength bytes.now) × (e ≡ length_refusal)) }
+{
+    if bytes.len() < 3 {
+        return Err(DecodeError::Length);
+    }
+    let number = next(bits, NID_MESSAGE);
+    let length = next(bits, L_MESSAGE);
+    if length != bytes.len() as u64 {
+        return Err(DecodeError::Length);
+    }
+    Ok(number)
+}

@@ -1,0 +1,295 @@
+//! Messages as text.
+
+ghost use Rattle.std.specs.Prelude.{◌≡◌, Some, IfOk, IfErr, true, false, slice_get, string_bytes};
+ghost use Rattle.ertms_codec.specs.declared.error.DecodeError.{DecodeError as Refusal};
+ghost use Rattle.ertms_codec.specs.declared.text.DescribeError.TheVariants.{Decode};
+ghost use Rattle.ertms_codec.specs.Texts.{head_text, text_to_train, position_text, text_from_train, is_to_train, HasText, HasTextOf, IsRefused, IsRefusedOf, IsFault, IsFaultOf};
+
+use crate::error::DecodeError;
+use crate::from_train::{FromTrain, Position};
+use crate::from_train_reader::read_from_train;
+use crate::to_train::{Head, ToTrain};
+use crate::to_train_reader::read_to_train;
+use std::alloc::{AllocError, Global};
+use std::fmt;
+use thiserror::Error;
+
+/// Why bytes have no text.
+#[derive(Clone, Copy, Debug, PartialEq, Eq, Error)]
+pub enum DescribeError {
+    /// They are no message, by the reader that their first byte chooses.
+    #[error("{0}")]
+    Decode(DecodeError),
+    /// Memory ran out. It may come in place of the text, and never in place of a refusal.
+    #[error("out of memory")]
+    OutOfMemory,
+}
+
+impl From<DecodeError> for DescribeError {
+    ghost from_gives = { λ refusal e. e ≡ Decode refusal };
+
+    fn from(refusal: DecodeError) -> DescribeError {
+        DescribeError::Decode(refusal)
+    }
+}
+
+impl From<AllocError> for DescribeError {
+    ghost use Rattle.ertms_codec.specs.declared.text.DescribeError.TheVariants.{OutOfMemory};
+
+    ghost from_gives = { λ _ e. e ≡ OutOfMemory };
+
+    fn from(_: AllocError) -> DescribeError {
+        DescribeError::OutOfMemory
+    }
+}
+
+impl fmt::Display for Head {
+    ghost output = { λ head. Some (head_text head) };
+
+    fn fmt<W: fmt::Write>(&self, f: &mut fmt::Formatter<W>) -> fmt::Result {
+        let Head { stamp, ack, lrbg } = *self;
+        let ack = u8::from(ack);
+        write!(f, "stamp {stamp} ack {ack} lrbg {lrbg}")
+    }
+}
+
+impl fmt::Display for ToTrain {
+    ghost output = { λ m. Some (text_to_train m) };
+
+    fn fmt<W: fmt::Write>(&self, f: &mut fmt::Formatter<W>) -> fmt::Result {
+        match *self {
+            ToTrain::StopAt {
+                head,
+                id,
+                scale,
+                reference,
+                dir,
+                distance,
+            } => {
+                write!(
+                    f,
+                    "15 {head} em {id} scale {scale} ref {reference} dir {dir} stop {distance}"
+                )
+            }
+            ToTrain::Stop { head, id } => write!(f, "16 {head} em {id}"),
+            ToTrain::Revoke { head, id } => write!(f, "18 {head} em {id}"),
+            ToTrain::Restrict {
+                head,
+                dir,
+                scale,
+                id,
+                start,
+                length,
+                front,
+                speed,
+            } => {
+                let front = u8::from(front);
+                write!(
+                    f,
+                    "24 {head} 65 dir {dir} scale {scale} tsr {id} start {start} length {length} front {front} speed {speed}"
+                )
+            }
+            ToTrain::Lift { head, dir, id } => write!(f, "24 {head} 66 dir {dir} tsr {id}"),
+        }
+    }
+}
+
+impl fmt::Display for Position {
+    ghost output = { λ p. Some (position_text p) };
+
+    fn fmt<W: fmt::Write>(&self, f: &mut fmt::Formatter<W>) -> fmt::Result {
+        let Position {
+            previous,
+            scale,
+            lrbg,
+            distance,
+            dir,
+            side,
+            over,
+            under,
+        } = *self;
+        match previous {
+            None => write!(f, "0 scale {scale} lrbg {lrbg}")?,
+            Some(previous) => write!(f, "1 scale {scale} lrbg {lrbg} previous {previous}")?,
+        }
+        write!(
+            f,
+            " distance {distance} dir {dir} side {side} over {over} under {under}"
+        )
+    }
+}
+
+impl fmt::Display for FromTrain {
+    ghost output = { λ m. Some (text_from_train m) };
+
+    fn fmt<W: fmt::Write>(&self, f: &mut fmt::Formatter<W>) -> fmt::Result {
+        match *self {
+            FromTrain::Report {
+                stamp,
+                engine,
+                position,
+            } => { write!(f, "136 stamp {stamp} engine {engine} {position}") }
+            FromTrain::Ack {
+                stamp,
+                engine,
+                acked,
+            } => { write!(f, "146 stamp {stamp} engine {engine} acked {acked}") }
+            FromTrain::StopAck {
+                stamp,
+                engine,
+                id,
+                answer,
+                position,
+            } => {
+                write!(
+                    f,
+                    "147 stamp {stamp} engine {engine} em {id} answer {answer} {position}"
+                )
+            }
+        }
+    }
+}
+
+/// The message that some bytes spell, as one line of text: 15, 16, 18 or 24 as the first byte is for a
+/// message to a train, all else for one from a train (own rule).
+pub fn describe(alloc: Global, bytes: &[u8]) -> Result<Vec<u8>, DescribeError>
+    ensures text { IfOk result (λ text. HasText bytes.now text.items) }
+    ensures fault { IfErr result (λ fault. IsFault bytes.now fault) }
+    ensures refused { (e : Refusal) → IsRefused bytes.now e → result ≡ Err (Decode e) }
+{
+    let line = if is_to_train(bytes) {
+        line_to_train(alloc, bytes)?
+    } else {
+        line_from_train(alloc, bytes)?
+    };
+    Ok(line.into_bytes())
+}
+
+/// Whether the first byte is the number of a message to a train.
+fn is_to_train(bytes: &[u8]) -> bool
+    ensures { result ≡ is_to_train (slice_get bytes.now 0) }
+{
+    matches!(bytes.first(), Some(15 | 16 | 18 | 24))
+}
+
+/// The line of a message to a train.
+fn line_to_train(alloc: Global, bytes: &[u8]) -> Result<String, DescribeError>
+    ensures text { IfOk result (λ line. HasTextOf true bytes.now (string_bytes line)) }
+    ensures fault { IfErr result (λ fault. IsFaultOf true bytes.now fault) }
+    ensures refused { (e : Refusal) → IsRefusedOf true bytes.now e → result ≡ Err (Decode e) }
+{
+    Ok(format!(in alloc; "{}\n", read_to_train(bytes)?)?)
+}
+
+/// The line of a message from a train.
+fn line_from_train(alloc: Global, bytes: &[u8]) -> Result<String, DescribeError>
+    ensures text { IfOk result (λ line. HasTextOf false bytes.now (string_bytes line)) }
+    ensures fault { IfErr result (λ fault. IsFaultOf false bytes.now fault) }
+    ensures refused { (e : Refusal) → IsRefusedOf false bytes.now e → result ≡ Err (Decode e) }
+{
+    Ok(format!(in alloc; "{}\n", read_from_train(bytes)?)?)
+}
+
+#[cfg(test)]
+mod tests {
+    use super::*;
+
+    #[test]
+    fn describes_messages_to_a_train(rt: HostRuntime) -> Result<(), DescribeError> {
+        for (bytes, text) in [
+            (
+                b"\x10\x02\x80\0\0\0\x5f\xff\xff\xe0".as_slice(),
+                "16 stamp 1 ack 0 lrbg 16777215 em 0\n",
+            ),
+            (
+                b"\x12\x02\x80\0\0\x04\x3f\xff\xff\xe0",
+                "18 stamp 16 ack 1 lrbg 16777215 em 0\n",
+            ),
+            (
+                b"\x0f\x03\xc0\0\0\xfa\x40\0\0\xa0\0\0\x29\xc4\0",
+                "15 stamp 1001 ack 0 lrbg 5 em 0 scale 0 ref 0 dir 1 stop 10000\n",
+            ),
+            (
+                b"\x0f\x03\xc0\0\0\xfa\x40\0\0\xa0\x80\0\x23\xe8\0",
+                "15 stamp 1001 ack 0 lrbg 5 em 0 scale 1 ref 0 dir 1 stop 4000\n",
+            ),
+            (
+                b"\x0f\x03\xc0\0\0\xfa\x40\0\0\xa0\0\0\x06\xd6\0",
+                "15 stamp 1001 ack 0 lrbg 5 em 0 scale 0 ref 0 dir 0 stop 7000\n",
+            ),
+            (
+                b"\x18\x04\xc0\0\0\xfa\x60\0\0\xa8\x28\x11\xc0\0\0\0\xfa\x22\0",
+                "24 stamp 1001 ack 1 lrbg 5 65 dir 1 scale 0 tsr 0 start 0 length 1000 front 1 speed 8\n",
+            ),
+            (
+                b"\x18\x03\x80\0\0\xfa\xa0\0\0\xa8\x50\x07\xc0\0",
+                "24 stamp 1002 ack 1 lrbg 5 66 dir 2 tsr 0\n",
+            ),
+        ] {
+            assert_eq!(rt;
+                describe(rt.alloc(), bytes)?.as_slice(),
+                text.as_bytes(),
+                "{text}"
+            );
+        }
+        Ok(())
+    }
+
+    #[test]
+    fn describes_messages_from_a_train(rt: HostRuntime) -> Result<(), DescribeError> {
+        let report =
+            b"\x88\x06\0\0\0\xfa\0\0\x01\xc0\0\xe4\0\0\x02\x87\xd0\x50\x0c\x80\x19\0\x08\x30";
+        let text =
+            "136 stamp 1000 engine 7 0 scale 0 lrbg 5 distance 2000 dir 1 side 1 over 100 under 100\n";
+        assert_eq!(rt; describe(rt.alloc(), report)?.as_slice(), text.as_bytes());
+        Ok(())
+    }
+
+    #[test]
+    fn names_what_is_refused(rt: HostRuntime) {
+        for (bytes, refusal) in [
+            (b"".as_slice(), DecodeError::Length),
+            (b"\x11\x02\x80\0\0\0\x5f\xff\xff\xe0", DecodeError::Message),
+            (b"\x18\x02\x80\0\0\0\x5f\xff\xff\xe0", DecodeError::Packet),
+            (
+                b"\x0f\x03\xc0\0\0\xfa\x40\0\0\xa1\x80\0\x23\xe8\0",
+                DecodeError::Field,
+            ),
+        ] {
+            let fault = describe(rt.alloc(), bytes).err();
+            assert_eq!(rt; fault, Some(refusal.into()));
+        }
+    }
+
+    #[test]
+    fn shows_what_few_messages_have(rt: HostRuntime) -> Result<(), AllocError> {
+        let position = Position {
+            previous: Some(4),
+            scale: 1,
+            lrbg: 5,
+            distance: 20,
+            dir: 1,
+            side: 0,
+            over: 3,
+            under: 2,
+        };
+        let answer = FromTrain::StopAck {
+            stamp: 8,
+            engine: 7,
+            id: 15,
+            answer: 3,
+            position,
+        };
+        let text = "147 stamp 8 engine 7 em 15 answer 3 \
+            1 scale 1 lrbg 5 previous 4 distance 20 dir 1 side 0 over 3 under 2";
+        assert_eq!(rt; format!(in rt.alloc(); "{answer}")?.as_str(), text);
+        let ack = FromTrain::Ack {
+            stamp: 8,
+            engine: 7,
+            acked: 4_294_967_295,
+        };
+        let text = "146 stamp 8 engine 7 acked 4294967295";
+        assert_eq!(rt; format!(in rt.alloc(); "{ack}")?.as_str(), text);
+        Ok(())
+    }
+}

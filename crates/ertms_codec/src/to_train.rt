@@ -1,0 +1,175 @@
+//! Messages to a train.
+
+/// What begins every message to a train (SUBSET-026, 8.4.4).
+#[derive(Clone, Copy, Debug, PartialEq, Eq)]
+pub struct Head {
+    /// T_TRAIN: when the message was sent, in units of 10 ms; 4294967295 is unknown.
+    pub stamp: u32,
+    /// M_ACK: whether the train has to acknowledge the message.
+    pub ack: bool,
+    /// NID_LRBG: the balise group from which the message measures, NID_C (10 bits) followed by NID_BG
+    /// (14 bits) as one number; 16777215 is unknown.
+    pub lrbg: u32,
+}
+
+/// A message to a train.
+#[derive(Clone, Copy, Debug, PartialEq, Eq)]
+pub enum ToTrain {
+    /// Message 15, conditional emergency stop (SUBSET-026, 8.7; own table of variables): the train stops
+    /// before a place, if it has not passed it.
+    StopAt {
+        head: Head,
+        /// NID_EM: the identifier of the emergency stop, 0 to 15; 15 is never issued.
+        id: u8,
+        /// Q_SCALE: the unit of `distance`: 0 is 10 cm, 1 is 1 m, 2 is 10 m; 3 is spare.
+        scale: u8,
+        /// D_REF: from the balise group to the point from which the message measures, in two's
+        /// complement; written as 0.
+        reference: i16,
+        /// Q_DIR: the direction that the stop is valid for, seen from the balise group: 0 reverse,
+        /// 1 nominal, 2 both; 3 is spare.
+        dir: u8,
+        /// D_EMERGENCYSTOP: from there to the place before which the train has to stop, 0 to 32767
+        /// units of `scale`.
+        distance: u16,
+    },
+    /// Message 16, unconditional emergency stop (SUBSET-026, 8.7): the train stops at once.
+    Stop {
+        head: Head,
+        /// NID_EM: the identifier of the emergency stop, 0 to 15; 15 is never issued.
+        id: u8,
+    },
+    /// Message 18, revocation of an emergency stop (SUBSET-026, 8.7).
+    Revoke {
+        head: Head,
+        /// NID_EM: the identifier of the emergency stop, 0 to 15; 15 is never issued.
+        id: u8,
+    },
+    /// Message 24, general message, with packet 65, temporary speed restriction (SUBSET-026, 7.4.2 and
+    /// 8.7; one packet in a message is an own choice).
+    Restrict {
+        head: Head,
+        /// Q_DIR: the direction that the packet is valid for, seen from the balise group: 0 reverse,
+        /// 1 nominal, 2 both; 3 is spare.
+        dir: u8,
+        /// Q_SCALE: the unit of `start` and `length`: 0 is 10 cm, 1 is 1 m, 2 is 10 m; 3 is spare.
+        scale: u8,
+        /// NID_TSR: the identifier of the restriction; 255 cannot be revoked and is never issued.
+        id: u8,
+        /// D_TSR: from the balise group to the start of the restriction, 0 to 32767 units of `scale`.
+        start: u16,
+        /// L_TSR: the length of the restriction, 0 to 32767 units of `scale`.
+        length: u16,
+        /// Q_FRONT: false where the length of the train delays the end of the restriction, true where
+        /// it does not.
+        front: bool,
+        /// V_TSR: the speed, 0 to 120 in units of 5 km/h; 121 to 127 are spare.
+        speed: u8,
+    },
+    /// Message 24, general message, with packet 66, revocation of a temporary speed restriction
+    /// (SUBSET-026, 7.4.2 and 8.7).
+    Lift {
+        head: Head,
+        /// Q_DIR: the direction that the packet is valid for, seen from the balise group: 0 reverse,
+        /// 1 nominal, 2 both; 3 is spare.
+        dir: u8,
+        /// NID_TSR: the identifier of the restriction; 255 cannot be revoked and is never issued.
+        id: u8,
+    },
+}
+
+impl ToTrain {
+    ghost use Rattle.std.specs.Prelude.{◌≡◌, IsTrue, ◌↔◌};
+    ghost use Rattle.ertms_codec.specs.ToTrain.{Fits, BodyFits, head_of};
+
+    /// Whether each variable of the message is in its range, so that it fits its field and is no spare
+    /// value.
+    pub fn fits(&self) -> bool
+        ensures { IsTrue result ↔ Fits self.now }
+    {
+        self.head().lrbg <= 16_777_215 && self.body_fits()
+    }
+
+    /// Whether each variable behind the header is in its range, and no spare value.
+    fn body_fits(&self) -> bool
+        ensures { IsTrue result ↔ BodyFits self.now }
+    {
+        match self {
+            ToTrain::StopAt {
+                id,
+                scale,
+                dir,
+                distance,
+                ..
+            } => *id <= 15 && *scale <= 2 && *dir <= 2 && *distance <= 32767,
+            ToTrain::Stop { id, .. } | ToTrain::Revoke { id, .. } => *id <= 15,
+            ToTrain::Restrict {
+                dir,
+                scale,
+                start,
+                length,
+                speed,
+                ..
+            } => {
+                *dir <= 2 && *scale <= 2 && *start <= 32767 && *length <= 32767 && *speed <= 120
+            }
+            ToTrain::Lift { dir, .. } => *dir <= 2,
+        }
+    }
+
+    /// What begins the message.
+    pub(crate) fn head(&self) -> Head
+        ensures { result ≡ head_of self.now }
+    {
+        match self {
+            ToTrain::StopAt { head, .. }
+            | ToTrain::Stop { head, .. }
+            | ToTrain::Revoke { head, .. }
+            | ToTrain::Restrict { head, .. }
+            | ToTrain::Lift { head, .. } => *head,
+        }
+    }
+}
+
+#[cfg(test)]
+mod tests {
+    use super::*;
+
+    fn stop(lrbg: u32, id: u8) -> ToTrain {
+        let head = Head {
+            stamp: 1,
+            ack: false,
+            lrbg,
+        };
+        ToTrain::Stop { head, id }
+    }
+
+    fn restrict(dir: u8, scale: u8, start: u16, speed: u8) -> ToTrain {
+        ToTrain::Restrict {
+            head: stop(5, 0).head(),
+            dir,
+            scale,
+            id: 255,
+            start,
+            length: 32767,
+            front: false,
+            speed,
+        }
+    }
+
+    #[test]
+    fn fits_within_its_ranges(rt: HostRuntime) {
+        for (message, fits) in [
+            (stop(16_777_215, 15), true),
+            (stop(16_777_216, 15), false),
+            (stop(16_777_215, 16), false),
+            (restrict(2, 2, 32767, 120), true),
+            (restrict(3, 2, 32767, 120), false),
+            (restrict(2, 3, 32767, 120), false),
+            (restrict(2, 2, 32768, 120), false),
+            (restrict(2, 2, 32767, 121), false),
+        ] {
+            assert_eq!(rt; message.fits(), fits);
+        }
+    }
+}
