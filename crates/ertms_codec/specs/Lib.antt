@@ -1,6 +1,7 @@
 pub mod FromTrain
 pub mod Layout
 pub mod Reading
+pub mod RefusalNames
 pub mod Refusals
 pub mod RefusalsFromTrain
 pub mod RefusalsToTrain

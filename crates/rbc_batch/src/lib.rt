@@ -15,6 +15,7 @@ mod write;
 
 pub use batch::{ProcessError, process};
 pub use law::told_law;
+pub use write::write_text;
 
 #[cfg(test)]
 mod tests;

@@ -1,5 +1,5 @@
 -- How the program ends where its task was not done.
-use Rattle.std.specs.Prelude.{ℕ, List, [], ◌∷◌, ◌++◌, Option}
+use Rattle.std.specs.Prelude.{ℕ, List, [], ◌∷◌, ◌++◌, Option, Result, Ok, Err}
 use Rattle.std.specs.Io.KnownBytes.{Appends}
 use Rattle.clap.specs.Words.{kind_of}
 use Rattle.clap.specs.declared.error.Error.{Error}
@@ -8,6 +8,7 @@ use Rattle.clap.specs.declared.error.kind.ErrorKind.TheVariants as kind
 use Rattle.rbc_dispatch.specs.Fault.{line_of}
 use Rattle.rbc_dispatch.specs.declared.ending.Ending.{Ending}
 use Rattle.rbc_dispatch.specs.declared.ending.Ending.TheVariants.{Words, Fault}
+use Rattle.rbc_dispatch.specs.declared.fault.Fault.{Fault as AnyFault}
 use Rattle.rbc_dispatch.specs.declared.fault.Fault.TheVariants.{OutOfMemory}
 
 -- the exit status of what clap answers: help is no mistake
@@ -34,3 +35,9 @@ ending_of error = ending_of_kind (kind_of error) error
 abbrev pub PrintsFault : Ending → Option (List ℕ) → Option (List ℕ) → Type 0
 PrintsFault (Words error) old new = Unit {0}
 PrintsFault (Fault fault) old new = Appends old new (line_of fault ++ 10 ∷ [])
+
+-- the words are taken, and the task ends as the fact says
+abbrev pub AtTask : {E : Type 0} → (Result E AnyFault → Type 0) → Result E Ending → Type 0
+AtTask P (Ok done) = P (Ok done)
+AtTask P (Err (Fault fault)) = P (Err fault)
+AtTask P (Err (Words error)) = ⊥

@@ -1,10 +1,29 @@
--- The line that each fault prints.
-use Rattle.std.specs.Prelude.{ℕ, List, codes}
+-- What faults come of, and the line that each one prints.
+use Rattle.std.specs.Prelude.{ℕ, List, ◌++◌, codes}
+use Rattle.std.specs.Fmt.{decimal}
+use Rattle.ertms_codec.specs.RefusalNames.{name_of}
+use Rattle.ertms_codec.specs.declared.text.DescribeError.{DescribeError}
+use Rattle.ertms_codec.specs.declared.text.DescribeError.TheVariants as describing
+use Rattle.hex.specs.declared.error.FromHexError.{FromHexError}
+use Rattle.hex.specs.declared.error.FromHexError.TheVariants as hex
 use Rattle.rbc_batch.specs.Process.{fault_text}
 use Rattle.rbc_dispatch.specs.declared.fault.Fault.{Fault}
-use Rattle.rbc_dispatch.specs.declared.fault.Fault.TheVariants.{Batch, OutOfMemory}
+use Rattle.rbc_dispatch.specs.declared.fault.Fault.TheVariants.{Batch, BadHex, Decode, Write, OutOfMemory}
 
 -- the line of a fault, without its line feed
 abbrev pub line_of : Fault → List ℕ
 line_of (Batch error) = fault_text error
+line_of BadHex = codes "bad hex"
+line_of (Decode error) = codes "decode: " ++ name_of error
+line_of (Write sent) = codes "write fault after " ++ decimal sent ++ codes " bytes"
 line_of OutOfMemory = codes "out of memory"
+
+-- the fault by what the hexadecimal decoder answers
+abbrev pub fault_of_hex : FromHexError → Fault
+fault_of_hex hex.OutOfMemory = OutOfMemory
+fault_of_hex _ = BadHex
+
+-- the fault by what the codec answers
+abbrev pub fault_of_describing : DescribeError → Fault
+fault_of_describing (describing.Decode error) = Decode error
+fault_of_describing describing.OutOfMemory = OutOfMemory

@@ -1,3 +1,5 @@
+pub mod Decoding
 pub mod Ending
 pub mod Fault
+pub mod Running
 pub mod Words

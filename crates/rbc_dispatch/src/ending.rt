@@ -72,6 +72,17 @@ impl From<AllocError> for Ending {
     }
 }
 
+impl From<Fault> for Ending {
+    ghost use Rattle.std.specs.Prelude.{◌≡◌};
+    ghost use Rattle.rbc_dispatch.specs.declared.ending.Ending.TheVariants.{Fault as at_fault};
+
+    ghost from_gives = { λ fault ending. ending ≡ at_fault fault };
+
+    fn from(fault: Fault) -> Ending {
+        Ending::Fault(fault)
+    }
+}
+
 impl From<ProcessError> for Ending {
     ghost use Rattle.std.specs.Prelude.{◌≡◌};
     ghost use Rattle.rbc_dispatch.specs.declared.ending.Ending.TheVariants.{Fault as fault};

@@ -1,4 +1,6 @@
 //! What can keep the program from its task.
+use ertms_codec::{DecodeError, DescribeError};
+use hex::FromHexError;
 use rbc_batch::ProcessError;
 use std::fmt;
 
@@ -7,7 +9,13 @@ use std::fmt;
 pub enum Fault {
     /// The batch was not done.
     Batch(ProcessError),
-    /// Memory ran out before the task was begun.
+    /// The word is no hexadecimal text of whole bytes.
+    BadHex,
+    /// The bytes are no message.
+    Decode(DecodeError),
+    /// Standard output took no more than the first `sent` bytes of the text.
+    Write { sent: usize },
+    /// Memory ran out before anything was written.
     OutOfMemory,
 }
 
@@ -20,7 +28,38 @@ impl fmt::Display for Fault {
     fn fmt<W: fmt::Write>(&self, f: &mut fmt::Formatter<W>) -> fmt::Result {
         match self {
             Fault::Batch(error) => write!(f, "{error}"),
+            Fault::BadHex => write!(f, "bad hex"),
+            Fault::Decode(error) => write!(f, "decode: {error}"),
+            Fault::Write { sent } => write!(f, "write fault after {sent} bytes"),
             Fault::OutOfMemory => write!(f, "out of memory"),
+        }
+    }
+}
+
+impl From<FromHexError> for Fault {
+    ghost use Rattle.std.specs.Prelude.{◌≡◌};
+    ghost use Rattle.rbc_dispatch.specs.Fault.{fault_of_hex};
+
+    ghost from_gives = { λ error fault. fault ≡ fault_of_hex error };
+
+    fn from(error: FromHexError) -> Fault {
+        match error {
+            FromHexError::OutOfMemory => Fault::OutOfMemory,
+            _ => Fault::BadHex,
+        }
+    }
+}
+
+impl From<DescribeError> for Fault {
+    ghost use Rattle.std.specs.Prelude.{◌≡◌};
+    ghost use Rattle.rbc_dispatch.specs.Fault.{fault_of_describing};
+
+    ghost from_gives = { λ error fault. fault ≡ fault_of_describing error };
+
+    fn from(error: DescribeError) -> Fault {
+        match error {
+            DescribeError::Decode(refusal) => Fault::Decode(refusal),
+            DescribeError::OutOfMemory => Fault::OutOfMemory,
         }
     }
 }

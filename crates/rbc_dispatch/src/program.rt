@@ -1,10 +1,13 @@
 //! The program, over any streams.
-ghost use Rattle.std.specs.Prelude.{◌≡◌, ◌≢◌, ◌≤◌, [], ◌∷◌, IfErr, OnOk, map, codes, string_bytes};
+ghost use Rattle.std.specs.Prelude.{◌≡◌, ◌≢◌, ◌≤◌, ℕ, List, [], ◌∷◌, true, IfErr, OnOk, map, codes, string_bytes};
 ghost use Rattle.std.specs.Process.{exit_status};
 ghost use Rattle.clap.specs.Words.{fault_of};
-ghost use Rattle.rbc_dispatch.specs.Ending.{status_of};
-ghost use Rattle.rbc_dispatch.specs.Words.{command_line};
+ghost use Rattle.rbc_dispatch.specs.Decoding.{Decodes, IsUntouched};
+ghost use Rattle.rbc_dispatch.specs.Ending.{AtTask, status_of};
+ghost use Rattle.rbc_dispatch.specs.Running.{Runs};
+ghost use Rattle.rbc_dispatch.specs.Words.{command_line, is_plain};
 
+use crate::decode::decode;
 use crate::ending::Ending;
 use crate::words;
 use crate::words::Task;
@@ -56,13 +59,20 @@ where
     I: Read,
     O: Write,
     ensures run { map string_bytes words.now ≡ codes "run" ∷ []
-        → IfErr result (λ ending. status_of ending ≡ 1) }
+        → AtTask (Runs (I.remaining input.old) (I.remaining input.new)
+        (O.contents output.old) (O.contents output.new)) result }
+    ensures decode { (word : List ℕ) → map string_bytes words.now ≡ codes "decode" ∷ word ∷ []
+        → is_plain word ≡ true
+        → AtTask (Decodes word (O.contents output.old) (O.contents output.new)) result }
+    ensures unread { (word : List ℕ) → map string_bytes words.now ≡ codes "decode" ∷ word ∷ []
+        → is_plain word ≡ true
+        → (input.new ≡ input.old) × AtTask (λ r. IsUntouched r output.old output.new) result }
     ensures only { OnOk result (fault_of command_line (map string_bytes words.now) ≡ []) }
     ensures refused { fault_of command_line (map string_bytes words.now) ≢ []
         → (input.new ≡ input.old) × (output.new ≡ output.old) }
 {
     match words::parse(rt.alloc(), words)? {
-        Task::Run => process(rt, input, output)?,
+        Task::Run => Ok(process(rt, input, output)?),
+        Task::Decode(word) => Ok(decode(rt.alloc(), word, output)?),
     }
-    Ok(())
 }

@@ -1,12 +1,15 @@
 //! What no clause says: the texts, and how the program ends at given words and streams.
 use crate::fault::Fault;
 use crate::program::run;
+use ertms_codec::DecodeError;
 use rbc_batch::ProcessError;
 use std::env::{Env, FillError};
 use std::io;
 use std::io::{ErrorKind, Read, Write};
 use std::process::{Abort, ExitCode};
 use std::test::Fail;
+
+mod decode;
 
 const BATCH: &[u8] = b"enrol 7 2000\n";
 
@@ -15,8 +18,9 @@ const HELP: &str = "Dispatch emergency stops to trains
 Usage: dispatch <COMMAND>
 
 Commands:
-  run   Read a batch from standard input and write the answers to standard output
-  help  Print this message or the help of the given subcommand(s)
+  run     Read a batch from standard input and write the answers to standard output
+  decode  Write the text of one message to standard output
+  help    Print this message or the help of the given subcommand(s)
 
 Options:
   -h, --help  Print help
@@ -31,7 +35,7 @@ Options:
 ";
 
 const NO_SUBCOMMAND: &str = "error: 'dispatch' requires a subcommand but one was not provided
-  [subcommands: run, help]
+  [subcommands: run, decode, help]
 
 Usage: dispatch <COMMAND>
 
@@ -222,6 +226,15 @@ fn tells_a_fault_in_a_line(rt: HostRuntime) -> Result<(), Fail> {
 fn shows_each_fault(rt: HostRuntime) -> Result<(), Fail> {
     let rows = [
         (Fault::OutOfMemory, "out of memory"),
+        (Fault::BadHex, "bad hex"),
+        (Fault::Decode(DecodeError::Length), "decode: Length"),
+        (Fault::Decode(DecodeError::Message), "decode: Message"),
+        (Fault::Decode(DecodeError::Packet), "decode: Packet"),
+        (Fault::Decode(DecodeError::Field), "decode: Field"),
+        (
+            Fault::Write { sent: usize::MAX },
+            "write fault after 18446744073709551615 bytes",
+        ),
         (Fault::Batch(ProcessError::Memory), "out of memory"),
         (Fault::Batch(ProcessError::Read), "read fault"),
         (Fault::Batch(ProcessError::TooLong), "batch too long"),

@@ -1,22 +1,25 @@
 //! The words that the program takes.
-ghost use Rattle.std.specs.Prelude.{◌≡◌, ◌⊎◌, [], ◌∷◌, IfErr, IfOk, OnOk, map, codes, string_bytes};
-ghost use Rattle.clap.specs.Words.{app_of, fault_of};
+ghost use Rattle.std.specs.Prelude.{◌≡◌, ◌⊎◌, ℕ, List, [], ◌∷◌, true, false, IfErr, IfOk, OnOk, map, codes, string_bytes};
+ghost use Rattle.clap.specs.Words.{app_of, fault_of, shape_of, subcommand_rows_of};
+ghost use Rattle.clap.specs.declared.builder.command.Command.TheViews.{out-Command as fields_of};
 ghost use Rattle.rbc_dispatch.specs.Ending.{status_of};
-ghost use Rattle.rbc_dispatch.specs.Words.{EndsWith, IsTaken, IsWantOfMemory, command_line};
+ghost use Rattle.rbc_dispatch.specs.Words.{EndsWith, IsDecode, IsFound, IsRun, HasWord, IsTakenFor, IsWantOfMemory, command_line, decode_shape, finding_in, finding_of, is_plain};
 
 use crate::arguments::Nameless;
 use crate::ending::Ending;
-use clap::Command;
 use clap::error::ErrorKind;
+use clap::{Arg, ArgMatches, Command};
 use std::alloc::{AllocError, Global};
 use std::env::Env;
 use std::{env, io};
 
 /// What the words ask the program to do.
 #[derive(Clone, Copy, Debug, PartialEq, Eq)]
-pub enum Task {
+pub enum Task<'a> {
     /// `dispatch run`: do the batch on standard input.
     Run,
+    /// `dispatch decode HEX`: write the text of the message whose bytes this word stands for.
+    Decode(&'a str),
 }
 
 /// The command line that the program takes, by the name `dispatch` whatever its file is called.
@@ -31,7 +34,20 @@ fn command<'a>(alloc: Global) -> Result<Command<'a>, AllocError>
         .no_binary_name(true)
         .about("Dispatch emergency stops to trains")
         .subcommand_required(true)
-        .subcommand(run)
+        .subcommand(run)?
+        .subcommand(decode_command(alloc)?)
+}
+
+fn decode_command<'a>(alloc: Global) -> Result<Command<'a>, AllocError>
+    ensures shape { IfOk result (λ command. shape_of command ≡ decode_shape) }
+    ensures local { IfOk result (λ command. (fields_of command).has_globals ≡ false) }
+{
+    let hex = Arg::new(alloc, "HEX")
+        .required(true)
+        .help("The bytes of the message, two hexadecimal digits each");
+    Command::new(alloc, "decode")
+        .about("Write the text of one message to standard output")
+        .arg(hex)
 }
 
 /// The words after the program's name. Where one is not UTF-8, the words are wrong.
@@ -58,13 +74,29 @@ fn not_text(alloc: Global) -> Result<Ending, AllocError>
 
 /// The task that the words after the program's name ask for. The error is help, where they ask for
 /// that, what is wrong with them, or want of memory.
-pub fn parse(alloc: Global, words: &[String]) -> Result<Task, Ending>
-    ensures run { map string_bytes words.now ≡ codes "run" ∷ [] → IsTaken result }
+pub fn parse<'a>(alloc: Global, words: &'a [String]) -> Result<Task<'a>, Ending>
+    ensures run { map string_bytes words.now ≡ codes "run" ∷ [] → IsTakenFor IsRun result }
+    ensures decode { (word : List ℕ) → map string_bytes words.now ≡ codes "decode" ∷ word ∷ []
+        → is_plain word ≡ true → IsTakenFor (IsDecode word) result }
     ensures none { words.now ≡ [] → EndsWith 2 result }
+    ensures no_word { map string_bytes words.now ≡ codes "decode" ∷ [] → EndsWith 2 result }
+    ensures two_words { (a b : List ℕ) → map string_bytes words.now ≡ codes "decode" ∷ a ∷ b ∷ []
+        → is_plain a ≡ true → is_plain b ≡ true → EndsWith 2 result }
     ensures help { map string_bytes words.now ≡ codes "--help" ∷ [] → EndsWith 0 result }
     ensures only { OnOk result (fault_of command_line (map string_bytes words.now) ≡ []) }
+    ensures task { IfOk result (IsFound (finding_in (map string_bytes words.now))) }
 {
-    let command = command(alloc)?;
-    command.try_get_matches_from(words)?;
-    Ok(Task::Run)
+    let matches = command(alloc)?.try_get_matches_from(words)?;
+    Ok(task_of(&matches))
+}
+
+// The task that the words named, by what was found in them.
+fn task_of<'a>(matches: &ArgMatches<'a>) -> Task<'a>
+    requires { HasWord (finding_of (subcommand_rows_of matches.now)) }
+    ensures { IsFound (finding_of (subcommand_rows_of matches.now)) result }
+{
+    match matches.subcommand_matches("decode") {
+        Some(decode) => Task::Decode(decode.get_str("HEX").unwrap()),
+        None => Task::Run,
+    }
 }

@@ -1,0 +1,36 @@
+-- What `decode` does with a word.
+use Rattle.std.specs.Prelude.{◌≡◌, ◌≤◌, ℕ, List, Option, Result, Ok, Err, IsErr, IsErrAnd, ◌⊎◌, take, length, ⊤}
+use Rattle.std.specs.Io.KnownBytes.{Appends}
+use Rattle.hex.specs.Hex.{decode_of}
+use Rattle.ertms_codec.specs.Texts.{HasText, IsRefused}
+use Rattle.ertms_codec.specs.declared.error.DecodeError.{DecodeError}
+use Rattle.rbc_dispatch.specs.declared.fault.Fault.{Fault}
+use Rattle.rbc_dispatch.specs.declared.fault.Fault.TheVariants.{Batch, BadHex, Decode, Write, OutOfMemory}
+
+-- the word stands for bytes with this text
+abbrev pub SpellsText : List ℕ → List ℕ → Type 0
+SpellsText word text = (bytes : List ℕ) × (decode_of word ≡ Ok bytes) × HasText bytes text
+
+-- At Ok the output holds the text of the word's bytes more, and nothing else; at a write fault exactly
+-- the first bytes of that text. A bad word is no hexadecimal text of whole bytes, and bytes are refused
+-- only by the codec.
+abbrev pub Decodes : {E : Type 0} → List ℕ → Option (List ℕ) → Option (List ℕ) → Result E Fault → Type 0
+Decodes word old new (Ok done) = (text : List ℕ) × SpellsText word text × Appends old new text
+Decodes word old new (Err (Write sent)) = (text : List ℕ) × SpellsText word text × (sent ≤ length text) × Appends old new (take sent text)
+Decodes word old new (Err BadHex) = IsErr (decode_of word)
+Decodes word old new (Err (Decode e)) = (bytes : List ℕ) × (decode_of word ≡ Ok bytes) × IsRefused bytes e
+Decodes word old new (Err OutOfMemory) = ⊤
+Decodes word old new (Err (Batch e)) = ⊥
+
+-- refused bytes are answered by their refusal, unless memory runs out
+abbrev pub MeetsRefusal : {E : Type 0} → DecodeError → Result E Fault → Type 0
+MeetsRefusal e r = IsErrAnd r (λ fault. (fault ≡ Decode e) ⊎ (fault ≡ OutOfMemory))
+
+-- until there is a text to write the output is as it was
+abbrev pub IsUntouched : {E W : Type 0} → Result E Fault → W → W → Type 0
+IsUntouched (Ok done) old new = ⊤
+IsUntouched (Err (Write sent)) old new = ⊤
+IsUntouched (Err BadHex) old new = new ≡ old
+IsUntouched (Err (Decode e)) old new = new ≡ old
+IsUntouched (Err OutOfMemory) old new = new ≡ old
+IsUntouched (Err (Batch e)) old new = new ≡ old
