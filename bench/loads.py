@@ -1,7 +1,7 @@
 """Makes the batches that the program is measured on: the same bytes on each machine.
 
-Called as `python3 loads.py FOLDER`, it writes each batch to FOLDER/NAME.batch and prints nothing.
-A batch that this file made earlier is left as it is.
+Called as `python3 loads.py FOLDER`, it writes each batch to FOLDER/NAME.batch, and the track that they are
+run on to FOLDER/wide.toml, and prints nothing. A batch that this file made earlier is left as it is.
 """
 
 import hashlib
@@ -190,6 +190,8 @@ def batches():
 
 def main(folder):
     os.makedirs(folder, exist_ok=True)
+    with open(f"{folder}/wide.toml", "w", encoding="ascii") as it:
+        it.write(f"horizon = {LONGEST_LINE}\n" + f"[[line]]\nlength = {LONGEST_LINE}\n" * LINES)
     with open(__file__, "rb") as it:
         stamp = hashlib.sha256(it.read()).hexdigest()
     for name, made in batches():

@@ -27,7 +27,7 @@ class Row:
     def __init__(self, name, folder, runs, program):
         self.name = name
         self.batch, self.output = f"{folder}/{name}.batch", f"{folder}/output"
-        self.words = [program, "run"]
+        self.words = [program, "run", "--track", f"{folder}/wide.toml"]
         self.times, self.statuses = [], set()
         planned = runs
         while len(self.times) < planned:

@@ -11,6 +11,7 @@ use Rattle.rbc_batch.specs.declared.desk.Reply.TheVariants.{Done}
 use Rattle.rbc_batch.specs.Maps.{has, place_of, with_value, keys, rises_from}
 use Rattle.rbc_batch.specs.World.{Train, World, new_train, is_good_area}
 use Rattle.rbc_batch.specs.Settling.{settled, messages_of}
+use Rattle.rbc_track.specs.Plan.{Plan}
 use Rattle.rbc_batch.specs.Effect.{effect}
 use Rattle.rbc_batch.specs.Serial.{Desk, settled_trains, sent_to, post, post_all, count_sent, step, after}
 use Rattle.rbc_batch.specs.Sound.{IsSettled, IsSound}
@@ -29,20 +30,20 @@ third b c d x y z w e f g = ap (λ q. cond q x (cond c (cond d y z) w)) e ∙ ap
 pub absent_at : {V : Type 0} (key : ℕ) (pairs : List (ℕ × V)) (at : ℕ) → rises_from 0 (keys pairs) ≡ true → at ≡ place_of key pairs → has pairs key ≡ false → (d : ℕ × V) → at < length pairs → (get_or pairs at d).0 ≢ key
 absent_at key pairs at rises is absent d within same = both_ways _ absent (sym (has_here key pairs at d rises is within) ∙ eq-eqb (get_or pairs at d).0 key same)
 
-module _ (desk : Desk) (sound : IsSound desk) (engine train_length : ℕ) (absent : has desk.world.trains engine ≡ false) (few : length desk.world.trains < 2000) where
+module _ (plan : Plan) (desk : Desk) (sound : IsSound desk) (engine train_length : ℕ) (absent : has desk.world.trains engine ≡ false) (few : length desk.world.trains < 2000) where
   new : Train
   new = new_train train_length
 
   enrolled_world : World
   enrolled_world = record desk.world { trains = with_value engine (new_train train_length) desk.world.trains }
 
-  takes_effect : effect (Enrol engine train_length) desk.world ≡ Ok (record desk.world { trains = with_value engine (new_train train_length) desk.world.trains })
+  takes_effect : effect plan (Enrol engine train_length) desk.world ≡ Ok (record desk.world { trains = with_value engine (new_train train_length) desk.world.trains })
   takes_effect = neither (has desk.world.trains engine) (leb 2000 (length desk.world.trains)) (Err 8) (Err 9) _ absent (lt-leb 2000 (length desk.world.trains) few)
 
   abbrev desk_with : List (ℕ × Train) → ℕ → List (ℕ × List Mail) → Desk
   desk_with trains count boxes = record { world = record desk.world { trains = trains }; results = desk.results ++ Done count ∷ []; outboxes = boxes }
 
-  step_enrol : step desk (Enrol engine train_length) ≡ desk_with (with_value engine (settled desk.world.stops (new_train train_length)) desk.world.trains) (length (messages_of desk.world.stops (new_train train_length))) (post (length desk.results + 1) desk.outboxes (engine, messages_of desk.world.stops (new_train train_length)))
+  step_enrol : step plan desk (Enrol engine train_length) ≡ desk_with (with_value engine (settled desk.world.stops (new_train train_length)) desk.world.trains) (length (messages_of desk.world.stops (new_train train_length))) (post (length desk.results + 1) desk.outboxes (engine, messages_of desk.world.stops (new_train train_length)))
   step_enrol =
       let stops = desk.world.stops in
       let trains = desk.world.trains in
@@ -68,7 +69,7 @@ module _ (desk : Desk) (sound : IsSound desk) (engine train_length : ℕ) (absen
     results_are : results ≡ desk.results ++ Done (length (messages_of desk.world.stops (new_train train_length))) ∷ []
     results_are = is_answered ∙ ap (λ (ms : List ToTrain). desk.results ++ Done (length ms) ∷ []) are_messages
 
-    pub enrol_is_step : left ≡ step desk (Enrol engine train_length)
+    pub enrol_is_step : left ≡ step plan desk (Enrol engine train_length)
     enrol_is_step =
         ap (λ (ts : List (ℕ × Train)). record { world = record { trains = ts; stops = desk.world.stops; last = desk.world.last }; results = results; outboxes = boxes }) trains_are
         ∙ ap (λ (rs : List Reply). record { world = record { trains = with_value engine (settled desk.world.stops (new_train train_length)) desk.world.trains; stops = desk.world.stops; last = desk.world.last }; results = rs; outboxes = boxes }) results_are
@@ -85,7 +86,7 @@ module _ (desk : Desk) (sound : IsSound desk) (engine train_length : ℕ) (absen
       outboxes = subst (λ (bs : List (ℕ × List Mail)). rises_from 0 (keys bs) ≡ true) (sym boxes_are) (post_rises (length desk.results + 1) desk.outboxes (engine, messages_of desk.world.stops (new_train train_length)) sound.outboxes);
     }
 
-module _ (desk : Desk) (sound : IsSound desk) (number : ℕ) (segments : List Segment) (unused : desk.world.last < number) (good : is_good_area segments ≡ true) (few : length desk.world.stops < 64) where
+module _ (plan : Plan) (desk : Desk) (sound : IsSound desk) (number : ℕ) (segments : List Segment) (unused : desk.world.last < number) (good : is_good_area plan segments ≡ true) (few : length desk.world.stops < 64) where
   abbrev more_stops : List (ℕ × List Segment)
   more_stops = desk.world.stops ++ (number, segments) ∷ []
 
@@ -116,9 +117,9 @@ module _ (desk : Desk) (sound : IsSound desk) (number : ℕ) (segments : List Se
   posts_rise input [] boxes rises = rises
   posts_rise input (messages ∷ sent) boxes rises = posts_rise input sent (post input boxes messages) (post_rises input boxes messages rises)
 
-  step_stop : step desk (Stop number segments) ≡ stopped more_stops
+  step_stop : step plan desk (Stop number segments) ≡ stopped more_stops
   step_stop =
-      ap (after desk) (third (leb number desk.world.last) (is_good_area segments) (leb 64 (length desk.world.stops)) (Err 11) (Err 13) (Ok (record desk.world { stops = with_value number segments desk.world.stops; last = number })) (Err 12) (lt-leb number desk.world.last unused) good (lt-leb 64 (length desk.world.stops) few))
+      ap (after desk) (third (leb number desk.world.last) (is_good_area plan segments) (leb 64 (length desk.world.stops)) (Err 11) (Err 13) (Ok (record desk.world { stops = with_value number segments desk.world.stops; last = number })) (Err 12) (lt-leb number desk.world.last unused) good (lt-leb 64 (length desk.world.stops) few))
       ∙ ap stopped (with_value-above number segments desk.world.stops (all_below desk.world.stops sound.below_last))
 
   module _ (stops : List (ℕ × List Segment)) (trains : List (ℕ × Train)) (results : List Reply) (boxes : List (ℕ × List Mail))
@@ -127,7 +128,7 @@ module _ (desk : Desk) (sound : IsSound desk) (number : ℕ) (segments : List Se
     abbrev remains : Desk
     remains = record { world = record { trains = trains; stops = stops; last = number }; results = results; outboxes = boxes }
 
-    pub stop_is_step : remains ≡ step desk (Stop number segments)
+    pub stop_is_step : remains ≡ step plan desk (Stop number segments)
     stop_is_step =
         ap (λ (ts : List (ℕ × Train)). record { world = record { trains = ts; stops = stops; last = number }; results = results; outboxes = boxes }) are_settled
         ∙ ap (λ (rs : List Reply). record { world = record { trains = settled_trains stops desk.world.trains; stops = stops; last = number }; results = rs; outboxes = boxes }) is_counted

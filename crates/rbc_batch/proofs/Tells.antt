@@ -7,6 +7,7 @@ use Rattle.rbc_batch.specs.declared.input.Segment.{Segment}
 use Rattle.rbc_batch.specs.Maps.{has, keys}
 use Rattle.rbc_batch.specs.World.{World, Train}
 use Rattle.rbc_batch.specs.Settling.{is_told, identifiers, settled, does_concern, concern_of}
+use Rattle.rbc_track.specs.Plan.{Plan}
 use Rattle.rbc_batch.specs.Effect.{effect}
 use Rattle.rbc_batch.specs.Serial.{Desk, after, step, serial, new_desk}
 use Rattle.rbc_batch.specs.Told.{IsToldOrCannotBe, EachStopIsTold, EachRunTells}
@@ -50,9 +51,9 @@ after_tells : (desk : Desk) (result : Result World ℕ) → EachStopIsTold desk.
 after_tells desk (Err code) told = told
 after_tells desk (Ok world) told = each_train world.stops world.trains
 
-serial_tells : (inputs : List Input) (desk : Desk) → EachStopIsTold desk.world → EachStopIsTold (serial desk inputs).world
-serial_tells [] desk told = told
-serial_tells (input ∷ inputs) desk told = serial_tells inputs (step desk input) (after_tells desk (effect input desk.world) told)
+serial_tells : (plan : Plan) (inputs : List Input) (desk : Desk) → EachStopIsTold desk.world → EachStopIsTold (serial plan desk inputs).world
+serial_tells plan [] desk told = told
+serial_tells plan (input ∷ inputs) desk told = serial_tells plan inputs (step plan desk input) (after_tells desk (effect plan input desk.world) told)
 
 pub each_run_tells : EachRunTells
-each_run_tells inputs = serial_tells inputs new_desk tt
+each_run_tells plan inputs = serial_tells plan inputs new_desk tt

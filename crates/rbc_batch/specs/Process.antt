@@ -2,6 +2,7 @@
 use Rattle.std.specs.Prelude.{◌≡◌, ◌≤◌, ℕ, List, Option, Result, Ok, Err, ◌++◌, codes, take, length, ⊤}
 use Rattle.std.specs.Fmt.{decimal}
 use Rattle.std.specs.Io.KnownBytes.{Appends, Consumes, IsAtEnd, Keeps}
+use Rattle.rbc_track.specs.Plan.{Plan}
 use Rattle.rbc_batch.specs.declared.batch.ProcessError.{ProcessError}
 use Rattle.rbc_batch.specs.declared.batch.ProcessError.TheVariants as fault
 use Rattle.rbc_batch.specs.BatchText.{inputs_of}
@@ -9,8 +10,8 @@ use Rattle.rbc_batch.specs.Serial.{serial, new_desk}
 use Rattle.rbc_batch.specs.OutputText.{output_of}
 
 -- the output text of the serial run, from a new desk, of the inputs of a batch
-abbrev pub text_of : List ℕ → List ℕ
-text_of batch = output_of (serial new_desk (inputs_of batch))
+abbrev pub text_of : Plan → List ℕ → List ℕ
+text_of plan batch = output_of (serial plan new_desk (inputs_of batch))
 
 -- the batch is all that the reader had left
 abbrev pub IsAllRead : Option (List ℕ) → Option (List ℕ) → List ℕ → Type 0
@@ -18,12 +19,12 @@ IsAllRead old new batch = Consumes old new batch × IsAtEnd new
 
 -- At Ok the writer holds the output text of all that was read, and nothing else more; at a write fault
 -- exactly the first bytes of it; at any other fault nothing.
-abbrev pub Answers : {E : Type 0} → Option (List ℕ) → Option (List ℕ) → Option (List ℕ) → Option (List ℕ) → Result E ProcessError → Type 0
-Answers read_old read_new old new (Ok done) = (batch : List ℕ) × IsAllRead read_old read_new batch × Appends old new (text_of batch)
-Answers read_old read_new old new (Err (fault.Write sent)) = (batch : List ℕ) × IsAllRead read_old read_new batch × (sent ≤ length (text_of batch)) × Appends old new (take sent (text_of batch))
-Answers read_old read_new old new (Err fault.Read) = Keeps old new
-Answers read_old read_new old new (Err fault.TooLong) = Keeps old new
-Answers read_old read_new old new (Err fault.Memory) = Keeps old new
+abbrev pub Answers : {E : Type 0} → Plan → Option (List ℕ) → Option (List ℕ) → Option (List ℕ) → Option (List ℕ) → Result E ProcessError → Type 0
+Answers plan read_old read_new old new (Ok done) = (batch : List ℕ) × IsAllRead read_old read_new batch × Appends old new (text_of plan batch)
+Answers plan read_old read_new old new (Err (fault.Write sent)) = (batch : List ℕ) × IsAllRead read_old read_new batch × (sent ≤ length (text_of plan batch)) × Appends old new (take sent (text_of plan batch))
+Answers plan read_old read_new old new (Err fault.Read) = Keeps old new
+Answers plan read_old read_new old new (Err fault.TooLong) = Keeps old new
+Answers plan read_old read_new old new (Err fault.Memory) = Keeps old new
 
 -- until there is something to write the writer is as it was
 abbrev pub IsUntouched : {E W : Type 0} → Result E ProcessError → W → W → Type 0

@@ -2,6 +2,7 @@
 use Rattle.std.specs.Prelude.{ℕ, ◌+◌, List, [], ◌∷◌, ◌++◌, map, length, Result, Ok, Err}
 use Rattle.std.specs.List.{fold, sum_by}
 use Rattle.ertms_codec.specs.declared.to_train.ToTrain.{ToTrain}
+use Rattle.rbc_track.specs.Plan.{Plan}
 use Rattle.rbc_batch.specs.declared.input.Input.{Input}
 use Rattle.rbc_batch.specs.declared.input.Segment.{Segment}
 use Rattle.rbc_batch.specs.declared.desk.Reply.{Reply}
@@ -63,9 +64,9 @@ after desk (Ok world) = record {
   outboxes = post_all (length desk.results + 1) (sent_to_all world) desk.outboxes;
 }
 
-abbrev pub step : Desk → Input → Desk
-step desk input = after desk (effect input desk.world)
+abbrev pub step : Plan → Desk → Input → Desk
+step plan desk input = after desk (effect plan input desk.world)
 
--- the inputs one after another
-abbrev pub serial : Desk → List Input → Desk
-serial desk inputs = fold step desk inputs
+-- the inputs one after another, on one track
+abbrev pub serial : Plan → Desk → List Input → Desk
+serial plan desk inputs = fold (step plan) desk inputs

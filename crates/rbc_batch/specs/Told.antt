@@ -1,6 +1,7 @@
 -- What the rules promise of every train, in the subject's own words.
 use Rattle.std.specs.Prelude.{◌≢◌, ◌≤◌, ◌<◌, ℕ, ◌⊎◌, List, IsTrue}
 use Rattle.std.specs.List.{AllByRecursion}
+use Rattle.rbc_track.specs.Plan.{Plan}
 use Rattle.rbc_batch.specs.declared.input.Input.{Input}
 use Rattle.rbc_batch.specs.declared.input.Segment.{Segment}
 use Rattle.rbc_batch.specs.Maps.{has}
@@ -21,6 +22,6 @@ IsToldOrCannotBe train stop = concern_of train stop.1 ≢ Nothing →
 abbrev pub EachStopIsTold : World → Type 0
 EachStopIsTold world = AllByRecursion (λ train. AllByRecursion (IsToldOrCannotBe train.1) world.stops) world.trains
 
--- after each run, and so after each step of one
+-- on each track after each run, and so after each step of one
 abbrev pub EachRunTells : Type 0
-EachRunTells = (inputs : List Input) → EachStopIsTold (serial new_desk inputs).world
+EachRunTells = (plan : Plan) (inputs : List Input) → EachStopIsTold (serial plan new_desk inputs).world

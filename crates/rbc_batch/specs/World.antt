@@ -1,6 +1,8 @@
 -- The world that the rules speak of, over whole maps (own rule).
-use Rattle.std.specs.Prelude.{ℕ, Bool, ◌&&◌, nat_le, List, [], length}
+use Rattle.std.specs.Prelude.{ℕ, Bool, false, ◌&&◌, nat_le, List, [], length, slice_get}
 use Rattle.std.specs.List.{list_all}
+use Rattle.std.specs.Option.{option_map_or}
+use Rattle.rbc_track.specs.Plan.{Plan}
 use Rattle.rbc_batch.specs.declared.input.Segment.{Segment}
 use Rattle.rbc_batch.specs.declared.train.Slot.{Slot}
 
@@ -25,6 +27,10 @@ new_world = record { trains = []; stops = []; last = 0 }
 abbrev pub new_train : ℕ → Train
 new_train length = record { length = length; stamp = 0; slots = [] }
 
--- a segment is good where its first place is not above its second; an area has at most 8 of them
-abbrev pub is_good_area : List Segment → Bool
-is_good_area segments = nat_le (length segments) 8 && list_all (λ segment. nat_le segment.from segment.to) segments
+-- a segment is good where the track has its line, its first place is not above its second, and that is on the line
+abbrev pub is_good_segment : Plan → Segment → Bool
+is_good_segment plan segment = option_map_or (λ length. nat_le segment.from segment.to && nat_le segment.to length) (slice_get plan.lines segment.line) false
+
+-- an area has at most 8 segments, each of them good
+abbrev pub is_good_area : Plan → List Segment → Bool
+is_good_area plan segments = nat_le (length segments) 8 && list_all (is_good_segment plan) segments

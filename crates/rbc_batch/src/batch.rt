@@ -10,6 +10,7 @@ use crate::parse;
 use crate::read::read_batch;
 use crate::render::render;
 use crate::write::write_text;
+use rbc_track::Track;
 use std::alloc::{AllocError, Global};
 use std::error::Error;
 use std::fmt;
@@ -58,23 +59,23 @@ impl From<AllocError> for ProcessError {
     }
 }
 
-/// The desk after all lines of a batch, one after another, from a new desk.
-fn run_batch(alloc: Global, batch: &[u8]) -> Result<Desk, AllocError>
+/// The desk after all lines of a batch, one after another, from a new desk on a track.
+fn run_batch(alloc: Global, track: &Track, batch: &[u8]) -> Result<Desk, AllocError>
     requires { length batch.now ≤ 16777216 }
-    ensures desk { IfOk result (λ desk. desk ≡ serial new_desk (inputs_of batch.now)) }
+    ensures desk { IfOk result (λ desk. desk ≡ serial track.now new_desk (inputs_of batch.now)) }
     ensures few { IfOk result (λ desk. length desk.results ≤ length batch.now) }
 {
     let mut desk = Desk::new(alloc);
     let mut rest = batch;
     while !rest.is_empty() {
         let (line, behind) = parse::first_line(rest);
-        desk.step(alloc, parse::input(alloc, line)?)?;
+        desk.step(alloc, track, parse::input(alloc, line)?)?;
         rest = behind;
     }
     Ok(desk)
 }
 
-/// Reads a batch to its end, runs its lines one after another from a new desk, and writes the output
+/// Reads a batch to its end, runs its lines one after another from a new desk on a track, and writes the output
 /// text. Nothing is written before the whole is computed.
 ///
 /// # Errors
@@ -83,16 +84,17 @@ fn run_batch(alloc: Global, batch: &[u8]) -> Result<Desk, AllocError>
 /// more than 16,777,216.
 pub fn process<R: Read, W: Write>(
     rt: &impl AllocGlobal,
+    track: &Track,
     reader: &mut R,
     writer: &mut W,
 ) -> Result<(), ProcessError>
-    ensures answers { Answers (R.remaining reader.old) (R.remaining reader.new) (W.contents writer.old) (W.contents writer.new) result }
+    ensures answers { Answers track.now (R.remaining reader.old) (R.remaining reader.new) (W.contents writer.old) (W.contents writer.new) result }
     ensures too_long { IsErrOf result ProcessError.TooLong → IfSome (R.remaining reader.old) (λ batch. 16777216 < length batch) }
     ensures untouched { IsUntouched result writer.old writer.new }
 {
     let alloc = rt.alloc();
     let batch = read_batch(alloc, reader)?;
-    let desk = run_batch(alloc, &batch)?;
+    let desk = run_batch(alloc, track, &batch)?;
     let text = render(alloc, &desk)?;
     write_text(writer, &text).map_err(|sent| ProcessError::Write { sent: sent as u64 })
 }

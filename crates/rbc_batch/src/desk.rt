@@ -3,7 +3,8 @@
 ghost use Rattle.std.specs.Prelude.{◌≡◌, ◌+◌, ◌<◌, ◌≤◌, ◌^◌, ◌∷◌, ◌++◌, [], map, length, nat_le, IfOk, OnOk};
 ghost use Rattle.std.specs.List.{list_all};
 ghost use Rattle.rbc_batch.specs.Maps.{IsMap, with_value};
-ghost use Rattle.rbc_batch.specs.World.{is_good_area};
+ghost use Rattle.rbc_track.specs.Plan.{Plan};
+ghost use Rattle.rbc_batch.specs.World.{is_good_segment, is_good_area};
 ghost use Rattle.rbc_batch.specs.Settling.{settled, messages_of};
 ghost use Rattle.rbc_batch.specs.Serial.{new_desk, step, post_all, count_sent, settled_trains, sent_to, refused};
 ghost use Rattle.rbc_batch.specs.Sound.{IsSound};
@@ -12,6 +13,7 @@ use crate::input::{Input, Segment, Segments};
 use crate::maps;
 use crate::outbox::{self, Outbox};
 use crate::train::Train;
+use rbc_track::Track;
 use std::alloc::{AllocError, Global};
 use std::marker::Model;
 
@@ -70,18 +72,30 @@ impl Model for Desk {
     } };
 }
 
-/// Whether each segment ends where it begins or above.
-fn are_ordered(segments: &[Segment]) -> bool
-    ensures { result ≡ list_all (λ segment. nat_le segment.from segment.to) segments.now }
+/// Whether the track has the segment's line, and the segment lies on it and does not end before it begins.
+fn is_good_segment(track: &Track, segment: &Segment) -> bool
+    ensures { result ≡ is_good_segment track.now segment.now }
 {
-    segments.iter().all(|segment| segment.from <= segment.to)
+    match track.line_len(segment.line) {
+        Some(length) => segment.from <= segment.to && segment.to <= length,
+        None => false,
+    }
+}
+
+/// Whether each segment is good.
+fn are_good(track: &Track, segments: &[Segment]) -> bool
+    ensures { result ≡ list_all (is_good_segment track.now) segments.now }
+{
+    segments
+        .iter()
+        .all(|segment| is_good_segment(track, segment))
 }
 
 /// Whether an area can be closed: its segments are good, and not too many.
-fn is_good_area(segments: &[Segment]) -> bool
-    ensures { result ≡ is_good_area segments.now }
+fn is_good_area(track: &Track, segments: &[Segment]) -> bool
+    ensures { result ≡ is_good_area track.now segments.now }
 {
-    segments.len() <= MOST_SEGMENTS && are_ordered(segments)
+    segments.len() <= MOST_SEGMENTS && are_good(track, segments)
 }
 
 /// Settles each train, puts what is sent into the outboxes, and counts it.
@@ -135,16 +149,16 @@ impl Desk {
         self.outboxes.as_slice()
     }
 
-    /// Takes the next input. After a failure for want of memory the desk is of no use any more.
-    pub fn step(&mut self, alloc: Global, input: Input) -> Result<(), AllocError>
+    /// Takes the next input, on a track. After a failure for want of memory the desk is of no use any more.
+    pub fn step(&mut self, alloc: Global, track: &Track, input: Input) -> Result<(), AllocError>
         requires sound { IsSound self.old }
         requires room { length self.old.results + 1 < 2 ^ 32 }
-        ensures step { OnOk result (self.new ≡ step self.old input) }
+        ensures step { OnOk result (self.new ≡ step track.now self.old input) }
         ensures stays_sound { OnOk result (IsSound self.new) }
     {
         match input {
             Input::Enrol { engine, length } => self.enrol(alloc, engine, length),
-            Input::Stop { number, segments } => self.stop(alloc, number, segments),
+            Input::Stop { number, segments } => self.stop(alloc, track, number, segments),
             Input::Bad(code) => self.refuse(code),
         }
     }
@@ -161,7 +175,7 @@ impl Desk {
     fn enrol(&mut self, alloc: Global, engine: u32, train_length: u32) -> Result<(), AllocError>
         requires sound { IsSound self.old }
         requires room { length self.old.results + 1 < 2 ^ 32 }
-        ensures step { OnOk result (self.new ≡ step self.old (Input.Enrol engine train_length)) }
+        ensures step { OnOk result ((plan : Plan) → self.new ≡ step plan self.old (Input.Enrol engine train_length)) }
         ensures stays_sound { OnOk result (IsSound self.new) }
     {
         if maps::has(&self.trains, engine) {
@@ -180,16 +194,22 @@ impl Desk {
         Ok(())
     }
 
-    fn stop(&mut self, alloc: Global, number: u32, segments: Segments) -> Result<(), AllocError>
+    fn stop(
+        &mut self,
+        alloc: Global,
+        track: &Track,
+        number: u32,
+        segments: Segments,
+    ) -> Result<(), AllocError>
         requires sound { IsSound self.old }
         requires room { length self.old.results + 1 < 2 ^ 32 }
-        ensures step { OnOk result (self.new ≡ step self.old (Input.Stop number segments)) }
+        ensures step { OnOk result (self.new ≡ step track.now self.old (Input.Stop number segments)) }
         ensures stays_sound { OnOk result (IsSound self.new) }
     {
         if number <= self.last {
             return self.refuse(NUMBER_USED);
         }
-        if !is_good_area(segments.as_slice()) {
+        if !is_good_area(track, segments.as_slice()) {
             return self.refuse(BAD_AREA);
         }
         if self.stops.len() >= MOST_STOPS {

@@ -1,13 +1,26 @@
 use crate::{ProcessError, process};
+use rbc_track::{Track, track_from_toml};
 use std::io;
 use std::io::{ErrorKind, Read, Write};
 use std::test::Fail;
+
+/// Two lines, of 300,000 and of 3,000,000 units of 10 cm.
+const TRACK: &str = "horizon = 100000
+[[line]]
+length = 300000
+[[line]]
+length = 3000000
+";
+
+fn track(rt: &HostRuntime) -> Result<Track, Fail> {
+    Ok(track_from_toml(rt.alloc(), TRACK)?)
+}
 
 /// The output text of a batch.
 fn output(rt: &HostRuntime, batch: &[u8]) -> Result<Vec<u8>, Fail> {
     let mut written = Vec::new(rt.alloc());
     let mut reader = batch;
-    process(rt, &mut reader, &mut written)?;
+    process(rt, &track(rt)?, &mut reader, &mut written)?;
     Ok(written)
 }
 
@@ -50,8 +63,16 @@ fn answers_worked_batches(rt: HostRuntime) -> Result<(), Fail> {
             "1 refused 1\n2 refused 1\n3 refused 1\n4 refused 1\n5 refused 1\n6 refused 1\n7 refused 1\n",
         ),
         (
-            "stop 5 0:0-1 0:0-1 0:0-1 0:0-1 0:0-1 0:0-1 0:0-1 0:0-1\nstop 6 0:0-1 0:0-1 0:0-1 0:0-1 0:0-1 0:0-1 0:0-1 0:0-1 0:0-1\nstop 5 9:9-3\nstop 6 9:9-9\r\nstop 4294967295 9:9-9",
+            "stop 5 0:0-1 0:0-1 0:0-1 0:0-1 0:0-1 0:0-1 0:0-1 0:0-1\nstop 6 0:0-1 0:0-1 0:0-1 0:0-1 0:0-1 0:0-1 0:0-1 0:0-1 0:0-1\nstop 5 9:9-3\nstop 6 1:9-9\r\nstop 4294967295 1:9-9",
             "1 ok 0\n2 refused 12\n3 refused 11\n4 refused 1\n5 ok 0\n",
+        ),
+        (
+            "enrol 7 2000\nenrol 7 2000\nenrol 16777216 2000\nenrol 9 0\nstop 0 0:0-10\nstop 1 9:0-10\nstop 1 0:10-5\n",
+            "1 ok 0\n2 refused 8\n3 refused 1\n4 refused 1\n5 refused 11\n6 refused 12\n7 refused 12\n",
+        ),
+        (
+            "stop 1 0:300000-300000\nstop 2 0:0-300001\nstop 2 1:0-3000000\nstop 3 1:0-3000001\nstop 3 2:0-0\nstop 3 0:0-1 2:0-1\nstop 3 4294967295:0-1\nstop 3 0:1-0",
+            "1 ok 0\n2 refused 12\n3 ok 0\n4 refused 12\n5 refused 12\n6 refused 12\n7 refused 12\n8 refused 12\n",
         ),
     ];
     for (batch, text) in rows {
@@ -130,7 +151,7 @@ fn fails_where_the_reader_fails(rt: HostRuntime) -> Result<(), Fail> {
                 kind,
             };
             let mut written = Vec::new(rt.alloc());
-            let result = process(&rt, &mut reader, &mut written);
+            let result = process(&rt, &track(&rt)?, &mut reader, &mut written);
             let calls = reader.calls;
             if kind == ErrorKind::Other && fails_at <= calls {
                 assert_eq!(rt; result, Err(ProcessError::Read));
@@ -169,17 +190,18 @@ impl Write for Interrupted {
 }
 
 #[test]
-fn gives_up_on_endless_interruptions(rt: HostRuntime) {
+fn gives_up_on_endless_interruptions(rt: HostRuntime) -> Result<(), Fail> {
     let mut reader = Interrupted { calls: 0 };
     let mut written = Vec::new(rt.alloc());
-    let result = process(&rt, &mut reader, &mut written);
+    let result = process(&rt, &track(&rt)?, &mut reader, &mut written);
     assert_eq!(rt; result, Err(ProcessError::Read));
     assert_eq!(rt; (reader.calls, written.len()), (20_000_000, 0));
     let mut text = b"enrol 7 2000".as_slice();
     let mut writer = Interrupted { calls: 0 };
-    let result = process(&rt, &mut text, &mut writer);
+    let result = process(&rt, &track(&rt)?, &mut text, &mut writer);
     assert_eq!(rt; result, Err(ProcessError::Write { sent: 0 }));
     assert_eq!(rt; writer.calls, 1_000);
+    Ok(())
 }
 
 /// Takes one byte a call up to some number, and then gives 0 or fails; every other call is interrupted.
@@ -231,7 +253,7 @@ fn counts_what_is_out_where_the_writer_fails(rt: HostRuntime) -> Result<(), Fail
                 fails,
                 interrupts: false,
             };
-            let result = process(&rt, &mut reader, &mut writer);
+            let result = process(&rt, &track(&rt)?, &mut reader, &mut writer);
             if room < whole.len() {
                 let sent = room as u64;
                 assert_eq!(rt; result, Err(ProcessError::Write { sent }));
@@ -250,7 +272,7 @@ fn takes_the_longest_batch_and_none_longer(rt: HostRuntime) -> Result<(), Fail> 
     let longer = vec![in rt.alloc(); b'x'; 16_777_217]?;
     let mut reader = longer.as_slice();
     let mut written = Vec::new(rt.alloc());
-    let result = process(&rt, &mut reader, &mut written);
+    let result = process(&rt, &track(&rt)?, &mut reader, &mut written);
     assert_eq!(rt; result, Err(ProcessError::TooLong));
     assert_eq!(rt; written.len(), 0);
     assert_eq!(rt; longer.len(), 16_777_217);

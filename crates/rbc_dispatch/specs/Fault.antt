@@ -1,14 +1,17 @@
 -- What faults come of, and the line that each one prints.
 use Rattle.std.specs.Prelude.{ℕ, List, ◌++◌, codes}
 use Rattle.std.specs.Fmt.{decimal}
+use Rattle.std.specs.declared.io.ErrorKind.{ErrorKind}
+use Rattle.std.specs.declared.io.ErrorKind.TheVariants as reading
 use Rattle.ertms_codec.specs.RefusalNames.{name_of}
 use Rattle.ertms_codec.specs.declared.text.DescribeError.{DescribeError}
 use Rattle.ertms_codec.specs.declared.text.DescribeError.TheVariants as describing
 use Rattle.hex.specs.declared.error.FromHexError.{FromHexError}
 use Rattle.hex.specs.declared.error.FromHexError.TheVariants as hex
 use Rattle.rbc_batch.specs.Process.{fault_text}
+use Rattle.rbc_track.specs.Plan.{name_of as name_of_track}
 use Rattle.rbc_dispatch.specs.declared.fault.Fault.{Fault}
-use Rattle.rbc_dispatch.specs.declared.fault.Fault.TheVariants.{Batch, BadHex, Decode, Write, OutOfMemory}
+use Rattle.rbc_dispatch.specs.declared.fault.Fault.TheVariants.{Batch, BadHex, Decode, Write, OutOfMemory, Track, TrackUnreadable}
 
 -- the line of a fault, without its line feed
 abbrev pub line_of : Fault → List ℕ
@@ -17,6 +20,8 @@ line_of BadHex = codes "bad hex"
 line_of (Decode error) = codes "decode: " ++ name_of error
 line_of (Write sent) = codes "write fault after " ++ decimal sent ++ codes " bytes"
 line_of OutOfMemory = codes "out of memory"
+line_of (Track error) = codes "track: " ++ name_of_track error
+line_of TrackUnreadable = codes "track: unreadable"
 
 -- the fault by what the hexadecimal decoder answers
 abbrev pub fault_of_hex : FromHexError → Fault
@@ -27,3 +32,8 @@ fault_of_hex _ = BadHex
 abbrev pub fault_of_describing : DescribeError → Fault
 fault_of_describing (describing.Decode error) = Decode error
 fault_of_describing describing.OutOfMemory = OutOfMemory
+
+-- the fault by what reading the track file answers
+abbrev pub fault_of_reading : ErrorKind → Fault
+fault_of_reading reading.OutOfMemory = OutOfMemory
+fault_of_reading _ = TrackUnreadable

@@ -1,7 +1,8 @@
 -- What the words ask for.
-use Rattle.std.specs.Prelude.{◌≡◌, ◌≢◌, ◌⊎◌, ⊤, ℕ, Bool, List, Option, Some, Result, MatchResult, IsErrAnd, None, is_none, option_map, true, codes}
+use Rattle.std.specs.Prelude.{◌≡◌, ◌≢◌, ◌⊎◌, ℕ, Bool, List, Option, Some, None, Result, MatchResult, IsErrAnd, is_none, if◌then◌else◌, true, codes}
+use Rattle.std.specs.Str.{bytes_eq}
 use Rattle.clap.specs.Lexer.{strip_byte}
-use Rattle.clap.specs.Simple.{App, Shape, new_app, new_rule, new_shape, on_top, subcommand_of, with_rule, with_subcommand}
+use Rattle.clap.specs.Simple.{App, Shape, new_app, new_rule, on_top, subcommand_of, with_rule, with_subcommand}
 use Rattle.clap.specs.Walk.{Row, Text, first_of}
 use Rattle.rbc_dispatch.specs.Ending.{status_of}
 use Rattle.rbc_dispatch.specs.declared.ending.Ending.{Ending}
@@ -10,45 +11,52 @@ use Rattle.rbc_dispatch.specs.declared.fault.Fault.TheVariants.{OutOfMemory}
 use Rattle.rbc_dispatch.specs.declared.words.Task.{Task}
 use Rattle.rbc_dispatch.specs.declared.words.Task.TheVariants.{Run, Decode}
 
+-- `run`, with the option that names the track file
+abbrev pub run_shape : Shape
+run_shape = (with_rule (new_app (codes "run")) (record (new_rule (codes "track")) { long = Some (codes "track"); value_names = 1; required = true })).top
+
 -- `decode`, with one word after it
 abbrev pub decode_shape : Shape
 decode_shape = (with_rule (new_app (codes "decode")) (record (new_rule (codes "HEX")) { required = true })).top
 
--- the command line that the program takes, from the word after its name: `run`, with nothing after it, or `decode`
+-- the command line that the program takes, from the word after its name: `run` or `decode`
 abbrev pub command_line : App
 command_line = let without_name = on_top (λ top. record top { no_binary_name = true; subcommand_required = true }) in
-    with_subcommand (with_subcommand (without_name (new_app (codes "dispatch"))) (new_shape (codes "run"))) decode_shape
+    with_subcommand (with_subcommand (without_name (new_app (codes "dispatch"))) run_shape) decode_shape
 
 -- memory ran out
 abbrev pub IsWantOfMemory : Ending → Type 0
 IsWantOfMemory ending = ending ≡ Fault OutOfMemory
 
--- the name of a subcommand, and the word HEX after it
+-- the name of a subcommand, and what was found for its arguments
 abbrev pub Finding : Type 0
-Finding = Option (Text × Option Text)
-
-abbrev pub finding_of : Option (Text × List Row) → Finding
-finding_of = option_map (λ p. (p.0, first_of (codes "HEX") p.1))
+Finding = Option (Text × List Row)
 
 -- what clap finds in the words
 abbrev pub finding_in : List Text → Finding
-finding_in words = finding_of (subcommand_of command_line words)
+finding_in words = subcommand_of command_line words
 
--- where `decode` was found, so was its word
-abbrev pub HasWord : Finding → Type 0
-HasWord found = found ≢ Some (codes "decode", None)
+-- the word that an argument was given after the subcommand of this name
+abbrev pub word_after : Text → Text → Finding → Option Text
+word_after name id None = None
+word_after name id (Some p) = if bytes_eq p.0 name then first_of id p.1 else None
+
+-- one of the tasks was found, with its word
+abbrev pub HasTask : Finding → Type 0
+HasTask found = (word_after (codes "run") (codes "track") found ≢ None) ⊎ (word_after (codes "decode") (codes "HEX") found ≢ None)
 
 -- the task is what was found
 abbrev pub IsFound : Finding → Task → Type 0
-IsFound found Run = option_map (λ p. p.0) found ≢ Some (codes "decode")
-IsFound found (Decode hex) = found ≡ Some (codes "decode", Some hex.now)
+IsFound found (Run track) = word_after (codes "run") (codes "track") found ≡ Some track.now
+IsFound found (Decode hex) = word_after (codes "decode") (codes "HEX") found ≡ Some hex.now
 
-abbrev pub IsRun : Task → Type 0
-IsRun Run = ⊤
-IsRun (Decode hex) = ⊥
+-- the batch, on the track in the file of this name
+abbrev pub IsRunOn : Text → Task → Type 0
+IsRunOn file (Run track) = track.now ≡ file
+IsRunOn file (Decode hex) = ⊥
 
 abbrev pub IsDecode : Text → Task → Type 0
-IsDecode word Run = ⊥
+IsDecode word (Run track) = ⊥
 IsDecode word (Decode hex) = hex.now ≡ word
 
 -- the word does not begin with a hyphen

@@ -1,7 +1,6 @@
 //! How the program ends where its task was not done.
 use crate::fault::Fault;
 use clap::error::ErrorKind;
-use rbc_batch::ProcessError;
 use std::alloc::AllocError;
 use std::io;
 use std::io::Write;
@@ -80,17 +79,5 @@ impl From<Fault> for Ending {
 
     fn from(fault: Fault) -> Ending {
         Ending::Fault(fault)
-    }
-}
-
-impl From<ProcessError> for Ending {
-    ghost use Rattle.std.specs.Prelude.{◌≡◌};
-    ghost use Rattle.rbc_dispatch.specs.declared.ending.Ending.TheVariants.{Fault as fault};
-    ghost use Rattle.rbc_dispatch.specs.declared.fault.Fault.TheVariants.{Batch};
-
-    ghost from_gives = { λ error ending. ending ≡ fault (Batch error) };
-
-    fn from(error: ProcessError) -> Ending {
-        Ending::Fault(Fault::Batch(error))
     }
 }

@@ -2,11 +2,16 @@
 use ertms_codec::{DecodeError, DescribeError};
 use hex::FromHexError;
 use rbc_batch::ProcessError;
-use std::fmt;
+use rbc_track::TrackError;
+use std::{fmt, io};
 
 /// Why a task that the words named was not done. Its `Display` is the line for the user.
 #[derive(Clone, Copy, Debug, PartialEq, Eq)]
 pub enum Fault {
+    /// The track file could not be read, or is no UTF-8. Nothing was read or written.
+    TrackUnreadable,
+    /// The text of the track file is no track. Nothing was read or written.
+    Track(TrackError),
     /// The batch was not done.
     Batch(ProcessError),
     /// The word is no hexadecimal text of whole bytes.
@@ -27,12 +32,52 @@ impl fmt::Display for Fault {
 
     fn fmt<W: fmt::Write>(&self, f: &mut fmt::Formatter<W>) -> fmt::Result {
         match self {
+            Fault::TrackUnreadable => write!(f, "track: unreadable"),
+            Fault::Track(error) => write!(f, "track: {}", error.name()),
             Fault::Batch(error) => write!(f, "{error}"),
             Fault::BadHex => write!(f, "bad hex"),
             Fault::Decode(error) => write!(f, "decode: {error}"),
             Fault::Write { sent } => write!(f, "write fault after {sent} bytes"),
             Fault::OutOfMemory => write!(f, "out of memory"),
         }
+    }
+}
+
+impl Fault {
+    ghost use Rattle.std.specs.Prelude.{◌≡◌};
+    ghost use Rattle.std.specs.IoError.{error_kind};
+    ghost use Rattle.rbc_dispatch.specs.Fault.{fault_of_reading};
+
+    /// The fault that an error of reading the track file is.
+    pub fn of_reading(error: &io::Error) -> Fault
+        ensures { result ≡ fault_of_reading (error_kind error.now) }
+    {
+        match error.kind() {
+            io::ErrorKind::OutOfMemory => Fault::OutOfMemory,
+            _ => Fault::TrackUnreadable,
+        }
+    }
+}
+
+impl From<TrackError> for Fault {
+    ghost use Rattle.std.specs.Prelude.{◌≡◌};
+    ghost use Rattle.rbc_dispatch.specs.declared.fault.Fault.TheVariants.{Track};
+
+    ghost from_gives = { λ error fault. fault ≡ Track error };
+
+    fn from(error: TrackError) -> Fault {
+        Fault::Track(error)
+    }
+}
+
+impl From<ProcessError> for Fault {
+    ghost use Rattle.std.specs.Prelude.{◌≡◌};
+    ghost use Rattle.rbc_dispatch.specs.declared.fault.Fault.TheVariants.{Batch};
+
+    ghost from_gives = { λ error fault. fault ≡ Batch error };
+
+    fn from(error: ProcessError) -> Fault {
+        Fault::Batch(error)
     }
 }
 

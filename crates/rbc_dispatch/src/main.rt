@@ -1,5 +1,6 @@
-//! `dispatch`, the program. `dispatch run` reads a batch from standard input and writes what the
-//! dispatcher answers to standard output. `dispatch decode HEX` writes the text of one message there.
+//! `dispatch`, the program. `dispatch run --track FILE` reads a batch from standard input and writes
+//! what the dispatcher answers on the track in the file to standard output. `dispatch decode HEX`
+//! writes the text of one message there.
 //!
 //! The exit status is 0 where the task was done and for help, 1 for a fault, and 2 for words that
 //! the program does not take. A fault is one line on standard error.

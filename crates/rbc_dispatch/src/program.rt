@@ -1,26 +1,30 @@
 //! The program, over any streams.
-ghost use Rattle.std.specs.Prelude.{◌≡◌, ◌≢◌, ◌≤◌, ℕ, List, [], ◌∷◌, true, IfErr, OnOk, map, codes, string_bytes};
+ghost use Rattle.std.specs.Prelude.{◌≡◌, ◌≢◌, ◌≤◌, ℕ, List, [], ◌∷◌, true, IfErr, OnErr, OnOk, map, codes, string_bytes};
 ghost use Rattle.std.specs.Process.{exit_status};
 ghost use Rattle.clap.specs.Words.{fault_of};
 ghost use Rattle.rbc_dispatch.specs.Decoding.{Decodes, IsUntouched};
 ghost use Rattle.rbc_dispatch.specs.Ending.{AtTask, status_of};
-ghost use Rattle.rbc_dispatch.specs.Running.{Runs};
+ghost use Rattle.rbc_dispatch.specs.Running.{IsUnread, Keeps, Runs, RunsOn};
 ghost use Rattle.rbc_dispatch.specs.Words.{command_line, is_plain};
 
 use crate::decode::decode;
 use crate::ending::Ending;
+use crate::fault::Fault;
 use crate::words;
 use crate::words::Task;
 use rbc_batch::process;
+use rbc_track::track_from_toml;
 use std::env::Env;
+use std::fs;
 use std::io::{Read, Write};
 use std::process::ExitCode;
+use std::rt::Files;
 
 /// Does what the words of the process ask for, and returns the exit status. `output` should have no
 /// buffer of its own, so that what a write fault counts is what went out.
 pub fn run<R, I, O, E>(rt: &R, input: &mut I, output: &mut O, errors: &mut E) -> ExitCode
 where
-    R: AllocGlobal + Env,
+    R: AllocGlobal + Env + Files,
     I: Read,
     O: Write,
     E: Write,
@@ -55,12 +59,16 @@ where
 /// streams untouched.
 fn perform<R, I, O>(rt: &R, words: &[String], input: &mut I, output: &mut O) -> Result<(), Ending>
 where
-    R: AllocGlobal,
+    R: AllocGlobal + Files,
     I: Read,
     O: Write,
-    ensures run { map string_bytes words.now ≡ codes "run" ∷ []
+    ensures run { (file : List ℕ) → map string_bytes words.now ≡ codes "run" ∷ codes "--track" ∷ file ∷ []
+        → is_plain file ≡ true
         → AtTask (Runs (I.remaining input.old) (I.remaining input.new)
         (O.contents output.old) (O.contents output.new)) result }
+    ensures keeps { (file : List ℕ) → map string_bytes words.now ≡ codes "run" ∷ codes "--track" ∷ file ∷ []
+        → is_plain file ≡ true
+        → AtTask (λ r. Keeps r input.old input.new output.old output.new) result }
     ensures decode { (word : List ℕ) → map string_bytes words.now ≡ codes "decode" ∷ word ∷ []
         → is_plain word ≡ true
         → AtTask (Decodes word (O.contents output.old) (O.contents output.new)) result }
@@ -72,7 +80,45 @@ where
         → (input.new ≡ input.old) × (output.new ≡ output.old) }
 {
     match words::parse(rt.alloc(), words)? {
-        Task::Run => Ok(process(rt, input, output)?),
+        Task::Run { track } => Ok(run_file(rt, track, input, output)?),
         Task::Decode(word) => Ok(decode(rt.alloc(), word, output)?),
     }
+}
+
+/// Does a batch on the track in a file. The track is known before anything of the batch is read.
+fn run_file<R, I, O>(rt: &R, file: &str, input: &mut I, output: &mut O) -> Result<(), Fault>
+where
+    R: AllocGlobal + Files,
+    I: Read,
+    O: Write,
+    ensures runs { Runs (I.remaining input.old) (I.remaining input.new)
+        (O.contents output.old) (O.contents output.new) result }
+    ensures keeps { Keeps result input.old input.new output.old output.new }
+{
+    let text = track_text(rt, file)?;
+    run_on(rt, text.as_str(), input, output)
+}
+
+/// The text of a track file. The error is `OutOfMemory` or `TrackUnreadable`.
+fn track_text<R: AllocGlobal + Files>(rt: &R, file: &str) -> Result<String, Fault>
+    ensures { IfErr result IsUnread }
+{
+    match fs::read_to_string(rt, file) {
+        Ok(text) => Ok(text),
+        Err(error) => Err(Fault::of_reading(&error)),
+    }
+}
+
+/// Does a batch on the track that a text is. The track is known before anything of the batch is read.
+fn run_on<R, I, O>(rt: &R, text: &str, input: &mut I, output: &mut O) -> Result<(), Fault>
+where
+    R: AllocGlobal,
+    I: Read,
+    O: Write,
+    ensures runs { RunsOn text.now (I.remaining input.old) (I.remaining input.new)
+        (O.contents output.old) (O.contents output.new) result }
+    ensures keeps { Keeps result input.old input.new output.old output.new }
+{
+    let track = track_from_toml(rt.alloc(), text)?;
+    Ok(process(rt, &track, input, output)?)
 }

@@ -3,13 +3,17 @@ use crate::fault::Fault;
 use crate::program::run;
 use ertms_codec::DecodeError;
 use rbc_batch::ProcessError;
-use std::env::{Env, FillError};
+use rbc_track::TrackError;
 use std::io;
 use std::io::{ErrorKind, Read, Write};
 use std::process::{Abort, ExitCode};
 use std::test::Fail;
 
 mod decode;
+mod host;
+mod track;
+
+use host::Host;
 
 const BATCH: &[u8] = b"enrol 7 2000\n";
 
@@ -21,14 +25,6 @@ Commands:
   run     Read a batch from standard input and write the answers to standard output
   decode  Write the text of one message to standard output
   help    Print this message or the help of the given subcommand(s)
-
-Options:
-  -h, --help  Print help
-";
-
-const RUN_HELP: &str = "Read a batch from standard input and write the answers to standard output
-
-Usage: dispatch run
 
 Options:
   -h, --help  Print help
@@ -49,44 +45,12 @@ Usage: dispatch <COMMAND>
 For more information, try '--help'.
 ";
 
-const UNEXPECTED_ARGUMENT: &str = "error: unexpected argument '7' found
-
-Usage: dispatch run
-
-For more information, try '--help'.
-";
-
 const NOT_TEXT: &str = "error: invalid UTF-8 was detected in one or more arguments
 
 Usage: dispatch <COMMAND>
 
 For more information, try '--help'.
 ";
-
-/// The words of a process, the program's name first.
-#[derive(Drop)]
-struct Words<'a>(&'a [&'a [u8]]);
-
-impl Env for Words<'_> {
-    fn arg(&self, i: usize, buf: &mut [u8]) -> Result<usize, FillError> {
-        let Some(word) = self.0.get(i) else {
-            return Err(FillError::NotPresent);
-        };
-        if word.len() > buf.len() {
-            return Err(FillError::TooLong);
-        }
-        buf[..word.len()].copy_from_slice(word);
-        Ok(word.len())
-    }
-
-    fn var(&self, _name: &str, _buf: &mut [u8]) -> Result<usize, FillError> {
-        Err(FillError::NotPresent)
-    }
-
-    fn var_at(&self, _i: usize, _buf: &mut [u8]) -> Result<usize, FillError> {
-        Err(FillError::NotPresent)
-    }
-}
 
 /// A reader of `left` line feeds, which then fails.
 #[derive(Drop)]
@@ -140,7 +104,7 @@ fn assert_ends<R: Abort + AllocGlobal>(
     let mut output = Vec::new(rt.alloc());
     let mut errors = Vec::new(rt.alloc());
     let ended = run(
-        &(Words(words), rt.alloc()),
+        &(Host::new(words), rt.alloc()),
         &mut input,
         &mut output,
         &mut errors,
@@ -153,42 +117,38 @@ fn assert_ends<R: Abort + AllocGlobal>(
 
 #[test]
 fn ends_by_its_words(rt: HostRuntime) -> Result<(), Fail> {
-    assert_ends(&rt, &[b"dispatch", b"run"], 0, "", "")?;
     assert_ends(&rt, &[b"dispatch", b"--help"], 0, HELP, "")?;
     assert_ends(&rt, &[b"dispatch", b"help"], 0, HELP, "")?;
-    assert_ends(&rt, &[b"dispatch", b"run", b"--help"], 0, RUN_HELP, "")?;
-    assert_ends(&rt, &[b"dispatch", b"help", b"run"], 0, RUN_HELP, "")?;
     assert_ends(&rt, &[b"dispatch"], 2, "", NO_SUBCOMMAND)?;
     assert_ends(&rt, &[b"dispatch", b"stop"], 2, "", UNKNOWN_SUBCOMMAND)?;
-    assert_ends(
-        &rt,
-        &[b"dispatch", b"run", b"7"],
-        2,
-        "",
-        UNEXPECTED_ARGUMENT,
-    )?;
     assert_ends(&rt, &[b"dispatch", b"run", b"\xff"], 2, "", NOT_TEXT)
 }
 
 #[test]
 fn takes_any_name_of_its_own(rt: HostRuntime) -> Result<(), Fail> {
-    assert_ends(&rt, &[b"/some/where/else", b"run"], 0, "", "")?;
-    assert_ends(&rt, &[b"\xff", b"run"], 0, "", "")?;
+    assert_ends(
+        &rt,
+        &[b"/some/where/else", b"run", b"--track=track.toml"],
+        0,
+        "",
+        "",
+    )?;
+    assert_ends(&rt, &[b"\xff", b"run", b"--track=track.toml"], 0, "", "")?;
     assert_ends(&rt, &[b"", b"--help"], 0, HELP, "")?;
     assert_ends(&rt, &[b"run"], 2, "", NO_SUBCOMMAND)?;
     assert_ends(&rt, &[], 2, "", NO_SUBCOMMAND)
 }
 
-/// Asserts that `dispatch run` over these streams ends with status 1 and this line.
+/// Asserts that `dispatch run --track track.toml` over these streams ends with status 1 and this line.
 fn assert_fault<R: Abort + AllocGlobal, I: Read, O: Write>(
     rt: &R,
     input: &mut I,
     output: &mut O,
     line: &str,
 ) -> Result<(), Fail> {
-    let words: &[&[u8]] = &[b"dispatch", b"run"];
+    let words: &[&[u8]] = &[b"dispatch", b"run", b"--track", b"track.toml"];
     let mut errors = Vec::new(rt.alloc());
-    let ended = run(&(Words(words), rt.alloc()), input, output, &mut errors);
+    let ended = run(&(Host::new(words), rt.alloc()), input, output, &mut errors);
     assert!(rt; ended == ExitCode::FAILURE);
     assert!(rt; errors.as_slice() == line.as_bytes());
     Ok(())
@@ -235,6 +195,9 @@ fn shows_each_fault(rt: HostRuntime) -> Result<(), Fail> {
             Fault::Write { sent: usize::MAX },
             "write fault after 18446744073709551615 bytes",
         ),
+        (Fault::TrackUnreadable, "track: unreadable"),
+        (Fault::Track(TrackError::Text), "track: Text"),
+        (Fault::Track(TrackError::OutOfMemory), "track: OutOfMemory"),
         (Fault::Batch(ProcessError::Memory), "out of memory"),
         (Fault::Batch(ProcessError::Read), "read fault"),
         (Fault::Batch(ProcessError::TooLong), "batch too long"),

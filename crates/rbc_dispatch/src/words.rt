@@ -1,9 +1,9 @@
 //! The words that the program takes.
-ghost use Rattle.std.specs.Prelude.{◌≡◌, ◌⊎◌, ℕ, List, [], ◌∷◌, true, false, IfErr, IfOk, OnOk, map, codes, string_bytes};
+ghost use Rattle.std.specs.Prelude.{◌≡◌, ◌⊎◌, ℕ, List, [], ◌∷◌, true, false, IfErr, IfOk, OnOk, map, option_map, codes, string_bytes};
 ghost use Rattle.clap.specs.Words.{app_of, fault_of, shape_of, subcommand_rows_of};
 ghost use Rattle.clap.specs.declared.builder.command.Command.TheViews.{out-Command as fields_of};
 ghost use Rattle.rbc_dispatch.specs.Ending.{status_of};
-ghost use Rattle.rbc_dispatch.specs.Words.{EndsWith, IsDecode, IsFound, IsRun, HasWord, IsTakenFor, IsWantOfMemory, command_line, decode_shape, finding_in, finding_of, is_plain};
+ghost use Rattle.rbc_dispatch.specs.Words.{EndsWith, HasTask, IsDecode, IsFound, IsRunOn, IsTakenFor, IsWantOfMemory, command_line, decode_shape, finding_in, is_plain, run_shape, word_after};
 
 use crate::arguments::Nameless;
 use crate::ending::Ending;
@@ -16,8 +16,9 @@ use std::{env, io};
 /// What the words ask the program to do.
 #[derive(Clone, Copy, Debug, PartialEq, Eq)]
 pub enum Task<'a> {
-    /// `dispatch run`: do the batch on standard input.
-    Run,
+    /// `dispatch run --track FILE`: do the batch on standard input, on the track in the file of this
+    /// name.
+    Run { track: &'a str },
     /// `dispatch decode HEX`: write the text of the message whose bytes this word stands for.
     Decode(&'a str),
 }
@@ -26,16 +27,27 @@ pub enum Task<'a> {
 fn command<'a>(alloc: Global) -> Result<Command<'a>, AllocError>
     ensures { IfOk result (λ command. app_of command ≡ command_line) }
 {
-    let run = Command::new(alloc, "run").about(
-        "Read a batch from standard input and write the answers to standard output",
-    );
     Command::new(alloc, "dispatch")
         .bin_name("dispatch")?
         .no_binary_name(true)
         .about("Dispatch emergency stops to trains")
         .subcommand_required(true)
-        .subcommand(run)?
+        .subcommand(run_command(alloc)?)?
         .subcommand(decode_command(alloc)?)
+}
+
+fn run_command<'a>(alloc: Global) -> Result<Command<'a>, AllocError>
+    ensures shape { IfOk result (λ command. shape_of command ≡ run_shape) }
+    ensures local { IfOk result (λ command. (fields_of command).has_globals ≡ false) }
+{
+    let track = Arg::new(alloc, "track")
+        .long("track")
+        .value_name("FILE")
+        .required(true)
+        .help("The track file");
+    Command::new(alloc, "run")
+        .about("Read a batch from standard input and write the answers to standard output")
+        .arg(track)
 }
 
 fn decode_command<'a>(alloc: Global) -> Result<Command<'a>, AllocError>
@@ -75,7 +87,10 @@ fn not_text(alloc: Global) -> Result<Ending, AllocError>
 /// The task that the words after the program's name ask for. The error is help, where they ask for
 /// that, what is wrong with them, or want of memory.
 pub fn parse<'a>(alloc: Global, words: &'a [String]) -> Result<Task<'a>, Ending>
-    ensures run { map string_bytes words.now ≡ codes "run" ∷ [] → IsTakenFor IsRun result }
+    ensures run { (file : List ℕ) → map string_bytes words.now ≡ codes "run" ∷ codes "--track" ∷ file ∷ []
+        → is_plain file ≡ true → IsTakenFor (IsRunOn file) result }
+    ensures no_track { map string_bytes words.now ≡ codes "run" ∷ [] → EndsWith 2 result }
+    ensures no_file { map string_bytes words.now ≡ codes "run" ∷ codes "--track" ∷ [] → EndsWith 2 result }
     ensures decode { (word : List ℕ) → map string_bytes words.now ≡ codes "decode" ∷ word ∷ []
         → is_plain word ≡ true → IsTakenFor (IsDecode word) result }
     ensures none { words.now ≡ [] → EndsWith 2 result }
@@ -92,11 +107,21 @@ pub fn parse<'a>(alloc: Global, words: &'a [String]) -> Result<Task<'a>, Ending>
 
 // The task that the words named, by what was found in them.
 fn task_of<'a>(matches: &ArgMatches<'a>) -> Task<'a>
-    requires { HasWord (finding_of (subcommand_rows_of matches.now)) }
-    ensures { IsFound (finding_of (subcommand_rows_of matches.now)) result }
+    requires { HasTask (subcommand_rows_of matches.now) }
+    ensures { IsFound (subcommand_rows_of matches.now) result }
 {
-    match matches.subcommand_matches("decode") {
-        Some(decode) => Task::Decode(decode.get_str("HEX").unwrap()),
-        None => Task::Run,
+    match word_after(matches, "decode", "HEX") {
+        Some(word) => Task::Decode(word),
+        None => Task::Run {
+            track: word_after(matches, "run", "track").unwrap(),
+        },
     }
+}
+
+// The word that an argument was given after the subcommand of this name, if that one was named.
+fn word_after<'a>(matches: &ArgMatches<'a>, name: &str, id: &str) -> Option<&'a str>
+    ensures { option_map (λ word. word.now) result
+        ≡ word_after name.now id.now (subcommand_rows_of matches.now) }
+{
+    matches.subcommand_matches(name)?.get_str(id)
 }

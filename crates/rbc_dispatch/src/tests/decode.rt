@@ -1,5 +1,6 @@
 //! `dispatch decode`: texts, faults and wrong words.
-use super::{Short, Words, assert_ends};
+use super::host::Host;
+use super::{Short, assert_ends};
 use crate::program::run;
 use std::process::ExitCode;
 use std::test::Fail;
@@ -105,7 +106,7 @@ fn counts_what_was_written(rt: HostRuntime) -> Result<(), Fail> {
         let mut input: &[u8] = b"";
         let mut errors = Vec::new(rt.alloc());
         let ended = run(
-            &(Words(words), rt.alloc()),
+            &(Host::new(words), rt.alloc()),
             &mut input,
             &mut Short { room },
             &mut errors,

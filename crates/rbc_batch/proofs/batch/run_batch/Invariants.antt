@@ -7,7 +7,7 @@ use Rattle.rbc_batch.proofs.batch.run_batch.Given as goal
 -- what is left leads from the desk as it is to where all leads from a new one
 abbrev pub invariant-loop-rest : goal.invariant-loop-rest
 invariant-loop-rest l = record {
-  desk : serial l.desk (inputs_of l.rest) ≡ serial new_desk (inputs_of l.fn.batch);
+  desk : serial l.fn.track l.desk (inputs_of l.rest) ≡ serial l.fn.track new_desk (inputs_of l.fn.batch);
   few : length l.desk.results + length l.rest ≤ length l.fn.batch;
   sound : IsSound l.desk;
 }

@@ -1,4 +1,4 @@
-use Rattle.std.proofs.Common.{refl, sym, ap, subst, ◌∙◌, ◌≡◌, ◌⊎◌, [], ◌∷◌, List, Some, Result, Ok, Err, inl, inr, true, map, option_map, unwrap_or, codes, string_bytes}
+use Rattle.std.proofs.Common.{refl, sym, ap, subst, ◌∙◌, ◌≡◌, ◌⊎◌, [], ◌∷◌, List, Option, Some, None, Result, Ok, Err, inl, inr, true, map, option_map, unwrap_or, codes, string_bytes}
 use Rattle.std.specs.Result.{IsErrAnd}
 use Rattle.clap.specs.Kinds.{HasKind}
 use Rattle.clap.specs.Simple.{subcommand_of}
@@ -8,12 +8,12 @@ use Rattle.clap.specs.declared.error.kind.ErrorKind.{ErrorKind}
 use Rattle.clap.specs.declared.error.kind.ErrorKind.TheVariants as kind
 use Rattle.clap.specs.declared.parser.matches.ArgMatches.{ArgMatches}
 use Rattle.rbc_dispatch.specs.Ending.{ending_of, ending_of_kind, status_of, status_of_kind}
-use Rattle.rbc_dispatch.specs.Words.{EndsWith, Finding, HasWord, IsDecode, IsFound, IsRun, IsTakenFor, IsWantOfMemory, command_line, finding_in, finding_of, is_plain}
+use Rattle.rbc_dispatch.specs.Words.{EndsWith, Finding, HasTask, IsDecode, IsFound, IsRunOn, IsTakenFor, IsWantOfMemory, command_line, finding_in, is_plain, word_after}
 use Rattle.rbc_dispatch.specs.declared.ending.Ending.{Ending}
 use Rattle.rbc_dispatch.specs.declared.ending.Ending.TheVariants.{Words}
 use Rattle.rbc_dispatch.specs.declared.words.Task.{Task}
 use Rattle.rbc_dispatch.specs.declared.words.Task.TheVariants.{Run, Decode}
-use Rattle.rbc_dispatch.proofs.CommandLine.{word_in, line_is_simple, line_is_plain, run_is_taken, run_is_found, decode_is_taken, decode_is_found, none_is_refused, no_word_is_refused, two_words_are_refused, help_is_shown, word_is_there}
+use Rattle.rbc_dispatch.proofs.CommandLine.{line_is_simple, line_is_plain, run_is_taken, run_is_found, run_is_no_decode, decode_is_taken, decode_is_found, decode_is_no_run, none_is_refused, no_track_is_refused, no_file_is_refused, no_word_is_refused, two_words_are_refused, help_is_shown, task_is_there}
 use Rattle.rbc_dispatch.proofs.words.parse.Goals as goal
 
 -- what clap says of the command that was made, it says of the command line
@@ -22,21 +22,28 @@ kinds_here : (app : App) (words : List Text) (P : List ErrorKind → Type 0) →
 kinds_here app words P same says = subst (λ (a : App). P (fault_of a words)) same (says (ap is_simple_and_free same ∙ line_is_simple))
 
 found_here : (app : App) (words : List Text) (m : ArgMatches) → app ≡ command_line → HasMatchesOf app words m
-    → finding_of (subcommand_rows_of m) ≡ finding_in words
-found_here app words m same says = ap finding_of ((says (ap is_simple same ∙ line_is_plain)).1 ∙ ap (λ (a : App). subcommand_of a words) same)
+    → subcommand_rows_of m ≡ finding_in words
+found_here app words m same says = (says (ap is_simple same ∙ line_is_plain)).1 ∙ ap (λ (a : App). subcommand_of a words) same
+
+some_now : (a b : Text) → Some a ≡ Some b → a ≡ b
+some_now a b same = ap (λ (o : Option Text). unwrap_or o []) same
 
 -- the task that was found at known words
-run_found : (words : List Text) (task : Task) → IsFound (finding_in words) task → words ≡ codes "run" ∷ [] → IsRun task
-run_found words Run found same = tt
-run_found words (Decode hex) found same =
-    let bad : Some (codes "run") ≡ Some (codes "decode") = ap (option_map (λ p. p.0)) (sym run_is_found ∙ ap finding_in (sym same) ∙ found) in
+run_found : (words : List Text) (task : Task) → IsFound (finding_in words) task → (file : Text) → words ≡ codes "run" ∷ codes "--track" ∷ file ∷ []
+    → is_plain file ≡ true → IsRunOn file task
+run_found words (Run track) found file same plain =
+    some_now _ _ (sym found ∙ ap (λ (ws : List Text). word_after (codes "run") (codes "track") (finding_in ws)) same ∙ run_is_found file plain)
+run_found words (Decode hex) found file same plain =
+    let bad : Some hex.now ≡ None = sym found ∙ ap (λ (ws : List Text). word_after (codes "decode") (codes "HEX") (finding_in ws)) same ∙ run_is_no_decode file in
     cc
 
 decode_found : (words : List Text) (task : Task) → IsFound (finding_in words) task → (word : Text) → words ≡ codes "decode" ∷ word ∷ []
     → is_plain word ≡ true → IsDecode word task
-decode_found words Run found word same plain = absurd (found (ap (option_map (λ p. p.0)) (ap finding_in same ∙ decode_is_found word plain)))
+decode_found words (Run track) found word same plain =
+    let bad : Some track.now ≡ None = sym found ∙ ap (λ (ws : List Text). word_after (codes "run") (codes "track") (finding_in ws)) same ∙ decode_is_no_run word in
+    cc
 decode_found words (Decode hex) found word same plain =
-    ap (λ (f : Finding). unwrap_or (word_in f) []) (sym found ∙ ap finding_in same ∙ decode_is_found word plain)
+    some_now _ _ (sym found ∙ ap (λ (ws : List Text). word_after (codes "decode") (codes "HEX") (finding_in ws)) same ∙ decode_is_found word plain)
 
 -- words that are refused are not taken
 not_taken : (words lit : List Text) (k : ErrorKind) → fault_of command_line lit ≡ k ∷ [] → fault_of command_line words ≡ [] → words ≡ lit → ⊥
@@ -77,11 +84,11 @@ refused_or_memory words lit k e r kinds is wrong refused same =
     (memory_or k e wrong (subst (λ (ks : List ErrorKind). HasKind ks e) (ap (fault_of command_line) same ∙ refused) kinds))
 
 pub returns-in_err-matches-clause-run : goal.returns-in_err-matches-clause-run
-returns-in_err-matches-clause-run c = λ same.
+returns-in_err-matches-clause-run c = λ file same plain.
     let e = c.in_err-matches.field-0.0 in
     let words = map string_bytes c.args.words.now in
     let kinds = kinds_here _ words (λ ks. HasKind ks e) c.in_ok-command.ensures c.in_err-matches.ensures.kinds in
-    taken_or_memory words (codes "run" ∷ []) e _ IsRun kinds c.from_residual-in_err-matches.ensures.1 run_is_taken same
+    taken_or_memory words (codes "run" ∷ codes "--track" ∷ file ∷ []) e _ (IsRunOn file) kinds c.from_residual-in_err-matches.ensures.1 (run_is_taken file plain) same
 
 pub returns-in_err-matches-clause-decode : goal.returns-in_err-matches-clause-decode
 returns-in_err-matches-clause-decode c = λ word same plain.
@@ -104,6 +111,20 @@ returns-in_err-matches-clause-no_word c = λ same.
     let kinds = kinds_here _ words (λ ks. HasKind ks e) c.in_ok-command.ensures c.in_err-matches.ensures.kinds in
     refused_or_memory words (codes "decode" ∷ []) kind.MissingRequiredArgument e _ kinds c.from_residual-in_err-matches.ensures.1 refl no_word_is_refused same
 
+pub returns-in_err-matches-clause-no_track : goal.returns-in_err-matches-clause-no_track
+returns-in_err-matches-clause-no_track c = λ same.
+    let e = c.in_err-matches.field-0.0 in
+    let words = map string_bytes c.args.words.now in
+    let kinds = kinds_here _ words (λ ks. HasKind ks e) c.in_ok-command.ensures c.in_err-matches.ensures.kinds in
+    refused_or_memory words (codes "run" ∷ []) kind.MissingRequiredArgument e _ kinds c.from_residual-in_err-matches.ensures.1 refl no_track_is_refused same
+
+pub returns-in_err-matches-clause-no_file : goal.returns-in_err-matches-clause-no_file
+returns-in_err-matches-clause-no_file c = λ same.
+    let e = c.in_err-matches.field-0.0 in
+    let words = map string_bytes c.args.words.now in
+    let kinds = kinds_here _ words (λ ks. HasKind ks e) c.in_ok-command.ensures c.in_err-matches.ensures.kinds in
+    refused_or_memory words (codes "run" ∷ codes "--track" ∷ []) kind.InvalidValue e _ kinds c.from_residual-in_err-matches.ensures.1 refl no_file_is_refused same
+
 pub returns-in_err-matches-clause-help : goal.returns-in_err-matches-clause-help
 returns-in_err-matches-clause-help c = λ same.
     let e = c.in_err-matches.field-0.0 in
@@ -115,7 +136,7 @@ pub task_of-requires : goal.task_of-requires
 task_of-requires c =
     let words = map string_bytes c.args.words.now in
     let taken = kinds_here _ words (λ ks. ks ≡ []) c.in_ok-command.ensures c.in_ok-matches.ensures.kinds in
-    subst HasWord (sym (found_here _ words _ c.in_ok-command.ensures c.in_ok-matches.ensures.matches)) (word_is_there words taken)
+    subst HasTask (sym (found_here _ words _ c.in_ok-command.ensures c.in_ok-matches.ensures.matches)) (task_is_there words taken)
 
 pub returns-clause-run : goal.returns-clause-run
 returns-clause-run c =
@@ -131,6 +152,16 @@ pub returns-clause-no_word : goal.returns-clause-no_word
 returns-clause-no_word c =
     let words = map string_bytes c.args.words.now in
     not_taken words (codes "decode" ∷ []) kind.MissingRequiredArgument no_word_is_refused (kinds_here _ words (λ ks. ks ≡ []) c.in_ok-command.ensures c.in_ok-matches.ensures.kinds)
+
+pub returns-clause-no_track : goal.returns-clause-no_track
+returns-clause-no_track c =
+    let words = map string_bytes c.args.words.now in
+    not_taken words (codes "run" ∷ []) kind.MissingRequiredArgument no_track_is_refused (kinds_here _ words (λ ks. ks ≡ []) c.in_ok-command.ensures c.in_ok-matches.ensures.kinds)
+
+pub returns-clause-no_file : goal.returns-clause-no_file
+returns-clause-no_file c =
+    let words = map string_bytes c.args.words.now in
+    not_taken words (codes "run" ∷ codes "--track" ∷ []) kind.InvalidValue no_file_is_refused (kinds_here _ words (λ ks. ks ≡ []) c.in_ok-command.ensures c.in_ok-matches.ensures.kinds)
 
 pub returns-clause-help : goal.returns-clause-help
 returns-clause-help c =

@@ -1,5 +1,6 @@
 use Rattle.std.proofs.Common.{◌≡◌, ◌∙◌, ◌<◌, ◌+◌, ◌++◌, ◌∷◌, List, [], ℕ, false, length, sym, ap, ap₂, subst, arith, leb}
 use Rattle.ertms_codec.specs.declared.to_train.ToTrain.{ToTrain}
+use Rattle.rbc_track.specs.Plan.{Plan}
 use Rattle.rbc_batch.specs.declared.desk.Reply.TheVariants.{Done}
 use Rattle.rbc_batch.specs.declared.input.Input.TheVariants.{Enrol}
 use Rattle.rbc_batch.specs.Maps.{place_of, has}
@@ -31,10 +32,11 @@ returns c =
     let number : c.len-2.result ≡ length desk.results = c.len-2.ensures ∙ c.self.inside.results.ok.0 in
     let posted : c.post.new.outboxes.items ≡ post (length desk.results + 1) desk.outboxes (c.args.engine, c.in_ok-messages.messages.items) =
     c.in_ok-post.ensures ∙ ap₂ (λ (n : ℕ) (ms : List ToTrain). post (n + 1) desk.outboxes (c.args.engine, ms)) number c.deref-4.ensures.value in
+    let any_plan : Plan = record { horizon = 0; lines = []; groups = [] } in
     record {
-      step = enrol_is_step desk sound c.args.engine c.args.train_length absent few c.settle.new.self c.in_ok-messages.messages.items c.place_of-at.result c.insert.new.self.items c.push.new.self.items c.post.new.outboxes.items
+      step = λ plan. enrol_is_step plan desk sound c.args.engine c.args.train_length absent few c.settle.new.self c.in_ok-messages.messages.items c.place_of-at.result c.insert.new.self.items c.push.new.self.items c.post.new.outboxes.items
           is_settled are_messages is_place c.in_ok-insert.ensures.items answered posted
-          ∙ ap (λ (d : Desk). step d (Enrol c.args.engine c.args.train_length)) c.self.view_is;
-      stays_sound = enrol_is_sound desk sound c.args.engine c.args.train_length absent few c.settle.new.self c.in_ok-messages.messages.items c.place_of-at.result c.insert.new.self.items c.push.new.self.items c.post.new.outboxes.items
+          ∙ ap (λ (d : Desk). step plan d (Enrol c.args.engine c.args.train_length)) c.self.view_is;
+      stays_sound = enrol_is_sound any_plan desk sound c.args.engine c.args.train_length absent few c.settle.new.self c.in_ok-messages.messages.items c.place_of-at.result c.insert.new.self.items c.push.new.self.items c.post.new.outboxes.items
           is_settled are_messages is_place c.in_ok-insert.ensures.items answered posted;
     }

@@ -12,11 +12,11 @@ use Rattle.rbc_batch.proofs.Accepted.{stop_is_step, stop_is_sound}
 use Rattle.rbc_batch.proofs.desk.Desk.stop.Goals as goal
 
 -- what the code leaves is what the lemmas ask for
-both : (c : goal.In_ok-push-2) → (◌≡◌ {A = Desk} (record { world = record { trains = (with_items c.self.inside.trains c.settle_all.new.trains).items; stops = c.push.new.self.items; last = c.args.number }; results = c.push-2.new.self.items; outboxes = c.settle_all.new.outboxes.items }) (step c.args.self.now (Stop c.args.number c.args.segments))) × IsSound (record { world = record { trains = (with_items c.self.inside.trains c.settle_all.new.trains).items; stops = c.push.new.self.items; last = c.args.number }; results = c.push-2.new.self.items; outboxes = c.settle_all.new.outboxes.items })
+both : (c : goal.In_ok-push-2) → (◌≡◌ {A = Desk} (record { world = record { trains = (with_items c.self.inside.trains c.settle_all.new.trains).items; stops = c.push.new.self.items; last = c.args.number }; results = c.push-2.new.self.items; outboxes = c.settle_all.new.outboxes.items }) (step c.args.track.now c.args.self.now (Stop c.args.number c.args.segments))) × IsSound (record { world = record { trains = (with_items c.self.inside.trains c.settle_all.new.trains).items; stops = c.push.new.self.items; last = c.args.number }; results = c.push-2.new.self.items; outboxes = c.settle_all.new.outboxes.items })
 both c =
     let desk : Desk = the_view c.self.inside in
     let sound : IsSound desk = subst IsSound (sym c.self.view_is) c.requires.sound in
-    let good : is_good_area c.args.segments ≡ true = sym (c.is_good_area.ensures ∙ ap is_good_area c.as_slice.ensures) ∙ c.if-not-is_good_area.false in
+    let good : is_good_area c.args.track.now c.args.segments ≡ true = sym (c.is_good_area.ensures ∙ ap (is_good_area c.args.track.now) c.as_slice.ensures) ∙ c.if-not-is_good_area.false in
     let few : length desk.world.stops < 64 = omega (arith, c.len.ensures, c.self.inside.stops.ok.0, c.if-len-ge-MOST_STOPS.false) in
     let stops : List (ℕ × List Segment) = c.push.new.self.items in
     let number : c.len-2.result ≡ length desk.results = c.len-2.ensures ∙ c.self.inside.results.ok.0 in
@@ -30,10 +30,10 @@ both c =
     c.in_ok-count.ensures.sent
     ∙ ap₂ (λ (ss : List (ℕ × List Segment)) (ts : List (ℕ × Train)). post_all (c.len-2.result + 1) (sent_to ss ts) desk.outboxes) c.deref.ensures.value c.deref_mut.ensures.value
     ∙ ap (λ n. post_all (n + 1) (sent_to stops desk.world.trains) desk.outboxes) number in (
-      stop_is_step desk sound c.args.number c.args.segments c.if-number-self.false good few stops trains c.push-2.new.self.items c.settle_all.new.outboxes.items
+      stop_is_step c.args.track.now desk sound c.args.number c.args.segments c.if-number-self.false good few stops trains c.push-2.new.self.items c.settle_all.new.outboxes.items
           c.in_ok-push.ensures.items settled answered posted
-          ∙ ap (λ (d : Desk). step d (Stop c.args.number c.args.segments)) c.self.view_is,
-      stop_is_sound desk sound c.args.number c.args.segments c.if-number-self.false good few stops trains c.push-2.new.self.items c.settle_all.new.outboxes.items
+          ∙ ap (λ (d : Desk). step c.args.track.now d (Stop c.args.number c.args.segments)) c.self.view_is,
+      stop_is_sound c.args.track.now desk sound c.args.number c.args.segments c.if-number-self.false good few stops trains c.push-2.new.self.items c.settle_all.new.outboxes.items
           c.in_ok-push.ensures.items settled answered posted,
     )
 

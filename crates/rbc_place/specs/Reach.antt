@@ -1,0 +1,42 @@
+-- What the interval of a place is, in the subject's own words (own rule).
+use Rattle.std.specs.Prelude.{◌≡◌, ◌↔◌, ℕ, ◌+◌, ◌≤◌, Some, slice_index}
+use Rattle.ertms_codec.specs.declared.from_train.Position.{Position}
+use Rattle.rbc_track.specs.Plan.{Plan, group_of, IsPlaced}
+use Rattle.rbc_track.specs.declared.group.Group.{Group}
+use Rattle.rbc_track.specs.declared.group.Way.{Way}
+use Rattle.rbc_track.specs.declared.group.Way.TheVariants.{Up, Down}
+use Rattle.rbc_place.specs.Placing.{Place, back, way_of, in_units, place_of_report}
+
+-- one place lies so far ahead of another, going one way
+abbrev pub IsAhead : Way → ℕ → ℕ → ℕ → Type 0
+IsAhead Up from by place = place ≡ from + by
+IsAhead Down from by place = from ≡ place + by
+
+-- one place lies at most so far ahead of another; it may lie behind it
+abbrev pub IsAtMostAhead : Way → ℕ → ℕ → ℕ → Type 0
+IsAtMostAhead Up from by place = place ≤ from + by
+IsAtMostAhead Down from by place = from ≤ place + by
+
+-- A part of a train stands at a place: for some front on the line, no farther from the estimate than the doubts
+-- say, the place is between that front and the length of the train behind it.
+pub record StandsAt (end : ℕ) (facing : Way) (estimate under over length place : ℕ) : Type 0 where
+  pub front : ℕ
+  pub on_line : front ≤ end
+  pub not_beyond : IsAtMostAhead facing estimate under front
+  pub not_short : IsAtMostAhead (back facing) estimate over front
+  pub from_front : IsAtMostAhead facing front 0 place
+  pub to_rear : IsAtMostAhead (back facing) front length place
+
+-- by a report: the estimated front is as far from the balise group as that says
+pub record MayStandAt (end : ℕ) (g : Group) (p : Position) (length place : ℕ) : Type 0 where
+  pub estimate : ℕ
+  pub counted : IsAhead (way_of g.nominal p.side) g.at (in_units p.scale p.distance) estimate
+  pub stands : StandsAt end (way_of g.nominal p.dir) estimate (in_units p.scale p.under) (in_units p.scale p.over) length place
+
+-- the interval of a place is just the places of its line at which a part of the train may stand
+abbrev pub EachPlaceHoldsItsTrain : Type 0
+EachPlaceHoldsItsTrain =
+    (plan : Plan) (p : Position) (length : ℕ) (g : Group) (place : Place) (x : ℕ)
+    → group_of plan p.lrbg ≡ Some g → IsPlaced plan p.lrbg g → place_of_report plan p length ≡ Some place
+    → x ≤ slice_index plan.lines g.line
+    → ((place.lo ≤ x) × (x ≤ place.hi)) ↔ MayStandAt (slice_index plan.lines g.line) g p length x

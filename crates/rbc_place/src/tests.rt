@@ -1,0 +1,363 @@
+use crate::place_of;
+use ertms_codec::Position;
+use rbc_track::{Track, Way, track_from_toml};
+use std::process::Abort;
+use std::test::Fail;
+
+/// Line 0 is 30 km long and has balise group 5 at 1 km, whose nominal direction is up, and 6 at 20 km, whose
+/// nominal direction is down. Line 1 is 300 km long and has balise group 7 at its lower end, up.
+const TRACK_A: &str = "horizon = 100000
+[[line]]
+length = 300000
+[[line]]
+length = 3000000
+[[group]]
+nid = 5
+line = 0
+at = 10000
+nominal = \"up\"
+[[group]]
+nid = 6
+line = 0
+at = 200000
+nominal = \"down\"
+[[group]]
+nid = 7
+line = 1
+at = 0
+nominal = \"up\"
+";
+
+fn track_a(rt: &HostRuntime) -> Result<Track, Fail> {
+    Ok(track_from_toml(rt.alloc(), TRACK_A)?)
+}
+
+/// A train 200 m beyond balise group 5, facing its nominal direction.
+const P1: Position = Position {
+    previous: None,
+    scale: 0,
+    lrbg: 5,
+    distance: 2_000,
+    dir: 1,
+    side: 1,
+    over: 100,
+    under: 100,
+};
+
+/// What a place says: line, balise group, its place, whether its nominal direction is up, how the train
+/// faces, and both ends of the interval.
+type Seen = (u8, u32, u32, bool, Way, u32, u32);
+
+/// The place of a train by its report.
+fn seen(track: &Track, position: &Position, length: u32) -> Option<Seen> {
+    let place = place_of(track, position, length)?;
+    let (line, lrbg, at) = (place.line(), place.lrbg(), place.at());
+    let (same, facing) = (place.same(), place.facing());
+    Some((line, lrbg, at, same, facing, place.lo(), place.hi()))
+}
+
+/// Asserts the places of trains of 200 m.
+fn assert_places(rt: &impl Abort, track: &Track, rows: &[(Position, Option<Seen>)]) {
+    for (position, place) in rows {
+        assert_eq!(rt; seen(track, position, 2_000), *place, "{position:?}");
+    }
+}
+
+#[test]
+fn places_worked_reports(rt: HostRuntime) -> Result<(), Fail> {
+    let rows = [
+        (P1, Some((0, 5, 10_000, true, Way::Up, 9_900, 12_100))),
+        (
+            Position {
+                dir: 0,
+                side: 0,
+                ..P1
+            },
+            Some((0, 5, 10_000, true, Way::Down, 7_900, 10_100)),
+        ),
+        (
+            Position { lrbg: 6, ..P1 },
+            Some((0, 6, 200_000, false, Way::Down, 197_900, 200_100)),
+        ),
+        (
+            Position {
+                lrbg: 7,
+                distance: 0,
+                ..P1
+            },
+            Some((1, 7, 0, true, Way::Up, 0, 100)),
+        ),
+    ];
+    assert_places(&rt, &track_a(&rt)?, &rows);
+    Ok(())
+}
+
+#[test]
+fn takes_directions_from_the_balise_group(rt: HostRuntime) -> Result<(), Fail> {
+    let up = Position {
+        over: 300,
+        under: 40,
+        ..P1
+    };
+    let down = Position { lrbg: 6, ..up };
+    let at_up = |facing: Way, lo: u32, hi: u32| Some((0, 5, 10_000, true, facing, lo, hi));
+    let at_down = |facing: Way, lo: u32, hi: u32| Some((0, 6, 200_000, false, facing, lo, hi));
+    let rows = [
+        (up, at_up(Way::Up, 9_700, 12_040)),
+        (Position { side: 0, ..up }, at_up(Way::Up, 5_700, 8_040)),
+        (Position { dir: 0, ..up }, at_up(Way::Down, 11_960, 14_300)),
+        (
+            Position {
+                dir: 0,
+                side: 0,
+                ..up
+            },
+            at_up(Way::Down, 7_960, 10_300),
+        ),
+        (down, at_down(Way::Down, 197_960, 200_300)),
+        (
+            Position { side: 0, ..down },
+            at_down(Way::Down, 201_960, 204_300),
+        ),
+        (
+            Position { dir: 0, ..down },
+            at_down(Way::Up, 195_700, 198_040),
+        ),
+        (
+            Position {
+                dir: 0,
+                side: 0,
+                ..down
+            },
+            at_down(Way::Up, 199_700, 202_040),
+        ),
+    ];
+    assert_places(&rt, &track_a(&rt)?, &rows);
+    Ok(())
+}
+
+#[test]
+fn counts_in_the_scale_and_by_both_doubts(rt: HostRuntime) -> Result<(), Fail> {
+    let at = |facing: Way, lo: u32, hi: u32| Some((0, 5, 10_000, true, facing, lo, hi));
+    let rows = [
+        (Position { scale: 1, ..P1 }, at(Way::Up, 27_000, 31_000)),
+        (Position { scale: 2, ..P1 }, at(Way::Up, 198_000, 220_000)),
+        (
+            Position {
+                scale: 2,
+                distance: 200,
+                over: 3,
+                under: 5,
+                ..P1
+            },
+            at(Way::Up, 27_700, 30_500),
+        ),
+        (
+            Position {
+                over: 40,
+                under: 300,
+                ..P1
+            },
+            at(Way::Up, 9_960, 12_300),
+        ),
+        (
+            Position {
+                dir: 0,
+                side: 0,
+                over: 40,
+                under: 300,
+                ..P1
+            },
+            at(Way::Down, 7_700, 10_040),
+        ),
+        (
+            Position {
+                distance: 32_766,
+                ..P1
+            },
+            at(Way::Up, 40_666, 42_866),
+        ),
+        (
+            Position {
+                under: 32_766,
+                ..P1
+            },
+            at(Way::Up, 9_900, 44_766),
+        ),
+        (
+            Position {
+                dir: 0,
+                over: 32_766,
+                ..P1
+            },
+            at(Way::Down, 11_900, 46_766),
+        ),
+    ];
+    assert_places(&rt, &track_a(&rt)?, &rows);
+    Ok(())
+}
+
+#[test]
+fn cuts_to_the_line(rt: HostRuntime) -> Result<(), Fail> {
+    let near_0 = Position {
+        side: 0,
+        distance: 9_950,
+        ..P1
+    };
+    let near_end = Position {
+        lrbg: 6,
+        scale: 1,
+        side: 0,
+        distance: 9_950,
+        ..P1
+    };
+    let all = Position {
+        scale: 2,
+        distance: 0,
+        over: 32_766,
+        under: 32_766,
+        ..P1
+    };
+    let at_up = |facing: Way, lo: u32, hi: u32| Some((0, 5, 10_000, true, facing, lo, hi));
+    let at_down = |facing: Way, lo: u32, hi: u32| Some((0, 6, 200_000, false, facing, lo, hi));
+    let on_1 = |facing: Way, lo: u32, hi: u32| Some((1, 7, 0, true, facing, lo, hi));
+    let rows = [
+        (near_0, at_up(Way::Up, 0, 150)),
+        (Position { dir: 0, ..near_0 }, at_up(Way::Down, 0, 2_150)),
+        (
+            Position { dir: 0, ..near_end },
+            at_down(Way::Up, 296_500, 300_000),
+        ),
+        (near_end, at_down(Way::Down, 298_500, 300_000)),
+        (all, at_up(Way::Up, 0, 300_000)),
+        // The front at an end of the line.
+        (
+            Position {
+                side: 0,
+                distance: 10_000,
+                ..P1
+            },
+            at_up(Way::Up, 0, 100),
+        ),
+        (
+            Position {
+                distance: 10_000,
+                dir: 0,
+                ..near_end
+            },
+            at_down(Way::Up, 297_000, 300_000),
+        ),
+        (
+            Position {
+                lrbg: 7,
+                scale: 2,
+                distance: 30_000,
+                ..P1
+            },
+            on_1(Way::Up, 2_988_000, 3_000_000),
+        ),
+        (
+            Position {
+                lrbg: 7,
+                side: 0,
+                dir: 0,
+                distance: 0,
+                ..P1
+            },
+            on_1(Way::Down, 0, 2_100),
+        ),
+    ];
+    assert_places(&rt, &track_a(&rt)?, &rows);
+    Ok(())
+}
+
+#[test]
+fn takes_any_length(rt: HostRuntime) -> Result<(), Fail> {
+    let track = track_a(&rt)?;
+    let down = Position { dir: 0, ..P1 };
+    let at = |facing: Way, lo: u32, hi: u32| Some((0, 5, 10_000, true, facing, lo, hi));
+    let rows = [
+        (P1, 0, at(Way::Up, 11_900, 12_100)),
+        (P1, 40_000, at(Way::Up, 0, 12_100)),
+        (P1, 4_294_967_295, at(Way::Up, 0, 12_100)),
+        (down, 0, at(Way::Down, 11_900, 12_100)),
+        (down, 40_000, at(Way::Down, 11_900, 52_100)),
+        (down, 4_294_967_295, at(Way::Down, 11_900, 300_000)),
+    ];
+    for (position, length, place) in rows {
+        assert_eq!(rt;
+            seen(&track, &position, length),
+            place,
+            "{position:?} at {length}"
+        );
+    }
+    Ok(())
+}
+
+#[test]
+fn leaves_a_train_unplaced(rt: HostRuntime) -> Result<(), Fail> {
+    let rows = [
+        Position {
+            previous: Some(6),
+            ..P1
+        },
+        Position { lrbg: 8, ..P1 },
+        Position {
+            lrbg: 16_777_215,
+            ..P1
+        },
+        Position {
+            distance: 32_767,
+            ..P1
+        },
+        Position { over: 32_767, ..P1 },
+        Position {
+            under: 32_767,
+            ..P1
+        },
+        Position { dir: 2, ..P1 },
+        Position { side: 2, ..P1 },
+        // The front off the line.
+        Position {
+            lrbg: 7,
+            side: 0,
+            ..P1
+        },
+        Position {
+            side: 0,
+            distance: 10_001,
+            ..P1
+        },
+        Position {
+            lrbg: 6,
+            scale: 1,
+            side: 0,
+            distance: 10_001,
+            ..P1
+        },
+        Position {
+            lrbg: 7,
+            scale: 2,
+            distance: 30_001,
+            ..P1
+        },
+        // What no message reads as.
+        Position { scale: 3, ..P1 },
+        Position { dir: 3, ..P1 },
+        Position { side: 3, ..P1 },
+        Position {
+            distance: 32_768,
+            ..P1
+        },
+        Position { over: 32_768, ..P1 },
+        Position {
+            under: 32_768,
+            ..P1
+        },
+    ];
+    let track = track_a(&rt)?;
+    for position in rows {
+        assert_eq!(rt; seen(&track, &position, 2_000), None, "{position:?}");
+    }
+    Ok(())
+}

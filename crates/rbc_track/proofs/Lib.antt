@@ -1,0 +1,6 @@
+pub mod Rows
+pub mod Entries
+pub mod Numbered
+pub mod Plans
+pub mod Bounds
+pub mod Found

@@ -1,0 +1,5 @@
+pub mod Plan
+pub mod Document
+pub mod Reading
+pub mod Outcomes
+pub mod Inside

@@ -1,0 +1,16 @@
+//! The track file of a radio block centre: how long its lines are and where its balise groups stand.
+//!
+//! A file is read once, into a [`Track`], and looked up in from then on without taking memory.
+#![tactic(auto)]
+
+mod document;
+mod error;
+mod group;
+mod track;
+
+pub use error::TrackError;
+pub use group::{Group, Way};
+pub use track::{Track, track_from_toml};
+
+#[cfg(test)]
+mod tests;

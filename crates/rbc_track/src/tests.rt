@@ -1,0 +1,361 @@
+//! Texts of track files, and what each of them is.
+
+use super::{Group, Track, TrackError, Way, track_from_toml};
+use std::alloc::{AllocError, Global};
+use std::fmt::Write;
+use std::process::Abort;
+use std::test::Fail;
+
+/// Two lines and three balise groups.
+const TRACK_A: &str = "horizon = 100000
+[[line]]
+length = 300000
+[[line]]
+length = 3000000
+[[group]]
+nid = 5
+line = 0
+at = 10000
+nominal = \"up\"
+[[group]]
+nid = 6
+line = 0
+at = 200000
+nominal = \"down\"
+[[group]]
+nid = 7
+line = 1
+at = 0
+nominal = \"up\"
+";
+
+/// The refusal of a text, none if it is a track.
+fn refusal(alloc: Global, text: &str) -> Option<TrackError> {
+    track_from_toml(alloc, text).err()
+}
+
+/// A track of one line and one balise group, with a value under each key.
+fn small(alloc: Global, values: [&str; 6]) -> Result<String, AllocError> {
+    let [horizon, length, nid, line, at, nominal] = values;
+    format!(in alloc;
+        "horizon = {horizon}\n[[line]]\nlength = {length}\n[[group]]\nnid = {nid}\nline = {line}\nat = {at}\nnominal = {nominal}\n"
+    )
+}
+
+/// A value for each key of `small` that it may have.
+const GOOD: [&str; 6] = ["100000", "300000", "5", "0", "10000", "\"up\""];
+
+/// A track of so many lines of a length, and of balise groups with the numbers below a count.
+fn large(
+    alloc: Global,
+    horizon: &str,
+    lines: u32,
+    length: u32,
+    groups: u32,
+) -> Result<String, Fail> {
+    let mut text = format!(in alloc; "horizon = {horizon}\n")?;
+    if lines == 0 {
+        text.push_str("line = []\n")?;
+    }
+    for _ in 0..lines {
+        write!(text, "[[line]]\nlength = {length}\n")?;
+    }
+    for nid in 0..groups {
+        write!(
+            text,
+            "[[group]]\nnid = {nid}\nline = 0\nat = {nid}\nnominal = \"up\"\n"
+        )?;
+    }
+    Ok(text)
+}
+
+/// Asserts that a track is track A.
+fn assert_track_a(rt: &impl Abort, track: &Track) {
+    assert_eq!(rt; track.horizon(), 100_000);
+    assert_eq!(rt; track.line_len(0), Some(300_000));
+    assert_eq!(rt; track.line_len(1), Some(3_000_000));
+    let first = Group {
+        line: 0,
+        at: 10_000,
+        nominal: Way::Up,
+    };
+    let second = Group {
+        line: 0,
+        at: 200_000,
+        nominal: Way::Down,
+    };
+    let third = Group {
+        line: 1,
+        at: 0,
+        nominal: Way::Up,
+    };
+    assert_eq!(rt; track.group(5), Some(first));
+    assert_eq!(rt; track.group(6), Some(second));
+    assert_eq!(rt; track.group(7), Some(third));
+}
+
+#[test]
+fn reads_track_a(rt: HostRuntime) -> Result<(), Fail> {
+    let track = track_from_toml(rt.alloc(), TRACK_A)?;
+    assert_track_a(&rt, &track);
+    for line in [2, 63, 64, 256, 65_536, u32::MAX] {
+        assert_eq!(rt; track.line_len(line), None, "line {line}");
+    }
+    for nid in [0, 4, 8, 16_777_214, 16_777_215, u32::MAX] {
+        assert_eq!(rt; track.group(nid), None, "group {nid}");
+    }
+    Ok(())
+}
+
+#[test]
+fn reads_the_order_of_groups_as_it_comes(rt: HostRuntime) -> Result<(), Fail> {
+    let text =
+        "group = [{nid = 9, line = 0, at = 9, nominal = 'down'}, {nid = 2, line = 0, at = 2, nominal = 'up'}]\nline = [{length = 9}]\nhorizon = 1\n";
+    let track = track_from_toml(rt.alloc(), text)?;
+    assert_eq!(rt;
+        track.group(2),
+        Some(Group {
+            line: 0,
+            at: 2,
+            nominal: Way::Up
+        })
+    );
+    assert_eq!(rt;
+        track.group(9),
+        Some(Group {
+            line: 0,
+            at: 9,
+            nominal: Way::Down
+        })
+    );
+    Ok(())
+}
+
+#[test]
+fn reads_other_line_ends_and_marks(rt: HostRuntime) -> Result<(), Fail> {
+    let alloc = rt.alloc();
+    let crlf = TRACK_A.replace(alloc, "\n", "\r\n")?;
+    assert_track_a(&rt, &track_from_toml(alloc, crlf.as_str())?);
+    let marked = format!(in alloc; "\u{feff}{TRACK_A}")?;
+    assert_track_a(&rt, &track_from_toml(alloc, marked.as_str())?);
+    let noted = format!(in alloc;
+        "# a note\nspeed = 4.5\nlines = true\n{TRACK_A}colour = 1979-05-27 # another\n"
+    )?;
+    assert_track_a(&rt, &track_from_toml(alloc, noted.as_str())?);
+    Ok(())
+}
+
+#[test]
+fn takes_tracks_without_lines_or_groups(rt: HostRuntime) -> Result<(), Fail> {
+    let empty = track_from_toml(rt.alloc(), "horizon = 1\nline = []\n")?;
+    assert_eq!(rt; empty.line_len(0), None);
+    assert_eq!(rt; empty.group(0), None);
+    let lone = track_from_toml(
+        rt.alloc(),
+        "horizon = 3000000\ngroup = []\n[[line]]\nlength = 1\n",
+    )?;
+    assert_eq!(rt; lone.horizon(), 3_000_000);
+    assert_eq!(rt; lone.line_len(0), Some(1));
+    Ok(())
+}
+
+#[test]
+fn refuses_texts(rt: HostRuntime) -> Result<(), Fail> {
+    let alloc = rt.alloc();
+    for (text, want) in [
+        ("horizon = ", TrackError::Text),
+        ("horizon = 1\nhorizon = 1\n", TrackError::Text),
+        (
+            "horizon = 9223372036854775808\nline = []\n",
+            TrackError::Text,
+        ),
+        (
+            "horizon = 99999999999999999999999999999999999999\nline = []\n",
+            TrackError::Text,
+        ),
+        ("", TrackError::Shape),
+        ("# a note", TrackError::Shape),
+        ("line = []", TrackError::Shape),
+        ("horizon = 1", TrackError::Shape),
+        ("horizon = 0\nline = []", TrackError::Shape),
+        ("horizon = 3000001\nline = []", TrackError::Shape),
+        (
+            "horizon = 9223372036854775807\nline = []",
+            TrackError::Shape,
+        ),
+        (
+            "horizon = -9223372036854775808\nline = []",
+            TrackError::Shape,
+        ),
+        ("horizon = 1\nline = 1", TrackError::Shape),
+        ("horizon = 1\nline = {length = 1}", TrackError::Shape),
+        ("horizon = 1\n[line]\nlength = 1", TrackError::Shape),
+        ("horizon = 1\nline = [1]", TrackError::Shape),
+        ("horizon = 1\nline = [[]]", TrackError::Shape),
+        ("horizon = 1\nline = [{}]", TrackError::Shape),
+        ("horizon = 1\nline = [{length = 1}, 1]", TrackError::Shape),
+        ("horizon = 1\nline = []\ngroup = 1", TrackError::Shape),
+        ("horizon = 1\nline = []\ngroup = {}", TrackError::Shape),
+        ("horizon = 1\nline = []\ngroup = ['x']", TrackError::Shape),
+        ("horizon = 1\nline = []\ngroup = [{}]", TrackError::Shape),
+        ("horizon = 1\nline = [{length = 0}]", TrackError::BadLength),
+        (
+            "horizon = 1\nline = [{length = 3000001}]",
+            TrackError::BadLength,
+        ),
+        (
+            "horizon = 1\nline = [{length = 4294967295}]",
+            TrackError::BadLength,
+        ),
+    ] {
+        assert_eq!(rt; refusal(alloc, text), Some(want), "at {text}");
+    }
+    Ok(())
+}
+
+#[test]
+fn refuses_values_of_other_kinds(rt: HostRuntime) -> Result<(), Fail> {
+    let alloc = rt.alloc();
+    assert_eq!(rt; refusal(alloc, small(alloc, GOOD)?.as_str()), None);
+    for key in 0..6usize {
+        for value in [
+            "1.5",
+            "5.0",
+            "true",
+            "1979-05-27",
+            "'5'",
+            "'UP'",
+            "''",
+            "[]",
+            "{}",
+            "-1",
+            "4294967296",
+            "inf",
+        ] {
+            let mut values = GOOD;
+            values[key] = value;
+            assert_eq!(rt;
+                refusal(alloc, small(alloc, values)?.as_str()),
+                Some(TrackError::Shape),
+                "{value} at key {key}"
+            );
+        }
+    }
+    Ok(())
+}
+
+#[test]
+fn tells_values_at_their_bounds(rt: HostRuntime) -> Result<(), Fail> {
+    let alloc = rt.alloc();
+    for (key, value, want) in [
+        (0usize, "1", None),
+        (0, "3000000", None),
+        (1, "10000", None),
+        (1, "9999", Some(TrackError::GroupOffLine)),
+        (2, "0", None),
+        (2, "16777214", None),
+        (2, "16777215", Some(TrackError::Shape)),
+        (3, "1", Some(TrackError::GroupOffLine)),
+        (3, "256", Some(TrackError::GroupOffLine)),
+        (3, "4294967295", Some(TrackError::GroupOffLine)),
+        (4, "0", None),
+        (4, "300000", None),
+        (4, "300001", Some(TrackError::GroupOffLine)),
+        (4, "4294967295", Some(TrackError::GroupOffLine)),
+        (5, "'down'", None),
+        (5, "'upp'", Some(TrackError::Shape)),
+    ] {
+        let mut values = GOOD;
+        values[key] = value;
+        assert_eq!(rt;
+            refusal(alloc, small(alloc, values)?.as_str()),
+            want,
+            "{value} at key {key}"
+        );
+    }
+    Ok(())
+}
+
+#[test]
+fn refuses_what_is_too_much(rt: HostRuntime) -> Result<(), Fail> {
+    let alloc = rt.alloc();
+    for (lines, length, groups, want) in [
+        (64, 8_000, 8_000, None),
+        (65, 8_000, 0, Some(TrackError::TooManyLines)),
+        (1, 8_000, 8_001, Some(TrackError::TooManyGroups)),
+        (65, 8_000, 8_001, Some(TrackError::TooManyLines)),
+        (1, 0, 8_001, Some(TrackError::TooManyGroups)),
+        (1, 0, 1, Some(TrackError::BadLength)),
+        (65, 0, 0, Some(TrackError::TooManyLines)),
+        (0, 0, 1, Some(TrackError::GroupOffLine)),
+    ] {
+        let text = large(alloc, "1", lines, length, groups)?;
+        assert_eq!(rt;
+            refusal(alloc, text.as_str()),
+            want,
+            "{lines} lines of {length}, {groups} groups"
+        );
+    }
+    let shape = large(alloc, "0", 65, 0, 8_001)?;
+    assert_eq!(rt; refusal(alloc, shape.as_str()), Some(TrackError::Shape));
+    Ok(())
+}
+
+#[test]
+fn refuses_the_first_of_two_faults(rt: HostRuntime) -> Result<(), Fail> {
+    let alloc = rt.alloc();
+    let twice = "[[group]]\nnid = 5\nline = 1\nat = 0\nnominal = 'up'\n";
+    let off = "[[group]]\nnid = 5\nline = 2\nat = 0\nnominal = 'up'\n";
+    let short = "[[line]]\nlength = 0\n";
+    let wrong = "[[group]]\nnid = 16777215\n";
+    let broken = "[[group\n";
+    for (more, then, want) in [
+        (twice, "", TrackError::GroupTwice),
+        (off, "", TrackError::GroupOffLine),
+        (off, twice, TrackError::GroupOffLine),
+        (twice, off, TrackError::GroupOffLine),
+        (short, "", TrackError::BadLength),
+        (off, short, TrackError::BadLength),
+        (short, wrong, TrackError::Shape),
+        (wrong, broken, TrackError::Text),
+    ] {
+        let text = format!(in alloc; "{TRACK_A}{more}{then}")?;
+        assert_eq!(rt; refusal(alloc, text.as_str()), Some(want), "{more}{then}");
+    }
+    Ok(())
+}
+
+#[test]
+fn finds_each_of_many_groups(rt: HostRuntime) -> Result<(), Fail> {
+    let alloc = rt.alloc();
+    let text = large(alloc, "1", 1, 8_000, 8_000)?;
+    let track = track_from_toml(alloc, text.as_str())?;
+    for nid in 0..8_000 {
+        assert_eq!(rt;
+            track.group(nid),
+            Some(Group {
+                line: 0,
+                at: nid,
+                nominal: Way::Up
+            })
+        );
+    }
+    assert_eq!(rt; track.group(8_000), None);
+    Ok(())
+}
+
+#[test]
+fn says_what_is_wrong(rt: HostRuntime) -> Result<(), Fail> {
+    let alloc = rt.alloc();
+    let off = format!(in alloc; "{}", TrackError::GroupOffLine)?;
+    assert_eq!(rt;
+        off.as_str(),
+        "a balise group's line is not there (lines are numbered from 0), or its place is above the line's length"
+    );
+    let length = format!(in alloc; "{}", TrackError::BadLength)?;
+    assert_eq!(rt;
+        length.as_str(),
+        "a line's length is outside 1 to 3000000 (in units of 10 cm)"
+    );
+    Ok(())
+}

@@ -1,0 +1,194 @@
+//! The track: read from its text once, and looked up in from then on.
+
+ghost use Rattle.std.specs.Prelude.{◌≡◌, ◌⊎◌, ◌≤◌, ◌<◌, true, false, IfOk, IfErr, OnOk, IfSome, All, slice_get};
+ghost use Rattle.rbc_track.specs.declared.error.TrackError.TheVariants.{GroupTwice, OutOfMemory};
+ghost use Rattle.rbc_track.specs.Plan.{group_of, IsPlaced, IsLength};
+ghost use Rattle.rbc_track.specs.Outcomes.{IsUnlessMemory};
+ghost use Rattle.rbc_track.specs.Reading.{track_of, plan_of, is_length, is_on, are_apart, numbers_of, by_number, IsTrackOf, FindsItsGroups, RefusesTrack};
+ghost use Rattle.std.specs.BTreeMap.{IsOrdered};
+ghost use Rattle.std.specs.Ordering.{nat_cmp};
+ghost use Rattle.std.specs.List.{list_all};
+
+use crate::document;
+use crate::document::Site;
+use crate::error::TrackError;
+use crate::group::Group;
+use std::alloc::Global;
+use std::collections::BTreeMap;
+use std::marker::Model;
+
+/// The most lines that a track has.
+const MAX_LINES: usize = 64;
+
+/// The most balise groups that a track has.
+const MAX_GROUPS: usize = 8_000;
+
+/// The greatest length of a line, in units of 10 cm.
+const MAX_LENGTH: u32 = 3_000_000;
+
+/// A track: its lines, its balise groups, and how far ahead of a train its horizon is.
+#[derive(Debug, Drop)]
+pub struct Track {
+    horizon: u32,
+    lines: Vec<u32>,
+    groups: BTreeMap<u32, Group>,
+}
+
+impl Model for Track {
+    ghost use Rattle.rbc_track.specs.Plan.{Plan, IsPlan};
+
+    ghost Value = { Plan };
+
+    ghost use Rattle.rbc_track.specs.Inside.{plan_in, IsPlanIn};
+
+    ghost view = { plan_in };
+
+    ghost invariant = { IsPlanIn };
+}
+
+impl Track {
+    /// The track that a document writes.
+    ///
+    /// # Errors
+    ///
+    /// The first rule that the document breaks, of those on whole lists, and `OutOfMemory`.
+    fn new(
+        alloc: Global,
+        horizon: u32,
+        lines: Vec<u32>,
+        sites: &[Site],
+    ) -> Result<Track, TrackError>
+        requires horizon { IsLength horizon }
+        requires numbers { All (λ site. site.nid ≤ 16777214) sites.now }
+        ensures { IsUnlessMemory
+            (plan_of (record { horizon = horizon; lengths = lines.items; sites = sites.now }))
+            result }
+    {
+        if lines.len() > MAX_LINES {
+            return Err(TrackError::TooManyLines);
+        }
+        if sites.len() > MAX_GROUPS {
+            return Err(TrackError::TooManyGroups);
+        }
+        if !are_lengths(lines.as_slice()) {
+            return Err(TrackError::BadLength);
+        }
+        if !are_on(lines.as_slice(), sites) {
+            return Err(TrackError::GroupOffLine);
+        }
+        let groups = by_number(alloc, sites)?;
+        Ok(Track {
+            horizon,
+            lines,
+            groups,
+        })
+    }
+
+    /// The balise group with a number, if the track has one. Takes no memory.
+    pub fn group(&self, nid: u32) -> Option<Group>
+        ensures value { result ≡ group_of self.now nid }
+        ensures placed { IfSome result (IsPlaced self.now nid) }
+    {
+        self.groups.get(&nid).copied()
+    }
+
+    /// The length of a line, in units of 10 cm, if the track has the line. Lines are numbered from 0. Takes no
+    /// memory.
+    pub fn line_len(&self, line: u32) -> Option<u32>
+        ensures value { result ≡ slice_get self.now.lines line }
+        ensures in_range { IfSome result IsLength }
+    {
+        self.lines.get(line as usize).copied()
+    }
+
+    /// The horizon, in units of 10 cm.
+    pub fn horizon(&self) -> u32
+        ensures value { result ≡ self.now.horizon }
+        ensures in_range { IsLength result }
+    {
+        self.horizon
+    }
+}
+
+/// Whether a line may be so long.
+fn is_length(length: u32) -> bool
+    ensures { result ≡ is_length length }
+{
+    (1..=MAX_LENGTH).contains(&length)
+}
+
+/// Whether each line may be as long as it is.
+fn are_lengths(lines: &[u32]) -> bool
+    ensures { result ≡ list_all is_length lines.now }
+{
+    lines.iter().all(|length| is_length(*length))
+}
+
+/// Whether a balise group's line is there, and is as long as the group's place at least.
+fn is_on(lines: &[u32], site: &Site) -> bool
+    ensures { result ≡ is_on lines.now site.now }
+{
+    lines
+        .get(site.line as usize)
+        .is_some_and(|length| site.at <= *length)
+}
+
+/// Whether each balise group is on a line.
+fn are_on(lines: &[u32], sites: &[Site]) -> bool
+    ensures { result ≡ list_all (is_on lines.now) sites.now }
+{
+    sites.iter().all(|site| is_on(lines, site))
+}
+
+/// The balise groups by their numbers.
+///
+/// # Errors
+///
+/// `GroupTwice` where two have the same number, and `OutOfMemory`.
+fn by_number(alloc: Global, sites: &[Site]) -> Result<BTreeMap<u32, Group>, TrackError>
+    requires { All (λ site. site.line < 256) sites.now }
+    ensures apart { OnOk result (are_apart (numbers_of sites.now) ≡ true) }
+    ensures groups { IfOk result (λ groups. groups.entries ≡ by_number sites.now) }
+    ensures ascending { IfOk result (IsOrdered nat_cmp) }
+    ensures twice { IfErr result
+        (λ e. (e ≡ OutOfMemory) ⊎ ((e ≡ GroupTwice) × (are_apart (numbers_of sites.now) ≡ false))) }
+{
+    let mut groups = BTreeMap::new(alloc);
+    for site in sites {
+        let group = Group {
+            line: site.line as u8,
+            at: site.at,
+            nominal: site.nominal,
+        };
+        if groups.insert(site.nid, group)?.is_some() {
+            return Err(TrackError::GroupTwice);
+        }
+    }
+    Ok(groups)
+}
+
+/// Reads a track file, a TOML document. Lengths and places are in units of 10 cm. Other keys than these are not
+/// looked at.
+///
+/// - `horizon`: 1 to 3,000,000.
+/// - `line`: at most 64 tables, one for each line. Lines are numbered from 0. `length` is 1 to 3,000,000.
+/// - `group`: at most 8,000 tables, one for each balise group, in any order; none without the key. `nid` is its
+///   number, 0 to 16,777,214, `line` its line, `at` its place, which is not above the line's length, and `nominal`
+///   is `"up"` or `"down"`. No number stands twice.
+///
+/// # Errors
+///
+/// The first cause that applies, in the order of the variants of [`TrackError`] (own rule): each fault of kind comes
+/// before each list that is too long, and so on. `OutOfMemory` may come in place of any of them.
+pub fn track_from_toml(alloc: Global, text: &str) -> Result<Track, TrackError>
+    ensures ok { IfOk result (IsTrackOf text.now) }
+    ensures found { IfOk result (FindsItsGroups text.now) }
+    ensures refused { IfErr result (λ e. (e ≡ OutOfMemory) ⊎ RefusesTrack text.now e) }
+    ensures exact { IsUnlessMemory (track_of text.now) result }
+{
+    let document = document::document_from(alloc, text)?;
+    let horizon = document::horizon_in(&document).ok_or(TrackError::Shape)?;
+    let lines = document::lengths_under(alloc, &document)?;
+    let sites = document::sites_under(alloc, &document)?;
+    Track::new(alloc, horizon, lines, sites.as_slice())
+}
