@@ -5,18 +5,8 @@
 # python3. The batches go to bench/data, which is not kept, and are the same bytes each time.
 set -euo pipefail
 
-here=$(cd "$(dirname "$(readlink -f "$0")")" && pwd)
-root=$(dirname "$here")
 runs=5
-if [[ ${1-} == --runs ]]; then
-    runs=${2:?--runs takes a number}
-    shift 2
-fi
-program=${1-}
-if [[ -z $program ]]; then
-    "$root/dispatch" --help > /dev/null
-    program=$root/crates/rbc_dispatch/out/rbc_dispatch
-fi
+source "$(dirname "$(readlink -f "$0")")/options.sh" "$@"
 
 python3 -B "$here/loads.py" "$here/data"
-python3 -B "$here/measure.py" "$here/data" "$runs" "$(readlink -f "$program")"
+python3 -B "$here/measure.py" "$here/data" "$runs" "$program"

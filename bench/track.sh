@@ -5,17 +5,7 @@
 # python3. The tracks go to bench/data, which is not kept.
 set -euo pipefail
 
-here=$(cd "$(dirname "$(readlink -f "$0")")" && pwd)
-root=$(dirname "$here")
 runs=15
-if [[ ${1-} == --runs ]]; then
-    runs=${2:?--runs takes a number}
-    shift 2
-fi
-program=${1-}
-if [[ -z $program ]]; then
-    "$root/dispatch" --help > /dev/null
-    program=$root/crates/rbc_dispatch/out/rbc_dispatch
-fi
+source "$(dirname "$(readlink -f "$0")")/options.sh" "$@"
 
-python3 -B "$here/track_measure.py" "$here/data" "$runs" "$(readlink -f "$program")"
+python3 -B "$here/track_measure.py" "$here/data" "$runs" "$program"
