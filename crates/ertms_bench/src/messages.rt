@@ -7,12 +7,12 @@ pub struct Messages<'a>(&'a [u8]);
 
 impl<'a> Messages<'a> {
     /// The messages in all the bytes.
-    pub fn new(bytes: &'a [u8]) -> Self {
+    pub(crate) fn new(bytes: &'a [u8]) -> Self {
         Messages(bytes)
     }
 
     /// What is behind the messages that were taken.
-    pub fn as_slice(&self) -> &'a [u8] {
+    pub(crate) fn as_slice(&self) -> &'a [u8] {
         self.0
     }
 }

@@ -5,7 +5,7 @@ use ertms_codec::{FromTrain, Head, Position, ToTrain, read_from_train, read_to_t
 
 /// Reads all messages so many times. What is read changes the checksum, which the next reading begins
 /// with, so that none can be left out.
-pub fn read(bytes: &[u8], times: u32) -> u64 {
+pub(crate) fn read(bytes: &[u8], times: u32) -> u64 {
     let mut checksum = 0;
     for _ in 0..times {
         checksum = read_all(bytes, checksum);

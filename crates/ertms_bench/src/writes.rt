@@ -22,7 +22,7 @@ pub fn to_train(alloc: Global, bytes: &[u8]) -> Result<Vec<ToTrain>, AllocError>
 }
 
 /// Writes all messages so many times. What is written changes the checksum.
-pub fn write(messages: &[ToTrain], times: u32) -> u64
+pub(crate) fn write(messages: &[ToTrain], times: u32) -> u64
     requires { All Fits messages.now }
 {
     let mut checksum = 0;

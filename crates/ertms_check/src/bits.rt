@@ -20,7 +20,7 @@ pub fn bits_of(alloc: Global, bytes: &[u8]) -> Result<Vec<u8>, AllocError>
 
 /// The number in the `width` bits from `place` on, at most 32 of them. Bits that are not there are left
 /// out.
-pub fn number(bits: &[u8], place: usize, width: usize) -> u32 {
+pub(crate) fn number(bits: &[u8], place: usize, width: usize) -> u32 {
     let mut number = 0u32;
     for bit in bits.iter().skip(place).take(width) {
         number = number.wrapping_mul(2).wrapping_add(u32::from(*bit));
@@ -29,12 +29,12 @@ pub fn number(bits: &[u8], place: usize, width: usize) -> u32 {
 }
 
 /// The number in at most 16 bits.
-pub fn number_of_16(bits: &[u8], place: usize, width: usize) -> u16 {
+pub(crate) fn number_of_16(bits: &[u8], place: usize, width: usize) -> u16 {
     u16::try_from(number(bits, place, width)).unwrap_or(u16::MAX)
 }
 
 /// The number in at most 8 bits.
-pub fn number_of_8(bits: &[u8], place: usize, width: usize) -> u8 {
+pub(crate) fn number_of_8(bits: &[u8], place: usize, width: usize) -> u8 {
     u8::try_from(number(bits, place, width)).unwrap_or(u8::MAX)
 }
 
@@ -43,7 +43,7 @@ pub fn number_of_8(bits: &[u8], place: usize, width: usize) -> u8 {
 /// # Errors
 ///
 /// `Length` where they are not.
-pub fn check_message_length(bits: &[u8]) -> Result<(), DecodeError> {
+pub(crate) fn check_message_length(bits: &[u8]) -> Result<(), DecodeError> {
     if bits.len() < 24 || number(bits, 8, 10) as usize * 8 != bits.len() {
         return Err(DecodeError::Length);
     }

@@ -10,7 +10,7 @@ use ertms_codec::{DecodeError, FromTrain, Position};
 /// # Errors
 ///
 /// The first step that fails: `Length`, `Message`, `Length` (of that message), `Packet`, `Field`.
-pub fn decode_from_train(bits: &[u8]) -> Result<FromTrain, DecodeError> {
+pub(crate) fn decode_from_train(bits: &[u8]) -> Result<FromTrain, DecodeError> {
     check_message_length(bits)?;
     let message = number(bits, 0, 8);
     check_length_of(message, bits.len())?;

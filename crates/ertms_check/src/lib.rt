@@ -11,5 +11,3 @@ mod tests;
 mod to_train;
 
 pub use bits::bits_of;
-pub use from_train::decode_from_train;
-pub use to_train::decode_to_train;

@@ -8,7 +8,9 @@ mod laid_out_to_train;
 mod spelling;
 mod vectors;
 
-use crate::{bits_of, decode_from_train, decode_to_train};
+use crate::bits_of;
+use crate::from_train::decode_from_train;
+use crate::to_train::decode_to_train;
 use ertms_codec::{DecodeError, FromTrain, ToTrain, read_from_train, read_to_train};
 use std::process::Abort;
 use std::test::Fail;

@@ -8,7 +8,7 @@ use ertms_codec::{DecodeError, Head, ToTrain};
 /// # Errors
 ///
 /// The first step that fails: `Length`, `Message`, `Length` (of that message), `Packet`, `Field`.
-pub fn decode_to_train(bits: &[u8]) -> Result<ToTrain, DecodeError> {
+pub(crate) fn decode_to_train(bits: &[u8]) -> Result<ToTrain, DecodeError> {
     check_message_length(bits)?;
     let message = number(bits, 0, 8);
     check_length_of(message, bits.len())?;

@@ -8,15 +8,15 @@ use Rattle.rbc_batch.specs.declared.input.Segment.{Segment}
 use Rattle.rbc_batch.specs.declared.outbox.Mail.{Mail}
 use Rattle.rbc_batch.specs.declared.desk.Reply.{Reply}
 use Rattle.rbc_batch.specs.declared.desk.Reply.TheVariants.{Done}
-use Rattle.rbc_batch.specs.Maps.{has, place_of, with_value, keys, rises_from}
+use Rattle.rbc_maps.specs.Maps.{has, place_of, with_value, keys, rises_from}
 use Rattle.rbc_batch.specs.World.{Train, World, new_train, is_good_area}
 use Rattle.rbc_batch.specs.Settling.{settled, messages_of}
 use Rattle.rbc_track.specs.Plan.{Plan}
 use Rattle.rbc_batch.specs.Effect.{effect}
 use Rattle.rbc_batch.specs.Serial.{Desk, settled_trains, sent_to, post, post_all, count_sent, step, after}
 use Rattle.rbc_batch.specs.Sound.{IsSettled, IsSound}
-use Rattle.rbc_batch.proofs.MapEdits.{inserted}
-use Rattle.rbc_batch.proofs.MapPlaces.{has_here, rises-with_value}
+use Rattle.rbc_maps.proofs.MapEdits.{inserted}
+use Rattle.rbc_maps.proofs.MapPlaces.{has_here, rises-with_value}
 use Rattle.rbc_batch.proofs.Posts.{post_rises}
 use Rattle.rbc_batch.proofs.Steps.{settled_again, all_settled, one_settled, one_posted, one_counted, all-with_value, length-with_value_le, with_value-above}
 

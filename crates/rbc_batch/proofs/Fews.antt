@@ -7,7 +7,7 @@ use Rattle.ertms_codec.specs.ToTrain.{Fits}
 use Rattle.rbc_batch.specs.declared.train.Action.{Action}
 use Rattle.rbc_batch.specs.declared.train.Action.TheVariants.{Tell}
 use Rattle.rbc_batch.specs.declared.input.Segment.{Segment}
-use Rattle.rbc_batch.specs.Maps.{has}
+use Rattle.rbc_maps.specs.Maps.{has}
 use Rattle.rbc_batch.specs.World.{Train}
 use Rattle.rbc_batch.specs.Settling.{identifiers, free_identifiers, untold, telling, actions, actions_with_stamp, carried_out, message_of, messages_of, last_stamp}
 

@@ -1,9 +1,6 @@
 pub mod Cuts
-pub mod MapEdits
-pub mod MapFacts
 pub mod Settles
 pub mod Tells
-pub mod MapPlaces
 pub mod Posts
 pub mod Fews
 pub mod Counts

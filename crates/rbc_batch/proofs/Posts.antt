@@ -4,10 +4,10 @@ use Rattle.std.specs.List.{insert}
 use Rattle.std.proofs.lemmas.List.{get_or_default}
 use Rattle.ertms_codec.specs.declared.to_train.ToTrain.{ToTrain}
 use Rattle.rbc_batch.specs.declared.outbox.Mail.{Mail}
-use Rattle.rbc_batch.specs.Maps.{has, place_of, keys, rises_from, value_or, with_value}
+use Rattle.rbc_maps.specs.Maps.{has, place_of, keys, rises_from, value_or, with_value}
 use Rattle.rbc_batch.specs.Serial.{mail, post}
-use Rattle.rbc_batch.proofs.MapEdits.{written, inserted}
-use Rattle.rbc_batch.proofs.MapPlaces.{value_or-here, value_or-absent, rises-with_value}
+use Rattle.rbc_maps.proofs.MapEdits.{written, inserted}
+use Rattle.rbc_maps.proofs.MapPlaces.{value_or-here, value_or-absent, rises-with_value}
 
 -- where there are messages
 post_is : (input engine : ℕ) (boxes : List (ℕ × List Mail)) (messages : List ToTrain) → 0 < length messages → post input boxes (engine, messages) ≡ with_value engine (value_or [] boxes engine ++ map (mail input) messages) boxes

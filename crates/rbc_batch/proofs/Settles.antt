@@ -7,10 +7,10 @@ use Rattle.rbc_batch.specs.declared.input.Segment.{Segment}
 use Rattle.rbc_batch.specs.declared.train.Slot.TheVariants.{Used}
 use Rattle.rbc_batch.specs.declared.train.Action.{Action}
 use Rattle.rbc_batch.specs.declared.train.Action.TheVariants.{Tell}
-use Rattle.rbc_batch.specs.Maps.{has, keys, rises_from}
+use Rattle.rbc_maps.specs.Maps.{has, keys, rises_from}
 use Rattle.rbc_batch.specs.World.{Train}
 use Rattle.rbc_batch.specs.Settling.{is_told, tells, identifiers, free_identifiers, untold, telling, carried_out, settled, last_stamp, does_concern, concern_of}
-use Rattle.rbc_batch.proofs.MapFacts.{any-with_value, rises_from-filter, filter_none}
+use Rattle.rbc_maps.proofs.MapFacts.{any-with_value, rises_from-filter, filter_none}
 
 -- none of these identifiers is held
 abbrev pub AreFree : List ℕ → Train → Type 0

@@ -8,7 +8,7 @@ use Rattle.ertms_codec.specs.declared.to_train.ToTrain.{ToTrain}
 use Rattle.rbc_batch.specs.declared.input.Segment.{Segment}
 use Rattle.rbc_batch.specs.declared.outbox.Mail.{Mail}
 use Rattle.rbc_batch.specs.declared.train.Action.{Action}
-use Rattle.rbc_batch.specs.Maps.{with_value}
+use Rattle.rbc_maps.specs.Maps.{with_value}
 use Rattle.rbc_batch.specs.World.{Train}
 use Rattle.rbc_batch.specs.Settling.{free_identifiers, untold, telling, actions, actions_with_stamp, carried_out, message_of, settled, messages_of, last_stamp}
 use Rattle.rbc_batch.specs.Serial.{settled_trains, sent_to, post, post_all, count_sent}

@@ -4,14 +4,14 @@ use Rattle.std.specs.List.{range_with_len, AllByRecursion}
 use Rattle.std.proofs.lemmas.Bool.{cases_lt, not-false}
 use Rattle.rbc_batch.specs.declared.input.Input.{Input}
 use Rattle.rbc_batch.specs.declared.input.Segment.{Segment}
-use Rattle.rbc_batch.specs.Maps.{has, keys}
+use Rattle.rbc_maps.specs.Maps.{has, keys}
 use Rattle.rbc_batch.specs.World.{World, Train}
 use Rattle.rbc_batch.specs.Settling.{is_told, identifiers, settled, does_concern, concern_of}
 use Rattle.rbc_track.specs.Plan.{Plan}
 use Rattle.rbc_batch.specs.Effect.{effect}
 use Rattle.rbc_batch.specs.Serial.{Desk, after, step, serial, new_desk}
 use Rattle.rbc_batch.specs.Told.{IsToldOrCannotBe, EachStopIsTold, EachRunTells}
-use Rattle.rbc_batch.proofs.MapFacts.{each_fails}
+use Rattle.rbc_maps.proofs.MapFacts.{each_fails}
 use Rattle.rbc_batch.proofs.Settles.{exhausted}
 
 in_row : (P : ℕ → Type 0) (least count : ℕ) → AllByRecursion P (range_with_len least count) → (n : ℕ) → least ≤ n → n < least + count → P n

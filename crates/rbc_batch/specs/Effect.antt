@@ -3,7 +3,7 @@ use Rattle.std.specs.Prelude.{ℕ, nat_le, if◌then◌else◌, length, Result, 
 use Rattle.rbc_track.specs.Plan.{Plan}
 use Rattle.rbc_batch.specs.declared.input.Input.{Input}
 use Rattle.rbc_batch.specs.declared.input.Input.TheVariants.{Enrol, Stop, Bad}
-use Rattle.rbc_batch.specs.Maps.{has, with_value}
+use Rattle.rbc_maps.specs.Maps.{has, with_value}
 use Rattle.rbc_batch.specs.World.{World, new_train, is_good_area}
 
 -- The least code that applies refuses an input: 8 already enrolled, 9 too many trains, 11 number used,

@@ -1,4 +1,3 @@
-pub mod Maps
 pub mod BatchText
 pub mod Pieces
 pub mod World

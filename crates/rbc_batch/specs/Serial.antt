@@ -8,7 +8,7 @@ use Rattle.rbc_batch.specs.declared.input.Segment.{Segment}
 use Rattle.rbc_batch.specs.declared.desk.Reply.{Reply}
 use Rattle.rbc_batch.specs.declared.desk.Reply.TheVariants.{Done, Refused}
 use Rattle.rbc_batch.specs.declared.outbox.Mail.{Mail}
-use Rattle.rbc_batch.specs.Maps.{value_or, with_value}
+use Rattle.rbc_maps.specs.Maps.{value_or, with_value}
 use Rattle.rbc_batch.specs.World.{World, Train, new_world}
 use Rattle.rbc_batch.specs.Settling.{settled, messages_of}
 use Rattle.rbc_batch.specs.Effect.{effect}

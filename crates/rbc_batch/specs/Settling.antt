@@ -8,7 +8,7 @@ use Rattle.rbc_batch.specs.declared.train.Slot.{Slot}
 use Rattle.rbc_batch.specs.declared.train.Slot.TheVariants.{Used}
 use Rattle.rbc_batch.specs.declared.train.Action.{Action}
 use Rattle.rbc_batch.specs.declared.train.Action.TheVariants.{Tell}
-use Rattle.rbc_batch.specs.Maps.{has, with_value, keys}
+use Rattle.rbc_maps.specs.Maps.{has, with_value, keys}
 use Rattle.rbc_batch.specs.World.{Train}
 
 -- the last stamp that a message may have

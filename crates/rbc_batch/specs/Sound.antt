@@ -2,7 +2,7 @@
 use Rattle.std.specs.Prelude.{◌≡◌, ◌≤◌, ℕ, List, [], length}
 use Rattle.std.specs.List.{AllByRecursion}
 use Rattle.rbc_batch.specs.declared.input.Segment.{Segment}
-use Rattle.rbc_batch.specs.Maps.{IsMap}
+use Rattle.rbc_maps.specs.Maps.{IsMap}
 use Rattle.rbc_batch.specs.World.{Train}
 use Rattle.rbc_batch.specs.Settling.{actions_with_stamp}
 use Rattle.rbc_batch.specs.Serial.{Desk}

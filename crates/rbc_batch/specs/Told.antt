@@ -4,7 +4,7 @@ use Rattle.std.specs.List.{AllByRecursion}
 use Rattle.rbc_track.specs.Plan.{Plan}
 use Rattle.rbc_batch.specs.declared.input.Input.{Input}
 use Rattle.rbc_batch.specs.declared.input.Segment.{Segment}
-use Rattle.rbc_batch.specs.Maps.{has}
+use Rattle.rbc_maps.specs.Maps.{has}
 use Rattle.rbc_batch.specs.World.{World, Train}
 use Rattle.rbc_batch.specs.Settling.{Nothing, concern_of, is_told, last_stamp}
 use Rattle.rbc_batch.specs.Serial.{serial, new_desk}

@@ -2,7 +2,7 @@
 
 ghost use Rattle.std.specs.Prelude.{◌≡◌, ◌+◌, ◌<◌, ◌≤◌, ◌^◌, ◌∷◌, ◌++◌, [], map, length, nat_le, IfOk, OnOk};
 ghost use Rattle.std.specs.List.{list_all};
-ghost use Rattle.rbc_batch.specs.Maps.{IsMap, with_value};
+ghost use Rattle.rbc_maps.specs.Maps.{IsMap, with_value};
 ghost use Rattle.rbc_track.specs.Plan.{Plan};
 ghost use Rattle.rbc_batch.specs.World.{is_good_segment, is_good_area};
 ghost use Rattle.rbc_batch.specs.Settling.{settled, messages_of};
@@ -10,7 +10,6 @@ ghost use Rattle.rbc_batch.specs.Serial.{new_desk, step, post_all, count_sent, s
 ghost use Rattle.rbc_batch.specs.Sound.{IsSound};
 
 use crate::input::{Input, Segment, Segments};
-use crate::maps;
 use crate::outbox::{self, Outbox};
 use crate::train::Train;
 use rbc_track::Track;
@@ -178,7 +177,7 @@ impl Desk {
         ensures step { OnOk result ((plan : Plan) → self.new ≡ step plan self.old (Input.Enrol engine train_length)) }
         ensures stays_sound { OnOk result (IsSound self.new) }
     {
-        if maps::has(&self.trains, engine) {
+        if rbc_maps::has(&self.trains, engine) {
             return self.refuse(ALREADY_ENROLLED);
         }
         if self.trains.len() >= MOST_TRAINS {
@@ -186,7 +185,7 @@ impl Desk {
         }
         let mut train = Train::new(alloc, train_length);
         let messages = train.settle(alloc, &self.stops)?;
-        let at = maps::place_of(&self.trains, engine);
+        let at = rbc_maps::place_of(&self.trains, engine);
         self.trains.insert(at, (engine, train))?;
         let input = self.results.len() as u32 + 1;
         outbox::post(alloc, &mut self.outboxes, input, engine, &messages)?;

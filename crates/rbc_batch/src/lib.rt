@@ -5,7 +5,6 @@ mod batch;
 mod desk;
 mod input;
 mod law;
-mod maps;
 mod outbox;
 mod parse;
 mod read;

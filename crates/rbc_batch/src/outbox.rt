@@ -3,11 +3,10 @@
 ghost use Rattle.std.specs.Prelude.{◌≡◌, [], ◌++◌, map, OnOk};
 ghost use Rattle.std.specs.List.{All};
 ghost use Rattle.ertms_codec.specs.ToTrain.{Fits};
-ghost use Rattle.rbc_batch.specs.Maps.{IsMap};
+ghost use Rattle.rbc_maps.specs.Maps.{IsMap};
 ghost use Rattle.rbc_batch.specs.Sendable.{AreSendable};
 ghost use Rattle.rbc_batch.specs.Serial.{mail, post};
 
-use crate::maps;
 use ertms_codec::ToTrain;
 use std::alloc::{AllocError, Global};
 use std::marker::Model;
@@ -85,7 +84,7 @@ pub fn post(
     if messages.is_empty() {
         return Ok(());
     }
-    let at = maps::place_of(outboxes, engine);
+    let at = rbc_maps::place_of(outboxes, engine);
     if at < outboxes.len() && outboxes[at].0 == engine {
         outboxes[at].1.add(input, messages)?;
     } else {

@@ -3,7 +3,7 @@
 ghost use Rattle.std.specs.Prelude.{◌≡◌, ◌+◌, ◌<◌, ◌≤◌, ◌^◌, ◌++◌, IfOk, OnOk, length, not, nat_le};
 ghost use Rattle.std.specs.List.{position, All};
 ghost use Rattle.ertms_codec.specs.ToTrain.{Fits};
-ghost use Rattle.rbc_batch.specs.Maps.{has, place_of, with_value};
+ghost use Rattle.rbc_maps.specs.Maps.{has, place_of, with_value};
 ghost use Rattle.rbc_batch.specs.World.{new_train};
 ghost use Rattle.rbc_batch.specs.Settling.{is_told, free_identifiers, untold, actions_with_stamp, carried_out, message_of, settled, messages_of};
 

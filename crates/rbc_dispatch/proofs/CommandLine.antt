@@ -1,5 +1,5 @@
 -- What the command line makes of words, where they are known.
-use Rattle.std.proofs.Common.{refl, sym, ap, subst, ◌∙◌, ◌≡◌, ◌⊎◌, ℕ, [], ◌∷◌, List, Option, Some, None, Bool, true, false, cond, inl, inr, ◌==◌, ◌&&◌, codes, is_none, is_some}
+use Rattle.std.proofs.Common.{refl, sym, subst, ◌∙◌, ◌≡◌, ℕ, [], ◌∷◌, List, Option, Some, None, Bool, true, false, cond, inl, inr, ◌==◌, ◌&&◌, codes, is_none, is_some}
 use Rattle.std.specs.Prelude.{◌||◌, fold, not, slice_index_or, option_map}
 use Rattle.std.specs.Option.{option_map_or}
 use Rattle.std.specs.Str.{bytes_eq}
@@ -13,7 +13,7 @@ use Rattle.clap.specs.Takes.{is_given}
 use Rattle.clap.specs.Walk.{Held, Names, Outcome, Row, Rule, Step, Waiting, Walk, done, waits, plain, refused, idle, option, positional, next, trailing, subcommand, value, after_flag, after_step, answers_to, arg_by_index, finished, first_of, has_long, has_short, long_or_other, nothing_held, plain_word, rows_after, settled, short_or_plain, stop_after, subcommand_met, subcommand_or_other, to_positional, used, walk, walk_from, walked, walked_from, word_met}
 use Rattle.clap.specs.declared.error.kind.ErrorKind.TheVariants as kind
 use Rattle.clap.proofs.OnLiterals.{clap_on_literals}
-use Rattle.rbc_dispatch.specs.Words.{Finding, HasTask, command_line, finding_in, is_plain, word_after}
+use Rattle.rbc_dispatch.specs.Words.{HasTask, command_line, finding_in, is_plain, word_after}
 use Rattle.rbc_dispatch.proofs.RequiredWord.{Full, HasNoDefaults, KeepsFull, KeepsRows, first-nil, rest-nil, full-finished, full-with_values, full-without, given-first_of}
 
 pub line_is_simple : is_simple_and_free command_line ≡ true

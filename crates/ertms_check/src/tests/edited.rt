@@ -7,7 +7,7 @@ use std::alloc::{AllocError, Global};
 use std::test::Fail;
 
 /// Some bytes, of which the one at a place is another.
-pub fn replaced(
+pub(crate) fn replaced(
     alloc: Global,
     bytes: &[u8],
     place: usize,

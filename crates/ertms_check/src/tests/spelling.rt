@@ -24,7 +24,7 @@ fn byte_of(bits: &[u8]) -> u8 {
 
 /// The bytes of fields that stand in a text as `VALUE:WIDTH`, with a space between two, WIDTH being the
 /// number of bits.
-pub fn spelled(alloc: Global, fields: &str) -> Result<Vec<u8>, Fail> {
+pub(crate) fn spelled(alloc: Global, fields: &str) -> Result<Vec<u8>, Fail> {
     let mut bits = Vec::new(alloc);
     for field in fields.split(' ') {
         let (value, width) = field.split_once(':').ok_or("no width")?;

@@ -26,7 +26,7 @@ pub struct Host<'a> {
 
 impl<'a> Host<'a> {
     /// A host with these words, whose file is `TRACK`.
-    pub fn new(words: &'a [&'a [u8]]) -> Host<'a> {
+    pub(crate) fn new(words: &'a [&'a [u8]]) -> Host<'a> {
         Host {
             words,
             track: TRACK.as_bytes(),

@@ -2,7 +2,7 @@ use Rattle.std.proofs.Common.{◌≡◌, ℕ, ◌<◌, ◌+◌, ◌∷◌, true,
 use Rattle.std.proofs.lemmas.List.Edits.{map_over_more}
 use Rattle.ertms_codec.specs.declared.to_train.ToTrain.{ToTrain}
 use Rattle.rbc_batch.specs.declared.outbox.Mail.{Mail}
-use Rattle.rbc_batch.specs.Maps.{keys, rises_from}
+use Rattle.rbc_maps.specs.Maps.{keys, rises_from}
 use Rattle.rbc_batch.specs.World.{Train}
 use Rattle.rbc_batch.specs.Settling.{settled, messages_of}
 use Rattle.rbc_batch.specs.Serial.{sent_to, post, post_all, count_sent}

@@ -1,5 +1,5 @@
 use Rattle.std.proofs.Common.{◌≡◌, ◌++◌, ◌+◌, ◌*◌, ◌≤◌, map, take, drop}
-use Rattle.rbc_batch.specs.Maps.{IsMap}
+use Rattle.rbc_maps.specs.Maps.{IsMap}
 use Rattle.rbc_batch.specs.Settling.{settled}
 use Rattle.rbc_batch.specs.Serial.{sent_to, post_all, count_sent}
 use Rattle.rbc_batch.proofs.desk.settle_all.Given as goal

@@ -3,9 +3,9 @@ use Rattle.std.proofs.lemmas.List.{get_or_default}
 use Rattle.std.proofs.lemmas.Bool.{ne_eqb}
 use Rattle.std.proofs.lemmas.Bool.Decides.{nat_tests}
 use Rattle.rbc_batch.specs.declared.outbox.Mail.{Mail}
-use Rattle.rbc_batch.specs.Maps.{place_of, has}
-use Rattle.rbc_batch.proofs.MapEdits.{position_or_len_le}
-use Rattle.rbc_batch.proofs.MapPlaces.{has_here, has_past}
+use Rattle.rbc_maps.specs.Maps.{place_of, has}
+use Rattle.rbc_maps.proofs.MapEdits.{position_or_len_le}
+use Rattle.rbc_maps.proofs.MapPlaces.{has_here, has_past}
 use Rattle.rbc_batch.proofs.Posts.{posted_there, posted_new}
 use Rattle.rbc_batch.proofs.outbox.post.Goals as goal
 use Rattle.rbc_batch.proofs.outbox.post.Goals.{else-at-len-via-then-at-len+else-index-engine, else-at-len-via-else-at-len}

@@ -1,8 +1,8 @@
 use Rattle.std.proofs.Common.{◌≡◌, ◌≢◌, ℕ, ◌<◌, ◌∙◌, subst, ap, arith, leb, length, get_or}
 use Rattle.std.proofs.lemmas.List.{get_or_default}
-use Rattle.rbc_batch.specs.Maps.{place_of}
+use Rattle.rbc_maps.specs.Maps.{place_of}
 use Rattle.rbc_batch.specs.declared.train.Slot.{Slot}
-use Rattle.rbc_batch.proofs.MapEdits.{position_or_len_le, written, inserted}
+use Rattle.rbc_maps.proofs.MapEdits.{position_or_len_le, written, inserted}
 use Rattle.rbc_batch.proofs.train.hold.Goals as goal
 use Rattle.rbc_batch.proofs.train.hold.Goals.{else-at-len-via-then-at-len+else-index-id, else-at-len-via-else-at-len}
 

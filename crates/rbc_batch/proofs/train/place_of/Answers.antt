@@ -1,5 +1,5 @@
 use Rattle.std.proofs.Common.{◌∙◌, ap, leb, length, unwrap_or}
-use Rattle.rbc_batch.proofs.MapEdits.{position_or_len_is}
+use Rattle.rbc_maps.proofs.MapEdits.{position_or_len_is}
 use Rattle.rbc_batch.proofs.train.place_of.Goals as goal
 
 pub returns : goal.returns

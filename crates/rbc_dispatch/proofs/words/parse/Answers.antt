@@ -1,4 +1,4 @@
-use Rattle.std.proofs.Common.{refl, sym, ap, subst, ◌∙◌, ◌≡◌, ◌⊎◌, [], ◌∷◌, List, Option, Some, None, Result, Ok, Err, inl, inr, true, map, option_map, unwrap_or, codes, string_bytes}
+use Rattle.std.proofs.Common.{refl, sym, ap, subst, ◌∙◌, ◌≡◌, ◌⊎◌, [], ◌∷◌, List, Option, Some, None, Result, Ok, Err, inl, inr, true, map, unwrap_or, codes, string_bytes}
 use Rattle.std.specs.Result.{IsErrAnd}
 use Rattle.clap.specs.Kinds.{HasKind}
 use Rattle.clap.specs.Simple.{subcommand_of}

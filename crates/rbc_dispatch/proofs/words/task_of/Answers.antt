@@ -1,4 +1,4 @@
-use Rattle.std.proofs.Common.{sym, ap, ◌∙◌, ◌≡◌, List, Option, Some, None, inl, inr, codes, rules, Bor, option_map}
+use Rattle.std.proofs.Common.{sym, ap, ◌∙◌, ◌≡◌, Option, Some, None, inl, inr, codes, rules, Bor, option_map}
 use Rattle.std.specs.Option.{IsSome}
 use Rattle.clap.specs.Walk.{Text}
 use Rattle.clap.specs.Words.{subcommand_rows_of}

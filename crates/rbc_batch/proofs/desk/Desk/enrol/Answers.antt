@@ -3,13 +3,13 @@ use Rattle.ertms_codec.specs.declared.to_train.ToTrain.{ToTrain}
 use Rattle.rbc_track.specs.Plan.{Plan}
 use Rattle.rbc_batch.specs.declared.desk.Reply.TheVariants.{Done}
 use Rattle.rbc_batch.specs.declared.input.Input.TheVariants.{Enrol}
-use Rattle.rbc_batch.specs.Maps.{place_of, has}
+use Rattle.rbc_maps.specs.Maps.{place_of, has}
 use Rattle.rbc_batch.specs.World.{Train, new_train}
 use Rattle.rbc_batch.specs.Settling.{settled, messages_of}
 use Rattle.rbc_batch.specs.Serial.{Desk, step, post}
 use Rattle.rbc_batch.specs.Sound.{IsSound}
 use Rattle.rbc_batch.specs.contracts.desk.Desk.{the_view}
-use Rattle.rbc_batch.proofs.MapEdits.{position_or_len_le}
+use Rattle.rbc_maps.proofs.MapEdits.{position_or_len_le}
 use Rattle.rbc_batch.proofs.Accepted.{enrol_is_step, enrol_is_sound}
 use Rattle.rbc_batch.proofs.desk.Desk.enrol.Goals as goal
 

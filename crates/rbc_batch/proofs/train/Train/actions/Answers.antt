@@ -1,7 +1,7 @@
 use Rattle.std.proofs.Common.{rules, refl, ◌-◌, ◌&&◌, not}
 use Rattle.std.proofs.lemmas.Iterator.{YieldsList-from_slice, YieldsList-from_range, YieldsList-from_map, YieldsList-from_take, YieldsList-from_zip, items_from_collect}
 use Rattle.std.proofs.lemmas.Iterator.Consumers.{YieldsList-at, YieldsList-from_filter}
-use Rattle.rbc_batch.specs.Maps.{has}
+use Rattle.rbc_maps.specs.Maps.{has}
 use Rattle.rbc_batch.specs.Settling.{is_told, does_concern, concern_of, telling, last_stamp}
 use Rattle.rbc_batch.proofs.train.Train.actions.Goals as goal
 

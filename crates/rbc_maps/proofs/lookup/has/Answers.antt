@@ -1,7 +1,7 @@
 use Rattle.std.proofs.Common.{◌∙◌, sym}
 use Rattle.std.proofs.lemmas.Bool.{le-ltb}
-use Rattle.rbc_batch.proofs.MapPlaces.{has_here, has_past}
-use Rattle.rbc_batch.proofs.maps.has.Goals as goal
+use Rattle.rbc_maps.proofs.MapPlaces.{has_here, has_past}
+use Rattle.rbc_maps.proofs.lookup.has.Goals as goal
 
 pub returns-then-at-pairs : goal.returns-then-at-pairs
 returns-then-at-pairs g c = has_here c.args.key c.args.pairs.now c.place_of-at.result c.index-pairs-at.result c.requires c.place_of-at.ensures c.if-at-pairs.true

@@ -4,7 +4,7 @@ use Rattle.std.specs.List.Sorted.{IsNonDecreasingBy, IsPartitionPoint}
 use Rattle.std.proofs.lemmas.Bool.{cases_lt, or_from, or_parts, ne_eqb, and_parts, leb-true, le-leb, lt-leb, ltb-true, ltb-false, lt-ltb, le-ltb, and_right, and_left, and_from, or_left, eq-eqb}
 use Rattle.std.proofs.lemmas.Bool.Decides.{nat_tests}
 use Rattle.std.proofs.lemmas.List.Sums.{position_or_len_is}
-use Rattle.rbc_batch.specs.Maps.{has, place_of, keys, rises_from, value_or, with_value}
+use Rattle.rbc_maps.specs.Maps.{has, place_of, keys, rises_from, value_or, with_value}
 
 and_true : (a b : Bool) → a ≡ true → (a && b) ≡ b
 and_true true b e = refl
@@ -41,7 +41,7 @@ module _ {V : Type 0} where
       (λ k below. lt-leb key _ (ltb-true _ key (parted.0 k pair (omega arith) below)))
       (λ inside. le-leb key _ (ltb-false _ key (parted.1 n pair (omega arith) inside))))
 
-  absent_below : (key least : ℕ) (pairs : List (ℕ × V)) → key < least → rises_from least (keys pairs) ≡ true → has pairs key ≡ false
+  pub absent_below : (key least : ℕ) (pairs : List (ℕ × V)) → key < least → rises_from least (keys pairs) ≡ true → has pairs key ≡ false
   absent_below key least [] below rises = refl
   absent_below key least (pair ∷ pairs) below rises =
       let parts = and_parts (leb least pair.0) (rises_from (pair.0 + 1) (keys pairs)) rises in

@@ -1,6 +1,7 @@
 -- A finite map from numbers, as the list of its pairs, ascending in the key.
-use Rattle.std.specs.Prelude.{ℕ, ◌+◌, Bool, true, ◌==◌, nat_lt, nat_le, if◌then◌else◌, List, [], ◌∷◌, map, IsTrue, ◌&&◌}
-use Rattle.std.specs.List.{list_any, position_or_len}
+use Rattle.std.specs.Prelude.{ℕ, ◌+◌, Bool, true, ◌==◌, nat_lt, nat_le, if◌then◌else◌, List, [], ◌∷◌, map, IsTrue, ◌&&◌, not, Option}
+use Rattle.std.specs.List.{list_any, filter, position_or_len}
+use Rattle.std.specs.Map.{lookup}
 
 -- whether the map has a value at a key
 abbrev pub has : {V : Type 0} → List (ℕ × V) → ℕ → Bool
@@ -10,6 +11,14 @@ has pairs key = list_any (λ pair. pair.0 == key) pairs
 abbrev pub value_or : {V : Type 0} → V → List (ℕ × V) → ℕ → V
 value_or none [] key = none
 value_or none (pair ∷ pairs) key = if pair.0 == key then pair.1 else value_or none pairs key
+
+-- the value at a key, if the map has one
+abbrev pub value_of : {V : Type 0} → List (ℕ × V) → ℕ → Option V
+value_of pairs key = lookup (λ other. other == key) pairs
+
+-- the map without a key
+abbrev pub without : {V : Type 0} → ℕ → List (ℕ × V) → List (ℕ × V)
+without key pairs = filter (λ pair. not (pair.0 == key)) pairs
 
 -- the map with this value at the key, whatever it had there
 abbrev pub with_value : {V : Type 0} → ℕ → V → List (ℕ × V) → List (ℕ × V)

@@ -4,7 +4,7 @@ use Rattle.std.specs.List.{position, position_or_len, insert}
 use Rattle.std.proofs.lemmas.List.{get_or_default}
 use Rattle.std.proofs.lemmas.Bool.{cases_lt}
 use Rattle.std.proofs.lemmas.Bool.Decides.{nat_tests}
-use Rattle.rbc_batch.specs.Maps.{with_value, place_of}
+use Rattle.rbc_maps.specs.Maps.{with_value, place_of}
 
 -- a place is never past the end
 pub position_or_len_le : {X : Type 0} (p : X → Bool) (xs : List X) → position_or_len p xs ≤ length xs

@@ -1,0 +1,4 @@
+pub mod MapEdits
+pub mod MapFacts
+pub mod MapPlaces
+pub mod MapValues

@@ -1,0 +1,11 @@
+//! Finite maps from numbers: vectors of pairs, ascending in the number, with a binary search.
+#![tactic(auto)]
+
+mod lookup;
+mod numbered;
+
+pub use lookup::{has, place_of, remove, value_of};
+pub use numbered::Numbered;
+
+#[cfg(test)]
+mod tests;

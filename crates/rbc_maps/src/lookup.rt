@@ -1,0 +1,48 @@
+//! Looking up, and taking out.
+
+ghost use Rattle.std.specs.Prelude.{◌≡◌, option_copied};
+ghost use Rattle.rbc_maps.specs.Maps.{IsMap, has, place_of, value_of, without};
+
+/// Where a key stands, or would stand.
+pub fn place_of<V>(pairs: &[(u32, V)], key: u32) -> usize
+    requires { IsMap pairs.now }
+    ensures { result ≡ place_of key pairs.now }
+{
+    pairs.partition_point(|pair| pair.0 < key)
+}
+
+/// Whether the map has a value at a key.
+pub fn has<V>(pairs: &[(u32, V)], key: u32) -> bool
+    requires { IsMap pairs.now }
+    ensures { result ≡ has pairs.now key }
+{
+    let at = place_of(pairs, key);
+    at < pairs.len() && pairs[at].0 == key
+}
+
+/// The value at a key, if the map has one.
+pub fn value_of<V>(pairs: &[(u32, V)], key: u32) -> Option<&V>
+    requires { IsMap pairs.now }
+    ensures { option_copied result ≡ value_of pairs.now key }
+{
+    let at = place_of(pairs, key);
+    if at < pairs.len() && pairs[at].0 == key {
+        Some(&pairs[at].1)
+    } else {
+        None
+    }
+}
+
+/// Takes a key out with its value, and tells whether it was there.
+pub fn remove<V: Drop>(pairs: &mut Vec<(u32, V)>, key: u32) -> bool
+    requires { IsMap pairs.old.items }
+    ensures pairs { pairs.new.items ≡ without key pairs.old.items }
+    ensures found { result ≡ has pairs.old.items key }
+{
+    let found = has(pairs, key);
+    if found {
+        let at = place_of(pairs, key);
+        let _ = pairs.remove(at);
+    }
+    found
+}

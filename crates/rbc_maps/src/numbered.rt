@@ -1,0 +1,107 @@
+//! What is active under numbers that rise.
+
+ghost use Rattle.std.specs.Prelude.{◌≡◌, ◌<◌, ◌∷◌, ◌++◌, [], OnOk, OnErr, IfOk, length, Some, slice_get, option_copied};
+ghost use Rattle.rbc_maps.specs.Maps.{has, value_of, without};
+ghost use Rattle.rbc_maps.specs.Numbered.{AreNumbered, none_numbered};
+
+use crate::lookup;
+use std::alloc::{AllocError, Global};
+use std::marker::Model;
+
+/// Values that are active under numbers above 0, in ascending order, and the last number that was ever given: a
+/// number that was taken out is not given again.
+#[derive(Debug, Drop)]
+pub struct Numbered<V> {
+    last: u32,
+    active: Vec<(u32, V)>,
+}
+
+impl<V> Model for Numbered<V> {
+    ghost use Rattle.rbc_maps.specs.Numbered as numbered;
+
+    ghost Value = { numbered.Numbered V };
+
+    ghost view = { λ n. record { last = n.last; active = n.active.items } };
+
+    ghost invariant = { λ n. numbered.AreNumbered (record { last = n.last; active = n.active.items }) };
+}
+
+impl<V> Numbered<V> {
+    /// Nothing is active, and the last number is 0. It takes no memory.
+    pub fn new(alloc: Global) -> Self
+        ensures { result ≡ none_numbered }
+    {
+        Numbered {
+            last: 0,
+            active: Vec::new(alloc),
+        }
+    }
+
+    /// The last number that was given, at first 0.
+    pub fn last(&self) -> u32
+        ensures value { result ≡ self.now.last }
+        ensures sound { AreNumbered self.now }
+    {
+        self.last
+    }
+
+    /// How many are active.
+    pub fn count(&self) -> usize
+        ensures value { result ≡ length self.now.active }
+        ensures sound { AreNumbered self.now }
+    {
+        self.active.len()
+    }
+
+    /// What is active under a number.
+    pub fn get(&self, number: u32) -> Option<&V>
+        ensures { option_copied result ≡ value_of self.now.active number }
+    {
+        lookup::value_of(&self.active, number)
+    }
+
+    /// The number at an index below the count, in ascending order of the numbers, and what is active under it.
+    pub fn at(&self, index: usize) -> (u32, &V)
+        requires { index < length self.now.active }
+        ensures { slice_get self.now.active index ≡ Some (result.0, result.1.now) }
+    {
+        let (number, value) = &self.active[index];
+        (*number, value)
+    }
+
+    /// Makes a value active under a number above the last one, which is the last one from then on. A refusal for
+    /// want of memory changes nothing.
+    pub fn add(&mut self, number: u32, value: V) -> Result<(), AllocError>
+    where
+        V: Drop,
+        requires { self.old.last < number }
+        ensures ok { OnOk result (self.new ≡ record { last = number; active = self.old.active ++ (number, value) ∷ [] }) }
+        ensures err { OnErr result (self.new ≡ self.old) }
+    {
+        self.active.push((number, value))?;
+        self.last = number;
+        Ok(())
+    }
+
+    /// Takes out what is active under a number, and tells whether anything was. The last number stays.
+    pub fn remove(&mut self, number: u32) -> bool
+    where
+        V: Drop,
+        ensures active { self.new ≡ record { last = self.old.last; active = without number self.old.active } }
+        ensures found { result ≡ has self.old.active number }
+    {
+        lookup::remove(&mut self.active, number)
+    }
+
+    /// The same once more. It takes the memory of what is active, and of no more.
+    pub fn copy(&self, alloc: Global) -> Result<Self, AllocError>
+    where
+        V: Copy,
+        ensures { IfOk result (λ copy. copy ≡ self.now) }
+    {
+        Ok(Numbered {
+            last: self.last,
+            active: Vec::from_slice(alloc, self.active.as_slice())?,
+        })
+    }
+}
