@@ -1,0 +1,39 @@
+use Rattle.std.proofs.Common.{◌≡◌, ◌≤◌, ◌∙◌, length, sym, ap, arith, refl}
+use Rattle.rbc_ids.specs.Table.{told_now}
+use Rattle.rbc_ids.proofs.Gaps.{run, run_within, run_below, run_is_all, all_from_run, least_at, inserted_there, inserted_stays, full_only_where}
+use Rattle.rbc_ids.proofs.table.IdTable.issue.Goals as goal
+
+pub returns-then-gap-clause-full : goal.returns-then-gap-clause-full
+returns-then-gap-clause-full g c =
+    (λ _. all_from_run g.row.N c.args.self.now c.gap-gap.ensures.sound (sym c.gap-gap.ensures.value ∙ c.if-gap.true), λ _. refl)
+
+pub overflow_cast-id : goal.overflow_cast-id
+overflow_cast-id g c =
+    let small : g.row.N ≤ 255 = c.gap-gap.ensures.sound.small in
+    let below : run 0 c.args.self.now ≤ g.row.N = run_below g.row.N c.args.self.now c.gap-gap.ensures.sound in
+    let is : c.gap-gap.result ≡ run 0 c.args.self.now = c.gap-gap.ensures.value in
+    record { fits = omega arith }
+
+pub insert-requires : goal.insert-requires
+insert-requires g c =
+    let same : c.self.inside.held.items ≡ c.args.self.now = c.self.view_is in
+    let within : run 0 c.args.self.now ≤ length c.args.self.now = run_within 0 c.args.self.now in
+    let is : c.gap-gap.result ≡ run 0 c.args.self.now = c.gap-gap.ensures.value in
+    omega (arith, ap length same, c.self.inside.held.ok.0)
+
+pub returns-in_err-insert-clause-full : goal.returns-in_err-insert-clause-full
+returns-in_err-insert-clause-full g c =
+    full_only_where (length c.args.self.now ≡ g.row.N) (λ full. c.if-gap.false (c.gap-gap.ensures.value ∙ run_is_all g.row.N c.args.self.now c.gap-gap.ensures.sound full)) c.from_residual.result c.from_residual.ensures.1
+
+pub invariant_of-self-2 : goal.invariant_of-self-2
+invariant_of-self-2 g c =
+    let same : c.self.inside.held.items ≡ c.args.self.now = c.self.view_is in
+    inserted_stays g.row.N c.args.self.now c.gap-gap.ensures.sound c.self.inside.held.items same c.gap-gap.result c.gap-gap.ensures.value c.if-gap.false (told_now c.args.number c.args.stamp c.args.kind) c.insert.new.self.items c.in_ok-insert.ensures.items
+
+pub returns-clause-issued : goal.returns-clause-issued
+returns-clause-issued g c =
+    let same : c.self.inside.held.items ≡ c.args.self.now = c.self.view_is in
+    record {
+      least = least_at g.row.N c.args.self.now c.gap-gap.ensures.sound c.self.inside.held.items same c.gap-gap.result c.gap-gap.ensures.value c.if-gap.false;
+      slots = inserted_there g.row.N c.args.self.now c.gap-gap.ensures.sound c.self.inside.held.items same c.gap-gap.result c.gap-gap.ensures.value c.if-gap.false (told_now c.args.number c.args.stamp c.args.kind) c.insert.new.self.items c.in_ok-insert.ensures.items;
+    }

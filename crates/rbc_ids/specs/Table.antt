@@ -1,0 +1,114 @@
+-- A table of identifiers, as a map from those that are held to their slots (own rule).
+use Rattle.std.specs.Prelude.{◌≡◌, ℕ, ◌<◌, ◌≤◌, Bool, true, false, not, ◌==◌, ◌&&◌, nat_le, List, Option, Some, None, option_map, slice_get, if◌then◌else◌}
+use Rattle.std.specs.List.{filter, find, list_any, range_with_len, All}
+use Rattle.rbc_maps.specs.Maps.{has, value_of, with_value, without, keys, IsMap}
+use Rattle.rbc_ids.specs.declared.slot.Slot.{Slot}
+use Rattle.rbc_ids.specs.declared.slot.Slot.TheVariants.{Used, Revoking}
+use Rattle.rbc_ids.specs.declared.slot.Kind.{Kind}
+use Rattle.rbc_ids.specs.declared.slot.Kind.TheVariants.{Conditional, Unconditional, Restriction}
+use Rattle.rbc_ids.specs.declared.slot.StampAck.{StampAck}
+use Rattle.rbc_ids.specs.declared.slot.StampAck.TheVariants as stamp_ack
+use Rattle.rbc_ids.specs.declared.slot.IdAck.{IdAck}
+use Rattle.rbc_ids.specs.declared.slot.IdAck.TheVariants as id_ack
+
+-- the identifiers that are held, ascending, with their slots
+abbrev pub Slots : Type 0
+Slots = List (ℕ × Slot)
+
+-- what each table of identifiers below `count` keeps
+pub record IsTable (count : ℕ) (slots : Slots) : Type 0 where
+  pub small : count ≤ 255
+  pub ascending : IsMap slots
+  pub below : All (λ id. id < count) (keys slots)
+
+-- a slot tells this number; one that is being revoked tells none
+abbrev pub tells : ℕ → Slot → Bool
+tells number (Used told stamp kind acked) = told == number
+tells number (Revoking stamp) = false
+
+-- a number is told where a slot tells it
+abbrev pub is_told : Slots → ℕ → Bool
+is_told slots number = list_any (λ held. tells number held.1) slots
+
+-- a slot is used
+abbrev pub is_used : Slot → Bool
+is_used (Used number stamp kind acked) = true
+is_used (Revoking stamp) = false
+
+-- an identifier is held, and used
+abbrev pub is_used_at : Slots → ℕ → Bool
+is_used_at slots id = list_any (λ held. held.0 == id && is_used held.1) slots
+
+-- the identifiers that are free, ascending
+abbrev pub free_identifiers : ℕ → Slots → List ℕ
+free_identifiers count slots = filter (λ id. not (has slots id)) (range_with_len 0 count)
+
+-- the least of them
+abbrev pub least_free : ℕ → Slots → Option ℕ
+least_free count slots = slice_get (free_identifiers count slots) 0
+
+-- the least identifier under which a number is told
+abbrev pub identifier_of : Slots → ℕ → Option ℕ
+identifier_of slots number = option_map (λ held. held.0) (find (λ held. tells number held.1) slots)
+
+-- the slot of a number that is told now
+abbrev pub told_now : ℕ → ℕ → Kind → Slot
+told_now number stamp kind = Used number stamp kind false
+
+-- a table that has issued an identifier for a number: the least free one
+pub record IsIssued (count : ℕ) (old : Slots) (number stamp : ℕ) (kind : Kind) (id : ℕ) (new : Slots) : Type 0 where
+  pub least : least_free count old ≡ Some id
+  pub slots : new ≡ with_value id (told_now number stamp kind) old
+
+-- the stamp of a slot
+abbrev pub stamp_of : Slot → ℕ
+stamp_of (Used number stamp kind acked) = stamp
+stamp_of (Revoking stamp) = stamp
+
+-- the least identifier whose slot has a stamp, with that slot
+abbrev pub with_stamp : Slots → ℕ → Option (ℕ × Slot)
+with_stamp slots stamp = find (λ held. stamp_of held.1 == stamp) slots
+
+-- what an acknowledgement does to a table, and what it is
+abbrev pub freed : {A : Type 0} → A → ℕ → Slots → A × Slots
+freed answer id slots = (answer, without id slots)
+
+abbrev pub put : {A : Type 0} → A → ℕ → Slot → Slots → A × Slots
+put answer id slot slots = (answer, with_value id slot slots)
+
+-- the message that a slot stands for is acknowledged: a revocation, or a restriction
+abbrev pub acked_by_stamp : Slots → Option (ℕ × Slot) → StampAck × Slots
+acked_by_stamp slots None = (stamp_ack.Nothing, slots)
+acked_by_stamp slots (Some (id, Revoking stamp)) = freed stamp_ack.Freed id slots
+acked_by_stamp slots (Some (id, Used number stamp Restriction acked)) = put stamp_ack.Marked id (Used number stamp Restriction true) slots
+acked_by_stamp slots (Some (id, Used number stamp Conditional acked)) = (stamp_ack.Nothing, slots)
+acked_by_stamp slots (Some (id, Used number stamp Unconditional acked)) = (stamp_ack.Nothing, slots)
+
+-- by the acknowledgement of a message with this stamp
+abbrev pub after_stamp_ack : Slots → ℕ → StampAck × Slots
+after_stamp_ack slots stamp = acked_by_stamp slots (with_stamp slots stamp)
+
+-- Q_EMERGENCYSTOP says that a conditional stop was accepted, changing the end of authority or not; that an
+-- unconditional stop was accepted; or that the stop was rejected
+abbrev pub is_acceptance : Kind → ℕ → Bool
+is_acceptance Conditional answer = nat_le answer 1
+is_acceptance Unconditional answer = answer == 2
+is_acceptance Restriction answer = false
+
+abbrev pub is_rejection : Kind → ℕ → Bool
+is_rejection Conditional answer = answer == 3
+is_rejection Unconditional answer = false
+is_rejection Restriction answer = false
+
+-- a stop is acknowledged
+abbrev pub acked_by_id : Slots → ℕ → ℕ → Option Slot → IdAck × Slots
+acked_by_id slots id answer None = (id_ack.Nothing, slots)
+acked_by_id slots id answer (Some (Revoking stamp)) = (id_ack.Nothing, slots)
+acked_by_id slots id answer (Some (Used number stamp kind acked)) =
+    if is_acceptance kind answer then put id_ack.Marked id (Used number stamp kind true) slots
+    else if is_rejection kind answer then freed (id_ack.Rejected number) id slots
+    else (id_ack.Nothing, slots)
+
+-- by the acknowledgement of the stop under an identifier
+abbrev pub after_id_ack : Slots → ℕ → ℕ → IdAck × Slots
+after_id_ack slots id answer = acked_by_id slots id answer (value_of slots id)

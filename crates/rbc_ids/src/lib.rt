@@ -1,0 +1,11 @@
+//! The identifiers under which a train is told stops and restrictions: each is free, used, or being revoked.
+#![tactic(auto)]
+
+mod slot;
+mod table;
+
+pub use slot::{IdAck, IssueError, Kind, Slot, StampAck};
+pub use table::IdTable;
+
+#[cfg(test)]
+mod tests;

@@ -1,0 +1,240 @@
+//! A table of identifiers.
+
+ghost use Rattle.std.specs.Prelude.{◌≡◌, ◌≤◌, ◌↔◌, ◌==◌, false, not, [], length, IsTrue, IfOk, IfErr, OnErr};
+ghost use Rattle.std.specs.List.{position_or_len, enumerate_from};
+ghost use Rattle.rbc_maps.specs.Maps.{has, place_of, value_of, with_value, without};
+ghost use Rattle.rbc_ids.specs.declared.slot.IssueError.TheVariants.{Full};
+ghost use Rattle.rbc_ids.specs.declared.slot.Slot.TheVariants.{Revoking};
+ghost use Rattle.rbc_ids.specs.Table.{IsTable, is_told, is_used_at, least_free, identifier_of, IsIssued, with_stamp, after_stamp_ack, after_id_ack};
+
+use crate::slot::{IdAck, IssueError, Kind, Slot, StampAck};
+use std::alloc::{AllocError, Global};
+use std::marker::Model;
+
+/// The identifiers 0 to `N - 1` of one train, of which some are held. It has memory for those alone.
+#[derive(Debug, Drop)]
+pub struct IdTable<const N: usize> {
+    /// Those that are held, ascending.
+    held: Vec<(u8, Slot)>,
+}
+
+impl<const N: usize> Model for IdTable<N> {
+    ghost use Rattle.rbc_ids.specs.Table.{Slots, IsTable};
+
+    ghost Value = { Slots };
+
+    ghost view = { λ t. t.held.items };
+
+    ghost invariant = { λ t. IsTable N t.held.items };
+}
+
+impl<const N: usize> IdTable<N> {
+    /// Each identifier is free. There are at most 255 of them. It takes no memory.
+    pub fn new(alloc: Global) -> Self
+        requires { N ≤ 255 }
+        ensures { result ≡ [] }
+    {
+        IdTable {
+            held: Vec::new(alloc),
+        }
+    }
+
+    /// The same once more. It takes the memory of what is held, and of no more.
+    pub fn copy(&self, alloc: Global) -> Result<Self, AllocError>
+        ensures { IfOk result (λ copy. copy ≡ self.now) }
+    {
+        Ok(IdTable {
+            held: Vec::from_slice(alloc, self.held.as_slice())?,
+        })
+    }
+
+    /// What an identifier is held for; None where it is free, or is none of the table's.
+    pub fn slot(&self, id: u8) -> Option<Slot>
+        ensures value { result ≡ value_of self.now id }
+        ensures sound { IsTable N self.now }
+    {
+        match self.held.get(self.place_of(id)) {
+            Some((held, slot)) if *held == id => Some(*slot),
+            _ => None,
+        }
+    }
+
+    /// How many are held.
+    pub fn held(&self) -> usize
+        ensures value { result ≡ length self.now }
+        ensures most { result ≤ N }
+    {
+        self.held.len()
+    }
+
+    /// The least identifier that is free.
+    pub fn least_free(&self) -> Option<u8>
+        ensures { result ≡ least_free N self.now }
+    {
+        let gap = self.gap();
+        if gap < N { Some(gap as u8) } else { None }
+    }
+
+    /// The identifier under which a number is told.
+    pub fn of_number(&self, number: u32) -> Option<u8>
+        ensures { result ≡ identifier_of self.now number }
+    {
+        self.held
+            .iter()
+            .find(|held| matches!(held.1, Slot::Used { number: told, .. } if told == number))
+            .map(|held| held.0)
+    }
+
+    /// Gives the least free identifier to a number that is not told, for a message of some kind with some stamp.
+    ///
+    /// # Errors
+    ///
+    /// `Full` where each identifier is held, and `OutOfMemory`. The table stays as it was.
+    pub fn issue(&mut self, number: u32, stamp: u32, kind: Kind) -> Result<u8, IssueError>
+        requires { is_told self.old number ≡ false }
+        ensures issued { IfOk result (λ id. IsIssued N self.old number stamp kind id self.new) }
+        ensures err { OnErr result (self.new ≡ self.old) }
+        ensures full { IfErr result (λ error. (error ≡ Full) ↔ (length self.old ≡ N)) }
+    {
+        let gap = self.gap();
+        if gap == N {
+            return Err(IssueError::Full);
+        }
+        let id = gap as u8;
+        let slot = Slot::Used {
+            number,
+            stamp,
+            kind,
+            acked: false,
+        };
+        self.held.insert(gap, (id, slot))?;
+        Ok(id)
+    }
+
+    /// An identifier that is used is revoked by a message with some stamp. It stays held until the train has
+    /// acknowledged that message.
+    pub fn revoke(&mut self, id: u8, stamp: u32)
+        requires { IsTrue (is_used_at self.old id) }
+        ensures { self.new ≡ with_value id (Revoking stamp) self.old }
+    {
+        self.put(id, Slot::Revoking { stamp });
+    }
+
+    /// An identifier that is held is free from now on.
+    pub fn free(&mut self, id: u8)
+        requires { IsTrue (has self.old id) }
+        ensures { self.new ≡ without id self.old }
+    {
+        let at = self.place_of(id);
+        let _ = self.held.remove(at);
+    }
+
+    /// The train has acknowledged the message with this stamp. It frees the identifier that the message revoked, or
+    /// marks the restriction that it told; a stop is not acknowledged by its stamp.
+    pub fn ack_stamp(&mut self, stamp: u32) -> StampAck
+        ensures { (result, self.new) ≡ after_stamp_ack self.old stamp }
+    {
+        let Some((id, slot)) = self.with_stamp(stamp) else {
+            return StampAck::Nothing;
+        };
+        match slot {
+            Slot::Revoking { .. } => {
+                self.free(id);
+                StampAck::Freed
+            }
+            Slot::Used {
+                number,
+                stamp,
+                kind: Kind::Restriction,
+                ..
+            } => {
+                self.put(
+                    id,
+                    Slot::Used {
+                        number,
+                        stamp,
+                        kind: Kind::Restriction,
+                        acked: true,
+                    },
+                );
+                StampAck::Marked
+            }
+            Slot::Used { .. } => StampAck::Nothing,
+        }
+    }
+
+    /// The train has answered (Q_EMERGENCYSTOP) the stop under an identifier: 0 and 1 accept a conditional one, 2 accepts an
+    /// unconditional one, 3 rejects a conditional one.
+    pub fn ack_id(&mut self, id: u8, answer: u8) -> IdAck
+        ensures { (result, self.new) ≡ after_id_ack self.old id answer }
+    {
+        let Some(
+            Slot::Used {
+                number,
+                stamp,
+                kind,
+                ..
+            },
+        ) = self.slot(id)
+        else {
+            return IdAck::Nothing;
+        };
+        match (kind, answer) {
+            (Kind::Conditional, 0 | 1) | (Kind::Unconditional, 2) => {
+                self.put(
+                    id,
+                    Slot::Used {
+                        number,
+                        stamp,
+                        kind,
+                        acked: true,
+                    },
+                );
+                IdAck::Marked
+            }
+            (Kind::Conditional, 3) => {
+                self.free(id);
+                IdAck::Rejected(number)
+            }
+            _ => IdAck::Nothing,
+        }
+    }
+
+    /// Puts another slot under an identifier that is held.
+    fn put(&mut self, id: u8, slot: Slot)
+        requires { IsTrue (has self.old id) }
+        ensures { self.new ≡ with_value id slot self.old }
+    {
+        let at = self.place_of(id);
+        self.held[at].1 = slot;
+    }
+
+    /// The least identifier whose slot has a stamp, with that slot.
+    fn with_stamp(&self, stamp: u32) -> Option<(u8, Slot)>
+        ensures { result ≡ with_stamp self.now stamp }
+    {
+        self.held
+            .iter()
+            .find(|held| held.1.stamp() == stamp)
+            .copied()
+    }
+
+    /// Where an identifier stands among those that are held, or would stand.
+    fn place_of(&self, id: u8) -> usize
+        ensures { result ≡ place_of id self.now }
+    {
+        self.held.partition_point(|held| held.0 < id)
+    }
+
+    /// How many identifiers from 0 on are held without a gap.
+    fn gap(&self) -> usize
+        ensures value { result ≡ position_or_len (λ entry. not (entry.1.0 == entry.0)) (enumerate_from 0 self.now) }
+        ensures sound { IsTable N self.now }
+    {
+        self.held
+            .iter()
+            .enumerate()
+            .position(|(at, held)| usize::from(held.0) != at)
+            .unwrap_or(self.held.len())
+    }
+}

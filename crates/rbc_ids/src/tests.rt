@@ -1,0 +1,257 @@
+//! Tables of a train: identifiers that are issued, revoked, acknowledged and freed.
+
+ghost use Rattle.std.specs.Prelude.{◌≤◌};
+
+use super::{IdAck, IdTable, IssueError, Kind, Slot, StampAck};
+use std::alloc::Global;
+use std::process::Abort;
+use std::test::Fail;
+
+/// Issues an identifier to a number; None where the number is told.
+fn issue<const N: usize>(
+    table: &mut IdTable<N>,
+    number: u32,
+    stamp: u32,
+    kind: Kind,
+) -> Option<Result<u8, IssueError>> {
+    match table.of_number(number) {
+        Some(_) => None,
+        None => Some(table.issue(number, stamp, kind)),
+    }
+}
+
+/// Revokes an identifier, and says whether it was used.
+fn revoke<const N: usize>(table: &mut IdTable<N>, id: u8, stamp: u32) -> bool {
+    match table.slot(id) {
+        Some(Slot::Used { .. }) => {
+            table.revoke(id, stamp);
+            true
+        }
+        _ => false,
+    }
+}
+
+/// Frees an identifier, and says whether it was held.
+fn free<const N: usize>(table: &mut IdTable<N>, id: u8) -> bool {
+    match table.slot(id) {
+        Some(_) => {
+            table.free(id);
+            true
+        }
+        None => false,
+    }
+}
+
+/// A table in which unconditional stops have the first identifiers, each told with its number as the stamp.
+fn stops<const N: usize>(rt: &impl Abort, alloc: Global, count: u8) -> Result<IdTable<N>, Fail>
+    requires { N ≤ 255 }
+{
+    let mut table = IdTable::new(alloc);
+    for id in 0..count {
+        let number = u32::from(id);
+        let issued = issue(&mut table, number, number, Kind::Unconditional);
+        assert_eq!(rt; issued, Some(Ok(id)));
+    }
+    Ok(table)
+}
+
+/// The slot of such an identifier.
+fn stop(id: u8) -> Slot {
+    Slot::Used {
+        number: u32::from(id),
+        stamp: u32::from(id),
+        kind: Kind::Unconditional,
+        acked: false,
+    }
+}
+
+/// A table of 15 in which number 1 is told by stamp 7 under identifier 0.
+fn one(rt: &impl Abort, alloc: Global, kind: Kind) -> Result<IdTable<15>, Fail> {
+    let mut table = IdTable::new(alloc);
+    assert_eq!(rt; issue(&mut table, 1, 7, kind), Some(Ok(0)));
+    Ok(table)
+}
+
+/// The slot of `one`, once it is acknowledged or before.
+fn told(kind: Kind, acked: bool) -> Option<Slot> {
+    Some(Slot::Used {
+        number: 1,
+        stamp: 7,
+        kind,
+        acked,
+    })
+}
+
+#[test]
+fn fills_and_frees(rt: HostRuntime) -> Result<(), Fail> {
+    let mut table = stops::<15>(&rt, rt.alloc(), 15)?;
+    assert_eq!(rt; table.least_free(), None);
+    assert_eq!(rt;
+        issue(&mut table, 15, 15, Kind::Conditional),
+        Some(Err(IssueError::Full))
+    );
+    for id in 0u8..15 {
+        assert_eq!(rt; table.slot(id), Some(stop(id)));
+    }
+    assert!(rt; revoke(&mut table, 3, 99));
+    assert_eq!(rt; table.slot(3), Some(Slot::Revoking { stamp: 99 }));
+    assert_eq!(rt;
+        issue(&mut table, 15, 15, Kind::Conditional),
+        Some(Err(IssueError::Full))
+    );
+    assert_eq!(rt; table.held(), 15);
+    assert!(rt; free(&mut table, 3));
+    assert_eq!(rt; table.least_free(), Some(3));
+    assert_eq!(rt; table.held(), 14);
+    Ok(())
+}
+
+#[test]
+fn issues_the_least_free_identifier(rt: HostRuntime) -> Result<(), Fail> {
+    let mut table = stops::<15>(&rt, rt.alloc(), 6)?;
+    for id in [1u8, 4, 2] {
+        assert!(rt; free(&mut table, id));
+    }
+    for (number, want) in [(20, 1), (21, 2), (22, 4), (23, 6)] {
+        assert_eq!(rt; table.least_free(), Some(want));
+        assert_eq!(rt;
+            issue(&mut table, number, 50, Kind::Restriction),
+            Some(Ok(want))
+        );
+        assert_eq!(rt; table.of_number(number), Some(want));
+    }
+    Ok(())
+}
+
+#[test]
+fn issues_255_identifiers(rt: HostRuntime) -> Result<(), Fail> {
+    let mut table = stops::<255>(&rt, rt.alloc(), 255)?;
+    assert_eq!(rt;
+        issue(&mut table, 255, 0, Kind::Restriction),
+        Some(Err(IssueError::Full))
+    );
+    assert_eq!(rt; table.held(), 255);
+    assert_eq!(rt; table.slot(0), Some(stop(0)));
+    assert_eq!(rt; table.slot(254), Some(stop(254)));
+    assert_eq!(rt; table.slot(255), None);
+    Ok(())
+}
+
+#[test]
+fn acknowledges_stops_by_their_identifier(rt: HostRuntime) -> Result<(), Fail> {
+    for (kind, id, answer, want) in [
+        (Kind::Conditional, 0u8, 0u8, IdAck::Marked),
+        (Kind::Conditional, 0, 1, IdAck::Marked),
+        (Kind::Conditional, 0, 2, IdAck::Nothing),
+        (Kind::Conditional, 0, 3, IdAck::Rejected(1)),
+        (Kind::Conditional, 0, 4, IdAck::Nothing),
+        (Kind::Conditional, 1, 3, IdAck::Nothing),
+        (Kind::Conditional, 15, 2, IdAck::Nothing),
+        (Kind::Unconditional, 0, 0, IdAck::Nothing),
+        (Kind::Unconditional, 0, 1, IdAck::Nothing),
+        (Kind::Unconditional, 0, 2, IdAck::Marked),
+        (Kind::Unconditional, 0, 3, IdAck::Nothing),
+        (Kind::Restriction, 0, 0, IdAck::Nothing),
+        (Kind::Restriction, 0, 2, IdAck::Nothing),
+        (Kind::Restriction, 0, 3, IdAck::Nothing),
+    ] {
+        let mut table = one(&rt, rt.alloc(), kind)?;
+        assert_eq!(rt;
+            table.ack_id(id, answer),
+            want,
+            "answer {answer} to {kind:?} {id}"
+        );
+        let after = match want {
+            IdAck::Marked => told(kind, true),
+            IdAck::Rejected(_) => None,
+            IdAck::Nothing => told(kind, false),
+        };
+        assert_eq!(rt;
+            table.slot(0),
+            after,
+            "after answer {answer} to {kind:?} {id}"
+        );
+    }
+    Ok(())
+}
+
+#[test]
+fn acknowledges_a_stop_twice(rt: HostRuntime) -> Result<(), Fail> {
+    let mut table = one(&rt, rt.alloc(), Kind::Conditional)?;
+    assert_eq!(rt; table.ack_id(0, 1), IdAck::Marked);
+    assert_eq!(rt; table.ack_id(0, 1), IdAck::Marked);
+    assert_eq!(rt; table.ack_id(0, 3), IdAck::Rejected(1));
+    assert_eq!(rt; table.ack_id(0, 3), IdAck::Nothing);
+    Ok(())
+}
+
+#[test]
+fn acknowledges_no_stop_that_is_revoked(rt: HostRuntime) -> Result<(), Fail> {
+    for kind in [Kind::Conditional, Kind::Unconditional] {
+        let mut table = one(&rt, rt.alloc(), kind)?;
+        assert!(rt; revoke(&mut table, 0, 8));
+        for answer in 0u8..4 {
+            assert_eq!(rt;
+                table.ack_id(0, answer),
+                IdAck::Nothing,
+                "answer {answer} to {kind:?}"
+            );
+        }
+        assert_eq!(rt; table.slot(0), Some(Slot::Revoking { stamp: 8 }));
+    }
+    Ok(())
+}
+
+#[test]
+fn acknowledges_by_the_stamp(rt: HostRuntime) -> Result<(), Fail> {
+    for (kind, want) in [
+        (Kind::Conditional, StampAck::Nothing),
+        (Kind::Unconditional, StampAck::Nothing),
+        (Kind::Restriction, StampAck::Marked),
+    ] {
+        let mut table = one(&rt, rt.alloc(), kind)?;
+        assert_eq!(rt; table.ack_stamp(6), StampAck::Nothing);
+        for _ in 0..2 {
+            assert_eq!(rt; table.ack_stamp(7), want, "{kind:?}");
+            assert_eq!(rt; table.slot(0), told(kind, want == StampAck::Marked));
+        }
+        assert!(rt; revoke(&mut table, 0, 8));
+        assert_eq!(rt; table.ack_stamp(7), StampAck::Nothing);
+        assert_eq!(rt; table.ack_stamp(8), StampAck::Freed);
+        assert_eq!(rt; table.slot(0), None);
+        assert_eq!(rt; table.ack_stamp(8), StampAck::Nothing);
+    }
+    Ok(())
+}
+
+#[test]
+fn finds_numbers_that_are_told(rt: HostRuntime) -> Result<(), Fail> {
+    let mut table = stops::<15>(&rt, rt.alloc(), 3)?;
+    assert_eq!(rt; table.of_number(1), Some(1));
+    assert_eq!(rt; table.of_number(3), None);
+    assert!(rt; revoke(&mut table, 1, 9));
+    assert_eq!(rt; table.of_number(1), None);
+    assert_eq!(rt; issue(&mut table, 1, 10, Kind::Conditional), Some(Ok(3)));
+    assert_eq!(rt; table.of_number(1), Some(3));
+    Ok(())
+}
+
+#[test]
+fn copies_each_slot(rt: HostRuntime) -> Result<(), Fail> {
+    let mut table = stops::<15>(&rt, rt.alloc(), 15)?;
+    assert!(rt; revoke(&mut table, 6, 20));
+    assert_eq!(rt; table.ack_id(9, 2), IdAck::Marked);
+    let copy = table.copy(rt.alloc())?;
+    assert_eq!(rt; copy.held(), 15);
+    for id in 0u8..16 {
+        assert_eq!(rt; copy.slot(id), table.slot(id), "identifier {id}");
+    }
+    Ok(())
+}
+
+#[test]
+fn reads_the_stamp_of_a_slot(rt: HostRuntime) -> Result<(), Fail> {
+    assert_eq!(rt; stop(5).stamp(), 5);
+    assert_eq!(rt; Slot::Revoking { stamp: 6 }.stamp(), 6);
+    Ok(())
+}

@@ -1,0 +1,7 @@
+pub mod Areas
+pub mod Concerned
+pub mod NearestEdges
+pub mod StopLaw
+pub mod ToldStops
+pub mod Parts
+pub mod ToldLimits

@@ -1,0 +1,47 @@
+-- A stop that concerns a train later is told rightly.
+use Rattle.std.proofs.Common.{◌≡◌, ℕ, ◌+◌, ◌-◌, ◌<◌, ◌≤◌, true, false, ◌||◌, arith}
+use Rattle.std.specs.List.{list_any}
+use Rattle.std.proofs.lemmas.Grind.{common_steps}
+use Rattle.std.proofs.lemmas.List.Elements.{filter_passes}
+use Rattle.rbc_track.specs.declared.group.Way.{Way}
+use Rattle.rbc_track.specs.declared.group.Way.TheVariants.{Up, Down}
+use Rattle.rbc_place.specs.Placing.{onward}
+use Rattle.rbc_zones.specs.Concerns.{on_its_line, meets, is_ahead, edges_ahead, nearest, is_behind_group, IsAtOrBeyond, distance_to, EachStopIsToldRightly}
+use Rattle.rbc_zones.proofs.NearestEdges.{of_one, is_nearest, has_edge, edges_within}
+use Rattle.rbc_zones.proofs.ToldStops.{told_rightly}
+
+-- a distance that is never more and less than a unit short ends at such a place
+ends_before : (way : Way) (at edge told unit : ℕ) → is_behind_group way at edge ≡ false → told ≤ distance_to way at edge → distance_to way at edge < told + unit
+    → IsAtOrBeyond way edge (onward way at told) × (distance_to way (onward way at told) edge < unit)
+ends_before Up at edge told unit ahead most near =
+    let most' : told ≤ edge - at = most in
+    let near' : edge - at < told + unit = near in
+    let ahead' : at ≤ edge = grind (arith, common_steps) in
+    (omega arith, omega arith)
+ends_before Down at edge told unit ahead most near =
+    let most' : told ≤ at - edge = most in
+    let near' : at - edge < told + unit = near in
+    let ahead' : edge ≤ at = grind (arith, common_steps) in
+    (omega arith, omega arith)
+
+distance_within : (way : Way) (at edge : ℕ) → at ≤ 3000000 → edge ≤ 3000000 → distance_to way at edge ≤ 3000000
+distance_within Up at edge h k = omega arith
+distance_within Down at edge h k = omega arith
+
+pub each_stop : EachStopIsToldRightly
+each_stop p area forced edge sound segments before =
+    let edges = edges_ahead p area in
+    let has = has_edge (forced || list_any (meets p) (on_its_line p area)) p (nearest p.facing edges) edge before in
+    let first = is_nearest p.facing edges edge has.found_is in
+    let within = of_one (λ edge. edge ≤ 3000000) edge edges (edges_within p area segments) first.one in
+    let distance = distance_to p.facing p.at edge in
+    let told = told_rightly distance (distance_within p.facing p.at edge sound.at within) in
+    let ends = ends_before p.facing p.at edge _ _ has.not_behind told.not_beyond told.near in
+    record {
+      first = record {
+        ahead = of_one (λ edge. is_ahead p.facing p edge ≡ true) edge edges (filter_passes (is_ahead p.facing p) _) first.one;
+        an_edge = first.one;
+        nearest = first.nearest;
+      };
+      told = record { not_beyond = ends.0; near = ends.1 };
+    }

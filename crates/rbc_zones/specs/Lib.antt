@@ -1,0 +1,6 @@
+pub mod Segments
+pub mod Inside
+pub mod Padding
+pub mod Concerns
+pub mod Nearer
+pub mod Limits

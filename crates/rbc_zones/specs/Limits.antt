@@ -1,0 +1,139 @@
+-- What a temporary speed restriction is to a train at its place (own rule).
+use Rattle.std.specs.Prelude.{◌≡◌, ℕ, ◌+◌, ◌-◌, ◌*◌, ◌/◌, ◌%◌, ◌^◌, ◌<◌, ◌≤◌, min, max, Bool, true, false, not, ◌==◌, ◌||◌, ◌&&◌, nat_lt, nat_le}
+use Rattle.rbc_track.specs.Plan.{Plan}
+use Rattle.rbc_track.specs.declared.group.Way.{Way}
+use Rattle.rbc_track.specs.declared.group.Way.TheVariants.{Up, Down}
+use Rattle.rbc_place.specs.Placing.{Place, IsSound}
+use Rattle.rbc_place.specs.Reach.{IsAhead}
+use Rattle.rbc_zones.specs.declared.segment.Segment.{Segment}
+use Rattle.rbc_zones.specs.declared.limit.Dirs.{Dirs}
+use Rattle.rbc_zones.specs.declared.limit.Dirs.TheVariants as dirs
+use Rattle.rbc_zones.specs.Segments.{is_good_segment}
+use Rattle.rbc_zones.specs.Concerns.{scale_by}
+
+-- a restriction: where, for which ways, to which speed in km/h, and Q_FRONT
+pub record Limit : Type 0 where
+  pub segment : Segment
+  pub dirs : Dirs
+  pub speed : ℕ
+  pub front : Bool
+
+-- what each restriction keeps: its ends are apart, at places that a line can have, and its speed is one that V_TSR tells
+pub record IsLimit (limit : Limit) : Type 0 where
+  pub ordered : limit.segment.from < limit.segment.to
+  pub within : limit.segment.to ≤ 3000000
+  pub speed : limit.speed ≤ 600
+  pub in_fives : limit.speed % 5 ≡ 0
+
+-- a segment and a speed are good for a track
+abbrev pub is_good_limit : Plan → Segment → ℕ → Bool
+is_good_limit plan segment speed =
+    is_good_segment plan segment && nat_lt segment.from segment.to && nat_le speed 600 && speed % 5 == 0
+
+-- a restriction is for trains that face so
+abbrev pub is_for : Dirs → Way → Bool
+is_for dirs.Up Up = true
+is_for dirs.Up Down = false
+is_for dirs.Down Up = false
+is_for dirs.Down Down = true
+is_for dirs.Both way = true
+
+-- it lies wholly behind the interval in which the train may stand
+abbrev pub lies_behind : Way → Segment → Place → Bool
+lies_behind Up segment p = nat_lt segment.to p.lo
+lies_behind Down segment p = nat_lt p.hi segment.from
+
+-- a restriction is clear of a train
+abbrev pub is_clear : Limit → Place → Bool
+is_clear limit p =
+    not (limit.segment.line == p.line) || not (is_for limit.dirs p.facing) || lies_behind p.facing limit.segment p
+
+-- its end lies beyond a balise group
+abbrev pub ends_beyond : Way → Segment → ℕ → Bool
+ends_beyond Up segment at = nat_lt at segment.to
+ends_beyond Down segment at = nat_lt segment.from at
+
+-- its end lies beyond the train's balise group
+abbrev pub ends_beyond_group : Limit → Place → Bool
+ends_beyond_group limit p = ends_beyond p.facing limit.segment p.at
+
+-- its start lies within a horizon ahead of the interval in which the train may stand
+abbrev pub starts_within : Way → Segment → Place → ℕ → Bool
+starts_within Up segment p horizon = nat_le segment.from (p.hi + horizon)
+starts_within Down segment p horizon = nat_le p.lo (segment.to + horizon)
+
+-- a restriction concerns a train
+abbrev pub concerns : Limit → Place → ℕ → Bool
+concerns limit p horizon =
+    not (is_clear limit p) && ends_beyond_group limit p && starts_within p.facing limit.segment p horizon
+
+-- how far from a balise group the part of a segment begins that does not lie behind it, and how far it ends
+abbrev pub begins_at : Way → Segment → ℕ → ℕ
+begins_at Up segment at = max segment.from at - at
+begins_at Down segment at = at - min segment.to at
+
+abbrev pub ends_at : Way → Segment → ℕ → ℕ
+ends_at Up segment at = segment.to - at
+ends_at Down segment at = at - segment.from
+
+-- units, rounded up
+abbrev pub divided_up : ℕ → ℕ → ℕ
+divided_up distance unit = (distance + (unit - 1)) / unit
+
+-- D_TSR and L_TSR at a scale: the start is rounded down, and the length so that the end is rounded up
+abbrev pub start_at : ℕ → ℕ → ℕ
+start_at scale begin = begin / 10 ^ scale
+
+abbrev pub length_at : ℕ → ℕ → ℕ → ℕ
+length_at scale begin end = divided_up end (10 ^ scale) - begin / 10 ^ scale
+
+-- the least scale at which both have room
+abbrev pub part_scale : ℕ → ℕ → ℕ
+part_scale begin end = scale_by (λ scale. nat_le (start_at scale begin) 32766 && nat_le (length_at scale begin end) 32766)
+
+-- Q_SCALE, D_TSR and L_TSR of the distances at which a part begins and ends
+abbrev pub told_of_part : ℕ → ℕ → ℕ × ℕ × ℕ
+told_of_part begin end =
+    (part_scale begin end, start_at (part_scale begin end) begin, length_at (part_scale begin end) begin end)
+
+-- Q_SCALE, D_TSR and L_TSR of a restriction to a train
+abbrev pub told_part : Limit → Place → ℕ × ℕ × ℕ
+told_part limit p = told_of_part (begins_at p.facing limit.segment p.at) (ends_at p.facing limit.segment p.at)
+
+-- a distance from the balise group is in what is told
+pub record IsTold (scale start length distance : ℕ) : Type 0 where
+  pub begun : start * 10 ^ scale ≤ distance
+  pub not_ended : distance ≤ (start + length) * 10 ^ scale
+
+-- a distance from the balise group is one of a place of the restriction
+pub record IsOf (limit : Limit) (p : Place) (distance : ℕ) : Type 0 where
+  pub place : ℕ
+  pub ahead : IsAhead p.facing p.at distance place
+  pub from : limit.segment.from ≤ place
+  pub to : place ≤ limit.segment.to
+
+-- less than a unit apart
+pub record AreNear (unit a b : ℕ) : Type 0 where
+  pub not_above : a < b + unit
+  pub not_below : b < a + unit
+
+-- a distance in what is told is of the restriction, or less than a unit from one that is
+pub record IsNearOne (limit : Limit) (p : Place) (unit distance : ℕ) : Type 0 where
+  pub other : ℕ
+  pub of : IsOf limit p other
+  pub near : AreNear unit distance other
+
+-- What is told of a restriction: all of it that does not lie behind the balise group, and less than a unit more at each
+-- end.
+pub record IsToldPart (limit : Limit) (p : Place) (scale start length : ℕ) : Type 0 where
+  pub not_spare : scale ≤ 2
+  pub start_in_field : start ≤ 32766
+  pub length_in_field : length ≤ 32766
+  pub some : 1 ≤ length
+  pub covers : (distance : ℕ) → IsOf limit p distance → IsTold scale start length distance
+  pub no_longer : (distance : ℕ) → IsTold scale start length distance → IsNearOne limit p (10 ^ scale) distance
+
+abbrev pub EachLimitIsToldRightly : Type 0
+EachLimitIsToldRightly =
+    (limit : Limit) (p : Place) (horizon : ℕ) → IsLimit limit → IsSound p → concerns limit p horizon ≡ true
+    → IsToldPart limit p (told_part limit p).0 (told_part limit p).1 (told_part limit p).2

@@ -1,0 +1,102 @@
+//! The area of a stop.
+
+ghost use Rattle.std.specs.Prelude.{◌≡◌, ◌<◌, ◌↔◌, length, IsTrue, IsOk, IfOk};
+ghost use Rattle.rbc_zones.specs.Segments.{is_good_area, IsSegment, AreSegments};
+ghost use Rattle.std.specs.List.{All};
+
+use crate::segment::{Segment, is_good_segment};
+use rbc_track::Track;
+use std::marker::Model;
+
+/// The most segments that an area has.
+const MAX_SEGMENTS: usize = 8;
+
+/// What stands where an area has no segment.
+const NO_SEGMENT: Segment = Segment {
+    line: 0,
+    from: 0,
+    to: 0,
+};
+
+/// Segments are no area of a track: there are more than 8, one is on a line that the track has not, one has its ends
+/// the wrong way round, or one ends beyond its line.
+#[derive(Clone, Copy, Debug, PartialEq, Eq)]
+pub struct BadArea;
+
+/// The area that a stop closes: 1 to 8 segments, in the order in which they were given. It is copied without taking
+/// memory.
+#[derive(Clone, Copy, Debug, PartialEq, Eq)]
+pub struct Area {
+    /// The segments, and behind them segments of zeros.
+    segments: [Segment; MAX_SEGMENTS],
+    count: usize,
+}
+
+impl Model for Area {
+    ghost use Rattle.std.specs.Prelude.{List, length, take};
+    ghost use Rattle.rbc_zones.specs.declared.segment.Segment.{Segment};
+    ghost use Rattle.rbc_zones.specs.Segments.{padded};
+
+    ghost Value = { List Segment };
+
+    ghost use Rattle.rbc_zones.specs.Inside.{IsAreaIn};
+    ghost use Rattle.rbc_zones.specs.Padding.{inverse_ok};
+
+    ghost view = { λ a. take a.count a.segments };
+
+    ghost invariant = { IsAreaIn };
+
+    ghost inverse = { λ segments. record { segments = padded segments; count = length segments } };
+
+    ghost inverse_ok = { inverse_ok };
+}
+
+impl Area {
+    /// The area of these segments, which are not empty, on a track. It takes no memory.
+    ///
+    /// # Errors
+    ///
+    /// `BadArea` just where a segment is not good for the track, or there are more than 8.
+    pub fn new(track: &Track, segments: &[Segment]) -> Result<Area, BadArea>
+        requires { 0 < length segments.now }
+        ensures area { IfOk result (λ area. area ≡ segments.now) }
+        ensures good { IsOk result ↔ IsTrue (is_good_area track.now segments.now) }
+    {
+        if !is_good_area(track, segments) {
+            return Err(BadArea);
+        }
+        Ok(Area::filled(segments))
+    }
+
+    /// The area of 1 to 8 segments.
+    fn filled(segments: &[Segment]) -> Area
+        requires { AreSegments segments.now }
+        ensures { result ≡ segments.now }
+    {
+        let mut all = [NO_SEGMENT; MAX_SEGMENTS];
+        all[..segments.len()].copy_from_slice(segments);
+        Area {
+            segments: all,
+            count: segments.len(),
+        }
+    }
+
+    /// The segments, in the order in which they were given.
+    pub fn segments(&self) -> &[Segment]
+        ensures value { result.now ≡ self.now }
+        ensures sound { AreSegments self.now }
+    {
+        &self.segments[..self.count]
+    }
+}
+
+/// Whether there are at most 8 segments, and each is good for the track.
+fn is_good_area(track: &Track, segments: &[Segment]) -> bool
+    ensures good { result ≡ is_good_area track.now segments.now }
+    ensures sound { IsTrue result → All IsSegment segments.now }
+{
+    segments.len() <= MAX_SEGMENTS
+        && segments
+            .iter()
+            .all(|segment| is_good_segment(track, segment))
+}

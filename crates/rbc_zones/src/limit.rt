@@ -1,0 +1,154 @@
+//! Temporary speed restrictions.
+
+ghost use Rattle.std.specs.Prelude.{◌≡◌, ◌≤◌, ◌↔◌, IsTrue, IsOk, IfOk};
+ghost use Rattle.rbc_zones.specs.Limits.{Limit, IsLimit, is_good_limit, is_for, is_clear, concerns};
+
+use crate::segment::{Segment, is_good_segment};
+use rbc_place::Place;
+use rbc_track::{Track, Way};
+use std::marker::Model;
+
+/// The greatest speed, in km/h.
+const MAX_SPEED: u32 = 600;
+
+/// The way or the ways that a restriction is for.
+#[derive(Clone, Copy, Debug, PartialEq, Eq)]
+pub enum Dirs {
+    /// Trains that face towards rising places.
+    Up,
+    /// Trains that face towards falling places.
+    Down,
+    /// All trains.
+    Both,
+}
+
+/// A segment and a speed are no restriction of a track: the segment is on a line that the track has not, its ends are
+/// the wrong way round or one place, it ends beyond its line, or the speed is above 600 km/h or no multiple of 5.
+#[derive(Clone, Copy, Debug, PartialEq, Eq)]
+pub struct BadLimit;
+
+/// A temporary speed restriction. It is copied without taking memory.
+#[derive(Clone, Copy, Debug, PartialEq, Eq)]
+pub struct Limit {
+    segment: Segment,
+    dirs: Dirs,
+    speed: u32,
+    front: bool,
+}
+
+impl Model for Limit {
+    ghost use Rattle.rbc_zones.specs.Limits as limits;
+
+    ghost Value = { limits.Limit };
+
+    ghost view = { λ l. record { segment = l.segment; dirs = l.dirs; speed = l.speed; front = l.front } };
+
+    ghost invariant = { λ l. limits.IsLimit (record { segment = l.segment; dirs = l.dirs; speed = l.speed; front = l.front }) };
+
+    ghost inverse = { λ v. record { segment = v.segment; dirs = v.dirs; speed = v.speed; front = v.front } };
+}
+
+impl Limit {
+    /// The restriction of a segment of a track to a speed in km/h; `front` is Q_FRONT, true where the train's
+    /// length does not delay its end. It takes no memory.
+    ///
+    /// # Errors
+    ///
+    /// `BadLimit` just where the segment is not good for the track, its ends are one place, or the speed is above
+    /// 600 or no multiple of 5.
+    pub fn new(
+        track: &Track,
+        segment: Segment,
+        dirs: Dirs,
+        speed: u32,
+        front: bool,
+    ) -> Result<Limit, BadLimit>
+        ensures limit { IfOk result (λ limit. limit ≡ record { segment = segment; dirs = dirs; speed = speed; front = front }) }
+        ensures good { IsOk result ↔ IsTrue (is_good_limit track.now segment speed) }
+    {
+        let is_good = is_good_segment(track, &segment)
+            && segment.from < segment.to
+            && speed <= MAX_SPEED
+            && speed % 5 == 0;
+        if !is_good {
+            return Err(BadLimit);
+        }
+        Ok(Limit {
+            segment,
+            dirs,
+            speed,
+            front,
+        })
+    }
+
+    /// Where it is.
+    pub fn segment(&self) -> Segment
+        ensures value { result ≡ self.now.segment }
+        ensures sound { IsLimit self.now }
+    {
+        self.segment
+    }
+
+    /// The way or the ways that it is for.
+    pub fn dirs(&self) -> Dirs
+        ensures { result ≡ self.now.dirs }
+    {
+        self.dirs
+    }
+
+    /// The speed in km/h: a multiple of 5, at most 600.
+    pub fn speed(&self) -> u32
+        ensures value { result ≡ self.now.speed }
+        ensures sound { IsLimit self.now }
+    {
+        self.speed
+    }
+
+    /// Q_FRONT: true where the train's length does not delay its end.
+    pub fn front(&self) -> bool
+        ensures { result ≡ self.now.front }
+    {
+        self.front
+    }
+}
+
+/// Whether a restriction is for trains that face so.
+fn is_for(dirs: Dirs, facing: Way) -> bool
+    ensures { result ≡ is_for dirs facing }
+{
+    match dirs {
+        Dirs::Both => true,
+        Dirs::Up => facing == Way::Up,
+        Dirs::Down => facing == Way::Down,
+    }
+}
+
+/// Whether a restriction is of no use to a train any more (own rule): it is on another line or for trains that face
+/// the other way, or it lies wholly behind the interval in which the train may stand. It takes no memory.
+#[inline]
+pub fn limit_clear(limit: &Limit, place: &Place) -> bool
+    ensures { result ≡ is_clear limit.now place.now }
+{
+    let segment = limit.segment;
+    segment.line != u32::from(place.line())
+        || !is_for(limit.dirs, place.facing())
+        || match place.facing() {
+            Way::Up => segment.to < place.lo(),
+            Way::Down => segment.from > place.hi(),
+        }
+}
+
+/// Whether a restriction has to be told to a train (own rule): the train is not clear of it, it ends beyond the
+/// balise group, and begins not farther ahead of the interval in which the train may stand than the horizon, in units
+/// of 10 cm. It takes no memory.
+#[inline]
+pub fn limit_concerns(limit: &Limit, place: &Place, horizon: u32) -> bool
+    ensures { result ≡ concerns limit.now place.now horizon }
+{
+    let segment = limit.segment;
+    let near = match place.facing() {
+        Way::Up => segment.to > place.at() && segment.from <= place.hi().saturating_add(horizon),
+        Way::Down => segment.from < place.at() && segment.to.saturating_add(horizon) >= place.lo(),
+    };
+    near && !limit_clear(limit, place)
+}

@@ -1,0 +1,79 @@
+//! The interval in a temporary speed restriction.
+
+ghost use Rattle.std.specs.Prelude.{◌≡◌, ◌-◌, ◌/◌, ◌<◌, ◌≤◌, ◌&&◌, false, nat_le, IsTrue};
+ghost use Rattle.rbc_zones.specs.Limits.{is_clear, ends_beyond, ends_beyond_group, begins_at, ends_at, divided_up, told_of_part, told_part, IsToldPart};
+
+use crate::limit::Limit;
+use crate::segment::Segment;
+use rbc_place::Place;
+use rbc_track::Way;
+
+/// The most units that a distance is told in.
+const MAX_UNITS: u32 = 32_766;
+
+/// How far from the balise group the part of a segment begins that does not lie behind it, and how far it ends.
+fn distances(segment: Segment, place: &Place) -> (u32, u32)
+    requires beyond { IsTrue (ends_beyond place.now.facing segment place.now.at) }
+    requires within { segment.to ≤ 3000000 }
+    ensures begin { result.0 ≡ begins_at place.now.facing segment place.now.at }
+    ensures end { result.1 ≡ ends_at place.now.facing segment place.now.at }
+    ensures within { result.1 ≤ 3000000 }
+{
+    let at = place.at();
+    match place.facing() {
+        Way::Up => (segment.from.max(at) - at, segment.to - at),
+        Way::Down => (at - segment.to.min(at), at - segment.from),
+    }
+}
+
+/// The start in whole units, rounded down, and the length, so that the end is rounded up.
+fn in_units(begin: u32, end: u32, unit: u32) -> (u32, u32)
+    requires unit { 1 ≤ unit }
+    requires ordered { begin < end }
+    ensures start { result.0 ≡ begin / unit }
+    ensures length { result.1 ≡ divided_up end unit - begin / unit }
+{
+    let start = begin / unit;
+    (start, end.div_ceil(unit) - start)
+}
+
+/// Whether the start and the length have room in whole units.
+fn fits(begin: u32, end: u32, unit: u32) -> bool
+    requires unit { 1 ≤ unit }
+    requires ordered { begin < end }
+    ensures { result ≡ (nat_le (begin / unit) 32766 && nat_le (divided_up end unit - begin / unit) 32766) }
+{
+    let (start, length) = in_units(begin, end, unit);
+    start <= MAX_UNITS && length <= MAX_UNITS
+}
+
+/// Q_SCALE, D_TSR and L_TSR of a part that begins and ends at distances from the balise group: the start rounded
+/// down and the end rounded up, in the finest unit of which both have room.
+fn told_of_part(begin: u32, end: u32) -> (u8, u16, u16)
+    requires ordered { begin < end }
+    requires within { end ≤ 3000000 }
+    ensures { result ≡ told_of_part begin end }
+{
+    let (scale, unit) = if fits(begin, end, 1) {
+        (0, 1)
+    } else if fits(begin, end, 10) {
+        (1, 10)
+    } else {
+        (2, 100)
+    };
+    let (start, length) = in_units(begin, end, unit);
+    (scale, start as u16, length as u16)
+}
+
+/// Q_SCALE, D_TSR and L_TSR of a restriction to a train that is not clear of it, and beyond whose balise group it ends:
+/// where it begins, counted from the balise group and rounded down, and how long it is, so that its end is rounded
+/// up, in the finest unit of which both are at most 32,766. It takes no memory.
+pub fn limit_fields(limit: &Limit, place: &Place) -> (u8, u16, u16)
+    requires not_clear { is_clear limit.now place.now ≡ false }
+    requires ends_beyond { IsTrue (ends_beyond_group limit.now place.now) }
+    ensures fields { result ≡ told_part limit.now place.now }
+    ensures told { IsToldPart limit.now place.now result.0 result.1 result.2 }
+{
+    let (begin, end) = distances(limit.segment(), place);
+    told_of_part(begin, end)
+}

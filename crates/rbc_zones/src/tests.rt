@@ -1,0 +1,4 @@
+mod limits;
+mod setting;
+mod stops;
+mod tables;

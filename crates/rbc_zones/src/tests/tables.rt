@@ -1,0 +1,59 @@
+use crate::tests::setting::track;
+use crate::{Area, Dirs, Limit, Limits, Segment, Stops};
+use std::alloc::Global;
+use std::test::Fail;
+
+const HERE: Segment = Segment {
+    line: 0,
+    from: 0,
+    to: 10,
+};
+
+// one area under each number up to the sixteenth
+fn stops(alloc: Global, area: Area) -> Result<Stops, Fail> {
+    let mut stops = Stops::new(alloc);
+    for number in 1..=16 {
+        if stops.last() < number {
+            stops.add(number, area)?;
+        }
+    }
+    Ok(stops)
+}
+
+// each stop of a copy is that of its source, and taking one out leaves the source as it was
+#[test]
+fn a_copy_of_stops_equals_its_source(rt: HostRuntime) -> Result<(), Fail> {
+    let track = track(&rt)?;
+    let area = Area::new(&track, &[HERE]).expect(&rt, "a good area");
+    let stops = stops(rt.alloc(), area)?;
+    let mut copy = stops.copy(rt.alloc())?;
+    assert_eq!(rt; (stops.last(), stops.count()), (16, 16));
+    assert_eq!(rt; (copy.last(), copy.count()), (16, 16));
+    for number in 0..=17 {
+        assert_eq!(rt; copy.get(number), stops.get(number), "{number}");
+        assert_eq!(rt;
+            copy.get(number).is_some(),
+            (1..=16).contains(&number),
+            "{number}"
+        );
+    }
+    assert_eq!(rt; copy.remove(7), true);
+    assert_eq!(rt; copy.get(7), None);
+    assert_eq!(rt; (copy.last(), copy.count(), stops.count()), (16, 15, 16));
+    Ok(())
+}
+
+// the same of restrictions, in ascending number
+#[test]
+fn a_copy_of_limits_equals_its_source(rt: HostRuntime) -> Result<(), Fail> {
+    let track = track(&rt)?;
+    let slow = Limit::new(&track, HERE, Dirs::Up, 40, true).expect(&rt, "a good restriction");
+    let fast = Limit::new(&track, HERE, Dirs::Both, 80, false).expect(&rt, "a good restriction");
+    let mut limits = Limits::new(rt.alloc());
+    limits.add(3, slow)?;
+    limits.add(5, fast)?;
+    let copy = limits.copy(rt.alloc())?;
+    assert_eq!(rt; (copy.at(0), copy.at(1)), ((3, &slow), (5, &fast)));
+    assert_eq!(rt; (copy.last(), copy.count(), copy.get(4)), (5, 2, None));
+    Ok(())
+}
