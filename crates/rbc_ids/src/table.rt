@@ -59,6 +59,14 @@ impl<const N: usize> IdTable<N> {
         }
     }
 
+    /// All that are held, ascending, with what each is held for.
+    pub fn slots(&self) -> &[(u8, Slot)]
+        ensures value { result.now ≡ self.now }
+        ensures sound { IsTable N self.now }
+    {
+        self.held.as_slice()
+    }
+
     /// How many are held.
     pub fn held(&self) -> usize
         ensures value { result ≡ length self.now }

@@ -53,6 +53,14 @@ impl<V> Numbered<V> {
         self.active.len()
     }
 
+    /// All that is active, in ascending order of the numbers.
+    pub fn active(&self) -> &[(u32, V)]
+        ensures value { result.now ≡ self.now.active }
+        ensures sound { AreNumbered self.now }
+    {
+        self.active.as_slice()
+    }
+
     /// What is active under a number.
     pub fn get(&self, number: u32) -> Option<&V>
         ensures { option_copied result ≡ value_of self.now.active number }

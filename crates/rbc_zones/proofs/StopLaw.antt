@@ -1,12 +1,15 @@
 -- A stop that concerns a train later is told rightly.
-use Rattle.std.proofs.Common.{◌≡◌, ℕ, ◌+◌, ◌-◌, ◌<◌, ◌≤◌, true, false, ◌||◌, arith}
-use Rattle.std.specs.List.{list_any}
+use Rattle.std.proofs.Common.{◌≡◌, ℕ, Bool, List, ◌+◌, ◌-◌, ◌<◌, ◌≤◌, true, false, ◌||◌, arith}
+use Rattle.std.specs.List.{list_any, All}
 use Rattle.std.proofs.lemmas.Grind.{common_steps}
 use Rattle.std.proofs.lemmas.List.Elements.{filter_passes}
 use Rattle.rbc_track.specs.declared.group.Way.{Way}
 use Rattle.rbc_track.specs.declared.group.Way.TheVariants.{Up, Down}
-use Rattle.rbc_place.specs.Placing.{onward}
-use Rattle.rbc_zones.specs.Concerns.{on_its_line, meets, is_ahead, edges_ahead, nearest, is_behind_group, IsAtOrBeyond, distance_to, EachStopIsToldRightly}
+use Rattle.rbc_place.specs.Placing.{Place, onward}
+use Rattle.rbc_zones.specs.declared.segment.Segment.{Segment}
+use Rattle.rbc_zones.specs.declared.edge.Concern.TheVariants as concern
+use Rattle.rbc_zones.specs.Segments.{IsSegment}
+use Rattle.rbc_zones.specs.Concerns.{on_its_line, meets, is_ahead, edges_ahead, nearest, is_behind_group, concern_at, IsAtOrBeyond, distance_to, EachStopIsToldRightly}
 use Rattle.rbc_zones.proofs.NearestEdges.{of_one, is_nearest, has_edge, edges_within}
 use Rattle.rbc_zones.proofs.ToldStops.{told_rightly}
 
@@ -45,3 +48,10 @@ each_stop p area forced edge sound segments before =
       };
       told = record { not_beyond = ends.0; near = ends.1 };
     }
+
+-- the edge before which a train is to stop is a place that a line can have
+pub edge_in_range : (p : Place) (area : List Segment) (forced : Bool) (edge : ℕ) → All IsSegment area → concern_at area forced p ≡ concern.Before edge → edge ≤ 3000000
+edge_in_range p area forced edge segments before =
+    let edges = edges_ahead p area in
+    let has = has_edge (forced || list_any (meets p) (on_its_line p area)) p (nearest p.facing edges) edge before in
+    of_one (λ edge. edge ≤ 3000000) edge edges (edges_within p area segments) (is_nearest p.facing edges edge has.found_is).one

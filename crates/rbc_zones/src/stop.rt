@@ -1,6 +1,7 @@
 //! What a stop is to a train.
 
-ghost use Rattle.std.specs.Prelude.{◌≡◌, false, option_copied};
+ghost use Rattle.std.specs.Prelude.{◌≡◌, ◌≤◌, ℕ, false, option_copied};
+ghost use Rattle.rbc_zones.specs.declared.edge.Concern.TheVariants.{Before};
 ghost use Rattle.rbc_zones.specs.Concerns.{concern_of, concern_at, concern_by_edge, meets, is_behind_group};
 ghost use Rattle.rbc_zones.specs.Nearer.{nearer};
 
@@ -15,7 +16,8 @@ use rbc_track::Way;
 /// edge ahead counts: without one it is `None`; behind the balise group it is `Now`, since no distance can be told;
 /// and `Before` that edge otherwise.
 pub fn concern(area: &Area, forced: bool, place: Option<&Place>) -> Concern
-    ensures { result ≡ concern_of area.now forced (option_copied place.entry) }
+    ensures value { result ≡ concern_of area.now forced (option_copied place.entry) }
+    ensures in_range { (edge : ℕ) → result ≡ Before edge → edge ≤ 3000000 }
 {
     match place {
         None => Concern::Now,

@@ -1,0 +1,140 @@
+-- The actions of a train may be carried out, one after another.
+use Rattle.std.proofs.Common.{◌≡◌, ℕ, zero, suc, ◌+◌, Bool, true, false, leb, List, [], ◌∷◌, ◌++◌, map, take, sym, ap, ◌∙◌, subst, arith}
+use Rattle.std.specs.List.{fold, zip, AllByRecursion}
+use Rattle.std.proofs.lemmas.Bool.{and_parts}
+use Rattle.rbc_track.specs.Plan.{Plan}
+use Rattle.rbc_maps.specs.Maps.{keys, rises_from}
+use Rattle.rbc_maps.specs.Numbered.{AreNumbered}
+use Rattle.rbc_maps.proofs.MapValues.{map_of_numbered}
+use Rattle.rbc_ids.specs.declared.slot.Slot.TheVariants.{Revoking}
+use Rattle.rbc_ids.specs.declared.slot.Kind.TheVariants.{Restriction}
+use Rattle.rbc_ids.specs.Table.{Slots, IsTable, is_told, is_used_at, free_identifiers, told_now}
+use Rattle.rbc_settle.specs.declared.train.TrainRec.{TrainRec}
+use Rattle.rbc_settle.specs.declared.action.Action.{Action}
+use Rattle.rbc_settle.specs.declared.action.Action.TheVariants.{RevokeStop, TellStop, RevokeLimit, TellLimit}
+use Rattle.rbc_settle.specs.declared.action.ToldStop.{ToldStop}
+use Rattle.rbc_settle.specs.Told.{Part}
+use Rattle.rbc_settle.specs.Settling.{Stops, Limits, carried_out, kind_of, tell_stop, tell_limit, to_revoke, is_stop_gone, is_limit_gone, stops_revoked, stops_told, limits_revoked, limits_told, actions}
+use Rattle.rbc_settle.specs.Following.{CanFollow}
+use Rattle.rbc_settle.specs.UpToDate.{HasTables}
+use Rattle.rbc_settle.proofs.Revoking.{revoked_all, revoked_each, revoked_is, free-revoked, untold-revoked, to_revoke-rises, to_revoke-used, used_above}
+use Rattle.rbc_settle.proofs.Telling.{is_least, free_after, untold_above}
+use Rattle.rbc_settle.proofs.Wanted.{wanted_of, wanted-rises, wanted-untold}
+use Rattle.rbc_settle.proofs.Concerned.{told_as, limit_as}
+use Rattle.rbc_settle.proofs.Parts.{after_first, after_second, after_third, to_first, limits_at_second, limits_at_third}
+
+-- where some may be carried out, so may the first of them
+pub can_follow-take : (n : ℕ) (train : TrainRec) (actions : List Action) → CanFollow train actions → CanFollow train (take n actions)
+can_follow-take zero train actions h = tt
+can_follow-take (suc n) train [] h = tt
+can_follow-take (suc n) train (action ∷ actions) h = (h.0, can_follow-take n (carried_out train action) actions h.1)
+
+-- and others after them
+follow_on : (train : TrainRec) (some more : List Action) → CanFollow train some → CanFollow (fold carried_out train some) more → CanFollow train (some ++ more)
+follow_on train [] more can then = then
+follow_on train (action ∷ some) more can then = (can.0, follow_on (carried_out train action) some more can.1 then)
+
+-- identifiers that are used may be revoked in their order
+revoke_stops : (ids : List ℕ) (least : ℕ) (train : TrainRec) → rises_from least ids ≡ true → AllByRecursion (λ id. is_used_at train.stops id ≡ true) ids → CanFollow train (map RevokeStop ids)
+revoke_stops [] least train rises used = tt
+revoke_stops (id ∷ ids) least train rises used =
+    let parts = and_parts (leb least id) (rises_from (id + 1) ids) rises in
+    (used.0, revoke_stops ids (id + 1) (carried_out train (RevokeStop id)) parts.1 (used_above id (id + 1) (Revoking (train.stamp + 1)) train.stops ids (omega arith) parts.1 used.1))
+
+-- so may those of restrictions
+revoke_limits : (ids : List ℕ) (least : ℕ) (train : TrainRec) → rises_from least ids ≡ true → AllByRecursion (λ id. is_used_at train.limits id ≡ true) ids → CanFollow train (map RevokeLimit ids)
+revoke_limits [] least train rises used = tt
+revoke_limits (id ∷ ids) least train rises used =
+    let parts = and_parts (leb least id) (rises_from (id + 1) ids) rises in
+    (used.0, revoke_limits ids (id + 1) (carried_out train (RevokeLimit id)) parts.1 (used_above id (id + 1) (Revoking (train.stamp + 1)) train.limits ids (omega arith) parts.1 used.1))
+
+-- numbers that are not told may be told under the free identifiers in their order
+tell_stops : (wanted : List (ℕ × ToldStop)) (ids : List ℕ) (least : ℕ) (train : TrainRec) → free_identifiers 15 train.stops ≡ ids → rises_from least (keys wanted) ≡ true
+    → AllByRecursion (λ w. is_told train.stops w.0 ≡ false) wanted → CanFollow train (map tell_stop (zip wanted ids))
+tell_stops [] ids least train free rises untold = tt
+tell_stops (w ∷ wanted) [] least train free rises untold = tt
+tell_stops ((number, told) ∷ wanted) (id ∷ ids) least train free rises untold =
+    let parts = and_parts (leb least number) (rises_from (number + 1) (keys wanted)) rises in (
+      (is_least 15 train.stops id ids free, untold.0),
+      tell_stops wanted ids (number + 1) (carried_out train (TellStop id number told)) (free_after 15 train.stops id ids free (told_now number (train.stamp + 1) (kind_of told))) parts.1
+          (untold_above 15 train.stops id ids free number (train.stamp + 1) (number + 1) (kind_of told) wanted (omega arith) parts.1 untold.1),
+    )
+
+-- so may restrictions
+tell_limits : (wanted : List (ℕ × Part)) (ids : List ℕ) (least : ℕ) (train : TrainRec) → free_identifiers 255 train.limits ≡ ids → rises_from least (keys wanted) ≡ true
+    → AllByRecursion (λ w. is_told train.limits w.0 ≡ false) wanted → CanFollow train (map tell_limit (zip wanted ids))
+tell_limits [] ids least train free rises untold = tt
+tell_limits (w ∷ wanted) [] least train free rises untold = tt
+tell_limits ((number, told) ∷ wanted) (id ∷ ids) least train free rises untold =
+    let parts = and_parts (leb least number) (rises_from (number + 1) (keys wanted)) rises in (
+      (is_least 255 train.limits id ids free, untold.0),
+      tell_limits wanted ids (number + 1) (carried_out train (TellLimit id number told)) (free_after 255 train.limits id ids free (told_now number (train.stamp + 1) Restriction)) parts.1
+          (untold_above 255 train.limits id ids free number (train.stamp + 1) (number + 1) Restriction wanted (omega arith) parts.1 untold.1),
+    )
+
+-- what revoking leaves of a table
+module _ (gone : ℕ → Bool) (count stamp : ℕ) (slots new : Slots) (table : IsTable count slots) (is : new ≡ revoked_all stamp (to_revoke gone slots) slots) where
+  -- each is revoked
+  each : new ≡ revoked_each gone stamp slots
+  each = is ∙ revoked_is gone stamp 0 slots table.ascending
+
+  -- the same identifiers are free
+  free_still : free_identifiers count new ≡ free_identifiers count slots
+  free_still = ap (free_identifiers count) each ∙ free-revoked gone count stamp slots
+
+  -- what was not told is not told
+  untold_still : {T : Type 0} (wanted : List (ℕ × T)) → AllByRecursion (λ w. is_told slots w.0 ≡ false) wanted → AllByRecursion (λ w. is_told new w.0 ≡ false) wanted
+  untold_still [] all = tt
+  untold_still (w ∷ wanted) all = (ap (λ (xs : Slots). is_told xs w.0) each ∙ untold-revoked gone w.0 stamp slots all.0, untold_still wanted all.1)
+
+module _ (plan : Plan) (stops : Stops) (limits : Limits) (train : TrainRec) (tables : HasTables train) (h : AreNumbered stops) (k : AreNumbered limits) where
+  -- what is to be told of stops, and of restrictions
+  abbrev stops_wanted : List (ℕ × ToldStop)
+  stops_wanted = wanted_of train.stops (told_as train.place train.forced) stops.active
+
+  abbrev limits_wanted : List (ℕ × Part)
+  limits_wanted = wanted_of train.limits (limit_as plan.horizon train.place) limits.active
+
+  -- stops may be revoked
+  first_part : CanFollow train (stops_revoked stops train)
+  first_part = revoke_stops (to_revoke (is_stop_gone stops) train.stops) 0 train (to_revoke-rises (is_stop_gone stops) 0 train.stops tables.stops.ascending) (to_revoke-used (is_stop_gone stops) train.stops)
+
+  -- then told
+  second_part : CanFollow (after_first plan stops limits train) (stops_told stops train)
+  second_part =
+      let is = (to_first plan stops limits train).stops in
+      let after = (after_first plan stops limits train).stops in
+      let free = free_still (is_stop_gone stops) 15 train.stamp train.stops after tables.stops is in
+      let untold = untold_still (is_stop_gone stops) 15 train.stamp train.stops after tables.stops is stops_wanted (wanted-untold train.stops (told_as train.place train.forced) stops.active) in
+      let rises = wanted-rises train.stops (told_as train.place train.forced) 0 stops.active (map_of_numbered stops h) in
+      tell_stops stops_wanted (free_identifiers 15 train.stops) 0 (after_first plan stops limits train) free rises untold
+
+  -- then restrictions revoked
+  third_part : CanFollow (after_second plan stops limits train) (limits_revoked limits train)
+  third_part =
+      let gone = is_limit_gone limits train.place in
+      let used = subst (λ (xs : Slots). AllByRecursion (λ id. is_used_at xs id ≡ true) (to_revoke gone train.limits)) (sym (limits_at_second plan stops limits train)) (to_revoke-used gone train.limits) in
+      revoke_limits (to_revoke gone train.limits) 0 (after_second plan stops limits train) (to_revoke-rises gone 0 train.limits tables.limits.ascending) used
+
+  -- and told
+  fourth_part : CanFollow (after_third plan stops limits train) (limits_told plan.horizon limits train)
+  fourth_part =
+      let gone = is_limit_gone limits train.place in
+      let is = limits_at_third plan stops limits train in
+      let stamp = (after_second plan stops limits train).stamp in
+      let after = (after_third plan stops limits train).limits in
+      let free = free_still gone 255 stamp train.limits after tables.limits is in
+      let untold = untold_still gone 255 stamp train.limits after tables.limits is limits_wanted (wanted-untold train.limits (limit_as plan.horizon train.place) limits.active) in
+      let rises = wanted-rises train.limits (limit_as plan.horizon train.place) 0 limits.active (map_of_numbered limits k) in
+      tell_limits limits_wanted (free_identifiers 255 train.limits) 0 (after_third plan stops limits train) free rises untold
+
+  -- so all may be carried out
+  all_parts : CanFollow train (actions plan stops limits train)
+  all_parts =
+      let two = follow_on train (stops_revoked stops train) (stops_told stops train) first_part second_part in
+      let three = follow_on train (stops_revoked stops train ++ stops_told stops train) (limits_revoked limits train) two third_part in
+      follow_on train (stops_revoked stops train ++ stops_told stops train ++ limits_revoked limits train) (limits_told plan.horizon limits train) three fourth_part
+
+-- the actions of a train may be carried out, one after another
+pub can_follow : (plan : Plan) (stops : Stops) (limits : Limits) (train : TrainRec) → HasTables train → AreNumbered stops → AreNumbered limits → CanFollow train (actions plan stops limits train)
+can_follow plan stops limits train tables h k = all_parts plan stops limits train tables h k

@@ -1,0 +1,13 @@
+pub mod Revoking
+pub mod Telling
+pub mod Wanted
+pub mod Done
+pub mod Carried
+pub mod Parts
+pub mod Concerned
+pub mod Follows
+pub mod Achieves
+pub mod Carrying
+pub mod SettleLoop
+pub mod NumberLists
+pub mod Judging

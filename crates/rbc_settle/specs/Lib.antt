@@ -1,0 +1,6 @@
+pub mod Numbers
+pub mod Trains
+pub mod Told
+pub mod Settling
+pub mod Following
+pub mod UpToDate

@@ -1,0 +1,20 @@
+-- Ascending lists of numbers, none twice (own rule).
+use Rattle.std.specs.Prelude.{ℕ, Bool, ◌==◌, not, nat_lt, if◌then◌else◌, List, [], ◌∷◌, IsTrue}
+use Rattle.std.specs.List.{list_any, filter}
+use Rattle.rbc_maps.specs.Maps.{rises_from}
+
+-- each number is above the one before it
+abbrev pub AreNumbers : List ℕ → Type 0
+AreNumbers numbers = IsTrue (rises_from 0 numbers)
+
+abbrev pub has_number : List ℕ → ℕ → Bool
+has_number numbers n = list_any (λ other. other == n) numbers
+
+-- the list with a number at its place, which it has not yet
+abbrev pub with_number : ℕ → List ℕ → List ℕ
+with_number n [] = n ∷ []
+with_number n (first ∷ rest) = if nat_lt n first then n ∷ first ∷ rest else first ∷ with_number n rest
+
+-- the list without a number
+abbrev pub without_number : ℕ → List ℕ → List ℕ
+without_number n numbers = filter (λ other. not (other == n)) numbers

@@ -1,0 +1,187 @@
+-- What settling does to one train: what is revoked and told, under which identifier and stamp, in which order (own
+-- rule).
+use Rattle.std.specs.Prelude.{ℕ, ◌+◌, ◌-◌, ◌/◌, Bool, true, false, not, List, ◌++◌, map, take, Option, Some, None, option_map, pos, if◌then◌else◌}
+use Rattle.std.specs.List.{filter, filter_map, fold, scan, zip}
+use Rattle.std.specs.Option.{option_map_or}
+use Rattle.ertms_codec.specs.declared.to_train.Head.{Head}
+use Rattle.ertms_codec.specs.declared.to_train.ToTrain.{ToTrain}
+use Rattle.ertms_codec.specs.declared.to_train.ToTrain.TheVariants as message
+use Rattle.rbc_track.specs.Plan.{Plan}
+use Rattle.rbc_track.specs.declared.group.Way.{Way}
+use Rattle.rbc_place.specs.Placing.{Place, is_up}
+use Rattle.rbc_maps.specs.Maps.{has, value_of, with_value, keys}
+use Rattle.rbc_maps.specs.Numbered.{Numbered}
+use Rattle.rbc_ids.specs.declared.slot.Slot.{Slot}
+use Rattle.rbc_ids.specs.declared.slot.Slot.TheVariants.{Used, Revoking}
+use Rattle.rbc_ids.specs.declared.slot.Kind.{Kind}
+use Rattle.rbc_ids.specs.declared.slot.Kind.TheVariants.{Conditional, Unconditional, Restriction}
+use Rattle.rbc_ids.specs.Table.{Slots, is_told, free_identifiers, told_now}
+use Rattle.rbc_zones.specs.declared.segment.Segment.{Segment}
+use Rattle.rbc_zones.specs.declared.edge.Concern.{Concern}
+use Rattle.rbc_zones.specs.declared.edge.Concern.TheVariants as concern
+use Rattle.rbc_zones.specs.Concerns.{concern_of, told_distance, distance_to}
+use Rattle.rbc_zones.specs.Limits.{Limit, is_clear, concerns, told_part}
+use Rattle.rbc_settle.specs.declared.train.TrainRec.{TrainRec}
+use Rattle.rbc_settle.specs.declared.action.Action.{Action}
+use Rattle.rbc_settle.specs.declared.action.Action.TheVariants.{RevokeStop, TellStop, RevokeLimit, TellLimit}
+use Rattle.rbc_settle.specs.declared.action.ToldStop.{ToldStop}
+use Rattle.rbc_settle.specs.declared.action.ToldStop.TheVariants.{AtOnce, Before}
+use Rattle.rbc_settle.specs.Told.{Edge, Part}
+use Rattle.rbc_settle.specs.Numbers.{has_number}
+
+-- the active stops by number with the last number of a stop, and the same of restrictions
+abbrev pub Stops : Type 0
+Stops = Numbered (List Segment)
+
+abbrev pub Limits : Type 0
+Limits = Numbered Limit
+
+-- the last stamp that a message may have: the number after it means that the time is unknown
+abbrev pub last_stamp : ℕ
+last_stamp = 4294967294
+
+-- NID_LRBG of a train without a place
+abbrev pub unknown_group : ℕ
+unknown_group = 16777215
+
+-- Q_DIR: the way the train faces, seen from its balise group
+abbrev pub direction_of : Place → ℕ
+direction_of p = if is_up_way p.facing p.same then 1 else 0
+  where
+    is_up_way : Way → Bool → Bool
+    is_up_way way same = if is_up way then same else not same
+
+-- an edge as it is told
+abbrev pub told_edge : ℕ → ℕ × ℕ → Edge
+told_edge dir (scale, distance) = record { dir = dir; scale = scale; distance = distance }
+
+-- what a stop is told as at a place: nothing, at once, or with the distance from the balise group to an edge
+abbrev pub told_at : Place → Concern → Option ToldStop
+told_at p concern.None = None
+told_at p concern.Now = Some AtOnce
+told_at p (concern.Before edge) =
+    let distance = distance_to p.facing p.at edge in
+    Some (Before (told_edge (direction_of p) (told_distance distance)))
+
+-- and to any train: a stop that concerns a train without a place is told at once
+abbrev pub told_stop : Option Place → Concern → Option ToldStop
+told_stop (Some p) c = told_at p c
+told_stop None concern.None = None
+told_stop None concern.Now = Some AtOnce
+told_stop None (concern.Before edge) = Some AtOnce
+
+-- what a restriction is told as
+abbrev pub told_limit : Limit → Place → Part
+told_limit limit p = record {
+  dir = direction_of p;
+  scale = (told_part limit p).0;
+  start = (told_part limit p).1;
+  length = (told_part limit p).2;
+  front = limit.front;
+  speed = limit.speed / 5;
+}
+
+-- what an active stop is to a train
+abbrev pub concern_to : TrainRec → ℕ × List Segment → Concern
+concern_to train stop = concern_of stop.1 (has_number train.forced stop.0) train.place
+
+-- a stop that is to be told, with what it is told as: it is not told, and concerns the train
+abbrev pub stop_to_tell : TrainRec → ℕ × List Segment → Option (ℕ × ToldStop)
+stop_to_tell train stop =
+    if is_told train.stops stop.0 then None else option_map (λ told. (stop.0, told)) (told_stop train.place (concern_to train stop))
+
+-- a restriction that is to be told: it is not told, and concerns the train
+abbrev pub limit_told_to : ℕ → Option Place → Limit → Option Part
+limit_told_to horizon None limit = None
+limit_told_to horizon (Some p) limit = if concerns limit p horizon then Some (told_limit limit p) else None
+
+abbrev pub limit_to_tell : ℕ → TrainRec → ℕ × Limit → Option (ℕ × Part)
+limit_to_tell horizon train limit =
+    if is_told train.limits limit.0 then None else option_map (λ told. (limit.0, told)) (limit_told_to horizon train.place limit.1)
+
+-- a slot is used by a number that is to be revoked
+abbrev pub is_used_by : (ℕ → Bool) → Slot → Bool
+is_used_by is_gone (Used number stamp kind acked) = is_gone number
+is_used_by is_gone (Revoking stamp) = false
+
+-- the identifiers that are used by such numbers, ascending
+abbrev pub to_revoke : (ℕ → Bool) → Slots → List ℕ
+to_revoke is_gone slots = keys (filter (λ held. is_used_by is_gone held.1) slots)
+
+-- a stop is to be revoked once it is not active
+abbrev pub is_stop_gone : Stops → ℕ → Bool
+is_stop_gone stops number = not (has stops.active number)
+
+-- a restriction is to be revoked once it is not active, or clear of the train
+abbrev pub is_clear_of : Option Place → Limit → Bool
+is_clear_of None limit = false
+is_clear_of (Some p) limit = is_clear limit p
+
+abbrev pub is_limit_gone : Limits → Option Place → ℕ → Bool
+is_limit_gone limits place number = option_map_or (is_clear_of place) (value_of limits.active number) true
+
+abbrev pub tell_stop : (ℕ × ToldStop) × ℕ → Action
+tell_stop ((number, told), id) = TellStop id number told
+
+abbrev pub tell_limit : (ℕ × Part) × ℕ → Action
+tell_limit ((number, told), id) = TellLimit id number told
+
+-- The four parts of what is done to a train. Each pair of a number and a free identifier is told, as long as there
+-- are both.
+abbrev pub stops_revoked : Stops → TrainRec → List Action
+stops_revoked stops train = map RevokeStop (to_revoke (is_stop_gone stops) train.stops)
+
+abbrev pub stops_told : Stops → TrainRec → List Action
+stops_told stops train = map tell_stop (zip (filter_map (stop_to_tell train) stops.active) (free_identifiers 15 train.stops))
+
+abbrev pub limits_revoked : Limits → TrainRec → List Action
+limits_revoked limits train = map RevokeLimit (to_revoke (is_limit_gone limits train.place) train.limits)
+
+abbrev pub limits_told : ℕ → Limits → TrainRec → List Action
+limits_told horizon limits train = map tell_limit (zip (filter_map (limit_to_tell horizon train) limits.active) (free_identifiers 255 train.limits))
+
+-- all of it, judged before the first action
+abbrev pub actions : Plan → Stops → Limits → TrainRec → List Action
+actions plan stops limits train =
+    stops_revoked stops train ++ stops_told stops train ++ limits_revoked limits train ++ limits_told plan.horizon limits train
+
+-- the actions for which stamps are left
+abbrev pub actions_with_stamp : Plan → Stops → Limits → TrainRec → List Action
+actions_with_stamp plan stops limits train = take (last_stamp - train.stamp) (actions plan stops limits train)
+
+-- the message by which a stop is told
+abbrev pub kind_of : ToldStop → Kind
+kind_of AtOnce = Unconditional
+kind_of (Before edge) = Conditional
+
+-- An action takes the next stamp. An identifier that is revoked is held until the train has acknowledged that; one under
+-- which a number is told is used from then on.
+abbrev pub carried_out : TrainRec → Action → TrainRec
+carried_out train (RevokeStop id) = record train { stamp = train.stamp + 1; stops = with_value id (Revoking (train.stamp + 1)) train.stops }
+carried_out train (TellStop id number told) = record train { stamp = train.stamp + 1; stops = with_value id (told_now number (train.stamp + 1) (kind_of told)) train.stops }
+carried_out train (RevokeLimit id) = record train { stamp = train.stamp + 1; limits = with_value id (Revoking (train.stamp + 1)) train.limits }
+carried_out train (TellLimit id number told) = record train { stamp = train.stamp + 1; limits = with_value id (told_now number (train.stamp + 1) Restriction) train.limits }
+
+-- NID_LRBG: the balise group that the train's report counts from
+abbrev pub group_of : TrainRec → ℕ
+group_of train = option_map_or (λ p. p.lrbg) train.place unknown_group
+
+-- what each message begins with: the next stamp, M_ACK, and the balise group
+abbrev pub head_of : TrainRec → Bool → Head
+head_of train ack = record { stamp = train.stamp + 1; ack = ack; lrbg = group_of train }
+
+-- the message of an action: 18, 15 or 16, 24 with packet 66 (Q_DIR 2: both ways), and 24 with packet 65
+abbrev pub message_of : TrainRec → Action → ToTrain
+message_of train (RevokeStop id) = message.Revoke (head_of train true) id
+message_of train (TellStop id number AtOnce) = message.Stop (head_of train false) id
+message_of train (TellStop id number (Before edge)) = message.StopAt (head_of train false) id edge.scale (pos 0) edge.dir edge.distance
+message_of train (RevokeLimit id) = message.Lift (head_of train true) 2 id
+message_of train (TellLimit id number told) = message.Restrict (head_of train true) told.dir told.scale id told.start told.length told.front told.speed
+
+-- the train after its actions, one after another
+abbrev pub settled : Plan → Stops → Limits → TrainRec → TrainRec
+settled plan stops limits train = fold carried_out train (actions_with_stamp plan stops limits train)
+
+-- and the messages that they send
+abbrev pub messages_of : Plan → Stops → Limits → TrainRec → List ToTrain
+messages_of plan stops limits train = scan carried_out message_of train (actions_with_stamp plan stops limits train)

@@ -1,0 +1,126 @@
+//! Carrying out one action.
+
+ghost use Rattle.std.specs.Prelude.{◌≡◌, ℕ, ◌+◌, ◌^◌, ◌<◌, ◌≤◌, OnOk, OnErr};
+ghost use Rattle.ertms_codec.specs.ToTrain.{Fits};
+ghost use Rattle.rbc_settle.specs.declared.action.Action.TheVariants.{TellStop};
+ghost use Rattle.rbc_settle.specs.Settling.{kind_of, head_of, carried_out, message_of};
+ghost use Rattle.rbc_settle.specs.Following.{Allows};
+ghost use Rattle.rbc_settle.specs.UpToDate.{HasTables};
+
+use crate::action::{Action, ToldStop};
+use crate::train::TrainRec;
+use ertms_codec::{Head, ToTrain};
+use rbc_ids::Kind;
+use std::alloc::AllocError;
+
+/// NID_LRBG of a message to a train without a place.
+const UNKNOWN_GROUP: u32 = 16_777_215;
+
+/// Q_DIR of a revocation: it is for both ways.
+const BOTH: u8 = 2;
+
+impl TrainRec {
+    /// The message by which an action is carried out, with the next stamp.
+    pub(crate) fn message_of(&self, action: &Action) -> ToTrain
+        requires stamp { self.now.stamp + 1 < 2 ^ 32 }
+        requires tables { HasTables self.now }
+        requires allowed { Allows self.now action.now }
+        ensures message { result ≡ message_of self.now action.now }
+        ensures fits { Fits result }
+    {
+        match *action {
+            Action::RevokeStop { id } => ToTrain::Revoke {
+                head: self.head(true),
+                id,
+            },
+            Action::TellStop { id, told, .. } => self.stop_message(id, told),
+            Action::RevokeLimit { id } => ToTrain::Lift {
+                head: self.head(true),
+                dir: BOTH,
+                id,
+            },
+            Action::TellLimit { id, told, .. } => ToTrain::Restrict {
+                head: self.head(true),
+                dir: told.dir,
+                scale: told.scale,
+                id,
+                start: told.start,
+                length: told.length,
+                front: told.front,
+                speed: told.speed,
+            },
+        }
+    }
+
+    /// The message by which a stop is told under an identifier.
+    fn stop_message(&self, id: u8, told: ToldStop) -> ToTrain
+        requires stamp { self.now.stamp + 1 < 2 ^ 32 }
+        requires issued { id < 15 }
+        ensures message { (number : ℕ) → result ≡ message_of self.now (TellStop id number told) }
+        ensures fits { Fits result }
+    {
+        let head = self.head(false);
+        match told {
+            ToldStop::AtOnce => ToTrain::Stop { head, id },
+            ToldStop::Before(edge) => ToTrain::StopAt {
+                head,
+                id,
+                scale: edge.scale,
+                reference: 0,
+                dir: edge.dir,
+                distance: edge.distance,
+            },
+        }
+    }
+
+    /// What the next message begins with.
+    fn head(&self, ack: bool) -> Head
+        requires { self.now.stamp + 1 < 2 ^ 32 }
+        ensures head { result ≡ head_of self.now ack }
+        ensures group { result.lrbg ≤ 16777215 }
+    {
+        Head {
+            stamp: self.stamp + 1,
+            ack,
+            lrbg: self
+                .place
+                .as_ref()
+                .map_or(UNKNOWN_GROUP, |place| place.lrbg()),
+        }
+    }
+
+    /// Carries out an action. A told number gets the action's own identifier, which is the least free one. A refusal for
+    /// want of memory leaves the train as it was.
+    pub(crate) fn carry_out(&mut self, action: &Action) -> Result<(), AllocError>
+        requires stamp { self.old.stamp + 1 < 2 ^ 32 }
+        requires allowed { Allows self.old action.now }
+        ensures ok { OnOk result (self.new ≡ carried_out self.old action.now) }
+        ensures err { OnErr result (self.new ≡ self.old) }
+    {
+        let stamp = self.stamp + 1;
+        match *action {
+            Action::RevokeStop { id } => self.stops.revoke(id, stamp),
+            Action::TellStop { number, told, .. } => {
+                let issued = self.stops.issue(number, stamp, kind_of(told));
+                let _ = issued.map_err(|_| AllocError)?;
+            }
+            Action::RevokeLimit { id } => self.limits.revoke(id, stamp),
+            Action::TellLimit { number, .. } => {
+                let issued = self.limits.issue(number, stamp, Kind::Restriction);
+                let _ = issued.map_err(|_| AllocError)?;
+            }
+        }
+        self.stamp = stamp;
+        Ok(())
+    }
+}
+
+/// The kind of message by which a stop is told.
+fn kind_of(told: ToldStop) -> Kind
+    ensures { result ≡ kind_of told }
+{
+    match told {
+        ToldStop::AtOnce => Kind::Unconditional,
+        ToldStop::Before(_) => Kind::Conditional,
+    }
+}

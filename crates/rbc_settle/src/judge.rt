@@ -1,0 +1,224 @@
+//! What is to be done to a train, judged before the first action.
+
+ghost use Rattle.std.specs.Prelude.{◌≡◌, ◌≤◌, ℕ, IfOk, OnOk, Some, option_copied};
+ghost use Rattle.rbc_maps.specs.Numbered.{AreNumbered};
+ghost use Rattle.rbc_ids.specs.Table.{IsTable};
+ghost use Rattle.rbc_zones.specs.declared.edge.Concern.TheVariants.{Before};
+ghost use Rattle.rbc_settle.specs.Settling.{direction_of, told_at, told_stop, told_limit, limit_told_to, stop_to_tell, limit_to_tell, is_used_by, is_stop_gone, is_limit_gone, stops_revoked, stops_told, limits_revoked, limits_told, actions_with_stamp};
+ghost use Rattle.rbc_settle.specs.UpToDate.{HasTables};
+
+use crate::action::{Action, ToldEdge, ToldLimit, ToldStop};
+use crate::train::TrainRec;
+use rbc_ids::Slot;
+use rbc_place::Place;
+use rbc_track::{Track, Way};
+use rbc_zones::{
+    Area, Concern, Limit, Limits, Stops, concern, limit_clear, limit_concerns, limit_fields,
+    stop_field,
+};
+use std::alloc::{AllocError, Global};
+
+/// The last stamp that a message may have: the next one means that the time is unknown.
+const LAST_STAMP: u32 = 4_294_967_294;
+
+/// All actions for which stamps are left, in their order. It takes memory only where there are any.
+pub fn actions(
+    alloc: Global,
+    track: &Track,
+    stops: &Stops,
+    limits: &Limits,
+    train: &TrainRec,
+) -> Result<Vec<Action>, AllocError>
+    ensures actions { IfOk result (λ found. found.items ≡ actions_with_stamp track.now stops.now limits.now train.now) }
+    ensures sound { OnOk result (HasTables train.now × (AreNumbered stops.now × AreNumbered limits.now)) }
+{
+    let mut actions = stops_revoked(alloc, stops, train)?;
+    actions.append(&mut stops_told(alloc, stops, train)?)?;
+    actions.append(&mut limits_revoked(alloc, limits, train)?)?;
+    actions.append(&mut limits_told(alloc, track.horizon(), limits, train)?)?;
+    actions.truncate(LAST_STAMP.saturating_sub(train.stamp) as usize);
+    Ok(actions)
+}
+
+/// A revocation of each stop that is told and not active.
+fn stops_revoked(alloc: Global, stops: &Stops, train: &TrainRec) -> Result<Vec<Action>, AllocError>
+    ensures actions { IfOk result (λ found. found.items ≡ stops_revoked stops.now train.now) }
+    ensures sound { IsTable 15 train.now.stops }
+{
+    train
+        .stops
+        .slots()
+        .iter()
+        .filter(|held| is_used_by_gone_stop(stops, held.1))
+        .map(|held| Action::RevokeStop { id: held.0 })
+        .collect(alloc)
+}
+
+/// Whether a slot is used by a stop that is to be revoked: it is not active.
+fn is_used_by_gone_stop(stops: &Stops, slot: Slot) -> bool
+    ensures { result ≡ is_used_by (is_stop_gone stops.now) slot }
+{
+    match slot {
+        Slot::Used { number, .. } => stops.get(number).is_none(),
+        Slot::Revoking { .. } => false,
+    }
+}
+
+/// A telling of each stop that is to be told, as long as identifiers are free.
+fn stops_told(alloc: Global, stops: &Stops, train: &TrainRec) -> Result<Vec<Action>, AllocError>
+    ensures actions { IfOk result (λ found. found.items ≡ stops_told stops.now train.now) }
+    ensures sound { AreNumbered stops.now }
+{
+    let free = (0..15).filter(|id| train.stops.slot(*id).is_none());
+    stops
+        .active()
+        .iter()
+        .filter_map(|stop| stop_to_tell(train, stop.0, &stop.1))
+        .zip(free)
+        .map(|((number, told), id)| Action::TellStop { id, number, told })
+        .collect(alloc)
+}
+
+/// A revocation of each restriction that is told and not active, or clear of the train.
+fn limits_revoked(
+    alloc: Global,
+    limits: &Limits,
+    train: &TrainRec,
+) -> Result<Vec<Action>, AllocError>
+    ensures actions { IfOk result (λ found. found.items ≡ limits_revoked limits.now train.now) }
+    ensures sound { IsTable 255 train.now.limits }
+{
+    train
+        .limits
+        .slots()
+        .iter()
+        .filter(|held| is_used_by_gone_limit(limits, train.place.as_ref(), held.1))
+        .map(|held| Action::RevokeLimit { id: held.0 })
+        .collect(alloc)
+}
+
+/// Whether a slot is used by a restriction that is to be revoked.
+fn is_used_by_gone_limit(limits: &Limits, place: Option<&Place>, slot: Slot) -> bool
+    ensures { result ≡ is_used_by (is_limit_gone limits.now (option_copied place.entry)) slot }
+{
+    match slot {
+        Slot::Used { number, .. } => is_limit_gone(limits, place, number),
+        Slot::Revoking { .. } => false,
+    }
+}
+
+/// A telling of each restriction that is to be told, as long as identifiers are free.
+fn limits_told(
+    alloc: Global,
+    horizon: u32,
+    limits: &Limits,
+    train: &TrainRec,
+) -> Result<Vec<Action>, AllocError>
+    ensures actions { IfOk result (λ found. found.items ≡ limits_told horizon limits.now train.now) }
+    ensures sound { AreNumbered limits.now }
+{
+    let free = (0..255).filter(|id| train.limits.slot(*id).is_none());
+    limits
+        .active()
+        .iter()
+        .filter_map(|limit| limit_to_tell(horizon, train, limit.0, &limit.1))
+        .zip(free)
+        .map(|((number, told), id)| Action::TellLimit { id, number, told })
+        .collect(alloc)
+}
+
+/// A stop that is not told and concerns the train, with what it is told as.
+fn stop_to_tell(train: &TrainRec, number: u32, area: &Area) -> Option<(u32, ToldStop)>
+    ensures { result ≡ stop_to_tell train.now (number, area.now) }
+{
+    if train.stops.of_number(number).is_some() {
+        return None;
+    }
+    let place = train.place.as_ref();
+    let told = told_stop(place, concern(area, train.forced.has(number), place))?;
+    Some((number, told))
+}
+
+/// What a stop is told as.
+fn told_stop(place: Option<&Place>, concern: Concern) -> Option<ToldStop>
+    requires { (edge : ℕ) → concern ≡ Before edge → edge ≤ 3000000 }
+    ensures { result ≡ told_stop (option_copied place.entry) concern }
+{
+    match (concern, place) {
+        (Concern::None, _) => None,
+        (Concern::Before(edge), Some(place)) => Some(told_before(place, edge)),
+        (Concern::Before(_), None) | (Concern::Now, _) => Some(ToldStop::AtOnce),
+    }
+}
+
+/// A restriction that is not told and concerns the train, with what it is told as.
+fn limit_to_tell(
+    horizon: u32,
+    train: &TrainRec,
+    number: u32,
+    limit: &Limit,
+) -> Option<(u32, ToldLimit)>
+    ensures { result ≡ limit_to_tell horizon train.now (number, limit.now) }
+{
+    let told = told_limit(horizon, train.place.as_ref()?, limit)?;
+    match train.limits.of_number(number) {
+        Some(_) => None,
+        None => Some((number, told)),
+    }
+}
+
+/// What a restriction is told as, where it concerns a train at its place.
+fn told_limit(horizon: u32, place: &Place, limit: &Limit) -> Option<ToldLimit>
+    ensures { result ≡ limit_told_to horizon (Some place.now) limit.now }
+{
+    if !limit_concerns(limit, place, horizon) {
+        return None;
+    }
+    let (scale, start, length) = limit_fields(limit, place);
+    Some(ToldLimit {
+        dir: direction_of(place),
+        scale,
+        start,
+        length,
+        front: limit.front(),
+        speed: (limit.speed() / 5) as u8,
+    })
+}
+
+/// A stop before an edge, with the distance to it from the balise group.
+fn told_before(place: &Place, edge: u32) -> ToldStop
+    requires { edge ≤ 3000000 }
+    ensures { Some result ≡ told_at place.now (Before edge) }
+{
+    let at = place.at();
+    let distance = match place.facing() {
+        Way::Up => edge.saturating_sub(at),
+        Way::Down => at.saturating_sub(edge),
+    };
+    let (scale, distance) = stop_field(distance);
+    ToldStop::Before(ToldEdge {
+        dir: direction_of(place),
+        scale,
+        distance,
+    })
+}
+
+/// Q_DIR: the way a train faces, seen from its balise group: 1 is its nominal direction, 0 the other one.
+fn direction_of(place: &Place) -> u8
+    ensures value { result ≡ direction_of place.now }
+    ensures small { result ≤ 1 }
+{
+    let up = place.facing() == Way::Up;
+    u8::from(up == place.same())
+}
+
+/// Whether a restriction that is told is to be revoked: it is not active, or clear of the train.
+fn is_limit_gone(limits: &Limits, place: Option<&Place>, number: u32) -> bool
+    ensures { result ≡ is_limit_gone limits.now (option_copied place.entry) number }
+{
+    match (limits.get(number), place) {
+        (None, _) => true,
+        (Some(_), None) => false,
+        (Some(limit), Some(place)) => limit_clear(limit, place),
+    }
+}
