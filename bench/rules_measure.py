@@ -1,6 +1,6 @@
 """Measures what one call of a rule costs, and prints a table: rules_measure.py RUNS PROGRAM
 
-PROGRAM is called with a job and with 0 and MANY repeats in turn; what the repeats took is the cost of the calls, without
+PROGRAM is called with a job and with 0 and many repeats in turn; what the repeats took is the cost of the calls, without
 the start of the program.
 """
 
@@ -9,15 +9,15 @@ import subprocess
 import sys
 import time
 
-MANY = 2_000_000
-
+# each job with what it does, and how often
 JOBS = {
-    "concern": "concern of an area of 8 segments, all ahead",
-    "clear": "whether a restriction is clear of a train",
-    "concerns": "whether a restriction concerns a train",
-    "get": "one stop among 64 by its number",
-    "copy": "a copy of a table with 15 identifiers held",
-    "copy_none": "a copy of a table with none held",
+    "concern": ("concern of an area of 8 segments, all ahead", 2_000_000),
+    "clear": ("whether a restriction is clear of a train", 2_000_000),
+    "concerns": ("whether a restriction concerns a train", 2_000_000),
+    "get": ("one stop among 64 by its number", 2_000_000),
+    "copy": ("a copy of a table with 15 identifiers held", 2_000_000),
+    "copy_none": ("a copy of a table with none held", 2_000_000),
+    "settle": ("settling a train that is up to date, 64 stops and 300 restrictions active", 100_000),
 }
 
 
@@ -28,17 +28,17 @@ def seconds(program, job, times):
     return time.perf_counter() - began
 
 
-def nanoseconds(program, job):
+def nanoseconds(program, job, many):
     """What one call takes."""
     start = seconds(program, job, 0)
-    return 1e9 * (seconds(program, job, MANY) - start) / MANY
+    return 1e9 * (seconds(program, job, many) - start) / many
 
 
 def main():
     runs, program = int(sys.argv[1]), sys.argv[2]
     print("| call | least ns | median ns |\n|---|---|---|")
-    for job, text in JOBS.items():
-        taken = [nanoseconds(program, job) for _ in range(runs)]
+    for job, (text, many) in JOBS.items():
+        taken = [nanoseconds(program, job, many) for _ in range(runs)]
         print(f"| {text} | {min(taken):.1f} | {statistics.median(taken):.1f} |")
 
 

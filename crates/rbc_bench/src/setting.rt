@@ -13,9 +13,12 @@ const TRACK: &str =
 /// Places of trains that face up, the area of a stop far ahead of them, and restrictions about them.
 #[derive(Drop)]
 pub(crate) struct Setting {
+    pub track: Track,
     pub places: Vec<Place>,
     pub area: Area,
     pub limits: Vec<Limit>,
+    /// A restriction beyond the horizon of all trains.
+    pub far: Limit,
 }
 
 impl Setting {
@@ -29,10 +32,14 @@ impl Setting {
         for number in 0..16u32 {
             limits.push(limit(&track, number).context("no restriction")?)?;
         }
+        let area = area(&track).context("no area")?;
+        let far = limit(&track, 100).context("no restriction")?;
         Ok(Setting {
+            track,
             places,
-            area: area(&track).context("no area")?,
+            area,
             limits,
+            far,
         })
     }
 }
