@@ -1,6 +1,6 @@
 -- What settling achieves.
-use Rattle.std.proofs.Common.{◌≡◌, ℕ, ◌+◌, ◌-◌, ◌≤◌, ◌⊎◌, true, false, List, [], ◌∷◌, ◌++◌, length, map, take, Option, None, sym, ap, ◌∙◌, subst, arith, inl, inr}
-use Rattle.std.specs.List.{fold, scan, All, AllByRecursion}
+use Rattle.std.proofs.Common.{◌≡◌, ℕ, ◌+◌, ◌-◌, ◌≤◌, ◌⊎◌, false, List, [], ◌∷◌, ◌++◌, length, map, take, Option, sym, ap, ◌∙◌, subst, arith, inl, inr}
+use Rattle.std.specs.List.{fold, scan, AllByRecursion}
 use Rattle.std.proofs.lemmas.Bool.{cases_lt}
 use Rattle.std.proofs.lemmas.List.{take_all, length-take-le}
 use Rattle.std.proofs.lemmas.List.Elements.{All-from_recursion}
@@ -8,23 +8,18 @@ use Rattle.rbc_track.specs.Plan.{Plan}
 use Rattle.rbc_place.specs.Placing.{Place}
 use Rattle.rbc_maps.specs.Numbered.{AreNumbered}
 use Rattle.rbc_ids.specs.declared.slot.Kind.TheVariants.{Restriction}
-use Rattle.rbc_ids.specs.Table.{Slots, is_told}
+use Rattle.rbc_ids.specs.Table.{Slots}
 use Rattle.rbc_zones.specs.declared.segment.Segment.{Segment}
-use Rattle.rbc_zones.specs.Limits.{Limit}
 use Rattle.rbc_settle.specs.declared.train.TrainRec.{TrainRec}
 use Rattle.rbc_settle.specs.declared.action.Action.{Action}
 use Rattle.rbc_settle.specs.declared.action.Action.TheVariants.{RevokeStop, RevokeLimit}
-use Rattle.rbc_settle.specs.Settling.{Stops, Limits, last_stamp, carried_out, message_of, kind_of, tell_stop, tell_limit, concern_to, limit_told_to, is_used_by, is_stop_gone, is_limit_gone, stops_revoked, stops_told, limits_revoked, limits_told, actions, actions_with_stamp, settled}
-use Rattle.rbc_settle.specs.UpToDate.{HasTables, IsToldIfItCan, IsUpToDate, IsUpToDateOrAtTheEnd, StaysAsItIs, SettlingTwiceIsOnce}
+use Rattle.rbc_settle.specs.Settling.{Stops, Limits, last_stamp, carried_out, message_of, kind_of, tell_stop, tell_limit, concern_to, is_used_by, is_stop_gone, is_limit_gone, stops_revoked, stops_told, limits_revoked, limits_told, actions, actions_with_stamp, settled}
+use Rattle.rbc_settle.specs.UpToDate.{HasTables, IsToldIfItCan, IsLimitToldIfItCan, IsUpToDate, IsUpToDateOrAtTheEnd, StaysAsItIs, SettlingTwiceIsOnce}
 use Rattle.rbc_settle.proofs.Revoking.{each_not_gone}
 use Rattle.rbc_settle.proofs.Done.{IsDone, IsToldOrFull, is_done, none_told, none_revoked, told_or_full}
 use Rattle.rbc_settle.proofs.Carried.{stamp_after}
 use Rattle.rbc_settle.proofs.Parts.{after_first, after_second, after_third, after_all, stops_at_last, limits_at_last, place_at_last, forced_at_last}
 use Rattle.rbc_settle.proofs.Concerned.{told_as, limit_as, stops_stay, limits_stay, nothing_told}
-
--- a restriction does not concern the train, or is told to it, or all its restriction identifiers are held
-abbrev pub IsLimitToldIfItCan : ℕ → TrainRec → ℕ × Limit → Type 0
-IsLimitToldIfItCan horizon train limit = (limit_told_to horizon train.place limit.1 ≡ None) ⊎ ((is_told train.limits limit.0 ≡ true) ⊎ (length train.limits ≡ 255))
 
 -- nothing is left to do to a train
 pub record AreDone (horizon : ℕ) (active : Stops) (lifted : Limits) (train : TrainRec) : Type 0 where
@@ -68,7 +63,7 @@ at_the_end plan stops limits train tables h k = elim (all_taken (last_stamp - tr
   | inr all ↦ inr (subst (λ (acts : List Action). AreDone plan.horizon stops limits (fold carried_out train acts)) (sym all) (all_done plan stops limits train tables h k))
 ]
 
-module _ (horizon : ℕ) (stops : Stops) (limits : Limits) (train : TrainRec) (done : AreDone horizon stops limits train) where
+module _ (plan : Plan) (stops : Stops) (limits : Limits) (train : TrainRec) (done : AreDone plan.horizon stops limits train) where
   -- a stop of which nothing is told is nothing to the train
   if_it_can : (some : List (ℕ × List Segment)) → AllByRecursion (IsToldOrFull 15 (is_stop_gone stops) stops.active (told_as train.place train.forced) train.stops done.stops) some → AllByRecursion (IsToldIfItCan train) some
   if_it_can [] all = tt
@@ -81,23 +76,20 @@ module _ (horizon : ℕ) (stops : Stops) (limits : Limits) (train : TrainRec) (d
   )
 
   -- where nothing is left to do the train is up to date
-  is_up_to_date : IsUpToDate stops limits train
+  is_up_to_date : IsUpToDate plan stops limits train
   is_up_to_date = record {
     told = All-from_recursion (IsToldIfItCan train) stops.active (if_it_can stops.active (told_or_full 15 (is_stop_gone stops) stops.active (told_as train.place train.forced) train.stops done.stops));
+    limits_told = All-from_recursion (IsLimitToldIfItCan plan.horizon train) limits.active (told_or_full 255 (is_limit_gone limits train.place) limits.active (limit_as plan.horizon train.place) train.limits done.limits);
     no_stop_gone = All-from_recursion (λ held. is_used_by (is_stop_gone stops) held.1 ≡ false) train.stops (each_not_gone (is_stop_gone stops) train.stops done.stops.none_gone);
     no_limit_gone = All-from_recursion (λ held. is_used_by (is_limit_gone limits train.place) held.1 ≡ false) train.limits (each_not_gone (is_limit_gone limits train.place) train.limits done.limits.none_gone);
   }
-
-  -- each active restriction that concerns it is told, or all identifiers are held
-  restrictions_told : All (IsLimitToldIfItCan horizon train) limits.active
-  restrictions_told = All-from_recursion (IsLimitToldIfItCan horizon train) limits.active (told_or_full 255 (is_limit_gone limits train.place) limits.active (limit_as horizon train.place) train.limits done.limits)
 
 -- four parts without an action are none
 no_four : (a b c d : List Action) → a ≡ [] → b ≡ [] → c ≡ [] → d ≡ [] → a ++ b ++ c ++ d ≡ []
 no_four a b c d ea eb ec ed = ap (λ (x : List Action). x ++ b ++ c ++ d) ea ∙ ap (λ (x : List Action). x ++ c ++ d) eb ∙ ap (λ (x : List Action). x ++ d) ec ∙ ed
 
 -- where nothing is left to do there is no action
-no_actions : (plan : Plan) (stops : Stops) (limits : Limits) (train : TrainRec) → AreDone plan.horizon stops limits train → actions plan stops limits train ≡ []
+pub no_actions : (plan : Plan) (stops : Stops) (limits : Limits) (train : TrainRec) → AreDone plan.horizon stops limits train → actions plan stops limits train ≡ []
 no_actions plan stops limits train done =
     let stop_gone = is_stop_gone stops in
     let limit_gone = is_limit_gone limits train.place in
@@ -124,19 +116,11 @@ stays plan stops limits train h =
     ] in
     record { same = ap (fold carried_out train) none; nothing = ap (scan carried_out message_of train) none }
 
--- each active restriction that concerns a settled train is told, or all its identifiers are held
-pub limits_are_told : (plan : Plan) (stops : Stops) (limits : Limits) (train : TrainRec) → HasTables train → AreNumbered stops → AreNumbered limits
-    → (last_stamp ≤ (settled plan stops limits train).stamp) ⊎ All (IsLimitToldIfItCan plan.horizon (settled plan stops limits train)) limits.active
-limits_are_told plan stops limits train tables h k = elim (at_the_end plan stops limits train tables h k) [
-  | inl ended ↦ inl ended
-  | inr done ↦ inr (restrictions_told plan.horizon stops limits (settled plan stops limits train) done)
-]
-
 -- a settled train is up to date, or has no stamp left
-pub up_to_date : (plan : Plan) (stops : Stops) (limits : Limits) (train : TrainRec) → HasTables train → AreNumbered stops → AreNumbered limits → IsUpToDateOrAtTheEnd stops limits (settled plan stops limits train)
+pub up_to_date : (plan : Plan) (stops : Stops) (limits : Limits) (train : TrainRec) → HasTables train → AreNumbered stops → AreNumbered limits → IsUpToDateOrAtTheEnd plan stops limits (settled plan stops limits train)
 up_to_date plan stops limits train tables h k = elim (at_the_end plan stops limits train tables h k) [
   | inl ended ↦ inl ended
-  | inr done ↦ inr (is_up_to_date plan.horizon stops limits (settled plan stops limits train) done)
+  | inr done ↦ inr (is_up_to_date plan stops limits (settled plan stops limits train) done)
 ]
 
 -- settled again it stays as it is

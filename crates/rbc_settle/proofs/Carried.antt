@@ -48,7 +48,7 @@ telling_limits (((number, told), id) ∷ pairs) train =
     record { place = rest.place; forced = rest.forced; stops = rest.stops; limits = rest.limits }
 
 -- an action takes the next stamp
-next_stamp : (train : TrainRec) (action : Action) → (carried_out train action).stamp ≡ train.stamp + 1
+pub next_stamp : (train : TrainRec) (action : Action) → (carried_out train action).stamp ≡ train.stamp + 1
 next_stamp train (RevokeStop id) = refl
 next_stamp train (TellStop id number told) = refl
 next_stamp train (RevokeLimit id) = refl

@@ -8,6 +8,12 @@ pub mod Concerned
 pub mod Follows
 pub mod Achieves
 pub mod Carrying
+pub mod Few
 pub mod SettleLoop
+pub mod Labels
+pub mod GoodSlots
+pub mod Stamps
+pub mod Keeps
+pub mod NothingLeft
 pub mod NumberLists
 pub mod Judging

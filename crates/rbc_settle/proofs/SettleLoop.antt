@@ -1,7 +1,7 @@
 -- Settling one train, an action after the other: what was done so far, and what is left, is what was to be done.
 use Rattle.std.proofs.Common.{◌≡◌, ℕ, suc, ◌+◌, ◌-◌, ◌<◌, ◌≤◌, List, [], ◌∷◌, ◌++◌, length, map, take, drop, get_or, refl, sym, ap, ◌∙◌, subst, arith, drop-cons}
 use Rattle.std.specs.List.{All, fold, scan}
-use Rattle.std.proofs.lemmas.List.{length-take, drop_all, append_assoc, append-nil, map-append}
+use Rattle.std.proofs.lemmas.List.{length-map, length-take, drop_all, append_assoc, append-nil, map-append}
 use Rattle.std.proofs.lemmas.List.Elements.{All-push}
 use Rattle.ertms_codec.specs.declared.to_train.ToTrain.{ToTrain}
 use Rattle.ertms_codec.specs.ToTrain.{Fits}
@@ -17,6 +17,7 @@ use Rattle.rbc_settle.specs.UpToDate.{HasTables, IsUpToDateOrAtTheEnd}
 use Rattle.rbc_settle.proofs.Follows.{can_follow, can_follow-take}
 use Rattle.rbc_settle.proofs.Achieves.{up_to_date}
 use Rattle.rbc_settle.proofs.Carrying.{keeps_tables}
+use Rattle.rbc_settle.proofs.Few.{length-scan, few_messages}
 
 -- A train at `start` has all of some actions to do. At `now` these messages were sent, and these actions are left.
 pub record IsOnTheWay (start : TrainRec) (all : List Action) (now : TrainRec) (sent : List Sent) (left : List Action) : Type 0 where
@@ -83,12 +84,9 @@ module _ (start : TrainRec) (all : List Action) (now : TrainRec) (sent : List Se
       (next_way start all now sent action (drop (i + 1) all) opened one engine message fits))
 
 module _ (plan : Plan) (stops : Stops) (limits : Limits) (train : TrainRec) (tables : HasTables train) (numbered : AreNumbered stops × AreNumbered limits) where
-  reached : IsUpToDateOrAtTheEnd stops limits (settled plan stops limits train)
+  -- it is up to date once it is settled
+  pub reached : IsUpToDateOrAtTheEnd plan stops limits (settled plan stops limits train)
   reached = up_to_date plan stops limits train tables numbered.0 numbered.1
-
-  -- a train with nothing to do is up to date
-  pub nothing_to_do : actions_with_stamp plan stops limits train ≡ [] → IsUpToDateOrAtTheEnd stops limits train
-  nothing_to_do none = subst (IsUpToDateOrAtTheEnd stops limits) (ap (fold carried_out train) none) reached
 
   module _ (all : List Action) (is : all ≡ actions_with_stamp plan stops limits train) where
     pub sets_out : 0 < length all → (now : TrainRec) → now ≡ train → (sent : List Sent) → sent ≡ [] → IsOnTheWay train all now sent all
@@ -116,5 +114,21 @@ module _ (plan : Plan) (stops : Stops) (limits : Limits) (train : TrainRec) (tab
       pub all_told : map (λ (one : Sent). one.message) sent ≡ messages_of plan stops limits train
       all_told = sym (append-nil (map (λ (one : Sent). one.message) sent)) ∙ arrived.told ∙ ap (scan carried_out message_of train) is
 
-      pub is_up_to_date : IsUpToDateOrAtTheEnd stops limits now
-      is_up_to_date = subst (IsUpToDateOrAtTheEnd stops limits) (sym is_settled) reached
+      -- as many messages as actions
+      each_told : length sent ≡ length all
+      each_told =
+          let same : length (map (λ (one : Sent). one.message) sent) ≡ length (messages_of plan stops limits train) = ap length all_told in
+          let mapped = length-map sent (λ (one : Sent). one.message) in
+          let scanned = length-scan carried_out message_of train (actions_with_stamp plan stops limits train) in
+          let counted : length all ≡ length (actions_with_stamp plan stops limits train) = ap length is in
+          omega (arith, same, mapped, scanned, counted)
+
+      pub some_sent : 0 < length all → 1 ≤ length sent
+      some_sent some = let same = each_told in omega (arith, some, same)
+
+      pub few_sent : length sent ≤ 540
+      few_sent =
+          let same : length (map (λ (one : Sent). one.message) sent) ≡ length (messages_of plan stops limits train) = ap length all_told in
+          let mapped = length-map sent (λ (one : Sent). one.message) in
+          let most = few_messages plan stops limits train tables in
+          omega (arith, same, mapped, most)

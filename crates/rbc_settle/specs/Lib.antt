@@ -4,3 +4,4 @@ pub mod Told
 pub mod Settling
 pub mod Following
 pub mod UpToDate
+pub mod WellFormed

@@ -21,7 +21,7 @@ use std::alloc::{AllocError, Global};
 /// The last stamp that a message may have: the next one means that the time is unknown.
 const LAST_STAMP: u32 = 4_294_967_294;
 
-/// All actions for which stamps are left, in their order. It takes memory only where there are any.
+/// All actions for which stamps are left, in their order. It takes memory only where something is to be revoked or told.
 pub fn actions(
     alloc: Global,
     track: &Track,

@@ -12,7 +12,7 @@ mod upkeep;
 pub use law::settle_law;
 pub use numbers::Numbers;
 pub use train::TrainRec;
-pub use upkeep::{Sent, settle};
+pub use upkeep::{Sent, UpToDate, settle, settled};
 
 #[cfg(test)]
 mod tests;

@@ -43,6 +43,14 @@ impl Numbers {
         self.all.len()
     }
 
+    /// The numbers, ascending.
+    pub fn as_slice(&self) -> &[u32]
+        ensures value { result.now ≡ self.now }
+        ensures sound { AreNumbers self.now }
+    {
+        &self.all[..]
+    }
+
     /// The number at an index below their count, in ascending order.
     pub fn at(&self, index: usize) -> u32
         requires { index < length self.now }

@@ -2,7 +2,7 @@
 
 ghost use Rattle.std.specs.Prelude.{◌≡◌, ◌⊎◌, ◌≤◌, ◌<◌, true, false, IfOk, IfErr, OnOk, IfSome, All, slice_get};
 ghost use Rattle.rbc_track.specs.declared.error.TrackError.TheVariants.{GroupTwice, OutOfMemory};
-ghost use Rattle.rbc_track.specs.Plan.{group_of, IsPlaced, IsLength};
+ghost use Rattle.rbc_track.specs.Plan.{group_of, IsPlan, IsPlaced, IsLength};
 ghost use Rattle.rbc_track.specs.Outcomes.{IsUnlessMemory};
 ghost use Rattle.rbc_track.specs.Reading.{track_of, plan_of, is_length, is_on, are_apart, numbers_of, by_number, IsTrackOf, FindsItsGroups, RefusesTrack};
 ghost use Rattle.std.specs.BTreeMap.{IsOrdered};
@@ -105,6 +105,7 @@ impl Track {
     pub fn horizon(&self) -> u32
         ensures value { result ≡ self.now.horizon }
         ensures in_range { IsLength result }
+        ensures sound { IsPlan self.now }
     {
         self.horizon
     }

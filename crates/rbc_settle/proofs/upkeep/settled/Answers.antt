@@ -1,13 +1,17 @@
 use Rattle.std.proofs.Common.{◌≡◌, ◌<◌, [], length, refl, sym, ◌∙◌, arith}
 use Rattle.std.proofs.lemmas.Grind.{common_steps}
-use Rattle.rbc_settle.proofs.SettleLoop.{is_allowed, has_stamp, goes_on, nothing_to_do, sets_out, is_settled, all_told, is_up_to_date}
-use Rattle.rbc_settle.proofs.upkeep.settle.Goals as goal
+use Rattle.rbc_settle.proofs.SettleLoop.{is_allowed, has_stamp, goes_on, reached, sets_out, is_settled, all_told, some_sent, few_sent}
+use Rattle.rbc_settle.proofs.upkeep.settled.Goals as goal
+
+pub returns-then-is_empty-clause-none : goal.returns-then-is_empty-clause-none
+returns-then-is_empty-clause-none c =
+    let none : c.in_ok-actions.actions.items ≡ [] = grind (arith, common_steps) in
+    sym c.in_ok-actions.ensures.actions ∙ none
 
 pub returns-then-is_empty-clause-up_to_date : goal.returns-then-is_empty-clause-up_to_date
 returns-then-is_empty-clause-up_to_date c =
-    let none : c.in_ok-actions.actions.items ≡ [] = grind (arith, common_steps) in
     let sound = c.in_ok-actions.ensures.sound in
-    nothing_to_do c.args.track.now c.args.stops.now c.args.limits.now c.args.train.now sound.0 sound.1 (sym c.in_ok-actions.ensures.actions ∙ none)
+    reached c.args.track.now c.args.stops.now c.args.limits.now c.args.train.now sound.0 sound.1
 
 pub loop-action-init : goal.loop-action-init
 loop-action-init c =
@@ -15,7 +19,7 @@ loop-action-init c =
     let sound = c.in_ok-actions.ensures.sound in
     let all = c.deref-action-items.ensures.value ∙ c.in_ok-actions.ensures.actions in
     sets_out c.args.track.now c.args.stops.now c.args.limits.now c.args.train.now sound.0 sound.1 c.deref-action-items.result.now all
-    some c.in_ok-settled.settled c.in_ok-settled.ensures c.new-sent.result.items c.new-sent.ensures.items
+    some c.in_ok-after.after c.in_ok-after.ensures c.new-sent.result.items c.new-sent.ensures.items
 
 pub message_of-requires-clause-stamp : goal.message_of-requires-clause-stamp
 message_of-requires-clause-stamp c = has_stamp _ _ _ _ _ _ c.loop-action-test.true c.action-item.is c.loop-action.invariant
@@ -44,8 +48,20 @@ returns-clause-messages c =
     let all = c.deref-action-items.ensures.value ∙ c.in_ok-actions.ensures.actions in
     all_told c.args.track.now c.args.stops.now c.args.limits.now c.args.train.now sound.0 sound.1 _ all _ _ _ c.loop-action-test.false c.loop-action.invariant
 
+pub returns-clause-some : goal.returns-clause-some
+returns-clause-some c =
+    let some : 0 < length c.deref-action-items.result.now = grind (arith, common_steps) in
+    let sound = c.in_ok-actions.ensures.sound in
+    let all = c.deref-action-items.ensures.value ∙ c.in_ok-actions.ensures.actions in
+    some_sent c.args.track.now c.args.stops.now c.args.limits.now c.args.train.now sound.0 sound.1 _ all _ _ _ c.loop-action-test.false c.loop-action.invariant some
+
+pub returns-clause-few : goal.returns-clause-few
+returns-clause-few c =
+    let sound = c.in_ok-actions.ensures.sound in
+    let all = c.deref-action-items.ensures.value ∙ c.in_ok-actions.ensures.actions in
+    few_sent c.args.track.now c.args.stops.now c.args.limits.now c.args.train.now sound.0 sound.1 _ all _ _ _ c.loop-action-test.false c.loop-action.invariant
+
 pub returns-clause-up_to_date : goal.returns-clause-up_to_date
 returns-clause-up_to_date c =
     let sound = c.in_ok-actions.ensures.sound in
-    let all = c.deref-action-items.ensures.value ∙ c.in_ok-actions.ensures.actions in
-    is_up_to_date c.args.track.now c.args.stops.now c.args.limits.now c.args.train.now sound.0 sound.1 _ all _ _ _ c.loop-action-test.false c.loop-action.invariant
+    reached c.args.track.now c.args.stops.now c.args.limits.now c.args.train.now sound.0 sound.1

@@ -1,0 +1,178 @@
+-- What settling keeps of a well-formed train, an action after the other.
+use Rattle.std.proofs.Common.{◌≡◌, ℕ, suc, ◌+◌, ◌-◌, ◌≤◌, true, false, leb, List, [], ◌∷◌, ◌++◌, length, map, take, Option, Some, refl, arith}
+use Rattle.std.specs.List.{AllByRecursion, fold, zip}
+use Rattle.std.proofs.lemmas.Bool.{and_parts, leb-true}
+use Rattle.std.proofs.lemmas.List.{length-take}
+use Rattle.std.proofs.lemmas.List.Elements.{All-append, All-from_recursion, All-take, recursion_from_All}
+use Rattle.rbc_track.specs.Plan.{Plan}
+use Rattle.rbc_maps.specs.Maps.{keys, rises_from}
+use Rattle.rbc_maps.specs.Numbered.{Numbered, AreNumbered}
+use Rattle.rbc_ids.specs.declared.slot.Slot.TheVariants.{Revoking}
+use Rattle.rbc_ids.specs.declared.slot.Kind.TheVariants.{Restriction}
+use Rattle.rbc_ids.specs.Table.{Slots, is_told, told_now, free_identifiers}
+use Rattle.rbc_settle.specs.declared.train.TrainRec.{TrainRec}
+use Rattle.rbc_settle.specs.declared.action.Action.{Action}
+use Rattle.rbc_settle.specs.declared.action.Action.TheVariants.{RevokeStop, TellStop, RevokeLimit, TellLimit}
+use Rattle.rbc_settle.specs.declared.action.ToldStop.{ToldStop}
+use Rattle.rbc_settle.specs.declared.action.ToldStop.TheVariants.{AtOnce, Before}
+use Rattle.rbc_settle.specs.Told.{Part}
+use Rattle.rbc_settle.specs.Settling.{Stops, Limits, last_stamp, carried_out, kind_of, tell_stop, tell_limit, to_revoke, is_stop_gone, is_limit_gone, stops_revoked, stops_told, limits_revoked, limits_told, actions, actions_with_stamp}
+use Rattle.rbc_settle.specs.Following.{Allows, CanFollow}
+use Rattle.rbc_settle.specs.WellFormed.{IsGiven, IsWellFormedTrain, SettlingKeepsTrains, is_stop_kind, is_limit_kind}
+use Rattle.rbc_settle.proofs.Concerned.{told_as, limit_as}
+use Rattle.rbc_settle.proofs.Wanted.{wanted_of, all_wanted}
+use Rattle.rbc_settle.proofs.Carrying.{keeps_tables}
+use Rattle.rbc_settle.proofs.Carried.{next_stamp}
+use Rattle.rbc_settle.proofs.Follows.{can_follow, can_follow-take}
+use Rattle.rbc_settle.proofs.GoodSlots.{slots_revoked, slots_told}
+use Rattle.rbc_settle.proofs.Stamps.{stamps_with_stop, stamps_with_limit}
+
+-- an action tells a number that was given, or none
+abbrev TellsGiven : Stops → Limits → Action → Type 0
+TellsGiven stops limits (RevokeStop id) = Unit
+TellsGiven stops limits (TellStop id number told) = IsGiven stops.last number
+TellsGiven stops limits (RevokeLimit id) = Unit
+TellsGiven stops limits (TellLimit id number told) = IsGiven limits.last number
+
+-- a stop is told as one of its kinds
+stop_kind : (told : ToldStop) → is_stop_kind (kind_of told) ≡ true
+stop_kind AtOnce = refl
+stop_kind (Before edge) = refl
+
+-- one action keeps a train well-formed, as long as a stamp is left
+keeps_one : (plan : Plan) (stops : Stops) (limits : Limits) (train : TrainRec) (action : Action) → IsWellFormedTrain plan stops limits train → Allows train action → TellsGiven stops limits action → train.stamp + 1 ≤ last_stamp
+    → IsWellFormedTrain plan stops limits (carried_out train action)
+keeps_one plan stops limits train (RevokeStop id) well allowed given room =
+    let good = stamps_with_stop train.stamp train.stops train.limits (record { within = well.stamps_within; distinct = well.stamps_distinct }) id (Revoking (train.stamp + 1)) refl in
+    record {
+      engine = well.engine;
+      length = well.length;
+      place = well.place;
+      forced_ascend = well.forced_ascend;
+      forced = well.forced;
+      tables = keeps_tables train (RevokeStop id) well.tables allowed;
+      stop_slots = slots_revoked is_stop_kind stops.last train.stops well.stop_slots id (train.stamp + 1);
+      limit_slots = well.limit_slots;
+      stamp = room;
+      stamps_within = good.within;
+      stamps_distinct = good.distinct;
+    }
+keeps_one plan stops limits train (TellStop id number told) well allowed given room =
+    let good = stamps_with_stop train.stamp train.stops train.limits (record { within = well.stamps_within; distinct = well.stamps_distinct }) id (told_now number (train.stamp + 1) (kind_of told)) refl in
+    record {
+      engine = well.engine;
+      length = well.length;
+      place = well.place;
+      forced_ascend = well.forced_ascend;
+      forced = well.forced;
+      tables = keeps_tables train (TellStop id number told) well.tables allowed;
+      stop_slots = slots_told is_stop_kind stops.last train.stops well.stop_slots id number (train.stamp + 1) (kind_of told) (stop_kind told) given allowed.1;
+      limit_slots = well.limit_slots;
+      stamp = room;
+      stamps_within = good.within;
+      stamps_distinct = good.distinct;
+    }
+keeps_one plan stops limits train (RevokeLimit id) well allowed given room =
+    let good = stamps_with_limit train.stamp train.stops train.limits (record { within = well.stamps_within; distinct = well.stamps_distinct }) id (Revoking (train.stamp + 1)) refl in
+    record {
+      engine = well.engine;
+      length = well.length;
+      place = well.place;
+      forced_ascend = well.forced_ascend;
+      forced = well.forced;
+      tables = keeps_tables train (RevokeLimit id) well.tables allowed;
+      stop_slots = well.stop_slots;
+      limit_slots = slots_revoked is_limit_kind limits.last train.limits well.limit_slots id (train.stamp + 1);
+      stamp = room;
+      stamps_within = good.within;
+      stamps_distinct = good.distinct;
+    }
+keeps_one plan stops limits train (TellLimit id number told) well allowed given room =
+    let good = stamps_with_limit train.stamp train.stops train.limits (record { within = well.stamps_within; distinct = well.stamps_distinct }) id (told_now number (train.stamp + 1) Restriction) refl in
+    record {
+      engine = well.engine;
+      length = well.length;
+      place = well.place;
+      forced_ascend = well.forced_ascend;
+      forced = well.forced;
+      tables = keeps_tables train (TellLimit id number told) well.tables allowed;
+      stop_slots = well.stop_slots;
+      limit_slots = slots_told is_limit_kind limits.last train.limits well.limit_slots id number (train.stamp + 1) Restriction refl given allowed.1;
+      stamp = room;
+      stamps_within = good.within;
+      stamps_distinct = good.distinct;
+    }
+
+-- so do some, one after another
+keeps_all : (plan : Plan) (stops : Stops) (limits : Limits) (acts : List Action) (train : TrainRec) → IsWellFormedTrain plan stops limits train → CanFollow train acts → AllByRecursion (TellsGiven stops limits) acts → train.stamp + length acts ≤ last_stamp
+    → IsWellFormedTrain plan stops limits (fold carried_out train acts)
+keeps_all plan stops limits [] train well can given room = well
+keeps_all plan stops limits (action ∷ acts) train well can given room =
+    let all : train.stamp + suc (length acts) ≤ 4294967294 = room in
+    let one : train.stamp + 1 ≤ 4294967294 = omega (arith, all) in
+    let next = next_stamp train action in
+    keeps_all plan stops limits acts (carried_out train action) (keeps_one plan stops limits train action well can.0 given.0 one) can.1 given.1 (omega (arith, all, next))
+
+-- the number of what is active was given
+active_given : {V : Type 0} (last least : ℕ) (active : List (ℕ × V)) → 1 ≤ least → rises_from least (keys active) ≡ true → AllByRecursion (λ number. number ≤ last) (keys active) → AllByRecursion (λ entry. IsGiven last entry.0) active
+active_given last least [] low rises within = tt
+active_given last least (entry ∷ active) low rises within =
+    let parts = and_parts (leb least entry.0) (rises_from (entry.0 + 1) (keys active)) rises in
+    let above : least ≤ entry.0 = leb-true least entry.0 parts.0 in
+    ((omega (arith, low, above), within.0), active_given last (entry.0 + 1) active (omega arith) parts.1 within.1)
+
+-- so was that of what is wanted
+wanted_given : {X T : Type 0} (numbered : Numbered X) (slots : Slots) (what : ℕ × X → Option T) → AreNumbered numbered → AllByRecursion (λ w. IsGiven numbered.last w.0) (wanted_of slots what numbered.active)
+wanted_given {X} {T} numbered slots what h =
+    all_wanted slots what (IsGiven numbered.last) numbered.active
+    (each numbered.active (active_given numbered.last 1 numbered.active (omega arith) h.ascending (recursion_from_All (λ number. number ≤ numbered.last) (keys numbered.active) h.within)))
+  where
+    each : (some : List (ℕ × X)) → AllByRecursion (λ entry. IsGiven numbered.last entry.0) some → AllByRecursion (λ entry. is_told slots entry.0 ≡ false → (told : T) → what entry ≡ Some told → IsGiven numbered.last entry.0) some
+    each [] all = tt
+    each (entry ∷ some) all = (λ untold told is. all.0, each some all.1)
+
+module _ (stops : Stops) (limits : Limits) where
+  revoke_stops_given : (ids : List ℕ) → AllByRecursion (TellsGiven stops limits) (map RevokeStop ids)
+  revoke_stops_given [] = tt
+  revoke_stops_given (id ∷ ids) = (tt, revoke_stops_given ids)
+
+  revoke_limits_given : (ids : List ℕ) → AllByRecursion (TellsGiven stops limits) (map RevokeLimit ids)
+  revoke_limits_given [] = tt
+  revoke_limits_given (id ∷ ids) = (tt, revoke_limits_given ids)
+
+  tell_stops_given : (wanted : List (ℕ × ToldStop)) (ids : List ℕ) → AllByRecursion (λ w. IsGiven stops.last w.0) wanted → AllByRecursion (TellsGiven stops limits) (map tell_stop (zip wanted ids))
+  tell_stops_given [] ids all = tt
+  tell_stops_given (w ∷ wanted) [] all = tt
+  tell_stops_given ((number, told) ∷ wanted) (id ∷ ids) all = (all.0, tell_stops_given wanted ids all.1)
+
+  tell_limits_given : (wanted : List (ℕ × Part)) (ids : List ℕ) → AllByRecursion (λ w. IsGiven limits.last w.0) wanted → AllByRecursion (TellsGiven stops limits) (map tell_limit (zip wanted ids))
+  tell_limits_given [] ids all = tt
+  tell_limits_given (w ∷ wanted) [] all = tt
+  tell_limits_given ((number, told) ∷ wanted) (id ∷ ids) all = (all.0, tell_limits_given wanted ids all.1)
+
+-- all actions with a stamp tell numbers that were given
+all_given : (plan : Plan) (stops : Stops) (limits : Limits) (train : TrainRec) → AreNumbered stops → AreNumbered limits → AllByRecursion (TellsGiven stops limits) (actions_with_stamp plan stops limits train)
+all_given plan stops limits train h k =
+    let P = TellsGiven stops limits in
+    let first = stops_revoked stops train in
+    let second = stops_told stops train in
+    let third = limits_revoked limits train in
+    let fourth = limits_told plan.horizon limits train in
+    let stops_wanted = wanted_of train.stops (told_as train.place train.forced) stops.active in
+    let limits_wanted = wanted_of train.limits (limit_as plan.horizon train.place) limits.active in
+    let a = All-from_recursion P first (revoke_stops_given stops limits (to_revoke (is_stop_gone stops) train.stops)) in
+    let b = All-from_recursion P second (tell_stops_given stops limits stops_wanted (free_identifiers 15 train.stops) (wanted_given stops train.stops (told_as train.place train.forced) h)) in
+    let c = All-from_recursion P third (revoke_limits_given stops limits (to_revoke (is_limit_gone limits train.place) train.limits)) in
+    let d = All-from_recursion P fourth (tell_limits_given stops limits limits_wanted (free_identifiers 255 train.limits) (wanted_given limits train.limits (limit_as plan.horizon train.place) k)) in
+    recursion_from_All P (actions_with_stamp plan stops limits train)
+    (All-take P (last_stamp - train.stamp) (actions plan stops limits train)
+    (All-append P (first ++ second ++ third) fourth (All-append P (first ++ second) third (All-append P first second a b) c) d))
+
+-- a well-formed train is well-formed after it was settled
+pub keeps_trains : SettlingKeepsTrains
+keeps_trains plan stops limits train h k well =
+    let room = last_stamp - train.stamp in
+    let acts = actions plan stops limits train in
+    let few = length-take room acts in
+    let within : train.stamp ≤ 4294967294 = well.stamp in
+    keeps_all plan stops limits (take room acts) train well (can_follow-take room train acts (can_follow plan stops limits train well.tables h k)) (all_given plan stops limits train h k) (omega (arith, few, within))
