@@ -1,0 +1,59 @@
+-- What is known of records that were read one at a time (own rule).
+use Rattle.std.specs.Prelude.{◌≡◌, ℕ, ◌+◌, Bool, true, false, List, [], ◌∷◌, Option, Some, None, Result, Ok, Err, ◌==◌, if◌then◌else◌, IsTrue}
+use Rattle.std.specs.List.{list_any}
+use Rattle.rbc_records.specs.declared.record.Key.{Key}
+use Rattle.rbc_records.specs.declared.record.Key.TheVariants as key
+use Rattle.rbc_records.specs.declared.record.Rec.{Rec}
+use Rattle.rbc_records.specs.declared.reader.ReadFault.{ReadFault}
+use Rattle.rbc_records.specs.declared.reader.ReadFault.TheVariants as fault
+
+-- whether two keys are one
+abbrev pub same_key : Key → Key → Bool
+same_key key.Roster key.Roster = true
+same_key (key.Train a) (key.Train b) = a == b
+same_key key.Stops key.Stops = true
+same_key key.Limits key.Limits = true
+same_key _ _ = false
+
+-- all records, of which each key is known; or what was read under some keys, a record or that there is none
+pub data Notes : Type 0 where
+  Whole : List (Key × Rec) → Notes
+  Part : List (Key × Option Rec) → Notes
+
+-- the record that stands first under a key
+abbrev pub record_in : List (Key × Rec) → Key → Option Rec
+record_in [] k = None
+record_in (entry ∷ entries) k = if same_key k entry.0 then Some entry.1 else record_in entries k
+
+-- what was read first under a key
+abbrev pub note_in : List (Key × Option Rec) → Key → Option Rec
+note_in [] k = None
+note_in (note ∷ notes) k = if same_key k note.0 then note.1 else note_in notes k
+
+-- whether a key was read
+abbrev pub is_noted : List (Key × Option Rec) → Key → Bool
+is_noted notes k = list_any (λ note. same_key k note.0) notes
+
+abbrev pub knows : Notes → Key → Bool
+knows (Whole entries) k = true
+knows (Part notes) k = is_noted notes k
+
+abbrev pub noted : Notes → Key → Option Rec
+noted (Whole entries) k = record_in entries k
+noted (Part notes) k = note_in notes k
+
+-- what was known stays known, and stays the same
+pub record Extends (old new : Notes) : Type 0 where
+  pub stays_known : (k : Key) → IsTrue (knows old k) → IsTrue (knows new k)
+  pub stays_noted : (k : Key) → IsTrue (knows old k) → noted new k ≡ noted old k
+
+-- and a key has become known
+pub record Learns (old : Notes) (k : Key) (new : Notes) : Type 0 where
+  pub known : IsTrue (knows new k)
+  pub extends : Extends old new
+
+-- how many reads have failed after a read that ended so
+abbrev pub failures_after : Result (Unit {0}) ReadFault → ℕ → ℕ
+failures_after (Ok done) failures = failures
+failures_after (Err fault.OutOfMemory) failures = failures
+failures_after (Err fault.Failed) failures = failures + 1

@@ -1,0 +1,15 @@
+//! Single records of all that is known, a reader of them, a plain store, and writes.
+#![tactic(auto)]
+
+mod reader;
+mod record;
+mod store;
+mod writes;
+
+pub use reader::{ReadFault, Reader};
+pub use record::{Key, Rec};
+pub use store::{PlainStore, apply};
+pub use writes::Writes;
+
+#[cfg(test)]
+mod tests;

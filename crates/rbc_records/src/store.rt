@@ -1,0 +1,103 @@
+//! A store that knows all keys.
+
+ghost use Rattle.std.specs.Prelude.{◌≡◌, ℕ, ◌+◌, ◌<◌, ◌≤◌, [], OnOk, OnErr, IfErr, IsOk, option_copied};
+ghost use Rattle.indexmap.specs.IndexMap.{spare};
+ghost use Rattle.rbc_records.specs.declared.record.Key.{Key};
+ghost use Rattle.rbc_records.specs.Notes.{record_in};
+ghost use Rattle.rbc_records.specs.Writes.{written, write_over};
+
+use crate::reader::{ReadFault, Reader};
+use crate::record::{Key, Rec};
+use crate::writes::Writes;
+use indexmap::IndexMap;
+use std::alloc::Global;
+use std::marker::Model;
+
+/// All records under their keys. In contracts a list of pairs, in which the first one of a key counts.
+#[derive(Debug, Drop)]
+pub struct PlainStore {
+    records: IndexMap<Key, Rec>,
+}
+
+impl Model for PlainStore {
+    ghost use Rattle.std.specs.Prelude.{List};
+    ghost use Rattle.rbc_records.specs.declared.record.Key.{Key};
+    ghost use Rattle.rbc_records.specs.declared.record.Rec.{Rec};
+
+    ghost Value = { List (Key × Rec) };
+
+    ghost view = { λ store. store.records.entries };
+}
+
+impl PlainStore {
+    /// No records. It takes no memory.
+    pub fn new(alloc: Global) -> Self
+        ensures { result ≡ [] }
+    {
+        PlainStore {
+            records: IndexMap::new(alloc),
+        }
+    }
+
+    /// The record under a key.
+    pub fn get(&self, key: Key) -> Option<&Rec>
+        ensures { option_copied result ≡ record_in self.now key }
+    {
+        self.records.get(&key)
+    }
+}
+
+impl Reader for PlainStore {
+    ghost use Rattle.rbc_records.specs.Notes.{Whole};
+
+    ghost notes = { λ store. Whole store };
+
+    ghost failed = { λ _. 0 };
+
+    /// All keys are known: it changes nothing, and never fails.
+    fn fetch(&mut self, _key: Key) -> Result<(), ReadFault>
+        ensures succeeds { IsOk result }
+        ensures same { self.new ≡ self.old }
+    {
+        Ok(())
+    }
+
+    fn seen(&self, key: Key) -> Option<&Rec> {
+        self.get(key)
+    }
+
+    fn failures(&self) -> u64 {
+        0
+    }
+}
+
+/// Takes one write over, where there is room for a record.
+fn write_one(records: &mut IndexMap<Key, Rec>, key: Key, rec: Option<Rec>)
+    requires { 0 < spare records.old }
+    ensures records { (k : Key) → record_in records.new.entries k ≡ write_over (key, rec) (record_in records.old.entries) k }
+    ensures room { spare records.old ≤ spare records.new + 1 }
+{
+    match rec {
+        Some(rec) => {
+            let _ = records.insert(key, rec);
+        }
+        None => {
+            let _ = records.swap_remove(&key);
+        }
+    }
+}
+
+/// Takes the writes over, one after another. A refusal is for want of memory, changes nothing and hands the writes back.
+pub fn apply(store: &mut PlainStore, writes: Writes) -> Result<(), Writes>
+    ensures ok { OnOk result ((k : Key) → record_in store.new k ≡ written writes (record_in store.old) k) }
+    ensures err { OnErr result (store.new ≡ store.old) }
+    ensures back { IfErr result (λ back. back ≡ writes) }
+{
+    if store.records.reserve(writes.len()).is_err() {
+        return Err(writes);
+    }
+    for (key, rec) in writes.all {
+        write_one(&mut store.records, key, rec);
+    }
+    Ok(())
+}

@@ -1,0 +1,4 @@
+mod copies;
+mod setting;
+mod stores;
+mod writes;
