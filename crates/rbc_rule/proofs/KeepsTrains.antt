@@ -1,0 +1,307 @@
+-- Each change that an input makes to a train leaves it well-formed.
+use Rattle.std.proofs.Common.{◌≡◌, ℕ, ◌+◌, ◌<◌, ◌≤◌, max, Bool, true, false, not, cond, eqb, ltb, leb, List, [], ◌∷◌, ◌++◌, map, Option, Some, None, Result, Ok, Err, refl, sym, ap, subst, arith}
+use Rattle.std.specs.List.{All, insert}
+use Rattle.std.proofs.lemmas.Bool.{and_parts, and_from, leb-true, ltb-false}
+use Rattle.std.proofs.lemmas.List.Elements.{All-nil, All-cons, All-head, All-tail, All-weaker, All-filter}
+use Rattle.ertms_codec.specs.declared.from_train.Position.{Position}
+use Rattle.ertms_codec.specs.declared.from_train.FromTrain.{FromTrain}
+use Rattle.ertms_codec.specs.declared.from_train.FromTrain.TheVariants.{Report, Ack, StopAck}
+use Rattle.rbc_track.specs.Plan.{Plan, IsPlan}
+use Rattle.rbc_maps.specs.Maps.{rises_from, value_of, with_value, without}
+use Rattle.rbc_maps.proofs.MapFacts.{rises_from-lower}
+use Rattle.rbc_ids.specs.declared.slot.Slot.{Slot}
+use Rattle.rbc_ids.specs.declared.slot.Slot.TheVariants.{Used, Revoking}
+use Rattle.rbc_ids.specs.declared.slot.Kind.{Kind}
+use Rattle.rbc_ids.specs.declared.slot.Kind.TheVariants.{Conditional, Unconditional, Restriction}
+use Rattle.rbc_ids.specs.declared.slot.StampAck.{StampAck}
+use Rattle.rbc_ids.specs.declared.slot.StampAck.TheVariants as stamp_ack
+use Rattle.rbc_ids.specs.declared.slot.IdAck.TheVariants as id_ack
+use Rattle.rbc_ids.specs.Table.{Slots, IsTable, stamp_of, with_stamp, acked_by_stamp, after_stamp_ack, is_acceptance, is_rejection, acked_by_id}
+use Rattle.rbc_settle.specs.declared.train.TrainRec.{TrainRec}
+use Rattle.rbc_settle.specs.Numbers.{AreNumbers, has_number, with_number, without_number}
+use Rattle.rbc_settle.specs.Trains.{new_train}
+use Rattle.rbc_settle.specs.Settling.{Stops, Limits}
+use Rattle.rbc_settle.specs.WellFormed.{told_numbers, stamps, IsGiven, is_stop_kind, is_limit_kind, has_kind, IsWellFormedTrain}
+use Rattle.rbc_settle.proofs.NumberLists.{place, added, added_rises}
+use Rattle.rbc_rule.specs.Effect.{forget, unknown_stamp, is_too_high, raised, placed, limits_acked, stops_acked, acknowledged, forced_too, stop_acked, answered, told_by, stamp_of as stamp_told, heard}
+use Rattle.rbc_rule.proofs.KeepsLists.{IsPart, part-same, part-all, part-distinct, part-before, part-behind, value_of-found}
+use Rattle.rbc_rule.proofs.KeepsSlots.{stamps_in, SlotsStay, stay-without, stay-put, good_slots, told-given}
+use Rattle.rbc_rule.proofs.KeepsPlaces.{place_on}
+
+-- ---- ascending numbers
+
+rises-less : (n least : ℕ) (xs : List ℕ) → rises_from least xs ≡ true → rises_from least (without_number n xs) ≡ true
+rises-less n least [] rises = refl
+rises-less n least (x ∷ xs) rises =
+    let parts = and_parts (leb least x) (rises_from (x + 1) xs) rises in
+    let above : least ≤ x = leb-true least x parts.0 in
+    let rest = rises-less n (x + 1) xs parts.1 in
+    elim (eqb x n) as (λ b. rises_from least (cond (not b) (x ∷ without_number n xs) (without_number n xs)) ≡ true) [
+      | true ↦ rises_from-lower least (x + 1) (without_number n xs) (omega (arith, above)) rest
+      | false ↦ and_from (leb least x) (rises_from (x + 1) (without_number n xs)) parts.0 rest
+    ]
+
+rises-more : (n : ℕ) (xs : List ℕ) → rises_from 0 xs ≡ true → has_number xs n ≡ false → rises_from 0 (with_number n xs) ≡ true
+rises-more n xs rises absent =
+    subst (λ (ys : List ℕ). rises_from 0 ys ≡ true) (added n (place n xs) xs xs refl rises refl absent (insert xs (place n xs) n) refl)
+    (added_rises n (place n xs) xs xs refl rises refl absent (insert xs (place n xs) n) refl)
+
+All-more : (P : ℕ → Type 0) (n : ℕ) (xs : List ℕ) → P n → All P xs → All P (with_number n xs)
+All-more P n [] here all = All-cons P n [] here all
+All-more P n (x ∷ xs) here all =
+    elim (ltb n x) as (λ b. All P (cond b (n ∷ x ∷ xs) (x ∷ with_number n xs))) [
+      | true ↦ All-cons P n (x ∷ xs) here all
+      | false ↦ All-cons P x (with_number n xs) (All-head P x xs all) (All-more P n xs here (All-tail P x xs all))
+    ]
+
+-- ---- the parts of a train
+
+stamps_are : (xs ys : Slots) → map (λ held. stamp_of held.1) (xs ++ ys) ≡ stamps_in xs ++ stamps_in ys
+stamps_are [] ys = refl
+stamps_are (x ∷ xs) ys = ap (λ (ns : List ℕ). stamp_of x.1 ∷ ns) (stamps_are xs ys)
+
+stamps-part : (xs ys zs ws : Slots) → IsPart (stamps_in xs ++ stamps_in ys) (stamps_in zs ++ stamps_in ws)
+    → IsPart (map (λ held. stamp_of held.1) (xs ++ ys)) (map (λ held. stamp_of held.1) (zs ++ ws))
+stamps-part xs ys zs ws part =
+    subst (λ (ns : List ℕ). IsPart (map (λ held. stamp_of held.1) (xs ++ ys)) ns) (sym (stamps_are zs ws))
+    (subst (λ (ns : List ℕ). IsPart ns (stamps_in zs ++ stamps_in ws)) (sym (stamps_are xs ys)) part)
+
+-- a train is well-formed for any stops and restrictions of which no fewer were given
+pub well_later : (plan : Plan) (stops later_stops : Stops) (limits later_limits : Limits) (train : TrainRec) → stops.last ≤ later_stops.last → limits.last ≤ later_limits.last
+    → IsWellFormedTrain plan stops limits train → IsWellFormedTrain plan later_stops later_limits train
+well_later plan stops later_stops limits later_limits train later_s later_l well = record {
+  engine = well.engine;
+  length = well.length;
+  place = well.place;
+  forced_ascend = well.forced_ascend;
+  forced = All-weaker (IsGiven stops.last) (IsGiven later_stops.last) (λ n given. (given.0, (let within = given.1 in omega (arith, within, later_s)))) train.forced well.forced;
+  tables = well.tables;
+  stop_slots = record {
+    kinds = well.stop_slots.kinds;
+    given = All-weaker (IsGiven stops.last) (IsGiven later_stops.last) (λ n given. (given.0, (let within = given.1 in omega (arith, within, later_s)))) (told_numbers train.stops) well.stop_slots.given;
+    once = well.stop_slots.once;
+  };
+  limit_slots = record {
+    kinds = well.limit_slots.kinds;
+    given = All-weaker (IsGiven limits.last) (IsGiven later_limits.last) (λ n given. (given.0, (let within = given.1 in omega (arith, within, later_l)))) (told_numbers train.limits) well.limit_slots.given;
+    once = well.limit_slots.once;
+  };
+  stamp = well.stamp;
+  stamps_within = well.stamps_within;
+  stamps_distinct = well.stamps_distinct;
+}
+
+module _ (plan : Plan) (stops : Stops) (limits : Limits) where
+  -- a train that is enrolled
+  pub well_new : (engine train_length : ℕ) → engine ≤ 16777215 → (1 ≤ train_length) × (train_length ≤ 40000) → IsWellFormedTrain plan stops limits (new_train engine train_length 0)
+  well_new engine train_length small lengths = record {
+    engine = small;
+    length = lengths;
+    place = tt;
+    forced_ascend = refl;
+    forced = All-nil (IsGiven stops.last);
+    tables = record {
+      stops = record { small = omega arith; ascending = refl; below = All-nil (λ id. id < 15) };
+      limits = record { small = omega arith; ascending = refl; below = All-nil (λ id. id < 255) };
+    };
+    stop_slots = record { kinds = All-nil (λ held. has_kind is_stop_kind held.1 ≡ true); given = All-nil (IsGiven stops.last); once = tt };
+    limit_slots = record { kinds = All-nil (λ held. has_kind is_limit_kind held.1 ≡ true); given = All-nil (IsGiven limits.last); once = tt };
+    stamp = omega arith;
+    stamps_within = All-nil (λ s. s ≤ 0);
+    stamps_distinct = tt;
+  }
+
+  module _ (train : TrainRec) (well : IsWellFormedTrain plan stops limits train) where
+    pub well_forgotten : (number : ℕ) → IsWellFormedTrain plan stops limits (forget number train)
+    well_forgotten number = record {
+      engine = well.engine;
+      length = well.length;
+      place = well.place;
+      forced_ascend = rises-less number 0 train.forced well.forced_ascend;
+      forced = All-filter (λ other. not (eqb other number)) (IsGiven stops.last) train.forced well.forced;
+      tables = record { stops = well.tables.stops; limits = well.tables.limits };
+      stop_slots = well.stop_slots;
+      limit_slots = well.limit_slots;
+      stamp = well.stamp;
+      stamps_within = well.stamps_within;
+      stamps_distinct = well.stamps_distinct;
+    }
+
+    pub well_forced : (number : ℕ) → IsGiven stops.last number → IsWellFormedTrain plan stops limits (record train { forced = forced_too number train.forced })
+    well_forced number given = record {
+      engine = well.engine;
+      length = well.length;
+      place = well.place;
+      forced_ascend = ascend;
+      forced = all_given;
+      tables = record { stops = well.tables.stops; limits = well.tables.limits };
+      stop_slots = well.stop_slots;
+      limit_slots = well.limit_slots;
+      stamp = well.stamp;
+      stamps_within = well.stamps_within;
+      stamps_distinct = well.stamps_distinct;
+    }
+      where
+        ascend : AreNumbers (forced_too number train.forced)
+        ascend = (elim (has_number train.forced number) as (λ b. has_number train.forced number ≡ b → rises_from 0 (cond b train.forced (with_number number train.forced)) ≡ true) [
+          | true ↦ λ is. well.forced_ascend
+          | false ↦ λ is. rises-more number train.forced well.forced_ascend is
+        ]) refl
+
+        all_given : All (IsGiven stops.last) (forced_too number train.forced)
+        all_given = elim (has_number train.forced number) as (λ b. All (IsGiven stops.last) (cond b train.forced (with_number number train.forced))) [
+          | true ↦ well.forced
+          | false ↦ All-more (IsGiven stops.last) number train.forced given well.forced
+        ]
+
+    pub well_stops : (slots : Slots) → SlotsStay 15 is_stop_kind train.stops slots → IsWellFormedTrain plan stops limits (record train { stops = slots })
+    well_stops slots stay =
+        let part = stamps-part slots train.limits train.stops train.limits (part-before (stamps_in slots) (stamps_in train.stops) (stamps_in train.limits) stay.stamps) in
+        record {
+          engine = well.engine;
+          length = well.length;
+          place = well.place;
+          forced_ascend = well.forced_ascend;
+          forced = well.forced;
+          tables = record { stops = stay.table; limits = well.tables.limits };
+          stop_slots = good_slots 15 is_stop_kind stops.last train.stops slots stay well.stop_slots;
+          limit_slots = well.limit_slots;
+          stamp = well.stamp;
+          stamps_within = part-all (λ s. s ≤ train.stamp) (map (λ held. stamp_of held.1) (slots ++ train.limits)) (stamps train) part well.stamps_within;
+          stamps_distinct = part-distinct (map (λ held. stamp_of held.1) (slots ++ train.limits)) (stamps train) part well.stamps_distinct;
+        }
+
+    pub well_limits : (slots : Slots) → SlotsStay 255 is_limit_kind train.limits slots → IsWellFormedTrain plan stops limits (record train { limits = slots })
+    well_limits slots stay =
+        let part = stamps-part train.stops slots train.stops train.limits (part-behind (stamps_in train.stops) (stamps_in slots) (stamps_in train.limits) stay.stamps) in
+        record {
+          engine = well.engine;
+          length = well.length;
+          place = well.place;
+          forced_ascend = well.forced_ascend;
+          forced = well.forced;
+          tables = record { stops = well.tables.stops; limits = stay.table };
+          stop_slots = well.stop_slots;
+          limit_slots = good_slots 255 is_limit_kind limits.last train.limits slots stay well.limit_slots;
+          stamp = well.stamp;
+          stamps_within = part-all (λ s. s ≤ train.stamp) (map (λ held. stamp_of held.1) (train.stops ++ slots)) (stamps train) part well.stamps_within;
+          stamps_distinct = part-distinct (map (λ held. stamp_of held.1) (train.stops ++ slots)) (stamps train) part well.stamps_distinct;
+        }
+
+    pub well_placed : (position : Position) → IsPlan plan → IsWellFormedTrain plan stops limits (placed plan position train)
+    well_placed position track = record {
+      engine = well.engine;
+      length = well.length;
+      place = place_on plan position train.length track;
+      forced_ascend = well.forced_ascend;
+      forced = well.forced;
+      tables = record { stops = well.tables.stops; limits = well.tables.limits };
+      stop_slots = well.stop_slots;
+      limit_slots = well.limit_slots;
+      stamp = well.stamp;
+      stamps_within = well.stamps_within;
+      stamps_distinct = well.stamps_distinct;
+    }
+
+    well_stamp : (stamp : ℕ) → stamp ≤ 4200000000 → IsWellFormedTrain plan stops limits (record train { stamp = max train.stamp stamp })
+    well_stamp stamp low = record {
+      engine = well.engine;
+      length = well.length;
+      place = well.place;
+      forced_ascend = well.forced_ascend;
+      forced = well.forced;
+      tables = record { stops = well.tables.stops; limits = well.tables.limits };
+      stop_slots = well.stop_slots;
+      limit_slots = well.limit_slots;
+      stamp = (let before = well.stamp in omega (arith, before, low));
+      stamps_within = All-weaker (λ s. s ≤ train.stamp) (λ s. s ≤ max train.stamp stamp) (λ s le. omega (arith, le)) (stamps train) well.stamps_within;
+      stamps_distinct = well.stamps_distinct;
+    }
+
+    pub well_raised : (stamp : ℕ) → is_too_high stamp ≡ false → IsWellFormedTrain plan stops limits (raised stamp train)
+    well_raised stamp low =
+        (elim (eqb stamp unknown_stamp) as (λ b. cond b (ltb 1 0) (ltb 4200000000 stamp) ≡ false → IsWellFormedTrain plan stops limits (cond b train (record train { stamp = max train.stamp stamp }))) [
+          | true ↦ λ e. well
+          | false ↦ λ e. well_stamp stamp (ltb-false 4200000000 stamp e)
+        ]) low
+
+-- ---- a message from a train
+
+-- a train of the same engine that is well-formed, if it is not refused
+abbrev pub WellIfOk : Plan → Stops → Limits → ℕ → Result TrainRec ℕ → Type 0
+WellIfOk plan stops limits engine (Ok train) = (train.engine ≡ engine) × IsWellFormedTrain plan stops limits train
+WellIfOk plan stops limits engine (Err code) = Unit
+
+module _ (count : ℕ) (is_kind : Kind → Bool) (slots : Slots) (table : IsTable count slots) (kinds : All (λ held. has_kind is_kind held.1 ≡ true) slots) where
+  stay-same : SlotsStay count is_kind slots slots
+  stay-same = record { table = table; kinds = kinds; numbers = part-same (told_numbers slots); stamps = part-same (stamps_in slots) }
+
+  -- a stamp is acknowledged
+  stay-acked : (stamp : ℕ) (o : Option (ℕ × Slot)) → with_stamp slots stamp ≡ o → SlotsStay count is_kind slots (acked_by_stamp slots o).1
+  stay-acked stamp None e = stay-same
+  stay-acked stamp (Some (id, Revoking s)) e = stay-without count is_kind slots table kinds id
+  stay-acked stamp (Some (id, Used number s Restriction acked)) e =
+      stay-put count is_kind slots table kinds id (Used number s Restriction acked) (Used number s Restriction true)
+      (value_of-found (λ held. eqb (stamp_of held.1) stamp) (id, Used number s Restriction acked) 0 slots table.ascending e) refl refl refl
+  stay-acked stamp (Some (id, Used number s Conditional acked)) e = stay-same
+  stay-acked stamp (Some (id, Used number s Unconditional acked)) e = stay-same
+
+module _ (plan : Plan) (stops : Stops) (limits : Limits) (engine : ℕ) where
+  module _ (train : TrainRec) (same : train.engine ≡ engine) (well : IsWellFormedTrain plan stops limits train) where
+    well_limits_acked : (r : StampAck × Slots) → SlotsStay 255 is_limit_kind train.limits r.1 → WellIfOk plan stops limits engine (limits_acked train r)
+    well_limits_acked (stamp_ack.Freed, slots) stay = (same, well_limits plan stops limits train well slots stay)
+    well_limits_acked (stamp_ack.Marked, slots) stay = (same, well_limits plan stops limits train well slots stay)
+    well_limits_acked (stamp_ack.Nothing, slots) stay = tt
+
+    well_stops_acked : (acked : ℕ) (r : StampAck × Slots) → SlotsStay 15 is_stop_kind train.stops r.1 → WellIfOk plan stops limits engine (stops_acked acked train r)
+    well_stops_acked acked (stamp_ack.Freed, slots) stay = (same, well_stops plan stops limits train well slots stay)
+    well_stops_acked acked (stamp_ack.Marked, slots) stay = (same, well_stops plan stops limits train well slots stay)
+    well_stops_acked acked (stamp_ack.Nothing, slots) stay =
+        well_limits_acked (after_stamp_ack train.limits acked) (stay-acked 255 is_limit_kind train.limits well.tables.limits well.limit_slots.kinds acked (with_stamp train.limits acked) refl)
+
+    well_acknowledged : (acked : ℕ) → WellIfOk plan stops limits engine (acknowledged acked train)
+    well_acknowledged acked =
+        well_stops_acked acked (after_stamp_ack train.stops acked) (stay-acked 15 is_stop_kind train.stops well.tables.stops well.stop_slots.kinds acked (with_stamp train.stops acked) refl)
+
+    well_stop_acked : (id answer : ℕ) (o : Option Slot) → value_of train.stops id ≡ o → WellIfOk plan stops limits engine (stop_acked train (acked_by_id train.stops id answer o))
+    well_stop_acked id answer None e = tt
+    well_stop_acked id answer (Some (Revoking stamp)) e = tt
+    well_stop_acked id answer (Some (Used number stamp kind acked)) e =
+        let marked = well_stops plan stops limits train well (with_value id (Used number stamp kind true) train.stops)
+        (stay-put 15 is_stop_kind train.stops well.tables.stops well.stop_slots.kinds id (Used number stamp kind acked) (Used number stamp kind true) e refl refl refl) in
+        let freed_then = well_stops plan stops limits train well (without id train.stops) (stay-without 15 is_stop_kind train.stops well.tables.stops well.stop_slots.kinds id) in
+        let rejected = well_forced plan stops limits (record train { stops = without id train.stops }) freed_then number
+        (told-given (IsGiven stops.last) train.stops id number stamp kind acked well.stop_slots.given e) in
+        elim (is_acceptance kind answer) as (λ b. WellIfOk plan stops limits engine (stop_acked train (cond b (id_ack.Marked, with_value id (Used number stamp kind true) train.stops)
+        (cond (is_rejection kind answer) (id_ack.Rejected number, without id train.stops) (id_ack.Nothing, train.stops))))) [
+          | true ↦ (same, marked)
+          | false ↦ elim (is_rejection kind answer) as (λ b. WellIfOk plan stops limits engine (stop_acked train (cond b (id_ack.Rejected number, without id train.stops) (id_ack.Nothing, train.stops)))) [
+            | true ↦ (same, rejected)
+            | false ↦ tt
+          ]
+        ]
+
+    well_answered : (id answer : ℕ) → WellIfOk plan stops limits engine (answered id answer train)
+    well_answered id answer = well_stop_acked id answer (value_of train.stops id) refl
+
+  engine_raised : (stamp : ℕ) (train : TrainRec) → train.engine ≡ engine → (raised stamp train).engine ≡ engine
+  engine_raised stamp train same = elim (eqb stamp unknown_stamp) as (λ b. (cond b train (record train { stamp = max train.stamp stamp })).engine ≡ engine) [
+    | true ↦ same
+    | false ↦ same
+  ]
+
+  well_told : (message : FromTrain) (train : TrainRec) → IsPlan plan → train.engine ≡ engine → IsWellFormedTrain plan stops limits train → is_too_high (stamp_told message) ≡ false → WellIfOk plan stops limits engine (told_by plan message train)
+  well_told (Report stamp by position) train track same well low =
+      (engine_raised stamp train same, well_placed plan stops limits (raised stamp train) (well_raised plan stops limits train well stamp low) position track)
+  well_told (Ack stamp by acked) train track same well low =
+      well_acknowledged (raised stamp train) (engine_raised stamp train same) (well_raised plan stops limits train well stamp low) acked
+  well_told (StopAck stamp by id answer position) train track same well low =
+      well_answered (placed plan position (raised stamp train)) (engine_raised stamp train same) (well_placed plan stops limits (raised stamp train) (well_raised plan stops limits train well stamp low) position track) id answer
+
+  -- a train that is heard stays well-formed
+  pub well_heard : (message : FromTrain) (train : TrainRec) → IsPlan plan → train.engine ≡ engine → IsWellFormedTrain plan stops limits train → WellIfOk plan stops limits engine (heard plan message train)
+  well_heard message train track same well =
+      (elim (is_too_high (stamp_told message)) as (λ b. is_too_high (stamp_told message) ≡ b → WellIfOk plan stops limits engine (cond b (Err 15) (told_by plan message train))) [
+        | true ↦ λ is. tt
+        | false ↦ λ is. well_told message train track same well is
+      ]) refl

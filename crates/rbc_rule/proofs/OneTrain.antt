@@ -1,0 +1,251 @@
+-- The step of an input of one train: every other train is settled already.
+use Rattle.std.proofs.Common.{◌≡◌, ℕ, ◌<◌, ◌≤◌, Bool, true, false, cond, eqb, leb, List, [], ◌∷◌, length, Option, Some, None, option_map, Result, Ok, Err, refl, sym, ap, subst, ◌∙◌, arith, zero-add, max}
+use Rattle.std.proofs.lemmas.Bool.{le-leb, eqb-true}
+use Rattle.std.specs.List.{AllByRecursion}
+use Rattle.std.proofs.lemmas.List.Elements.{recursion_from_All, All-weaker}
+use Rattle.std.proofs.lemmas.Bool.Decides.{nat_tests}
+use Rattle.rbc_track.specs.Plan.{Plan}
+use Rattle.ertms_codec.specs.declared.from_train.FromTrain.{FromTrain}
+use Rattle.ertms_codec.specs.declared.from_train.FromTrain.TheVariants.{Report, Ack, StopAck}
+use Rattle.rbc_ids.specs.Table.{Slots, after_stamp_ack, after_id_ack}
+use Rattle.rbc_ids.specs.declared.slot.StampAck.{StampAck}
+use Rattle.rbc_ids.specs.declared.slot.StampAck.TheVariants as stamp_ack
+use Rattle.rbc_ids.specs.declared.slot.IdAck.{IdAck}
+use Rattle.rbc_ids.specs.declared.slot.IdAck.TheVariants as id_ack
+use Rattle.rbc_maps.specs.Maps.{has, value_or, value_of, with_value, without, keys, rises_from}
+use Rattle.rbc_settle.specs.declared.train.TrainRec.{TrainRec}
+use Rattle.rbc_settle.specs.Numbers.{has_number, with_number, without_number}
+use Rattle.rbc_settle.specs.Trains.{new_train}
+use Rattle.rbc_settle.specs.Settling.{Stops, Limits, settled, messages_of}
+use Rattle.rbc_records.specs.declared.record.Key.{Key}
+use Rattle.rbc_records.specs.declared.record.Key.TheVariants as key
+use Rattle.rbc_records.specs.declared.record.Rec.TheVariants as rec
+use Rattle.rbc_records.specs.Writes.{written}
+use Rattle.rbc_rule.specs.declared.outcome.Outcome.{Outcome}
+use Rattle.rbc_rule.specs.declared.outcome.Reply.TheVariants.{Done}
+use Rattle.rbc_rule.specs.declared.input.Input.TheVariants.{Enrol, Withdraw, Received}
+use Rattle.rbc_rule.specs.World.{World}
+use Rattle.rbc_rule.specs.Effect.{effect, unknown_stamp, is_too_high, raised, placed, limits_acked, stops_acked, acknowledged, stop_acked, answered, told_by, stamp_of, engine_of, heard, without_train, then_do, heard_from}
+use Rattle.rbc_rule.specs.Step.{settled_trains, sent_to, count_sent}
+use Rattle.rbc_rule.specs.Records.{engines_record, record_of}
+use Rattle.rbc_rule.specs.WellFormed.{IsGoodTrain, IsWellFormed}
+use Rattle.rbc_rule.specs.Right.{IsStep, messages_to}
+use Rattle.rbc_rule.specs.Gathered.{to_engine, enrolled_outcome, withdrawn_outcome, heard_outcome}
+use Rattle.rbc_rule.proofs.WorldMaps.{eqb_turned, keys-new, keys-old, keys-without, value_of-with_value, value_of-without, map-with_value, has_keys, length_keys, has_value}
+use Rattle.rbc_rule.proofs.WorldSettling.{map-done, sent-done, count-done, done-without, sent-with, count-with, trains_done, messages_to-engine, taken}
+
+-- ---- records
+
+map_either : {A B : Type 0} (f : A → B) (b : Bool) (x y : Option A) → cond b (option_map f x) (option_map f y) ≡ option_map f (cond b x y)
+map_either f true x y = refl
+map_either f false x y = refl
+
+-- what stands under a train's key, of the record that is written under another's
+train_written : (k engine : ℕ) (new old : Option TrainRec) → cond (eqb k engine) (option_map rec.Train new) (option_map rec.Train old) ≡ option_map rec.Train (cond (eqb engine k) new old)
+train_written k engine new old = ap (λ b. cond b (option_map rec.Train new) (option_map rec.Train old)) (eqb_turned k engine) ∙ map_either rec.Train (eqb engine k) new old
+
+module _ (w : World) (engine : ℕ) (train : TrainRec) where
+  enrolled_records : has w.trains engine ≡ false → (k : Key)
+      → written ((key.Roster, engines_record (with_number engine (keys w.trains))) ∷ (key.Train engine, Some (rec.Train train)) ∷ []) (record_of w) k ≡ record_of (record w { trains = with_value engine train w.trains }) k
+  enrolled_records new key.Roster = ap engines_record (sym (keys-new engine train w.trains new))
+  enrolled_records new (key.Train k) =
+      train_written k engine (Some train) (value_of w.trains k) ∙ ap (option_map rec.Train) (sym (value_of-with_value engine train w.trains k))
+  enrolled_records new key.Stops = refl
+  enrolled_records new key.Limits = refl
+
+  heard_records : rises_from 0 (keys w.trains) ≡ true → has w.trains engine ≡ true → (k : Key)
+      → written ((key.Train engine, Some (rec.Train train)) ∷ []) (record_of w) k ≡ record_of (record w { trains = with_value engine train w.trains }) k
+  heard_records rises there key.Roster = ap engines_record (sym (keys-old engine 0 train w.trains rises there))
+  heard_records rises there (key.Train k) =
+      train_written k engine (Some train) (value_of w.trains k) ∙ ap (option_map rec.Train) (sym (value_of-with_value engine train w.trains k))
+  heard_records rises there key.Stops = refl
+  heard_records rises there key.Limits = refl
+
+withdrawn_records : (w : World) (engine : ℕ) (k : Key)
+    → written ((key.Roster, engines_record (without_number engine (keys w.trains))) ∷ (key.Train engine, None) ∷ []) (record_of w) k ≡ record_of (record w { trains = without engine w.trains }) k
+withdrawn_records w engine key.Roster = ap engines_record (sym (keys-without engine w.trains))
+withdrawn_records w engine (key.Train k) =
+    train_written k engine None (value_of w.trains k) ∙ ap (option_map rec.Train) (sym (value_of-without engine w.trains k))
+withdrawn_records w engine key.Stops = refl
+withdrawn_records w engine key.Limits = refl
+
+-- ---- worlds in which one train changes
+
+module _ (plan : Plan) (w : World) (well : IsWellFormed plan w) where
+  settled_with : (engine : ℕ) (train : TrainRec)
+      → settled_trains plan w.stops w.limits (with_value engine train w.trains) ≡ with_value engine (settled plan w.stops w.limits train) w.trains
+  settled_with engine train =
+      map-with_value (settled plan w.stops w.limits) engine train w.trains
+      ∙ ap (with_value engine (settled plan w.stops w.limits train)) (map-done (settled plan w.stops w.limits) (messages_of plan w.stops w.limits) w.trains (trains_done plan w.stops w.limits w.trains well.trains))
+
+  sent_with : (engine : ℕ) (train : TrainRec) (k : ℕ)
+      → messages_to k (to_engine engine (messages_of plan w.stops w.limits train)) ≡ value_or [] (sent_to plan w.stops w.limits (with_value engine train w.trains)) k
+  sent_with engine train k =
+      messages_to-engine k engine (messages_of plan w.stops w.limits train)
+      ∙ sym (sent-with (settled plan w.stops w.limits) (messages_of plan w.stops w.limits) engine train w.trains k (trains_done plan w.stops w.limits w.trains well.trains))
+
+  count_with : (engine : ℕ) (train : TrainRec) → length (messages_of plan w.stops w.limits train) ≡ count_sent (sent_to plan w.stops w.limits (with_value engine train w.trains))
+  count_with engine train =
+      sym (zero-add (length (messages_of plan w.stops w.limits train)))
+      ∙ sym (count-with (settled plan w.stops w.limits) (messages_of plan w.stops w.limits) 0 engine train w.trains (trains_done plan w.stops w.limits w.trains well.trains))
+
+-- ---- a train that is enrolled
+
+below : (most n : ℕ) → n < most → leb most n ≡ false
+below most n lt = grind (arith, nat_tests)
+
+enrol_is_step : (plan : Plan) (w : World) (engine train_length : ℕ) → IsWellFormed plan w → has w.trains engine ≡ false → leb 2000 (length w.trains) ≡ false → (outcome : Outcome)
+    → outcome ≡ enrolled_outcome plan w.stops w.limits engine train_length (keys w.trains) → IsStep plan (Enrol engine train_length) w outcome.result outcome.writes outcome.messages
+enrol_is_step plan w engine train_length well new room outcome is =
+    let train = new_train engine train_length 0 in
+    let P : Outcome → Type 0 = λ o. IsStep plan (Enrol engine train_length) w o.result o.writes o.messages in
+    subst P (sym is)
+    (taken plan (Enrol engine train_length) w (record w { trains = with_value engine train w.trains }) _ _ _
+    (λ i. then_do (λ trains. record w { trains = trains }) (cond (new i) (Err 8) (cond (room i) (Err 9) (Ok (with_value engine train w.trains)))))
+    (λ k. enrolled_records w engine (settled plan w.stops w.limits train) new k ∙ ap (λ trains. record_of (record w { trains = trains }) k) (sym (settled_with plan w well engine train)))
+    (ap Done (count_with plan w well engine train))
+    (sent_with plan w well engine train))
+
+-- by what was read
+module _ (plan : Plan) (w : World) (engine train_length : ℕ) (engines : List ℕ) (engines_are : engines ≡ keys w.trains) where
+  enrolled_already : (found b : Bool) → found ≡ has_number engines engine → found ≡ b → has w.trains engine ≡ b
+  enrolled_already found b is e = sym (is ∙ ap (λ ns. has_number ns engine) engines_are ∙ has_keys w.trains engine) ∙ e
+
+  how_many : length engines ≡ length w.trains
+  how_many = ap length engines_are ∙ length_keys w.trains
+
+  pub enrol_known : (found : Bool) → found ≡ has_number engines engine → found ≡ true → effect plan (Enrol engine train_length) w ≡ Err 8
+  enrol_known found is there = λ i. then_do (λ trains. record w { trains = trains }) (cond (enrolled_already found true is there i) (Err 8) (cond (leb 2000 (length w.trains)) (Err 9) (Ok (with_value engine (new_train engine train_length 0) w.trains))))
+
+  pub enrol_full : (found : Bool) → found ≡ has_number engines engine → found ≡ false → 2000 ≤ length engines → effect plan (Enrol engine train_length) w ≡ Err 9
+  enrol_full found is new full =
+      let many : leb 2000 (length w.trains) ≡ true = le-leb 2000 (length w.trains) (let count = how_many in omega (arith, count)) in
+      λ i. then_do (λ trains. record w { trains = trains }) (cond (enrolled_already found false is new i) (Err 8) (cond (many i) (Err 9) (Ok (with_value engine (new_train engine train_length 0) w.trains))))
+
+  pub enrol_right : (stops : Stops) (limits : Limits) (outcome : Outcome) (found : Bool) → outcome ≡ enrolled_outcome plan stops limits engine train_length engines → stops ≡ w.stops → limits ≡ w.limits
+      → IsWellFormed plan w → found ≡ has_number engines engine → found ≡ false → length engines < 2000 → IsStep plan (Enrol engine train_length) w outcome.result outcome.writes outcome.messages
+  enrol_right stops limits outcome found is stops_are limits_are well found_is new few =
+      enrol_is_step plan w engine train_length well (enrolled_already found false found_is new) (below 2000 (length w.trains) (let count = how_many in omega (arith, count))) outcome
+      (is ∙ (λ i. enrolled_outcome plan (stops_are i) (limits_are i) engine train_length (engines_are i)))
+
+-- ---- a train that leaves
+
+module _ (plan : Plan) (w : World) (engine : ℕ) (train : TrainRec) (found : Some train ≡ value_of w.trains engine) where
+  withdraw_effect : eqb (length train.stops) 0 ≡ true → effect plan (Withdraw engine) w ≡ Ok (record w { trains = without engine w.trains })
+  withdraw_effect free =
+      (λ i. then_do (λ trains. record w { trains = trains }) (without_train engine w.trains (sym found i)))
+      ∙ (λ i. then_do (λ trains. record w { trains = trains }) (cond (free i) (Ok (without engine w.trains)) (Err 10)))
+
+  pub withdraw_right : (engines : List ℕ) (outcome : Outcome) → outcome ≡ withdrawn_outcome engine engines → engines ≡ keys w.trains
+      → IsWellFormed plan w → eqb (length train.stops) 0 ≡ true → IsStep plan (Withdraw engine) w outcome.result outcome.writes outcome.messages
+  withdraw_right engines outcome is engines_are well free =
+      let f = settled plan w.stops w.limits in
+      let m = messages_of plan w.stops w.limits in
+      let left = without engine w.trains in
+      let done = done-without f m engine w.trains (trains_done plan w.stops w.limits w.trains well.trains) in
+      let same : settled_trains plan w.stops w.limits left ≡ left = map-done f m left done in
+      let P : Outcome → Type 0 = λ o. IsStep plan (Withdraw engine) w o.result o.writes o.messages in
+      subst P (sym (is ∙ ap (withdrawn_outcome engine) engines_are))
+      (taken plan (Withdraw engine) w (record w { trains = left }) _ _ _
+      (withdraw_effect free)
+      (λ k. withdrawn_records w engine k ∙ ap (λ trains. record_of (record w { trains = trains }) k) (sym same))
+      (ap Done (sym (count-done f m 0 left done)))
+      (λ k. sym (sent-done f m left k done)))
+
+-- ---- a message from a train
+
+-- what is made of a train's message keeps its engine
+KeepsEngine : ℕ → Result TrainRec ℕ → Type 0
+KeepsEngine engine (Ok train) = train.engine ≡ engine
+KeepsEngine engine (Err code) = Unit
+
+raised_engine : (stamp : ℕ) (train : TrainRec) → (raised stamp train).engine ≡ train.engine
+raised_engine stamp train = elim (eqb stamp unknown_stamp) as (λ b. (cond b train (record train { stamp = max train.stamp stamp })).engine ≡ train.engine) [ true ↦ refl | false ↦ refl ]
+
+limits_acked_engine : (train : TrainRec) (after : StampAck × Slots) → KeepsEngine train.engine (limits_acked train after)
+unfolding KeepsEngine
+limits_acked_engine train (stamp_ack.Freed, slots) = refl
+limits_acked_engine train (stamp_ack.Marked, slots) = refl
+limits_acked_engine train (stamp_ack.Nothing, slots) = tt
+
+stops_acked_engine : (acked : ℕ) (train : TrainRec) (after : StampAck × Slots) → KeepsEngine train.engine (stops_acked acked train after)
+unfolding KeepsEngine
+stops_acked_engine acked train (stamp_ack.Freed, slots) = refl
+stops_acked_engine acked train (stamp_ack.Marked, slots) = refl
+stops_acked_engine acked train (stamp_ack.Nothing, slots) = limits_acked_engine train (after_stamp_ack train.limits acked)
+
+stop_acked_engine : (train : TrainRec) (after : IdAck × Slots) → KeepsEngine train.engine (stop_acked train after)
+unfolding KeepsEngine
+stop_acked_engine train (id_ack.Marked, slots) = refl
+stop_acked_engine train (id_ack.Rejected number, slots) = refl
+stop_acked_engine train (id_ack.Nothing, slots) = tt
+
+told_engine : (plan : Plan) (message : FromTrain) (train : TrainRec) → KeepsEngine train.engine (told_by plan message train)
+unfolding KeepsEngine
+told_engine plan (Report stamp engine position) train = raised_engine stamp train
+told_engine plan (Ack stamp engine acked) train =
+    subst (λ e. KeepsEngine e (acknowledged acked (raised stamp train))) (raised_engine stamp train)
+    (stops_acked_engine acked (raised stamp train) (after_stamp_ack (raised stamp train).stops acked))
+told_engine plan (StopAck stamp engine id answer position) train =
+    subst (λ e. KeepsEngine e (answered id answer (placed plan position (raised stamp train)))) (raised_engine stamp train)
+    (stop_acked_engine (placed plan position (raised stamp train)) (after_id_ack (raised stamp train).stops id answer))
+
+either_engine : (engine : ℕ) (b : Bool) (after : Result TrainRec ℕ) → KeepsEngine engine after → KeepsEngine engine (cond b (Err 15) after)
+unfolding KeepsEngine
+either_engine engine true after h = tt
+either_engine engine false after h = h
+
+heard_engine : (plan : Plan) (message : FromTrain) (old new : TrainRec) → heard plan message old ≡ Ok new → new.engine ≡ old.engine
+unfolding KeepsEngine
+heard_engine plan message old new is =
+    subst (KeepsEngine old.engine) is (either_engine old.engine (is_too_high (stamp_of message)) (told_by plan message old) (told_engine plan message old))
+
+-- a train that is found has the engine number that it was looked for by
+HasEngine : ℕ → Option TrainRec → Type 0
+HasEngine engine None = Unit
+HasEngine engine (Some train) = train.engine ≡ engine
+
+has_engine : (trains : List (ℕ × TrainRec)) (engine : ℕ) → AllByRecursion (λ train. train.1.engine ≡ train.0) trains → HasEngine engine (value_of trains engine)
+unfolding HasEngine
+has_engine [] engine h = tt
+has_engine (train ∷ trains) engine h = by (eqb train.0 engine) refl (has_engine trains engine h.1)
+  where
+    by : (b : Bool) → eqb train.0 engine ≡ b → HasEngine engine (value_of trains engine) → HasEngine engine (cond b (Some train.1) (value_of trains engine))
+    by true q rest = h.0 ∙ eqb-true train.0 engine q
+    by false q rest = rest
+
+pub engine_found : (plan : Plan) (w : World) (engine : ℕ) (train : TrainRec) → IsWellFormed plan w → Some train ≡ value_of w.trains engine → train.engine ≡ engine
+unfolding HasEngine
+engine_found plan w engine train well found =
+    let P : ℕ × TrainRec → Type 0 = λ other. other.1.engine ≡ other.0 in
+    let own : (other : ℕ × TrainRec) → IsGoodTrain plan w.stops w.limits other → P other = λ other h. h.engine in
+    subst (HasEngine engine) (sym found)
+    (has_engine w.trains engine (recursion_from_All P w.trains (All-weaker (IsGoodTrain plan w.stops w.limits) P own w.trains well.trains)))
+
+module _ (plan : Plan) (message : FromTrain) (w : World) (old : TrainRec) (found : Some old ≡ value_of w.trains (engine_of message)) where
+  pub receive_refused : (after : Result TrainRec ℕ) (code : ℕ) → after ≡ heard plan message old → after ≡ Err code → effect plan (Received message) w ≡ Err code
+  receive_refused after code after_is after_code =
+      let is : heard plan message old ≡ Err code = sym after_is ∙ after_code in
+      (λ i. then_do (λ trains. record w { trains = trains }) (then_do (λ train. with_value (engine_of message) train w.trains) (heard_from plan message (sym found i))))
+      ∙ (λ i. then_do (λ trains. record w { trains = trains }) (then_do (λ train. with_value (engine_of message) train w.trains) (is i)))
+
+  receive_effect : (train : TrainRec) → heard plan message old ≡ Ok train → effect plan (Received message) w ≡ Ok (record w { trains = with_value (engine_of message) train w.trains })
+  receive_effect train is =
+      (λ i. then_do (λ trains. record w { trains = trains }) (then_do (λ other. with_value (engine_of message) other w.trains) (heard_from plan message (sym found i))))
+      ∙ (λ i. then_do (λ trains. record w { trains = trains }) (then_do (λ other. with_value (engine_of message) other w.trains) (is i)))
+
+  pub receive_right : (stops : Stops) (limits : Limits) (after : Result TrainRec ℕ) (train : TrainRec) (outcome : Outcome) → after ≡ heard plan message old → after ≡ Ok train
+      → outcome ≡ heard_outcome plan stops limits (engine_of message) train → stops ≡ w.stops → limits ≡ w.limits
+      → IsWellFormed plan w → IsStep plan (Received message) w outcome.result outcome.writes outcome.messages
+  receive_right stops limits after train outcome after_is after_train is stops_are limits_are well =
+      let heard_is : heard plan message old ≡ Ok train = sym after_is ∙ after_train in
+      let engine = engine_of message in
+      let there = has_value w.trains engine old (sym found) in
+      let same : train.engine ≡ engine = heard_engine plan message old train heard_is ∙ engine_found plan w engine old well found in
+      let P : Outcome → Type 0 = λ o. IsStep plan (Received message) w o.result o.writes o.messages in
+      subst P (sym (is ∙ (λ i. heard_outcome plan (stops_are i) (limits_are i) engine train)))
+      (taken plan (Received message) w (record w { trains = with_value engine train w.trains }) _ _ _
+      (receive_effect train heard_is)
+      (λ k. heard_records w engine (settled plan w.stops w.limits train) well.ascending there k ∙ ap (λ trains. record_of (record w { trains = trains }) k) (sym (settled_with plan w well engine train)))
+      (ap Done (count_with plan w well engine train))
+      (λ k. ap (λ e. messages_to k (to_engine e (messages_of plan w.stops w.limits train))) same ∙ sent_with plan w well engine train k))

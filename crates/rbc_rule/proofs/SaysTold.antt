@@ -1,0 +1,194 @@
+-- What each action of settling says.
+use Rattle.std.proofs.Common.{◌≡◌, ℕ, ◌+◌, ◌-◌, ◌*◌, ◌/◌, Bool, true, false, cond, if◌then◌else◌, List, [], ◌∷◌, ◌++◌, map, Option, Some, None, refl, ap, ◌∙◌, subst}
+use Rattle.std.specs.List.{All, AllByRecursion, cons_option, scan, zip}
+use Rattle.std.specs.Option.{option_map, option_map_or}
+use Rattle.std.proofs.lemmas.List.Elements.{All-nil, All-cons, All-head, All-tail, All-append, All-take, All-map}
+use Rattle.std.proofs.lemmas.Option.{same_Some, cond_some}
+use Rattle.rbc_track.specs.Plan.{Plan, IsPlan, group_of}
+use Rattle.rbc_track.specs.declared.group.Group.{Group}
+use Rattle.rbc_track.specs.declared.group.Way.{Way}
+use Rattle.rbc_track.specs.declared.group.Way.TheVariants.{Up, Down}
+use Rattle.rbc_place.specs.Placing.{Place, onward, way_of}
+use Rattle.rbc_maps.specs.Maps.{value_of}
+use Rattle.rbc_ids.specs.Table.{Slots, is_told, free_identifiers}
+use Rattle.rbc_zones.specs.declared.segment.Segment.{Segment}
+use Rattle.rbc_zones.specs.declared.edge.Concern.{Concern}
+use Rattle.rbc_zones.specs.declared.edge.Concern.TheVariants as concern
+use Rattle.rbc_zones.specs.Segments.{IsSegment}
+use Rattle.rbc_zones.specs.Concerns.{concern_at, concern_of, told_distance, distance_to}
+use Rattle.rbc_zones.specs.Limits.{Limit, IsLimit, is_good_limit, concerns, told_part}
+use Rattle.rbc_zones.proofs.StopLaw.{each_stop}
+use Rattle.rbc_zones.proofs.ToldLimits.{each_limit_is_told_rightly}
+use Rattle.rbc_settle.specs.declared.train.TrainRec.{TrainRec}
+use Rattle.rbc_settle.specs.declared.action.Action.{Action}
+use Rattle.rbc_settle.specs.declared.action.Action.TheVariants.{RevokeStop, TellStop, RevokeLimit, TellLimit}
+use Rattle.rbc_settle.specs.declared.action.ToldStop.{ToldStop}
+use Rattle.rbc_settle.specs.declared.action.ToldStop.TheVariants.{AtOnce, Before}
+use Rattle.rbc_settle.specs.Told.{Part}
+use Rattle.rbc_settle.specs.Numbers.{has_number}
+use Rattle.rbc_settle.specs.Settling.{Stops, Limits, last_stamp, direction_of, told_edge, told_at, told_stop, told_limit, limit_told_to, tell_stop, tell_limit, to_revoke, is_stop_gone, is_limit_gone, stops_revoked, stops_told, limits_revoked, limits_told, carried_out, message_of, actions, actions_with_stamp}
+use Rattle.rbc_settle.specs.Settling.{group_of as group_by}
+use Rattle.rbc_settle.specs.WellFormed.{IsPlaceOn, HasPlaceOn}
+use Rattle.rbc_settle.proofs.Wanted.{wanted_of}
+use Rattle.rbc_settle.proofs.Concerned.{each_value, told_as, limit_as}
+use Rattle.rbc_rule.specs.WellFormed.{IsGoodStop, AreGoodStops, AreGoodLimits}
+use Rattle.rbc_rule.specs.Saying.{StopsBefore, Restricts, in_units, stops_before, restricts, says, IsEdgeSaid, IsConcernSaid, IsLimitSaid, IsSaidFor, AllSay, AllSayTo}
+use Rattle.rbc_rule.proofs.SaysPlaces.{faced, whole_fives, sound, good_area, good_limit}
+
+-- ---- the list of what is told
+
+module _ {X T : Type 0} (slots : Slots) (what : ℕ × X → Option T) (tell : (ℕ × T) × ℕ → Action) (P : Action → Type 0) where
+  -- what holds of each telling of an entry holds of all that are told
+  abbrev pub HoldsOfTelling : ℕ × X → Type 0
+  HoldsOfTelling entry = (told : T) → what entry ≡ Some told → (id : ℕ) → P (tell ((entry.0, told), id))
+
+  one_more : (entry : ℕ × X) (wanted : List (ℕ × T)) (told : T) → what entry ≡ Some told → HoldsOfTelling entry
+      → ((ids : List ℕ) → All P (map tell (zip wanted ids))) → (ids : List ℕ) → All P (map tell (zip ((entry.0, told) ∷ wanted) ids))
+  one_more entry wanted told is holds rest [] = All-nil P
+  one_more entry wanted told is holds rest (id ∷ ids) = All-cons P (tell ((entry.0, told), id)) (map tell (zip wanted ids)) (holds told is id) (rest ids)
+
+  pub each_telling : (active : List (ℕ × X)) → AllByRecursion HoldsOfTelling active → (ids : List ℕ) → All P (map tell (zip (wanted_of slots what active) ids))
+  each_telling [] all ids = All-nil P
+  each_telling (entry ∷ active) all ids =
+      let rest = wanted_of slots what active in
+      elim (is_told slots entry.0) as (λ b. All P (map tell (zip (cons_option (cond b None (option_map (λ told. (entry.0, told)) (what entry))) rest) ids))) [
+        | true ↦ each_telling active all.1 ids
+        | false ↦ (elim (what entry) as (λ o. what entry ≡ o → All P (map tell (zip (cons_option (option_map (λ told. (entry.0, told)) o) rest) ids))) [
+          | None ↦ λ is. each_telling active all.1 ids
+          | Some told ↦ λ is. one_more entry rest told is all.0 (each_telling active all.1) ids
+        ]) refl
+      ]
+
+-- ---- one message
+
+-- the balise group of a place, as the track has it
+abbrev pub group_at : Place → Group
+group_at p = record { line = p.line; at = p.at; nominal = if p.same then Up else Down }
+
+module _ (plan : Plan) (track : IsPlan plan) (train : TrainRec) where
+  -- the balise group that a later message names is that of the place
+  found_later : (p : Place) → train.place ≡ Some p → IsPlaceOn plan p → (later : TrainRec) → later.place ≡ train.place → group_of plan (group_by later) ≡ Some (group_at p)
+  found_later p placed on later same = ap (λ (o : Option Place). group_of plan (option_map_or (λ q. q.lrbg) o 16777215)) (same ∙ placed) ∙ on.group
+
+  facing_told : (p : Place) → way_of (group_at p).nominal (direction_of p) ≡ p.facing
+  facing_told p = faced p.line p.lrbg p.at p.same p.facing p.lo p.hi
+
+  -- a stop before an edge
+  edge_said : (p : Place) → train.place ≡ Some p → IsPlaceOn plan p → (area : List Segment) (forced : Bool) (edge : ℕ) → All IsSegment area → concern_at area forced p ≡ concern.Before edge
+      → (later : TrainRec) → later.place ≡ train.place → (id number : ℕ)
+      → IsEdgeSaid train edge id (says plan (message_of later (TellStop id number (Before (told_edge (direction_of p) (told_distance (distance_to p.facing p.at edge)))))))
+  edge_said p placed on area forced edge segments before later same id number =
+      let told = told_distance (distance_to p.facing p.at edge) in
+      record {
+        p = p;
+        placed = placed;
+        scale = told.0;
+        units = told.1;
+        told = (each_stop p area forced edge (sound plan track p on) segments before).told;
+        says = ap (option_map (stops_before id told.0 (direction_of p) told.1)) (found_later p placed on later same)
+            ∙ ap (λ (way : Way). Some (StopsBefore id (onward way p.at (in_units told.0 told.1)))) (facing_told p);
+      }
+
+  module _ (area : List Segment) (forced : Bool) (segments : All IsSegment area) (id number : ℕ) (later : TrainRec) (same : later.place ≡ train.place) where
+    -- the message of a stop, by what the stop is to the train
+    abbrev pub SaidBy : Concern → ToldStop → Type 0
+    SaidBy c told = IsConcernSaid train c id (says plan (message_of later (TellStop id number told)))
+
+    concern_said_at : (p : Place) → train.place ≡ Some p → IsPlaceOn plan p → (c : Concern) → concern_at area forced p ≡ c → (told : ToldStop) → told_at p c ≡ Some told → SaidBy c told
+    concern_said_at p placed on concern.None is told tells = absurd (let bad : None ≡ Some told = tells in cc)
+    concern_said_at p placed on concern.Now is told tells = subst (SaidBy concern.Now) (same_Some AtOnce told tells) refl
+    concern_said_at p placed on (concern.Before edge) is told tells =
+        let before = Before (told_edge (direction_of p) (told_distance (distance_to p.facing p.at edge))) in
+        subst (SaidBy (concern.Before edge)) (same_Some before told tells) (edge_said p placed on area forced edge segments is later same id number)
+
+    concern_said : (place : Option Place) → train.place ≡ place → HasPlaceOn plan place → (told : ToldStop) → told_stop place (concern_of area forced place) ≡ Some told → SaidBy (concern_of area forced place) told
+    concern_said None placed on told tells = subst (SaidBy concern.Now) (same_Some AtOnce told tells) refl
+    concern_said (Some p) placed on told tells = concern_said_at p placed on (concern_at area forced p) refl told tells
+
+  -- the message of a restriction
+  limit_said : (limits : Limits) (limit : Limit) (number : ℕ) → value_of limits.active number ≡ Some limit → IsLimit limit → (place : Option Place) → train.place ≡ place → HasPlaceOn plan place
+      → (told : Part) → limit_told_to plan.horizon place limit ≡ Some told → (id : ℕ) (later : TrainRec) → later.place ≡ train.place
+      → IsLimitSaid limits train id number (says plan (message_of later (TellLimit id number told)))
+  limit_said limits limit number active kept None placed on told tells id later same = absurd (let bad : None ≡ Some told = tells in cc)
+  limit_said limits limit number active kept (Some p) placed on told tells id later same =
+      let parts = cond_some (concerns limit p plan.horizon) (told_limit limit p) told tells in
+      let part = told_part limit p in
+      subst (λ (one : Part). IsLimitSaid limits train id number (says plan (message_of later (TellLimit id number one)))) parts.1 (record {
+        limit = limit;
+        active = active;
+        p = p;
+        placed = placed;
+        scale = part.0;
+        start = part.1;
+        length = part.2;
+        told = each_limit_is_told_rightly limit p plan.horizon kept (sound plan track p on) parts.0;
+        says = ap (option_map (restricts id part.0 (direction_of p) part.1 part.2 limit.front (limit.speed / 5))) (found_later p placed on later same)
+            ∙ ap (λ (way : Way). Some (Restricts id way p.at (in_units part.0 part.1) (in_units part.0 (part.1 + part.2)) limit.front (limit.speed / 5 * 5))) (facing_told p)
+            ∙ ap (λ (speed : ℕ). Some (Restricts id p.facing p.at (in_units part.0 part.1) (in_units part.0 (part.1 + part.2)) limit.front speed)) (whole_fives limit.speed kept.in_fives);
+      })
+
+-- ---- all messages to a train
+
+module _ (plan : Plan) (track : IsPlan plan) (stops : Stops) (limits : Limits) (good_stops : AreGoodStops plan stops) (good_limits : AreGoodLimits plan limits) (train : TrainRec) (on : HasPlaceOn plan train.place) where
+  -- an action says what it has to, whatever was done to the train before, as long as it stands where it stood
+  abbrev pub IsSaid : Action → Type 0
+  IsSaid action = (later : TrainRec) → later.place ≡ train.place → IsSaidFor stops limits train action (says plan (message_of later action))
+
+  revoked_stops : All IsSaid (stops_revoked stops train)
+  revoked_stops = All-map IsSaid RevokeStop (to_revoke (is_stop_gone stops) train.stops) (λ k d below later same. refl)
+
+  revoked_limits : All IsSaid (limits_revoked limits train)
+  revoked_limits = All-map IsSaid RevokeLimit (to_revoke (is_limit_gone limits train.place) train.limits) (λ k d below later same. refl)
+
+  told_stops : All IsSaid (stops_told stops train)
+  told_stops = each_telling train.stops (told_as train.place train.forced) tell_stop IsSaid stops.active (each stops.active (each_value 1 stops.active good_stops.numbered.ascending) good_stops.good) (free_identifiers 15 train.stops)
+    where
+      each : (some : List (ℕ × List Segment)) → AllByRecursion (λ stop. value_of stops.active stop.0 ≡ Some stop.1) some → All (IsGoodStop plan) some
+          → AllByRecursion (HoldsOfTelling train.stops (told_as train.place train.forced) tell_stop IsSaid) some
+      each [] values good = tt
+      each (stop ∷ some) values good = (
+        λ told tells id later same. record {
+          area = stop.1;
+          active = values.0;
+          concern = concern_said plan track train stop.1 (has_number train.forced stop.0) (good_area plan track stop.1 (All-head (IsGoodStop plan) stop some good).good) id stop.0 later same
+              train.place refl on told tells;
+        },
+        each some values.1 (All-tail (IsGoodStop plan) stop some good),
+      )
+
+  abbrev pub IsGood : ℕ × Limit → Type 0
+  IsGood limit = is_good_limit plan limit.1.segment limit.1.speed ≡ true
+
+  told_limits : All IsSaid (limits_told plan.horizon limits train)
+  told_limits = each_telling train.limits (limit_as plan.horizon train.place) tell_limit IsSaid limits.active (each limits.active (each_value 1 limits.active good_limits.numbered.ascending) good_limits.good) (free_identifiers 255 train.limits)
+    where
+      each : (some : List (ℕ × Limit)) → AllByRecursion (λ limit. value_of limits.active limit.0 ≡ Some limit.1) some → All IsGood some
+          → AllByRecursion (HoldsOfTelling train.limits (limit_as plan.horizon train.place) tell_limit IsSaid) some
+      each [] values good = tt
+      each (limit ∷ some) values good = (
+        λ told tells id later same.
+            limit_said plan track train limits limit.1 limit.0 values.0 (good_limit plan track limit.1 (All-head IsGood limit some good)) train.place refl on told tells id later same,
+        each some values.1 (All-tail IsGood limit some good),
+      )
+
+  all_said : All IsSaid (actions plan stops limits train)
+  all_said =
+      All-append IsSaid (stops_revoked stops train ++ stops_told stops train ++ limits_revoked limits train) (limits_told plan.horizon limits train)
+      (All-append IsSaid (stops_revoked stops train ++ stops_told stops train) (limits_revoked limits train)
+      (All-append IsSaid (stops_revoked stops train) (stops_told stops train) revoked_stops told_stops) revoked_limits) told_limits
+
+  -- an action moves no train
+  stands : (later : TrainRec) (action : Action) → later.place ≡ train.place → (carried_out later action).place ≡ train.place
+  stands later (RevokeStop id) same = same
+  stands later (TellStop id number told) same = same
+  stands later (RevokeLimit id) same = same
+  stands later (TellLimit id number told) same = same
+
+  -- so each message of actions one after another says what it has to
+  each_says : (acts : List Action) → All IsSaid acts → (later : TrainRec) → later.place ≡ train.place → AllSay plan stops limits train acts (scan carried_out message_of later acts)
+  each_says [] all later same = tt
+  each_says (action ∷ acts) all later same =
+      (All-head IsSaid action acts all later same, each_says acts (All-tail IsSaid action acts all) (carried_out later action) (stands later action same))
+
+  pub all_say_to : AllSayTo plan stops limits train
+  all_say_to = each_says (actions_with_stamp plan stops limits train) (All-take IsSaid (last_stamp - train.stamp) (actions plan stops limits train) all_said) train refl

@@ -1,0 +1,30 @@
+use Rattle.std.proofs.Common.{◌∙◌}
+use Rattle.std.proofs.lemmas.Result.{IfOk-weaker}
+use Rattle.rbc_rule.specs.declared.input.Input.TheVariants.{Release}
+use Rattle.rbc_rule.proofs.Worlds.{may_have_been, refused_right, fault_handed_on}
+use Rattle.rbc_rule.proofs.WorldReading.{read_or}
+use Rattle.rbc_rule.proofs.AllTrains.{release_refused, release_right}
+use Rattle.rbc_rule.proofs.commands.release.Goals as goal
+
+pub returns-in_err-stops-clause-fault : goal.returns-in_err-stops-clause-fault
+returns-in_err-stops-clause-fault g c =
+    let residual = c.from_residual-in_err-stops in
+    fault_handed_on c.args.track.now _ _ _ residual.result c.in_err-stops.field-0.0 residual.ensures.1 (c.in_err-stops.ensures.fault c.args.track.now) c.in_ok-fetch.ensures.failed
+
+-- what was read is the world's, so the outcome is the step's
+pub returns-in-Ok-clause-right : goal.returns-in-Ok-clause-right
+returns-in-Ok-clause-right g c =
+    let old = c.unwrap_or-stops.result.now in
+    IfOk-weaker c.stops_changed.result _ _
+    (λ outcome is w m.
+    let before = may_have_been c.stops_changed.ensures.extends m in
+    let old_is = read_or c.in_ok-stops.field-0 c.unwrap_or-stops.result _ _ c.unwrap_or-stops.ensures c.new-none.ensures ∙ c.in_ok-stops.ensures.stops c.args.track.now w before in
+    release_right c.args.track.now w c.args.number old old_is c.in_ok-stops-2.field-0 c.in_ok-stops-2.ensures c.in-Ok.stops outcome c.in-Ok.is (is w m) m.well_formed)
+    c.stops_changed.ensures.outcome
+
+pub returns-clause-right : goal.returns-clause-right
+returns-clause-right g c = λ w m.
+    let old = c.unwrap_or-stops.result.now in
+    let old_is = read_or c.in_ok-stops.field-0 c.unwrap_or-stops.result _ _ c.unwrap_or-stops.ensures c.new-none.ensures ∙ c.in_ok-stops.ensures.stops c.args.track.now w m in
+    refused_right c.args.track.now (Release c.args.number) w c.in-Err.code c.refused.result c.refused.ensures
+    (release_refused c.args.track.now w c.args.number old old_is c.in_ok-stops-2.field-0 c.in_ok-stops-2.ensures c.in-Err.code c.in-Err.is)

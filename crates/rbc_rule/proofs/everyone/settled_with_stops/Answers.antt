@@ -1,0 +1,15 @@
+use Rattle.std.proofs.Common.{◌∙◌, ap}
+use Rattle.rbc_records.specs.declared.record.Key.TheVariants as key
+use Rattle.rbc_records.specs.declared.record.Rec.TheVariants as rec
+use Rattle.rbc_rule.proofs.WorldReading.{read_or}
+use Rattle.rbc_rule.proofs.AllTrains.{gathered_outcome}
+use Rattle.rbc_rule.specs.Gathered.{settled_outcome}
+use Rattle.rbc_rule.proofs.everyone.settled_with_stops.Goals as goal
+
+pub returns-clause-outcome : goal.returns-clause-outcome
+returns-clause-outcome g c = λ w m.
+    let plan = c.args.track.now in
+    let engines = read_or c.in_ok-roster.field-0 c.unwrap_or-engines.result _ _ c.unwrap_or-engines.ensures c.new-nobody.ensures ∙ c.in_ok-roster.ensures.engines plan w m in
+    gathered_outcome plan c.args.stops c.unwrap_or-limits.result.now c.args.released w key.Stops (rec.Stops c.args.stops) c.done.result c.in_ok-gathered.gathered.writes c.set.new.self c.in_ok-gathered.gathered.messages c.unwrap_or-engines.result.now
+    m.well_formed c.done.ensures c.in_ok-set.ensures.ok (c.in_ok-gathered.ensures.writes w m) (c.in_ok-gathered.ensures.messages w m) engines
+    ∙ ap (λ limits. settled_outcome plan c.args.stops limits c.args.released w.trains key.Stops (rec.Stops c.args.stops)) (read_or c.in_ok-limits.field-0 c.unwrap_or-limits.result _ _ c.unwrap_or-limits.ensures c.new-none.ensures ∙ c.in_ok-limits.ensures.limits plan w m)

@@ -1,0 +1,169 @@
+-- What an input does to the world before the trains are settled, or why it is refused (own rule). The least code that applies
+-- refuses it: 7 unknown train, 8 already enrolled, 9 too many trains, 10 stops outstanding, 11 number used, 12 bad area or
+-- bad restriction, 13 too many active, 14 no such number, 15 stamp too high, 16 nothing to acknowledge. A bad line brings its own.
+use Rattle.std.specs.Prelude.{ℕ, Bool, max, ◌==◌, nat_le, nat_lt, if◌then◌else◌, List, map, length, Option, Some, None, Result, Ok, Err}
+use Rattle.ertms_codec.specs.declared.from_train.Position.{Position}
+use Rattle.ertms_codec.specs.declared.from_train.FromTrain.{FromTrain}
+use Rattle.ertms_codec.specs.declared.from_train.FromTrain.TheVariants.{Report, Ack, StopAck}
+use Rattle.rbc_track.specs.Plan.{Plan}
+use Rattle.rbc_place.specs.Placing.{place_of_report}
+use Rattle.rbc_maps.specs.Maps.{has, value_of, with_value, without}
+use Rattle.rbc_maps.specs.Numbered.{Numbered}
+use Rattle.rbc_ids.specs.Table.{Slots, after_stamp_ack, after_id_ack}
+use Rattle.rbc_ids.specs.declared.slot.StampAck.{StampAck}
+use Rattle.rbc_ids.specs.declared.slot.StampAck.TheVariants as stamp_ack
+use Rattle.rbc_ids.specs.declared.slot.IdAck.{IdAck}
+use Rattle.rbc_ids.specs.declared.slot.IdAck.TheVariants as id_ack
+use Rattle.rbc_zones.specs.declared.segment.Segment.{Segment}
+use Rattle.rbc_zones.specs.declared.limit.Dirs.{Dirs}
+use Rattle.rbc_zones.specs.Segments.{is_good_area}
+use Rattle.rbc_zones.specs.Limits.{is_good_limit}
+use Rattle.rbc_settle.specs.declared.train.TrainRec.{TrainRec}
+use Rattle.rbc_settle.specs.Numbers.{has_number, with_number, without_number}
+use Rattle.rbc_settle.specs.Trains.{new_train}
+use Rattle.rbc_settle.specs.Settling.{Stops, Limits}
+use Rattle.rbc_rule.specs.declared.input.Input.{Input}
+use Rattle.rbc_rule.specs.declared.input.Input.TheVariants.{Enrol, Withdraw, Stop, Release, Restrict, Lift, Received, Bad}
+use Rattle.rbc_rule.specs.World.{World}
+
+-- what is made of an answer, if it is no refusal
+abbrev pub then_do : {A B : Type 0} → (A → B) → Result A ℕ → Result B ℕ
+then_do f (Ok answer) = Ok (f answer)
+then_do f (Err code) = Err code
+
+-- ---- the stops and the restrictions
+
+-- one more is active, under a new number
+abbrev pub with_next : {V : Type 0} → ℕ → V → Numbered V → Numbered V
+with_next number value numbered = record { last = number; active = with_value number value numbered.active }
+
+-- one less
+abbrev pub with_less : {V : Type 0} → ℕ → Numbered V → Numbered V
+with_less number numbered = record numbered { active = without number numbered.active }
+
+-- A number above the last one, something that is good for the track, and room for one more; or the refusal.
+abbrev pub after_adding : {V : Type 0} → ℕ → Bool → ℕ → V → Numbered V → Result (Numbered V) ℕ
+after_adding most is_good number value numbered =
+    if nat_le number numbered.last then Err 11
+    else (if is_good then (if nat_le most (length numbered.active) then Err 13 else Ok (with_next number value numbered))
+    else Err 12)
+
+abbrev pub stops_after : Plan → ℕ → List Segment → Stops → Result Stops ℕ
+stops_after plan number segments stops = after_adding 64 (is_good_area plan segments) number segments stops
+
+abbrev pub limits_after : Plan → ℕ → Segment → Dirs → ℕ → Bool → Limits → Result Limits ℕ
+limits_after plan number segment dirs speed front limits =
+    after_adding 300 (is_good_limit plan segment speed) number (record { segment = segment; dirs = dirs; speed = speed; front = front }) limits
+
+-- a number that is active, or the refusal
+abbrev pub after_removing : {V : Type 0} → ℕ → Numbered V → Result (Numbered V) ℕ
+after_removing number numbered = if has numbered.active number then Ok (with_less number numbered) else Err 14
+
+-- a train no longer stops at once for a stop that is released
+abbrev pub forget : ℕ → TrainRec → TrainRec
+forget number train = record train { forced = without_number number train.forced }
+
+abbrev pub forget_all : ℕ → List (ℕ × TrainRec) → List (ℕ × TrainRec)
+forget_all number trains = map (λ train. (train.0, forget number train.1)) trains
+
+-- ---- one train
+
+abbrev pub unknown_stamp : ℕ
+unknown_stamp = 4294967295
+
+-- T_TRAIN of a message from a train leaves room for stamps, or is unknown
+abbrev pub is_too_high : ℕ → Bool
+is_too_high stamp = if stamp == unknown_stamp then nat_lt 1 0 else nat_lt 4200000000 stamp
+
+-- the next message to a train is later than each that it sent
+abbrev pub raised : ℕ → TrainRec → TrainRec
+raised stamp train = if stamp == unknown_stamp then train else record train { stamp = max train.stamp stamp }
+
+-- where it says that it is
+abbrev pub placed : Plan → Position → TrainRec → TrainRec
+placed plan position train = record train { place = place_of_report plan position train.length }
+
+-- A message to the train is acknowledged by its stamp. It is looked for among the stops, and then among the restrictions.
+abbrev pub limits_acked : TrainRec → StampAck × Slots → Result TrainRec ℕ
+limits_acked train (stamp_ack.Freed, slots) = Ok (record train { limits = slots })
+limits_acked train (stamp_ack.Marked, slots) = Ok (record train { limits = slots })
+limits_acked train (stamp_ack.Nothing, slots) = Err 16
+
+abbrev pub stops_acked : ℕ → TrainRec → StampAck × Slots → Result TrainRec ℕ
+stops_acked acked train (stamp_ack.Freed, slots) = Ok (record train { stops = slots })
+stops_acked acked train (stamp_ack.Marked, slots) = Ok (record train { stops = slots })
+stops_acked acked train (stamp_ack.Nothing, slots) = limits_acked train (after_stamp_ack train.limits acked)
+
+abbrev pub acknowledged : ℕ → TrainRec → Result TrainRec ℕ
+acknowledged acked train = stops_acked acked train (after_stamp_ack train.stops acked)
+
+-- a number that a train stops at once for
+abbrev pub forced_too : ℕ → List ℕ → List ℕ
+forced_too number forced = if has_number forced number then forced else with_number number forced
+
+-- a stop is acknowledged by its identifier: a conditional one that is rejected stops the train at once
+abbrev pub stop_acked : TrainRec → IdAck × Slots → Result TrainRec ℕ
+stop_acked train (id_ack.Marked, slots) = Ok (record train { stops = slots })
+stop_acked train (id_ack.Rejected number, slots) = Ok (record train { stops = slots; forced = forced_too number train.forced })
+stop_acked train (id_ack.Nothing, slots) = Err 16
+
+abbrev pub answered : ℕ → ℕ → TrainRec → Result TrainRec ℕ
+answered id answer train = stop_acked train (after_id_ack train.stops id answer)
+
+-- what a message says to the train's record, whatever its stamp
+abbrev pub told_by : Plan → FromTrain → TrainRec → Result TrainRec ℕ
+told_by plan (Report stamp engine position) train = Ok (placed plan position (raised stamp train))
+told_by plan (Ack stamp engine acked) train = acknowledged acked (raised stamp train)
+told_by plan (StopAck stamp engine id answer position) train = answered id answer (placed plan position (raised stamp train))
+
+abbrev pub stamp_of : FromTrain → ℕ
+stamp_of (Report stamp engine position) = stamp
+stamp_of (Ack stamp engine acked) = stamp
+stamp_of (StopAck stamp engine id answer position) = stamp
+
+abbrev pub engine_of : FromTrain → ℕ
+engine_of (Report stamp engine position) = engine
+engine_of (Ack stamp engine acked) = engine
+engine_of (StopAck stamp engine id answer position) = engine
+
+-- a train after its message, or the refusal
+abbrev pub heard : Plan → FromTrain → TrainRec → Result TrainRec ℕ
+heard plan message train = if is_too_high (stamp_of message) then Err 15 else told_by plan message train
+
+-- ---- the trains
+
+-- a train is enrolled that is not yet, and for which there is room
+abbrev pub enrolled : ℕ → ℕ → List (ℕ × TrainRec) → Result (List (ℕ × TrainRec)) ℕ
+enrolled engine train_length trains =
+    if has trains engine then Err 8
+    else (if nat_le 2000 (length trains) then Err 9
+    else Ok (with_value engine (new_train engine train_length 0) trains))
+
+-- a train is withdrawn that is enrolled, and has no stop identifier that is held
+abbrev pub without_train : ℕ → List (ℕ × TrainRec) → Option TrainRec → Result (List (ℕ × TrainRec)) ℕ
+without_train engine trains None = Err 7
+without_train engine trains (Some train) = if length train.stops == 0 then Ok (without engine trains) else Err 10
+
+abbrev pub withdrawn : ℕ → List (ℕ × TrainRec) → Result (List (ℕ × TrainRec)) ℕ
+withdrawn engine trains = without_train engine trains (value_of trains engine)
+
+-- a message comes from a train that is enrolled
+abbrev pub heard_from : Plan → FromTrain → Option TrainRec → Result TrainRec ℕ
+heard_from plan message None = Err 7
+heard_from plan message (Some train) = heard plan message train
+
+abbrev pub received : Plan → FromTrain → List (ℕ × TrainRec) → Result (List (ℕ × TrainRec)) ℕ
+received plan message trains =
+    then_do (λ train. with_value (engine_of message) train trains) (heard_from plan message (value_of trains (engine_of message)))
+
+-- ---- the world
+
+abbrev pub effect : Plan → Input → World → Result World ℕ
+effect plan (Enrol engine train_length) w = then_do (λ trains. record w { trains = trains }) (enrolled engine train_length w.trains)
+effect plan (Withdraw engine) w = then_do (λ trains. record w { trains = trains }) (withdrawn engine w.trains)
+effect plan (Stop number segments) w = then_do (λ stops. record w { stops = stops }) (stops_after plan number segments w.stops)
+effect plan (Release number) w = then_do (λ stops. record w { stops = stops; trains = forget_all number w.trains }) (after_removing number w.stops)
+effect plan (Restrict number segment dirs speed front) w = then_do (λ limits. record w { limits = limits }) (limits_after plan number segment dirs speed front w.limits)
+effect plan (Lift number) w = then_do (λ limits. record w { limits = limits }) (after_removing number w.limits)
+effect plan (Received message) w = then_do (λ trains. record w { trains = trains }) (received plan message w.trains)
+effect plan (Bad code) w = Err code

@@ -1,0 +1,10 @@
+pub mod Inputs
+pub mod World
+pub mod Effect
+pub mod Step
+pub mod Records
+pub mod WellFormed
+pub mod Right
+pub mod Gathered
+pub mod Saying
+pub mod Laws

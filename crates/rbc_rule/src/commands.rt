@@ -1,0 +1,111 @@
+//! The signaller's commands.
+
+ghost use Rattle.std.specs.Prelude.{◌≡◌, ◌+◌, ◌≤◌, ◌<◌, ◌^◌, IfOk, IfErr, OnOk, length};
+ghost use Rattle.rbc_records.specs.Notes.{Extends};
+ghost use Rattle.rbc_rule.specs.Right.{IsRight, IsFault};
+ghost use Rattle.rbc_rule.specs.Gathered.{AreSendable};
+
+use crate::change::{self, Restriction};
+use crate::everyone::{limits_changed, stops_changed};
+use crate::fetch::fetch;
+use crate::input::{Input, Segments};
+use crate::outcome::{Outcome, RuleFault};
+use crate::read;
+use rbc_records::{Key, Reader};
+use rbc_track::Track;
+use rbc_zones::{Limits, Stops};
+use std::alloc::Global;
+
+/// Closes an area.
+pub(crate) fn stop<S: Reader>(
+    alloc: Global,
+    track: &Track,
+    number: u32,
+    segments: &Segments,
+    store: &mut S,
+) -> Result<Outcome, RuleFault>
+    requires room { S.failed store.old + 1 < 2 ^ 64 }
+    requires some { 1 ≤ length segments.now }
+    ensures right { IfOk result (λ outcome. IsRight track.now (Input.Stop number segments.now) (S.notes store.new) outcome.result outcome.writes outcome.messages) }
+    ensures fit { IfOk result (λ outcome. AreSendable outcome.messages) }
+    ensures extends { Extends (S.notes store.old) (S.notes store.new) }
+    ensures fault { IfErr result (λ fault. IsFault track.now fault (S.notes store.new) (S.failed store.old) (S.failed store.new)) }
+    ensures failed { OnOk result (S.failed store.new ≡ S.failed store.old) }
+{
+    fetch(store, Key::Stops)?;
+    let none = Stops::new(alloc);
+    let stops = read::stops(store)?.unwrap_or(&none);
+    match change::stops_after(alloc, track, number, segments, stops)? {
+        Ok(stops) => stops_changed(alloc, track, stops, None, store),
+        Err(code) => Ok(Outcome::refused(alloc, code)),
+    }
+}
+
+/// Opens an area again.
+pub(crate) fn release<S: Reader>(
+    alloc: Global,
+    track: &Track,
+    number: u32,
+    store: &mut S,
+) -> Result<Outcome, RuleFault>
+    requires { S.failed store.old + 1 < 2 ^ 64 }
+    ensures right { IfOk result (λ outcome. IsRight track.now (Input.Release number) (S.notes store.new) outcome.result outcome.writes outcome.messages) }
+    ensures fit { IfOk result (λ outcome. AreSendable outcome.messages) }
+    ensures extends { Extends (S.notes store.old) (S.notes store.new) }
+    ensures fault { IfErr result (λ fault. IsFault track.now fault (S.notes store.new) (S.failed store.old) (S.failed store.new)) }
+    ensures failed { OnOk result (S.failed store.new ≡ S.failed store.old) }
+{
+    fetch(store, Key::Stops)?;
+    let none = Stops::new(alloc);
+    let stops = read::stops(store)?.unwrap_or(&none);
+    match change::stops_without(alloc, number, stops)? {
+        Ok(stops) => stops_changed(alloc, track, stops, Some(number), store),
+        Err(code) => Ok(Outcome::refused(alloc, code)),
+    }
+}
+
+/// Restricts the speed.
+pub(crate) fn restrict<S: Reader>(
+    alloc: Global,
+    track: &Track,
+    new: &Restriction,
+    store: &mut S,
+) -> Result<Outcome, RuleFault>
+    requires { S.failed store.old + 1 < 2 ^ 64 }
+    ensures right { IfOk result (λ outcome. IsRight track.now (Input.Restrict new.now.number new.now.segment new.now.dirs new.now.speed new.now.front) (S.notes store.new) outcome.result outcome.writes outcome.messages) }
+    ensures fit { IfOk result (λ outcome. AreSendable outcome.messages) }
+    ensures extends { Extends (S.notes store.old) (S.notes store.new) }
+    ensures fault { IfErr result (λ fault. IsFault track.now fault (S.notes store.new) (S.failed store.old) (S.failed store.new)) }
+    ensures failed { OnOk result (S.failed store.new ≡ S.failed store.old) }
+{
+    fetch(store, Key::Limits)?;
+    let none = Limits::new(alloc);
+    let limits = read::limits(store)?.unwrap_or(&none);
+    match change::limits_after(alloc, track, new, limits)? {
+        Ok(limits) => limits_changed(alloc, track, limits, store),
+        Err(code) => Ok(Outcome::refused(alloc, code)),
+    }
+}
+
+/// Lifts a restriction.
+pub(crate) fn lift<S: Reader>(
+    alloc: Global,
+    track: &Track,
+    number: u32,
+    store: &mut S,
+) -> Result<Outcome, RuleFault>
+    requires { S.failed store.old + 1 < 2 ^ 64 }
+    ensures right { IfOk result (λ outcome. IsRight track.now (Input.Lift number) (S.notes store.new) outcome.result outcome.writes outcome.messages) }
+    ensures fit { IfOk result (λ outcome. AreSendable outcome.messages) }
+    ensures extends { Extends (S.notes store.old) (S.notes store.new) }
+    ensures fault { IfErr result (λ fault. IsFault track.now fault (S.notes store.new) (S.failed store.old) (S.failed store.new)) }
+    ensures failed { OnOk result (S.failed store.new ≡ S.failed store.old) }
+{
+    fetch(store, Key::Limits)?;
+    let none = Limits::new(alloc);
+    let limits = read::limits(store)?.unwrap_or(&none);
+    match change::limits_without(alloc, number, limits)? {
+        Ok(limits) => limits_changed(alloc, track, limits, store),
+        Err(code) => Ok(Outcome::refused(alloc, code)),
+    }
+}

@@ -1,0 +1,125 @@
+//! What a message from a train says to its record.
+
+ghost use Rattle.std.specs.Prelude.{◌≡◌, IfOk};
+ghost use Rattle.rbc_rule.specs.Effect.{is_too_high, raised, placed, acknowledged, answered, stamp_of, engine_of, heard};
+
+use crate::refuse;
+use ertms_codec::{FromTrain, Position};
+use rbc_ids::{IdAck, StampAck};
+use rbc_place::place_of;
+use rbc_settle::TrainRec;
+use rbc_track::Track;
+use std::alloc::{AllocError, Global};
+
+/// T_TRAIN of a message whose time is unknown.
+const UNKNOWN_STAMP: u32 = 4_294_967_295;
+
+/// The greatest T_TRAIN of a message from a train.
+const MOST_STAMP: u32 = 4_200_000_000;
+
+/// The engine that a message names.
+pub(crate) fn engine_of(message: &FromTrain) -> u32
+    ensures { result ≡ engine_of message.now }
+{
+    match message {
+        FromTrain::Report { engine, .. }
+        | FromTrain::Ack { engine, .. }
+        | FromTrain::StopAck { engine, .. } => *engine,
+    }
+}
+
+fn stamp_of(message: &FromTrain) -> u32
+    ensures { result ≡ stamp_of message.now }
+{
+    match message {
+        FromTrain::Report { stamp, .. }
+        | FromTrain::Ack { stamp, .. }
+        | FromTrain::StopAck { stamp, .. } => *stamp,
+    }
+}
+
+/// Whether a stamp leaves no room for stamps above it. An unknown one does not count.
+fn is_too_high(stamp: u32) -> bool
+    ensures { result ≡ is_too_high stamp }
+{
+    stamp != UNKNOWN_STAMP && stamp > MOST_STAMP
+}
+
+/// Raises the train's stamp to that of its message, where that is known.
+fn raise(train: &mut TrainRec, stamp: u32)
+    ensures { train.new ≡ raised stamp train.old }
+{
+    if stamp != UNKNOWN_STAMP {
+        train.stamp = train.stamp.max(stamp);
+    }
+}
+
+/// Takes over where the train says that it is.
+fn place(track: &Track, train: &mut TrainRec, position: &Position)
+    ensures { train.new ≡ placed track.now position.now train.old }
+{
+    train.place = place_of(track, position, train.length);
+}
+
+/// The train after it has acknowledged a message with a stamp, or the code that refuses that.
+fn acknowledged(train: TrainRec, acked: u32) -> Result<TrainRec, u8>
+    ensures { result ≡ acknowledged acked train }
+{
+    let mut train = train;
+    match train.stops.ack_stamp(acked) {
+        StampAck::Freed | StampAck::Marked => Ok(train),
+        StampAck::Nothing => match train.limits.ack_stamp(acked) {
+            StampAck::Freed | StampAck::Marked => Ok(train),
+            StampAck::Nothing => Err(refuse::NOTHING_TO_ACKNOWLEDGE),
+        },
+    }
+}
+
+/// The train after it has answered a stop, or the code that refuses that.
+fn answered(train: TrainRec, id: u8, answer: u8) -> Result<Result<TrainRec, u8>, AllocError>
+    ensures { IfOk result (λ after. after ≡ answered id answer train) }
+{
+    let mut train = train;
+    match train.stops.ack_id(id, answer) {
+        IdAck::Marked => Ok(Ok(train)),
+        IdAck::Rejected(number) => {
+            if !train.forced.has(number) {
+                train.forced.add(number)?;
+            }
+            Ok(Ok(train))
+        }
+        IdAck::Nothing => Ok(Err(refuse::NOTHING_TO_ACKNOWLEDGE)),
+    }
+}
+
+/// The train after its message, or the code that refuses it. The record that is handed in stays as it was.
+pub(crate) fn heard(
+    alloc: Global,
+    track: &Track,
+    message: &FromTrain,
+    train: &TrainRec,
+) -> Result<Result<TrainRec, u8>, AllocError>
+    ensures { IfOk result (λ after. after ≡ heard track.now message.now train.now) }
+{
+    if is_too_high(stamp_of(message)) {
+        return Ok(Err(refuse::STAMP_TOO_HIGH));
+    }
+    let mut train = train.copy(alloc)?;
+    raise(&mut train, stamp_of(message));
+    match message {
+        FromTrain::Report { position, .. } => {
+            place(track, &mut train, position);
+            Ok(Ok(train))
+        }
+        FromTrain::Ack { acked, .. } => Ok(acknowledged(train, *acked)),
+        FromTrain::StopAck {
+            id,
+            answer,
+            position,
+            ..
+        } => {
+            place(track, &mut train, position);
+            answered(train, *id, *answer)
+        }
+    }
+}

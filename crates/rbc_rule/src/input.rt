@@ -1,0 +1,121 @@
+//! Inputs.
+
+ghost use Rattle.std.specs.Prelude.{◌≡◌, ◌↔◌, ◌∷◌, ◌++◌, [], OnOk, OnErr, IsTrue};
+ghost use Rattle.rbc_rule.specs.Inputs.{Fits};
+
+use ertms_codec::FromTrain;
+use rbc_zones::{Dirs, Segment};
+use std::alloc::{AllocError, Global};
+use std::marker::Model;
+
+/// The greatest engine number (NID_ENGINE has 24 bits).
+const MOST_ENGINE: u32 = 16_777_215;
+
+/// The greatest length of a train, in units of 10 cm.
+const MOST_LENGTH: u32 = 40_000;
+
+/// The greatest code of a bad line.
+const MOST_BAD: u8 = 6;
+
+/// The segments of a stop, in the order in which they were given. In contracts a list.
+#[derive(Debug, Drop)]
+pub struct Segments {
+    all: Vec<Segment>,
+}
+
+impl Model for Segments {
+    ghost use Rattle.std.specs.Prelude.{List};
+    ghost use Rattle.rbc_zones.specs.declared.segment.Segment.{Segment};
+
+    ghost Value = { List Segment };
+
+    ghost view = { λ segments. segments.all.items };
+}
+
+impl Segments {
+    /// No segments. It takes no memory.
+    pub fn new(alloc: Global) -> Self
+        ensures { result ≡ [] }
+    {
+        Segments {
+            all: Vec::new(alloc),
+        }
+    }
+
+    /// Adds a segment at the end. A refusal for want of memory changes nothing.
+    pub fn push(&mut self, segment: Segment) -> Result<(), AllocError>
+        ensures ok { OnOk result (self.new ≡ self.old ++ segment ∷ []) }
+        ensures err { OnErr result (self.new ≡ self.old) }
+    {
+        self.all.push(segment)?;
+        Ok(())
+    }
+
+    /// The segments, in the order in which they were given.
+    pub fn as_slice(&self) -> &[Segment]
+        ensures { result.now ≡ self.now }
+    {
+        self.all.as_slice()
+    }
+}
+
+/// An input: an enrolment, a command of the signaller, or a message from a train.
+#[derive(Debug, Drop)]
+pub enum Input {
+    /// A train reports to the radio block centre: its engine number, at most 16,777,215, and its length,
+    /// 1 to 40,000 units of 10 cm.
+    Enrol {
+        engine: u32,
+        length: u32,
+    },
+    /// A train leaves it.
+    Withdraw {
+        engine: u32,
+    },
+    /// The signaller closes an area of 1 to 8 segments at once, under a number that rises from stop to stop.
+    Stop {
+        number: u32,
+        segments: Segments,
+    },
+    /// The signaller opens it again.
+    Release {
+        number: u32,
+    },
+    /// The signaller restricts the speed on a segment, to so many km/h, for trains that face so, under a number that rises
+    /// from restriction to restriction; `front` is Q_FRONT, true where the train's length does not delay its end.
+    Restrict {
+        number: u32,
+        segment: Segment,
+        dirs: Dirs,
+        speed: u32,
+        front: bool,
+    },
+    /// The signaller lifts a restriction.
+    Lift {
+        number: u32,
+    },
+    /// A train sent a message.
+    Received(FromTrain),
+    /// A line that spells no input, with the code that refuses it, 1 to 6.
+    Bad(u8),
+}
+
+impl Input {
+    /// Whether the numbers are in the ranges that a batch allows, and a stop has a segment. It takes no memory.
+    pub fn fits(&self) -> bool
+        ensures { IsTrue result ↔ Fits self.now }
+    {
+        match self {
+            Input::Enrol { engine, length } => {
+                *engine <= MOST_ENGINE && 1 <= *length && *length <= MOST_LENGTH
+            }
+            Input::Withdraw { engine } => *engine <= MOST_ENGINE,
+            Input::Stop { segments, .. } => !segments.as_slice().is_empty(),
+            Input::Bad(code) => 1 <= *code && *code <= MOST_BAD,
+            Input::Release { .. }
+            | Input::Restrict { .. }
+            | Input::Lift { .. }
+            | Input::Received(_) => true,
+        }
+    }
+}

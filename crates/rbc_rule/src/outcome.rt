@@ -1,0 +1,157 @@
+//! What is decided on an input.
+
+ghost use Rattle.std.specs.Prelude.{◌≡◌, ◌<◌, ◌^◌, [], ◌∷◌, ◌++◌, OnOk, OnErr, length, slice_get, Some};
+ghost use Rattle.rbc_rule.specs.declared.outcome.Reply.TheVariants.{Done, Refused};
+
+use rbc_records::Writes;
+use rbc_settle::Sent;
+use std::alloc::{AllocError, AllocFailed, Global};
+use std::marker::Model;
+
+/// The answer to one input.
+#[derive(Clone, Copy, Debug, PartialEq, Eq)]
+pub enum Reply {
+    /// It was accepted, and so many messages were sent to all trains.
+    Done(u32),
+    /// It was refused with this code, and changed nothing.
+    Refused(u8),
+}
+
+/// Messages that are sent, in their order. In contracts a list.
+#[derive(Debug, Drop)]
+pub struct SentList {
+    all: Vec<Sent>,
+}
+
+impl Model for SentList {
+    ghost use Rattle.std.specs.Prelude.{List};
+    ghost use Rattle.rbc_settle.specs.declared.upkeep.Sent.{Sent};
+
+    ghost Value = { List Sent };
+
+    ghost view = { λ sent. sent.all.items };
+}
+
+impl SentList {
+    /// No messages. It takes no memory.
+    pub fn new(alloc: Global) -> Self
+        ensures { result ≡ [] }
+    {
+        SentList {
+            all: Vec::new(alloc),
+        }
+    }
+
+    /// These messages. It takes no memory.
+    pub(crate) fn from_vec(all: Vec<Sent>) -> Self
+        ensures { result ≡ all.items }
+    {
+        SentList { all }
+    }
+
+    /// Adds a message at the end. A refusal for want of memory changes nothing.
+    pub fn add(&mut self, sent: Sent) -> Result<(), AllocError>
+        ensures ok { OnOk result (self.new ≡ self.old ++ sent ∷ []) }
+        ensures err { OnErr result (self.new ≡ self.old) }
+    {
+        self.all.push(sent)?;
+        Ok(())
+    }
+
+    /// Adds messages at the end. A refusal for want of memory changes nothing.
+    pub(crate) fn add_all(&mut self, sent: &[Sent]) -> Result<(), AllocError>
+        ensures ok { OnOk result (self.new ≡ self.old ++ sent.now) }
+        ensures err { OnErr result (self.new ≡ self.old) }
+    {
+        self.all.extend_from_slice(sent)?;
+        Ok(())
+    }
+
+    /// How many messages there are.
+    pub fn len(&self) -> usize
+        ensures { result ≡ length self.now }
+    {
+        self.all.len()
+    }
+
+    /// The message at an index below `len`, from 0.
+    pub fn at(&self, index: usize) -> &Sent
+        requires { index < length self.now }
+        ensures { slice_get self.now index ≡ Some result.now }
+    {
+        &self.all[index]
+    }
+
+    /// The messages as a vector. It takes no memory.
+    pub fn into_vec(self) -> Vec<Sent>
+        ensures { result.items ≡ self }
+    {
+        self.all
+    }
+}
+
+/// The answer to an input, the records that it writes, and the messages that it sends.
+#[derive(Debug, Drop)]
+pub struct Outcome {
+    pub result: Reply,
+    pub writes: Writes,
+    pub messages: SentList,
+}
+
+impl Outcome {
+    /// Of an input that is refused.
+    pub(crate) fn refused(alloc: Global, code: u8) -> Self
+        ensures { result ≡ record { result = Refused code; writes = []; messages = [] } }
+    {
+        Outcome {
+            result: Reply::Refused(code),
+            writes: Writes::new(alloc),
+            messages: SentList::new(alloc),
+        }
+    }
+
+    /// Of an input that is accepted.
+    pub(crate) fn done(writes: Writes, messages: SentList) -> Self
+        requires { length messages < 2 ^ 32 }
+        ensures { result ≡ record { result = Done (length messages); writes = writes; messages = messages } }
+    {
+        Outcome {
+            result: Reply::Done(messages.len() as u32),
+            writes,
+            messages,
+        }
+    }
+}
+
+/// Why an input was not decided.
+#[derive(Clone, Copy, Debug, PartialEq, Eq)]
+pub enum RuleFault {
+    /// Memory was refused.
+    OutOfMemory,
+    /// What was read stands in no well-formed world.
+    Torn,
+    /// The reader failed.
+    Reader,
+}
+
+impl From<AllocError> for RuleFault {
+    ghost use Rattle.std.specs.Prelude.{◌≡◌};
+    ghost use Rattle.rbc_rule.specs.declared.outcome.RuleFault.TheVariants.{OutOfMemory};
+
+    ghost from_gives = { λ _ fault. fault ≡ OutOfMemory };
+
+    fn from(_: AllocError) -> RuleFault {
+        RuleFault::OutOfMemory
+    }
+}
+
+impl<T: Drop> From<AllocFailed<T>> for RuleFault {
+    ghost use Rattle.std.specs.Prelude.{◌≡◌};
+    ghost use Rattle.rbc_rule.specs.declared.outcome.RuleFault.TheVariants.{OutOfMemory};
+
+    ghost from_gives = { λ _ fault. fault ≡ OutOfMemory };
+
+    fn from(_: AllocFailed<T>) -> RuleFault {
+        RuleFault::OutOfMemory
+    }
+}

@@ -1,0 +1,66 @@
+//! Deciding one input on single records.
+
+ghost use Rattle.std.specs.Prelude.{◌≡◌, ◌+◌, ◌<◌, ◌^◌, IfOk, IfErr, OnOk};
+ghost use Rattle.rbc_records.specs.Notes.{Extends};
+ghost use Rattle.rbc_rule.specs.Inputs.{Fits};
+ghost use Rattle.rbc_rule.specs.Right.{IsRight, IsFault};
+ghost use Rattle.rbc_rule.specs.Gathered.{AreSendable};
+
+use crate::change::Restriction;
+use crate::input::Input;
+use crate::outcome::{Outcome, RuleFault};
+use crate::{commands, trains};
+use rbc_records::Reader;
+use rbc_track::Track;
+use std::alloc::Global;
+
+/// Decides an input on a track, by the records that it reads: the answer, the records to be written, and the messages to be sent
+/// (own rule). The outcome is that of the step of each well-formed world that has what was read. It writes nothing, and
+/// what was known to the reader stays as it was.
+///
+/// # Errors
+///
+/// `OutOfMemory` where memory was refused; `Torn` only where no well-formed world has what was read; `Reader` only where the
+/// reader failed in this call.
+pub fn decide<S: Reader>(
+    alloc: Global,
+    track: &Track,
+    input: &Input,
+    store: &mut S,
+) -> Result<Outcome, RuleFault>
+    requires room { S.failed store.old + 1 < 2 ^ 64 }
+    requires fits { Fits input.now }
+    ensures right { IfOk result (λ outcome. IsRight track.now (input.now) (S.notes store.new) outcome.result outcome.writes outcome.messages) }
+    ensures fit { IfOk result (λ outcome. AreSendable outcome.messages) }
+    ensures extends { Extends (S.notes store.old) (S.notes store.new) }
+    ensures fault { IfErr result (λ fault. IsFault track.now fault (S.notes store.new) (S.failed store.old) (S.failed store.new)) }
+    ensures failed { OnOk result (S.failed store.new ≡ S.failed store.old) }
+{
+    match input {
+        Input::Enrol { engine, length } => trains::enrol(alloc, track, *engine, *length, store),
+        Input::Withdraw { engine } => trains::withdraw(alloc, track, *engine, store),
+        Input::Stop { number, segments } => {
+            commands::stop(alloc, track, *number, segments, store)
+        }
+        Input::Release { number } => commands::release(alloc, track, *number, store),
+        Input::Restrict {
+            number,
+            segment,
+            dirs,
+            speed,
+            front,
+        } => {
+            let new = Restriction {
+                number: *number,
+                segment: *segment,
+                dirs: *dirs,
+                speed: *speed,
+                front: *front,
+            };
+            commands::restrict(alloc, track, &new, store)
+        }
+        Input::Lift { number } => commands::lift(alloc, track, *number, store),
+        Input::Received(message) => trains::receive(alloc, track, message, store),
+        Input::Bad(code) => Ok(Outcome::refused(alloc, *code)),
+    }
+}
