@@ -1,9 +1,12 @@
-pub mod Cuts
-pub mod Settles
-pub mod Tells
+mod Cuts
+mod LineFits
+mod LineInputs
+mod LineWords
+mod Texts
+pub mod Begins
+pub mod Kept
 pub mod Posts
-pub mod Fews
-pub mod Counts
-pub mod Steps
-pub mod Accepted
-pub mod Texts
+pub mod Runs
+pub mod Sends
+pub mod Stands
+pub mod Tells

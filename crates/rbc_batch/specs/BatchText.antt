@@ -1,11 +1,19 @@
 -- The inputs of a batch text, one for each line (own rule).
-use Rattle.std.specs.Prelude.{ℕ, ◌+◌, ◌-◌, ◌*◌, Bool, ◌&&◌, ◌==◌, nat_le, if◌then◌else◌, List, [], ◌∷◌, length, codes, map, Option, Some, None}
+use Rattle.std.specs.Prelude.{◌≡◌, ℕ, ◌+◌, ◌-◌, ◌*◌, Bool, true, false, ◌&&◌, ◌==◌, nat_le, if◌then◌else◌, List, [], ◌∷◌, length, codes, Option, Some, None, option_map, Result, Ok, Err}
 use Rattle.std.specs.List.{fold, list_all, slice_split, before_first, after_first}
 use Rattle.std.specs.Option.{unwrap_or}
 use Rattle.std.specs.Str.{bytes_eq}
-use Rattle.rbc_batch.specs.declared.input.Segment.{Segment}
-use Rattle.rbc_batch.specs.declared.input.Input.{Input}
-use Rattle.rbc_batch.specs.declared.input.Input.TheVariants.{Enrol, Stop, Bad}
+use Rattle.hex.specs.Hex.{decode_of}
+use Rattle.hex.specs.declared.error.FromHexError.{FromHexError}
+use Rattle.ertms_codec.specs.declared.error.DecodeError.{DecodeError}
+use Rattle.ertms_codec.specs.declared.error.DecodeError.TheVariants.{Length, Message, Packet, Field}
+use Rattle.ertms_codec.specs.FromTrain.{Spells}
+use Rattle.ertms_codec.specs.RefusalsFromTrain.{Refuses}
+use Rattle.rbc_zones.specs.declared.segment.Segment.{Segment}
+use Rattle.rbc_zones.specs.declared.limit.Dirs.{Dirs}
+use Rattle.rbc_zones.specs.declared.limit.Dirs.TheVariants.{Up, Down, Both}
+use Rattle.rbc_rule.specs.declared.input.Input.{Input}
+use Rattle.rbc_rule.specs.declared.input.Input.TheVariants.{Enrol, Withdraw, Stop, Release, Restrict, Lift, Received, Bad}
 
 abbrev pub is_line_feed : ℕ → Bool
 is_line_feed byte = byte == 10
@@ -93,20 +101,135 @@ stop_of (number ∷ segment ∷ segments) = stop_from (decimal_of number) (segme
 stop_of [] = None
 stop_of (number ∷ []) = None
 
--- a line by its first word; any other line is bad, with code 1
+-- an engine number by itself
+abbrev pub withdrawal_from : Option ℕ → Option Input
+withdrawal_from (Some engine) = if nat_le engine 16777215 then Some (Withdraw engine) else None
+withdrawal_from None = None
+
+-- `withdraw ENGINE`
+abbrev pub withdrawal_of : List (List ℕ) → Option Input
+withdrawal_of (engine ∷ []) = withdrawal_from (decimal_of engine)
+withdrawal_of [] = None
+withdrawal_of (engine ∷ word ∷ words) = None
+
+-- a number by itself
+abbrev pub number_of : List (List ℕ) → Option ℕ
+number_of (number ∷ []) = decimal_of number
+number_of [] = None
+number_of (number ∷ word ∷ words) = None
+
+-- `release NUMBER` and `lift NUMBER`
+abbrev pub release_of : List (List ℕ) → Option Input
+release_of words = option_map Release (number_of words)
+
+abbrev pub lift_of : List (List ℕ) → Option Input
+lift_of words = option_map Lift (number_of words)
+
+-- `up`, `down` or `both`
+abbrev pub dirs_of : List ℕ → Option Dirs
+dirs_of word =
+    if bytes_eq word (codes "up") then Some Up
+    else (if bytes_eq word (codes "down") then Some Down
+    else (if bytes_eq word (codes "both") then Some Both
+    else None))
+
+-- Q_FRONT, `0` or `1`
+abbrev pub front_of : List ℕ → Option Bool
+front_of word =
+    if bytes_eq word (codes "0") then Some false
+    else (if bytes_eq word (codes "1") then Some true
+    else None)
+
+abbrev pub restriction_from : Option ℕ → Option Segment → Option Dirs → Option ℕ → Option Bool → Option Input
+restriction_from (Some number) (Some segment) (Some dirs) (Some speed) (Some front) = Some (Restrict number segment dirs speed front)
+restriction_from None segment dirs speed front = None
+restriction_from (Some number) None dirs speed front = None
+restriction_from (Some number) (Some segment) None speed front = None
+restriction_from (Some number) (Some segment) (Some dirs) None front = None
+restriction_from (Some number) (Some segment) (Some dirs) (Some speed) None = None
+
+-- `restrict NUMBER SEGMENT DIR SPEED FRONT`, the speed in km/h
+abbrev pub restriction_of : List (List ℕ) → Option Input
+restriction_of (number ∷ segment ∷ dirs ∷ speed ∷ front ∷ []) = restriction_from (decimal_of number) (segment_of segment) (dirs_of dirs) (decimal_of speed) (front_of front)
+restriction_of [] = None
+restriction_of (number ∷ []) = None
+restriction_of (number ∷ segment ∷ []) = None
+restriction_of (number ∷ segment ∷ dirs ∷ []) = None
+restriction_of (number ∷ segment ∷ dirs ∷ speed ∷ []) = None
+restriction_of (number ∷ segment ∷ dirs ∷ speed ∷ front ∷ word ∷ words) = None
+
+-- what a line spells: an input, or the bytes that a train sent
+pub data Line : Type 0 where
+  Spelled : Input → Line
+  Heard : List ℕ → Line
+
+-- the bytes that hexadecimal digits spell, or else a bad line with code 2
+abbrev pub line_of_hex : Result (List ℕ) FromHexError → Line
+line_of_hex (Ok bytes) = Heard bytes
+line_of_hex (Err fault) = Spelled (Bad 2)
+
+-- a word of hexadecimal digits: none is empty, and a carriage return is in none
+abbrev pub is_hex_word : List ℕ → Bool
+is_hex_word [] = false
+is_hex_word (digit ∷ digits) = list_all (λ byte. if byte == 13 then false else true) (digit ∷ digits)
+
+-- `recv HEX`
+abbrev pub message_of : List (List ℕ) → Option Line
+message_of (word ∷ []) = if is_hex_word word then Some (line_of_hex (decode_of word)) else None
+message_of [] = None
+message_of (word ∷ more ∷ words) = None
+
+-- a command of the signaller by its first word
 abbrev pub command_of : List ℕ → List (List ℕ) → Option Input
 command_of word arguments =
     if bytes_eq word (codes "enrol") then enrolment_of arguments
+    else (if bytes_eq word (codes "withdraw") then withdrawal_of arguments
     else (if bytes_eq word (codes "stop") then stop_of arguments
-    else None)
+    else (if bytes_eq word (codes "release") then release_of arguments
+    else (if bytes_eq word (codes "restrict") then restriction_of arguments
+    else (if bytes_eq word (codes "lift") then lift_of arguments
+    else None)))))
 
-abbrev pub input_of_words : List (List ℕ) → Option Input
-input_of_words [] = None
-input_of_words (word ∷ arguments) = command_of word arguments
+-- a line by its first word; any other line is bad, with code 1
+abbrev pub line_of_words : List (List ℕ) → Option Line
+line_of_words [] = None
+line_of_words (word ∷ arguments) =
+    if bytes_eq word (codes "recv") then message_of arguments
+    else option_map Spelled (command_of word arguments)
 
-abbrev pub input_of : List ℕ → Input
-input_of line = unwrap_or (input_of_words (words_of line)) (Bad 1)
+abbrev pub line_of : List ℕ → Line
+line_of line = unwrap_or (line_of_words (words_of line)) (Spelled (Bad 1))
 
--- the inputs of a batch, one for each line, the empty ones too
-abbrev pub inputs_of : List ℕ → List Input
-inputs_of text = map input_of (lines_of text)
+-- the code of bytes that no message spells
+abbrev pub code_of : DecodeError → ℕ
+code_of Length = 3
+code_of Message = 4
+code_of Packet = 5
+code_of Field = 6
+
+-- bytes are an input: the message that they spell, or else a bad line with the code of the first step that fails
+abbrev pub AreHeard : List ℕ → Input → Type 0
+AreHeard bytes (Received message) = Spells bytes message
+AreHeard bytes (Bad code) = (fault : DecodeError) × Refuses bytes fault × (code ≡ code_of fault)
+AreHeard bytes (Enrol engine train_length) = ⊥
+AreHeard bytes (Withdraw engine) = ⊥
+AreHeard bytes (Stop number segments) = ⊥
+AreHeard bytes (Release number) = ⊥
+AreHeard bytes (Restrict number segment dirs speed front) = ⊥
+AreHeard bytes (Lift number) = ⊥
+
+-- what is spelled is an input
+abbrev pub IsInput : Line → Input → Type 0
+IsInput (Spelled spelled) input = input ≡ spelled
+IsInput (Heard bytes) input = AreHeard bytes input
+
+-- each line is an input, the empty ones too
+abbrev pub AreInputs : List (List ℕ) → List Input → Type 0
+AreInputs [] [] = Unit
+AreInputs (line ∷ lines) (input ∷ inputs) = IsInput (line_of line) input × AreInputs lines inputs
+AreInputs [] (input ∷ inputs) = ⊥
+AreInputs (line ∷ lines) [] = ⊥
+
+-- the inputs of a batch
+abbrev pub AreInputsOf : List ℕ → List Input → Type 0
+AreInputsOf text inputs = AreInputs (lines_of text) inputs

@@ -1,11 +1,8 @@
 pub mod BatchText
 pub mod Pieces
-pub mod World
-pub mod Settling
-pub mod Effect
 pub mod Serial
+pub mod Held
 pub mod OutputText
 pub mod Told
-pub mod Sound
 pub mod Sendable
 pub mod Process

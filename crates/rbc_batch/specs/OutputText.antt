@@ -4,10 +4,9 @@ use Rattle.std.specs.Fmt.{decimal}
 use Rattle.std.specs.List.{flat_map, enumerate_from}
 use Rattle.hex.specs.Hex.{encode_upper}
 use Rattle.ertms_codec.specs.ToTrain.{spelling_of}
-use Rattle.rbc_batch.specs.declared.desk.Reply.{Reply}
-use Rattle.rbc_batch.specs.declared.desk.Reply.TheVariants.{Done, Refused}
+use Rattle.rbc_rule.specs.declared.outcome.Reply.{Reply}
+use Rattle.rbc_rule.specs.declared.outcome.Reply.TheVariants.{Done, Refused}
 use Rattle.rbc_batch.specs.declared.outbox.Mail.{Mail}
-use Rattle.rbc_batch.specs.Serial.{Desk}
 
 -- `ok COUNT` or `refused CODE`
 abbrev pub reply_text : Reply → List ℕ
@@ -26,5 +25,5 @@ abbrev pub outbox_lines : ℕ × List Mail → List ℕ
 outbox_lines (engine, mails) = flat_map (mail_line engine) mails
 
 -- the results from 1 on, and then the outboxes by engine
-abbrev pub output_of : Desk → List ℕ
-output_of desk = flat_map result_line (enumerate_from 1 desk.results) ++ flat_map outbox_lines desk.outboxes
+abbrev pub output_of : List Reply → List (ℕ × List Mail) → List ℕ
+output_of results outboxes = flat_map result_line (enumerate_from 1 results) ++ flat_map outbox_lines outboxes

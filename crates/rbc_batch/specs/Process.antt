@@ -5,23 +5,30 @@ use Rattle.std.specs.Io.KnownBytes.{Appends, Consumes, IsAtEnd, Keeps}
 use Rattle.rbc_track.specs.Plan.{Plan}
 use Rattle.rbc_batch.specs.declared.batch.ProcessError.{ProcessError}
 use Rattle.rbc_batch.specs.declared.batch.ProcessError.TheVariants as fault
-use Rattle.rbc_batch.specs.BatchText.{inputs_of}
+use Rattle.rbc_rule.specs.declared.input.Input.{Input}
+use Rattle.rbc_batch.specs.BatchText.{AreInputsOf}
 use Rattle.rbc_batch.specs.Serial.{serial, new_desk}
 use Rattle.rbc_batch.specs.OutputText.{output_of}
-
--- the output text of the serial run, from a new desk, of the inputs of a batch
-abbrev pub text_of : Plan → List ℕ → List ℕ
-text_of plan batch = output_of (serial plan new_desk (inputs_of batch))
 
 -- the batch is all that the reader had left
 abbrev pub IsAllRead : Option (List ℕ) → Option (List ℕ) → List ℕ → Type 0
 IsAllRead old new batch = Consumes old new batch × IsAtEnd new
 
+-- the output text of the serial run, from a new desk, of inputs
+abbrev pub text_of : Plan → List Input → List ℕ
+text_of plan inputs = let desk = serial plan new_desk inputs in output_of desk.results desk.outboxes
+
+-- inputs are those of all that the reader had left
+pub record AreRead (old new : Option (List ℕ)) (inputs : List Input) : Type 0 where
+  pub batch : List ℕ
+  pub all : IsAllRead old new batch
+  pub lines : AreInputsOf batch inputs
+
 -- At Ok the writer holds the output text of all that was read, and nothing else more; at a write fault
 -- exactly the first bytes of it; at any other fault nothing.
 abbrev pub Answers : {E : Type 0} → Plan → Option (List ℕ) → Option (List ℕ) → Option (List ℕ) → Option (List ℕ) → Result E ProcessError → Type 0
-Answers plan read_old read_new old new (Ok done) = (batch : List ℕ) × IsAllRead read_old read_new batch × Appends old new (text_of plan batch)
-Answers plan read_old read_new old new (Err (fault.Write sent)) = (batch : List ℕ) × IsAllRead read_old read_new batch × (sent ≤ length (text_of plan batch)) × Appends old new (take sent (text_of plan batch))
+Answers plan read_old read_new old new (Ok done) = (inputs : List Input) × AreRead read_old read_new inputs × Appends old new (text_of plan inputs)
+Answers plan read_old read_new old new (Err (fault.Write sent)) = (inputs : List Input) × AreRead read_old read_new inputs × (sent ≤ length (text_of plan inputs)) × Appends old new (take sent (text_of plan inputs))
 Answers plan read_old read_new old new (Err fault.Read) = Keeps old new
 Answers plan read_old read_new old new (Err fault.TooLong) = Keeps old new
 Answers plan read_old read_new old new (Err fault.Memory) = Keeps old new

@@ -1,17 +1,14 @@
 -- Steps of a desk, and a run of them, one after another (own rule).
-use Rattle.std.specs.Prelude.{ℕ, ◌+◌, List, [], ◌∷◌, ◌++◌, map, length, Result, Ok, Err}
-use Rattle.std.specs.List.{fold, sum_by}
+use Rattle.std.specs.Prelude.{ℕ, ◌+◌, List, [], ◌∷◌, ◌++◌, map, length}
+use Rattle.std.specs.List.{fold}
 use Rattle.ertms_codec.specs.declared.to_train.ToTrain.{ToTrain}
 use Rattle.rbc_track.specs.Plan.{Plan}
-use Rattle.rbc_batch.specs.declared.input.Input.{Input}
-use Rattle.rbc_batch.specs.declared.input.Segment.{Segment}
-use Rattle.rbc_batch.specs.declared.desk.Reply.{Reply}
-use Rattle.rbc_batch.specs.declared.desk.Reply.TheVariants.{Done, Refused}
-use Rattle.rbc_batch.specs.declared.outbox.Mail.{Mail}
 use Rattle.rbc_maps.specs.Maps.{value_or, with_value}
-use Rattle.rbc_batch.specs.World.{World, Train, new_world}
-use Rattle.rbc_batch.specs.Settling.{settled, messages_of}
-use Rattle.rbc_batch.specs.Effect.{effect}
+use Rattle.rbc_rule.specs.declared.input.Input.{Input}
+use Rattle.rbc_rule.specs.declared.outcome.Reply.{Reply}
+use Rattle.rbc_rule.specs.World.{World, new_world}
+use Rattle.rbc_rule.specs.Step as rule
+use Rattle.rbc_batch.specs.declared.outbox.Mail.{Mail}
 
 -- the world, the results in the order of their inputs, and the mails by engine number
 pub record Desk : Type 0 where
@@ -21,20 +18,6 @@ pub record Desk : Type 0 where
 
 abbrev pub new_desk : Desk
 new_desk = record { world = new_world; results = []; outboxes = [] }
-
--- every train settled
-abbrev pub settled_trains : List (ℕ × List Segment) → List (ℕ × Train) → List (ℕ × Train)
-settled_trains stops trains = map (λ train. (train.0, settled stops train.1)) trains
-
--- what settling sends to each train
-abbrev pub sent_to : List (ℕ × List Segment) → List (ℕ × Train) → List (ℕ × List ToTrain)
-sent_to stops trains = map (λ train. (train.0, messages_of stops train.1)) trains
-
-abbrev pub settle_all : World → World
-settle_all world = record world { trains = settled_trains world.stops world.trains }
-
-abbrev pub sent_to_all : World → List (ℕ × List ToTrain)
-sent_to_all world = sent_to world.stops world.trains
 
 abbrev pub mail : ℕ → ToTrain → Mail
 mail input message = record { input = input; message = message }
@@ -47,25 +30,16 @@ post input outboxes (engine, message ∷ messages) = with_value engine (value_or
 abbrev pub post_all : ℕ → List (ℕ × List ToTrain) → List (ℕ × List Mail) → List (ℕ × List Mail)
 post_all input sent outboxes = fold (post input) outboxes sent
 
--- how many messages were sent to all trains
-abbrev pub count_sent : List (ℕ × List ToTrain) → ℕ
-count_sent sent = sum_by (λ messages. length messages.1) sent
-
--- a refused input appends its result alone
-abbrev pub refused : Desk → ℕ → Desk
-refused desk code = record desk { results = desk.results ++ Refused code ∷ [] }
-
--- after the effect of any other input every train is settled
-abbrev pub after : Desk → Result World ℕ → Desk
-after desk (Err code) = refused desk code
-after desk (Ok world) = record {
-  world = settle_all world;
-  results = desk.results ++ Done (count_sent (sent_to_all world)) ∷ [];
-  outboxes = post_all (length desk.results + 1) (sent_to_all world) desk.outboxes;
+-- a step of the world: its answer joins the results, and its messages the outboxes
+abbrev pub after : Desk → rule.Step → Desk
+after desk s = record {
+  world = s.world;
+  results = desk.results ++ s.reply ∷ [];
+  outboxes = post_all (length desk.results + 1) s.sent desk.outboxes;
 }
 
 abbrev pub step : Plan → Desk → Input → Desk
-step plan desk input = after desk (effect plan input desk.world)
+step plan desk input = after desk (rule.step plan desk.world input)
 
 -- the inputs one after another, on one track
 abbrev pub serial : Plan → Desk → List Input → Desk

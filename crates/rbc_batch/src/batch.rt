@@ -1,15 +1,19 @@
 //! A batch from a reader to a writer.
 
-ghost use Rattle.std.specs.Prelude.{◌≡◌, ◌≤◌, ◌<◌, length, IfOk, IfSome, IsErrOf};
-ghost use Rattle.rbc_batch.specs.BatchText.{inputs_of};
+ghost use Rattle.std.specs.Prelude.{◌≡◌, ◌<◌, ◌^◌, length, IfOk, IfErr, IfSome, IsErrOf};
+ghost use Rattle.std.specs.List.{All};
+ghost use Rattle.rbc_track.specs.Plan.{IsPlan};
+ghost use Rattle.rbc_rule.specs.Inputs.{Fits};
+ghost use Rattle.rbc_batch.specs.Held.{Holds};
 ghost use Rattle.rbc_batch.specs.Serial.{serial, new_desk};
 ghost use Rattle.rbc_batch.specs.Process.{Answers, IsUntouched};
 
 use crate::desk::Desk;
-use crate::parse;
+use crate::parse::parse_batch;
 use crate::read::read_batch;
 use crate::render::render;
 use crate::write::write_text;
+use rbc_rule::{Input, RuleFault};
 use rbc_track::Track;
 use std::alloc::{AllocError, Global};
 use std::error::Error;
@@ -59,20 +63,39 @@ impl From<AllocError> for ProcessError {
     }
 }
 
-/// The desk after all lines of a batch, one after another, from a new desk on a track.
-fn run_batch(alloc: Global, track: &Track, batch: &[u8]) -> Result<Desk, AllocError>
-    requires { length batch.now ≤ 16777216 }
-    ensures desk { IfOk result (λ desk. desk ≡ serial track.now new_desk (inputs_of batch.now)) }
-    ensures few { IfOk result (λ desk. length desk.results ≤ length batch.now) }
+/// What each track keeps: a step rests on it.
+fn keeps(track: &Track)
+    ensures { IsPlan track.now }
+{
+    let _ = track.horizon();
+}
+
+/// The desk after all inputs, one after another, from a new desk on a track.
+fn run_inputs(alloc: Global, track: &Track, inputs: &[Input]) -> Result<Desk, RuleFault>
+    requires plan { IsPlan track.now }
+    requires fit { All Fits inputs.now }
+    requires few { length inputs.now < 2 ^ 32 }
+    ensures desk { IfOk result (λ desk. Holds track.now desk (serial track.now new_desk inputs.now)) }
+    ensures memory { IfErr result (λ fault. fault ≡ RuleFault.OutOfMemory) }
+    ensures few { IfOk result (λ desk. length desk.results ≡ length inputs.now) }
 {
     let mut desk = Desk::new(alloc);
-    let mut rest = batch;
-    while !rest.is_empty() {
-        let (line, behind) = parse::first_line(rest);
-        desk.step(alloc, track, parse::input(alloc, line)?)?;
-        rest = behind;
+    for input in inputs {
+        desk.step(alloc, track, input)?;
     }
     Ok(desk)
+}
+
+impl From<RuleFault> for ProcessError {
+    ghost use Rattle.std.specs.Prelude.{◌≡◌};
+    ghost use Rattle.rbc_batch.specs.declared.batch.ProcessError.TheVariants.{Memory};
+
+    ghost from_gives = { λ _ e. e ≡ Memory };
+
+    /// A run of one input after another finds no records that do not stand together, and none that cannot be read.
+    fn from(_: RuleFault) -> ProcessError {
+        ProcessError::Memory
+    }
 }
 
 /// Reads a batch to its end, runs its lines one after another from a new desk on a track, and writes the output
@@ -94,7 +117,9 @@ pub fn process<R: Read, W: Write>(
 {
     let alloc = rt.alloc();
     let batch = read_batch(alloc, reader)?;
-    let desk = run_batch(alloc, track, &batch)?;
+    let inputs = parse_batch(rt, &batch)?;
+    keeps(track);
+    let desk = run_inputs(alloc, track, &inputs)?;
     let text = render(alloc, &desk)?;
     write_text(writer, &text).map_err(|sent| ProcessError::Write { sent: sent as u64 })
 }

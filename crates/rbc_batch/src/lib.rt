@@ -3,17 +3,16 @@
 
 mod batch;
 mod desk;
-mod input;
 mod law;
 mod outbox;
 mod parse;
 mod read;
 mod render;
-mod train;
 mod write;
 
 pub use batch::{ProcessError, process};
 pub use law::told_law;
+pub use parse::parse_batch;
 pub use write::write_text;
 
 #[cfg(test)]

@@ -1,13 +1,16 @@
 //! The messages sent to each engine.
 
-ghost use Rattle.std.specs.Prelude.{◌≡◌, [], ◌++◌, map, OnOk};
-ghost use Rattle.std.specs.List.{All};
+ghost use Rattle.std.specs.Prelude.{◌≡◌, [], ◌∷◌, ◌++◌, OnOk};
+ghost use Rattle.std.specs.List.{fold};
 ghost use Rattle.ertms_codec.specs.ToTrain.{Fits};
-ghost use Rattle.rbc_maps.specs.Maps.{IsMap};
+ghost use Rattle.rbc_maps.specs.Maps.{with_value, value_or};
+ghost use Rattle.rbc_rule.specs.Gathered as gathered;
 ghost use Rattle.rbc_batch.specs.Sendable.{AreSendable};
-ghost use Rattle.rbc_batch.specs.Serial.{mail, post};
+ghost use Rattle.rbc_batch.specs.Held.{AreOutboxes, post_one};
 
 use ertms_codec::ToTrain;
+use rbc_rule::SentList;
+use rbc_settle::Sent;
 use std::alloc::{AllocError, Global};
 use std::marker::Model;
 
@@ -54,43 +57,54 @@ impl Outbox {
         self.mails.as_slice()
     }
 
-    /// Adds the messages that an input sent.
-    fn add(&mut self, input: u32, messages: &[ToTrain]) -> Result<(), AllocError>
-        requires { All Fits messages.now }
-        ensures { OnOk result (self.new ≡ self.old ++ map (mail input) messages.now) }
+    /// Adds a message.
+    fn add(&mut self, mail: Mail) -> Result<(), AllocError>
+        requires { Fits mail.message }
+        ensures { OnOk result (self.new ≡ self.old ++ mail ∷ []) }
     {
-        for message in messages {
-            self.mails.push(Mail {
-                input,
-                message: *message,
-            })?;
-        }
+        self.mails.push(mail)?;
         Ok(())
     }
 }
 
-/// Puts the messages to an engine into its outbox. It has one from its first message on.
-pub fn post(
+/// Puts a message to an engine into its outbox. It has one from its first message on.
+fn post(
+    alloc: Global,
+    outboxes: &mut Vec<(u32, Outbox)>,
+    engine: u32,
+    mail: Mail,
+) -> Result<(), AllocError>
+    requires outboxes { AreOutboxes outboxes.old.items }
+    requires fit { Fits mail.message }
+    ensures posted { OnOk result (outboxes.new.items ≡ with_value engine (value_or [] outboxes.old.items engine ++ mail ∷ []) outboxes.old.items) }
+    ensures outboxes { OnOk result (AreOutboxes outboxes.new.items) }
+{
+    let at = rbc_maps::place_of(outboxes, engine);
+    if at < outboxes.len() && outboxes[at].0 == engine {
+        outboxes[at].1.add(mail)?;
+    } else {
+        let mut outbox = Outbox::new(alloc);
+        outbox.add(mail)?;
+        outboxes.insert(at, (engine, outbox))?;
+    }
+    Ok(())
+}
+
+/// Puts the messages of an input into the outboxes of their engines, one after another.
+pub(crate) fn post_all(
     alloc: Global,
     outboxes: &mut Vec<(u32, Outbox)>,
     input: u32,
-    engine: u32,
-    messages: &[ToTrain],
+    messages: &SentList,
 ) -> Result<(), AllocError>
-    requires map { IsMap outboxes.old.items }
-    requires fit { All Fits messages.now }
-    ensures { OnOk result (outboxes.new.items ≡ post input outboxes.old.items (engine, messages.now)) }
+    requires outboxes { AreOutboxes outboxes.old.items }
+    requires fit { gathered.AreSendable messages.now }
+    ensures posted { OnOk result (outboxes.new.items ≡ fold (post_one input) outboxes.old.items messages.now) }
+    ensures outboxes { OnOk result (AreOutboxes outboxes.new.items) }
 {
-    if messages.is_empty() {
-        return Ok(());
-    }
-    let at = rbc_maps::place_of(outboxes, engine);
-    if at < outboxes.len() && outboxes[at].0 == engine {
-        outboxes[at].1.add(input, messages)?;
-    } else {
-        let mut outbox = Outbox::new(alloc);
-        outbox.add(input, messages)?;
-        outboxes.insert(at, (engine, outbox))?;
+    for index in 0..messages.len() {
+        let Sent { engine, message } = *messages.at(index);
+        post(alloc, outboxes, engine, Mail { input, message })?;
     }
     Ok(())
 }

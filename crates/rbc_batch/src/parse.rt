@@ -1,13 +1,31 @@
 //! Reading the lines of a batch.
 
-ghost use Rattle.std.specs.Prelude.{◌≡◌, ◌+◌, ◌∷◌, ◌<◌, ◌^◌, [], ℕ, Bool, List, Option, Some, None, length, IfOk, IfSome, IfNone, ◌==◌};
-ghost use Rattle.std.specs.List.{position, slice_split, before_first, after_first};
+ghost use Rattle.std.specs.Prelude.{◌≡◌, ◌+◌, ◌∷◌, ◌<◌, ◌≤◌, ◌^◌, [], ℕ, Bool, List, Option, Some, None, length, IfOk, IfSome, IfNone, ◌==◌, if◌then◌else◌, true, false};
+ghost use Rattle.std.specs.List.{position, slice_split, before_first, after_first, list_all, All};
+ghost use Rattle.hex.specs.Hex.{decode_of};
+ghost use Rattle.rbc_rule.specs.declared.input.Input.TheVariants.{Bad};
 ghost use Rattle.std.specs.Option.{unwrap_or};
-ghost use Rattle.rbc_batch.specs.BatchText.{lines_of, decimal_of, segment_from, segment_of, segments_of, enrolment_from, enrolment_of, stop_from, stop_of, command_of, input_of, words_of};
+ghost use Rattle.rbc_rule.specs.Inputs.{Fits};
+ghost use Rattle.rbc_batch.specs.BatchText.{Spelled, lines_of, decimal_of, segment_from, segment_of, segments_of, enrolment_from, enrolment_of, withdrawal_from, withdrawal_of, number_of, stop_from, stop_of, dirs_of, front_of, restriction_from, restriction_of, command_of, code_of, is_hex_word, line_of_hex, message_of, line_of, words_of, AreHeard, IsInput, AreInputs, AreInputsOf};
 ghost use Rattle.rbc_batch.specs.Pieces.{pieces_behind, text_behind};
 
-use crate::input::{Input, Segment, Segments};
+use ertms_codec::{DecodeError, read_from_train};
+use hex::FromHexError;
+use rbc_rule::{Input, Segments};
+use rbc_zones::{Dirs, Segment};
 use std::alloc::{AllocError, Global};
+
+/// The greatest engine number (NID_ENGINE has 24 bits).
+const MOST_ENGINE: u32 = 16_777_215;
+
+/// The greatest length of a train, in units of 10 cm.
+const MOST_LENGTH: u32 = 40_000;
+
+/// The code of a line that spells no input.
+const BAD_LINE: u8 = 1;
+
+/// The code of a message that is no hexadecimal text of whole bytes.
+const BAD_HEX: u8 = 2;
 
 /// Where the byte stands first.
 fn place_of(text: &[u8], byte: u8) -> Option<usize>
@@ -31,7 +49,7 @@ fn cut(text: &[u8], separator: u8) -> (&[u8], Option<&[u8]>)
 }
 
 /// The first line of a text that is not empty, and what stands behind its line feed.
-pub fn first_line(text: &[u8]) -> (&[u8], &[u8])
+fn first_line(text: &[u8]) -> (&[u8], &[u8])
     requires { 0 < length text.now }
     ensures line { lines_of text.now ≡ result.0.now ∷ lines_of result.1.now }
     ensures shorter { length result.1.now < length text.now }
@@ -113,7 +131,7 @@ fn enrolment_from(engine: Option<u32>, length: Option<u32>) -> Option<Input>
     ensures { result ≡ enrolment_from engine length }
 {
     let (engine, length) = (engine?, length?);
-    if engine <= 16_777_215 && 1 <= length && length <= 40_000 {
+    if engine <= MOST_ENGINE && 1 <= length && length <= MOST_LENGTH {
         Some(Input::Enrol { engine, length })
     } else {
         None
@@ -153,27 +171,220 @@ fn stop(alloc: Global, arguments: &[u8]) -> Result<Option<Input>, AllocError>
     }
 }
 
+/// The withdrawal of an engine, where its number is in its range.
+fn withdrawal_from(engine: Option<u32>) -> Option<Input>
+    ensures { result ≡ withdrawal_from engine }
+{
+    match engine {
+        Some(engine) if engine <= MOST_ENGINE => Some(Input::Withdraw { engine }),
+        _ => None,
+    }
+}
+
+/// A number that stands by itself.
+fn number(arguments: &[u8]) -> Option<u32>
+    ensures { result ≡ number_of (words_of arguments.now) }
+{
+    let (word, behind) = cut(arguments, b' ');
+    match behind {
+        None => decimal(word),
+        Some(_) => None,
+    }
+}
+
+/// The input that `withdraw` and these words spell.
+fn withdrawal(arguments: &[u8]) -> Option<Input>
+    ensures { result ≡ withdrawal_of (words_of arguments.now) }
+{
+    let (word, behind) = cut(arguments, b' ');
+    match behind {
+        None => withdrawal_from(decimal(word)),
+        Some(_) => None,
+    }
+}
+
+/// The ways that a word names.
+fn dirs(word: &[u8]) -> Option<Dirs>
+    ensures { result ≡ dirs_of word.now }
+{
+    if word == b"up".as_slice() {
+        Some(Dirs::Up)
+    } else if word == b"down".as_slice() {
+        Some(Dirs::Down)
+    } else if word == b"both".as_slice() {
+        Some(Dirs::Both)
+    } else {
+        None
+    }
+}
+
+/// The Q_FRONT that a word names.
+fn front(word: &[u8]) -> Option<bool>
+    ensures { result ≡ front_of word.now }
+{
+    if word == b"0".as_slice() {
+        Some(false)
+    } else if word == b"1".as_slice() {
+        Some(true)
+    } else {
+        None
+    }
+}
+
+/// The restriction of these, where all are there.
+fn restriction_from(
+    number: Option<u32>,
+    segment: Option<Segment>,
+    dirs: Option<Dirs>,
+    speed: Option<u32>,
+    front: Option<bool>,
+) -> Option<Input>
+    ensures { result ≡ restriction_from number segment dirs speed front }
+{
+    match (number, segment, dirs, speed, front) {
+        (Some(number), Some(segment), Some(dirs), Some(speed), Some(front)) => {
+            Some(Input::Restrict {
+                number,
+                segment,
+                dirs,
+                speed,
+                front,
+            })
+        }
+        _ => None,
+    }
+}
+
+/// The input that `restrict` and these words spell.
+fn restriction(arguments: &[u8]) -> Option<Input>
+    ensures { result ≡ restriction_of (words_of arguments.now) }
+{
+    let (number, behind) = cut(arguments, b' ');
+    let (place, behind) = cut(behind?, b' ');
+    let (way, behind) = cut(behind?, b' ');
+    let (speed, behind) = cut(behind?, b' ');
+    let (end, more) = cut(behind?, b' ');
+    match more {
+        None => restriction_from(
+            decimal(number),
+            segment(place),
+            dirs(way),
+            decimal(speed),
+            front(end),
+        ),
+        Some(_) => None,
+    }
+}
+
 /// The input that a command and the words behind it spell.
 fn command(alloc: Global, word: &[u8], arguments: &[u8]) -> Result<Option<Input>, AllocError>
     ensures { IfOk result (λ found. found ≡ command_of word.now (words_of arguments.now)) }
 {
     if word == b"enrol".as_slice() {
         Ok(enrolment(arguments))
+    } else if word == b"withdraw".as_slice() {
+        Ok(withdrawal(arguments))
     } else if word == b"stop".as_slice() {
         stop(alloc, arguments)
+    } else if word == b"release".as_slice() {
+        Ok(number(arguments).map(|number| Input::Release { number }))
+    } else if word == b"restrict".as_slice() {
+        Ok(restriction(arguments))
+    } else if word == b"lift".as_slice() {
+        Ok(number(arguments).map(|number| Input::Lift { number }))
     } else {
         Ok(None)
     }
 }
 
-/// The input that a line spells. Only memory can fail.
-pub fn input(alloc: Global, line: &[u8]) -> Result<Input, AllocError>
-    ensures { IfOk result (λ input. input ≡ input_of line.now) }
+/// The code of bytes that no message spells.
+fn code_of(fault: DecodeError) -> u8
+    ensures { result ≡ code_of fault }
 {
-    let (word, arguments) = cut(line, b' ');
-    let found = match arguments {
-        Some(arguments) => command(alloc, word, arguments)?,
-        None => None,
-    };
-    Ok(found.unwrap_or(Input::Bad(1)))
+    match fault {
+        DecodeError::Length => 3,
+        DecodeError::Message => 4,
+        DecodeError::Packet => 5,
+        DecodeError::Field => 6,
+    }
+}
+
+/// The message that bytes spell, or the code that refuses them.
+fn heard(bytes: &[u8]) -> Input
+    ensures { AreHeard bytes.now result }
+{
+    match read_from_train(bytes) {
+        Ok(message) => Input::Received(message),
+        Err(fault) => Input::Bad(code_of(fault)),
+    }
+}
+
+/// Whether no byte is a carriage return.
+fn has_no_return(word: &[u8]) -> bool
+    ensures { result ≡ list_all (λ byte. if byte == 13 then false else true) word.now }
+{
+    word.iter().all(|byte| *byte != b'\r')
+}
+
+/// Whether a word is not empty, and has no carriage return.
+fn is_hex_word(word: &[u8]) -> bool
+    ensures { result ≡ is_hex_word word.now }
+{
+    !word.is_empty() && has_no_return(word)
+}
+
+/// The message that hexadecimal digits spell, or the code that refuses them.
+fn message_from(alloc: Global, word: &[u8]) -> Result<Input, AllocError>
+    ensures { IfOk result (λ input. IsInput (line_of_hex (decode_of word.now)) input) }
+{
+    match hex::decode(alloc, word) {
+        Ok(bytes) => Ok(heard(&bytes)),
+        Err(FromHexError::OutOfMemory) => Err(AllocError),
+        Err(_) => Ok(Input::Bad(BAD_HEX)),
+    }
+}
+
+/// The input that `recv` and these words spell.
+fn message(alloc: Global, arguments: &[u8]) -> Result<Input, AllocError>
+    ensures { IfOk result (λ input. IsInput (unwrap_or (message_of (words_of arguments.now)) (Spelled (Bad 1))) input) }
+{
+    let (word, behind) = cut(arguments, b' ');
+    if behind.is_none() && is_hex_word(word) {
+        message_from(alloc, word)
+    } else {
+        Ok(Input::Bad(BAD_LINE))
+    }
+}
+
+/// The input that a line spells, or the code that refuses it. Only memory can fail.
+fn input(alloc: Global, line: &[u8]) -> Result<Input, AllocError>
+    ensures spelled { IfOk result (λ input. IsInput (line_of line.now) input) }
+    ensures fits { IfOk result (λ input. Fits input) }
+{
+    let (word, behind) = cut(line, b' ');
+    match behind {
+        None => Ok(Input::Bad(BAD_LINE)),
+        Some(arguments) if word == b"recv".as_slice() => message(alloc, arguments),
+        Some(arguments) => {
+            let found = command(alloc, word, arguments)?;
+            Ok(found.unwrap_or(Input::Bad(BAD_LINE)))
+        }
+    }
+}
+
+/// The inputs of a batch, one for each line, the empty ones too. Only memory can fail.
+pub fn parse_batch(rt: &impl AllocGlobal, text: &[u8]) -> Result<Vec<Input>, AllocError>
+    ensures inputs { IfOk result (λ inputs. AreInputsOf text.now inputs.items) }
+    ensures fit { IfOk result (λ inputs. All Fits inputs.items) }
+    ensures few { IfOk result (λ inputs. length inputs.items ≤ length text.now) }
+{
+    let alloc = rt.alloc();
+    let mut inputs = Vec::new(alloc);
+    let mut rest = text;
+    while !rest.is_empty() {
+        let (line, behind) = first_line(rest);
+        inputs.push(input(alloc, line)?)?;
+        rest = behind;
+    }
+    Ok(inputs)
 }

@@ -7,10 +7,11 @@ ghost use Rattle.hex.specs.Hex.{encode_upper};
 ghost use Rattle.ertms_codec.specs.ToTrain.{Fits};
 ghost use Rattle.rbc_batch.specs.OutputText.{reply_text, result_line, mail_line, outbox_lines, output_of};
 
-use crate::desk::{Desk, Reply};
+use crate::desk::Desk;
 use crate::outbox::{Mail, Outbox};
 use ertms_codec::write_to_train;
 use itoa::Buffer;
+use rbc_rule::Reply;
 use std::alloc::{AllocError, Global};
 
 /// Appends a decimal.
@@ -108,7 +109,7 @@ fn push_outboxes(text: &mut Vec<u8>, outboxes: &[(u32, Outbox)]) -> Result<(), A
 /// The output text of a desk.
 pub fn render(alloc: Global, desk: &Desk) -> Result<Vec<u8>, AllocError>
     requires { length desk.now.results < 2 ^ 32 }
-    ensures { IfOk result (λ text. text.items ≡ output_of desk.now) }
+    ensures { IfOk result (λ text. text.items ≡ output_of desk.now.results desk.now.outboxes) }
 {
     let mut text = Vec::new(alloc);
     push_results(&mut text, desk.results())?;

@@ -1,12 +1,12 @@
-use Rattle.std.proofs.Common.{rules, ◌≡◌, ◌≢◌, ℕ, ◌<◌, ◌∙◌, false, List, sym, subst, ap, arith, leb, length, get_or}
+use Rattle.std.proofs.Common.{rules, ◌≡◌, ◌≢◌, ℕ, ◌<◌, ◌∙◌, [], false, List, sym, subst, ap, arith, leb, length, get_or}
 use Rattle.std.proofs.lemmas.List.{get_or_default}
 use Rattle.std.proofs.lemmas.Bool.{ne_eqb}
-use Rattle.std.proofs.lemmas.Bool.Decides.{nat_tests}
 use Rattle.rbc_batch.specs.declared.outbox.Mail.{Mail}
-use Rattle.rbc_maps.specs.Maps.{place_of, has}
+use Rattle.rbc_maps.specs.Maps.{place_of, has, value_or}
 use Rattle.rbc_maps.proofs.MapEdits.{position_or_len_le}
 use Rattle.rbc_maps.proofs.MapPlaces.{has_here, has_past}
-use Rattle.rbc_batch.proofs.Posts.{posted_there, posted_new}
+use Rattle.rbc_batch.specs.Held.{AreOutboxes}
+use Rattle.rbc_batch.proofs.Posts.{longer, outboxes_with, posted_there, posted_new}
 use Rattle.rbc_batch.proofs.outbox.post.Goals as goal
 use Rattle.rbc_batch.proofs.outbox.post.Goals.{else-at-len-via-then-at-len+else-index-engine, else-at-len-via-else-at-len}
 
@@ -15,15 +15,21 @@ insert-requires c =
     let le = position_or_len_le (λ (box : ℕ × List Mail). leb c.args.engine box.0) c.deref.result.now in
     omega (arith, le)
 
-pub returns-in_ok-add : goal.returns-in_ok-add
-returns-in_ok-add c =
+pub returns-in_ok-add-clause-posted : goal.returns-in_ok-add-clause-posted
+returns-in_ok-add-clause-posted c =
     let is : c.place_of-at.result ≡ place_of c.args.engine c.args.outboxes.now.items = c.place_of-at.ensures ∙ ap (place_of c.args.engine) c.deref.ensures.value in
     let within : c.place_of-at.result < length c.args.outboxes.now.items = subst (λ xs. c.place_of-at.result < length xs) c.deref.ensures.value (omega arith) in
-    let some : 0 < length c.args.messages.now = grind (arith, nat_tests) in
-    posted_there c.args.input c.args.engine c.args.outboxes.now.items c.args.messages.now some c.place_of-at.result is c.index.result.now c.index_mut.result.now c.add.new.self within c.index.ensures c.if-index-engine.true c.index_mut.ensures.value c.in_ok-add.ensures
+    posted_there c.args.engine c.args.mail c.args.outboxes.now.items c.place_of-at.result is c.index.result.now c.index_mut.result.now c.add.new.self within c.index.ensures c.if-index-engine.true c.index_mut.ensures.value c.in_ok-add.ensures
 
-pub returns-in_ok-insert : goal.returns-in_ok-insert
-returns-in_ok-insert c =
+pub returns-in_ok-add-clause-outboxes : goal.returns-in_ok-add-clause-outboxes
+returns-in_ok-add-clause-outboxes c =
+    let is : c.place_of-at.result ≡ place_of c.args.engine c.args.outboxes.now.items = c.place_of-at.ensures ∙ ap (place_of c.args.engine) c.deref.ensures.value in
+    let within : c.place_of-at.result < length c.args.outboxes.now.items = subst (λ xs. c.place_of-at.result < length xs) c.deref.ensures.value (omega arith) in
+    let posted = posted_there c.args.engine c.args.mail c.args.outboxes.now.items c.place_of-at.result is c.index.result.now c.index_mut.result.now c.add.new.self within c.index.ensures c.if-index-engine.true c.index_mut.ensures.value c.in_ok-add.ensures in
+    subst AreOutboxes (sym posted) (outboxes_with c.args.engine _ c.args.outboxes.now.items (longer (value_or [] c.args.outboxes.now.items c.args.engine) c.args.mail) c.requires.outboxes)
+
+pub returns-in_ok-insert-clause-posted : goal.returns-in_ok-insert-clause-posted
+returns-in_ok-insert-clause-posted c =
     let is : c.place_of-at.result ≡ place_of c.args.engine c.args.outboxes.now.items = c.place_of-at.ensures ∙ ap (place_of c.args.engine) c.deref.ensures.value in
     let other : (d : ℕ × List Mail) → c.place_of-at.result < length c.args.outboxes.now.items → (get_or c.args.outboxes.now.items c.place_of-at.result d).0 ≢ c.args.engine =
     λ d within same. elim c.else-at-len.branch [
@@ -33,8 +39,11 @@ returns-in_ok-insert c =
     let absent : has c.args.outboxes.now.items c.args.engine ≡ false = elim c.else-at-len.branch [
       | else-at-len-via-then-at-len+else-index-engine w ↦
           let within : c.place_of-at.result < length c.args.outboxes.now.items = omega (arith, ap length c.deref.ensures.value) in
-          sym (has_here c.args.engine c.args.outboxes.now.items c.place_of-at.result w.index.result.now c.requires.map is within) ∙ ne_eqb _ _ (other w.index.result.now within)
-      | else-at-len-via-else-at-len w ↦ has_past c.args.engine c.args.outboxes.now.items c.place_of-at.result c.requires.map is (omega (arith, ap length c.deref.ensures.value))
+          sym (has_here c.args.engine c.args.outboxes.now.items c.place_of-at.result w.index.result.now c.requires.outboxes.ascending is within) ∙ ne_eqb _ _ (other w.index.result.now within)
+      | else-at-len-via-else-at-len w ↦ has_past c.args.engine c.args.outboxes.now.items c.place_of-at.result c.requires.outboxes.ascending is (omega (arith, ap length c.deref.ensures.value))
     ] in
-    let some : 0 < length c.args.messages.now = grind (arith, nat_tests) in
-    c.in_ok-insert.ensures.items ∙ posted_new c.args.input c.args.engine c.args.outboxes.now.items c.args.messages.now some c.place_of-at.result is _ (search rules) absent other
+    c.in_ok-insert.ensures.items ∙ posted_new c.args.engine c.args.mail c.args.outboxes.now.items c.place_of-at.result is _ (search rules) absent other
+
+pub returns-in_ok-insert-clause-outboxes : goal.returns-in_ok-insert-clause-outboxes
+returns-in_ok-insert-clause-outboxes c =
+    subst AreOutboxes (sym (returns-in_ok-insert-clause-posted c)) (outboxes_with c.args.engine _ c.args.outboxes.now.items (longer (value_or [] c.args.outboxes.now.items c.args.engine) c.args.mail) c.requires.outboxes)

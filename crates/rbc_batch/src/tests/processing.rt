@@ -1,0 +1,294 @@
+//! Batches from a reader to a writer.
+
+use crate::{ProcessError, process};
+use rbc_track::{Track, track_from_toml};
+use std::io;
+use std::io::{ErrorKind, Read, Write};
+use std::test::Fail;
+
+/// Two lines, of 300,000 and of 3,000,000 units of 10 cm.
+const TRACK: &str = "horizon = 100000
+[[line]]
+length = 300000
+[[line]]
+length = 3000000
+";
+
+fn track(rt: &HostRuntime) -> Result<Track, Fail> {
+    Ok(track_from_toml(rt.alloc(), TRACK)?)
+}
+
+/// The output text of a batch on a track.
+pub(super) fn output_on<R: AllocGlobal>(
+    rt: &R,
+    track: &str,
+    batch: &[u8],
+) -> Result<Vec<u8>, Fail> {
+    let mut written = Vec::new(rt.alloc());
+    let mut reader = batch;
+    let track = track_from_toml(rt.alloc(), track)?;
+    process(rt, &track, &mut reader, &mut written)?;
+    Ok(written)
+}
+
+/// The output text of a batch.
+fn output(rt: &HostRuntime, batch: &[u8]) -> Result<Vec<u8>, Fail> {
+    output_on(rt, TRACK, batch)
+}
+
+/// A batch with one enrolment and then so many stops, each of one segment.
+fn stops(rt: &HostRuntime, count: u32) -> Result<String, Fail> {
+    let mut batch = String::from_str(rt.alloc(), "enrol 7 2000\n")?;
+    for number in 1..=count {
+        writeln!(batch, "stop {number} 0:0-10")?;
+    }
+    Ok(batch)
+}
+
+/// The last line of a text.
+fn last_line(text: &[u8]) -> &[u8] {
+    let mut lines = text.split(|b| *b == b'\n');
+    let _after_the_last = lines.next_back();
+    lines.next_back().unwrap_or(b"")
+}
+
+#[test]
+fn answers_worked_batches(rt: HostRuntime) -> Result<(), Fail> {
+    let told = "1 ok 0\n2 ok 1\n7 2 1002800000005FFFFFE0\n";
+    let rows = [
+        ("", ""),
+        ("enrol 7 2000\nstop 1 0:0-10\n", told),
+        ("enrol 7 2000\nstop 1 0:0-10", told),
+        ("enrol 007 00002000\nstop 0000000001 00:0-0010\n", told),
+        ("stop 1 0:0-10\nenrol 7 2000\n", told),
+        ("\n\nenrol 7 2000", "1 refused 1\n2 refused 1\n3 ok 0\n"),
+        (
+            "enrol 7 2000\nenrol 7 2000\nenrol 16777216 2000\nenrol 9 0\nstop 0 0:0-10\nstop 1 0:10-5\n",
+            "1 ok 0\n2 refused 8\n3 refused 1\n4 refused 1\n5 refused 11\n6 refused 12\n",
+        ),
+        (
+            "enrol 8 40001\nenrol 8 40000\nenrol  8 1\nenrol 8 1 \n enrol 8 1\nenrol 8\nenrol 16777215 1\n",
+            "1 refused 1\n2 ok 0\n3 refused 1\n4 refused 1\n5 refused 1\n6 refused 1\n7 ok 0\n",
+        ),
+        (
+            "stop 4294967296 0:0-1\nstop 00000000001 0:0-1\nstop 1\nstop 1 0:0\nstop 1 0:0-1:2\nstop 1 0:0-1-2\nrecv 0\n",
+            "1 refused 1\n2 refused 1\n3 refused 1\n4 refused 1\n5 refused 1\n6 refused 1\n7 refused 2\n",
+        ),
+        (
+            "stop 5 0:0-1 0:0-1 0:0-1 0:0-1 0:0-1 0:0-1 0:0-1 0:0-1\nstop 6 0:0-1 0:0-1 0:0-1 0:0-1 0:0-1 0:0-1 0:0-1 0:0-1 0:0-1\nstop 5 9:9-3\nstop 6 1:9-9\r\nstop 4294967295 1:9-9",
+            "1 ok 0\n2 refused 12\n3 refused 11\n4 refused 1\n5 ok 0\n",
+        ),
+        (
+            "enrol 7 2000\nenrol 7 2000\nenrol 16777216 2000\nenrol 9 0\nstop 0 0:0-10\nstop 1 9:0-10\nstop 1 0:10-5\n",
+            "1 ok 0\n2 refused 8\n3 refused 1\n4 refused 1\n5 refused 11\n6 refused 12\n7 refused 12\n",
+        ),
+        (
+            "stop 1 0:300000-300000\nstop 2 0:0-300001\nstop 2 1:0-3000000\nstop 3 1:0-3000001\nstop 3 2:0-0\nstop 3 0:0-1 2:0-1\nstop 3 4294967295:0-1\nstop 3 0:1-0",
+            "1 ok 0\n2 refused 12\n3 ok 0\n4 refused 12\n5 refused 12\n6 refused 12\n7 refused 12\n8 refused 12\n",
+        ),
+    ];
+    for (batch, text) in rows {
+        let written = output(&rt, batch.as_bytes())?;
+        assert_eq!(rt; written.as_slice(), text.as_bytes(), "{batch}");
+    }
+    Ok(())
+}
+
+#[test]
+fn tells_stops_as_long_as_there_are_identifiers(rt: HostRuntime) -> Result<(), Fail> {
+    let nine = output(&rt, stops(&rt, 9)?.as_bytes())?;
+    assert_eq!(rt; last_line(&nine), b"7 10 1002800000025FFFFFF0".as_slice());
+    let sixteen = output(&rt, stops(&rt, 16)?.as_bytes())?;
+    let mut lines = sixteen.split(|b| *b == b'\n');
+    assert_eq!(rt; lines.next(), Some(b"1 ok 0".as_slice()));
+    for input in 2..=16u32 {
+        let line = format!(in rt.alloc(); "{input} ok 1")?;
+        assert_eq!(rt; lines.next(), Some(line.as_bytes()));
+    }
+    assert_eq!(rt; lines.next(), Some(b"17 ok 0".as_slice()));
+    assert_eq!(rt; sixteen.iter().filter(|b| **b == b'\n').count(), 17 + 15);
+    Ok(())
+}
+
+#[test]
+fn refuses_what_is_too_many(rt: HostRuntime) -> Result<(), Fail> {
+    let mut batch = String::new(rt.alloc());
+    for engine in 1..=2_001 {
+        writeln!(batch, "enrol {engine} 2000")?;
+    }
+    writeln!(batch, "enrol 1 2000")?;
+    let written = output(&rt, batch.as_bytes())?;
+    let mut lines = written.split(|b| *b == b'\n').skip(1_999);
+    assert_eq!(rt; lines.next(), Some(b"2000 ok 0".as_slice()));
+    assert_eq!(rt; lines.next(), Some(b"2001 refused 9".as_slice()));
+    assert_eq!(rt; lines.next(), Some(b"2002 refused 8".as_slice()));
+    let written = output(&rt, stops(&rt, 66)?.as_bytes())?;
+    let mut lines = written.split(|b| *b == b'\n').skip(64);
+    assert_eq!(rt; lines.next(), Some(b"65 ok 0".as_slice()));
+    assert_eq!(rt; lines.next(), Some(b"66 refused 13".as_slice()));
+    assert_eq!(rt; lines.next(), Some(b"67 refused 13".as_slice()));
+    Ok(())
+}
+
+/// Gives a text in pieces of 7 bytes, and fails at one call.
+#[derive(Drop)]
+struct Pieces<'a> {
+    text: &'a [u8],
+    calls: u32,
+    fails_at: u32,
+    kind: ErrorKind,
+}
+
+impl Read for Pieces<'_> {
+    fn read(&mut self, buf: &mut [u8]) -> io::Result<usize> {
+        self.calls = self.calls.wrapping_add(1);
+        if self.calls == self.fails_at {
+            return Err(io::Error::from(self.kind));
+        }
+        let room = buf.len().min(7);
+        self.text.read(&mut buf[..room])
+    }
+}
+
+#[test]
+fn fails_where_the_reader_fails(rt: HostRuntime) -> Result<(), Fail> {
+    let batch = stops(&rt, 3)?;
+    let whole = output(&rt, batch.as_bytes())?;
+    for fails_at in 1..=12 {
+        for kind in [ErrorKind::Other, ErrorKind::Interrupted] {
+            let mut reader = Pieces {
+                text: batch.as_bytes(),
+                calls: 0,
+                fails_at,
+                kind,
+            };
+            let mut written = Vec::new(rt.alloc());
+            let result = process(&rt, &track(&rt)?, &mut reader, &mut written);
+            let calls = reader.calls;
+            if kind == ErrorKind::Other && fails_at <= calls {
+                assert_eq!(rt; result, Err(ProcessError::Read));
+                assert_eq!(rt; written.len(), 0);
+            } else {
+                assert_eq!(rt; result, Ok(()));
+                assert_eq!(rt; written.as_slice(), whole.as_slice());
+            }
+        }
+    }
+    Ok(())
+}
+
+/// Is always interrupted, and counts it.
+#[derive(Drop)]
+struct Interrupted {
+    calls: u32,
+}
+
+impl Read for Interrupted {
+    fn read(&mut self, _: &mut [u8]) -> io::Result<usize> {
+        self.calls = self.calls.wrapping_add(1);
+        Err(io::Error::from(ErrorKind::Interrupted))
+    }
+}
+
+impl Write for Interrupted {
+    fn write(&mut self, _: &[u8]) -> io::Result<usize> {
+        self.calls = self.calls.wrapping_add(1);
+        Err(io::Error::from(ErrorKind::Interrupted))
+    }
+
+    fn flush(&mut self) -> io::Result<()> {
+        Ok(())
+    }
+}
+
+#[test]
+fn gives_up_on_endless_interruptions(rt: HostRuntime) -> Result<(), Fail> {
+    let mut reader = Interrupted { calls: 0 };
+    let mut written = Vec::new(rt.alloc());
+    let result = process(&rt, &track(&rt)?, &mut reader, &mut written);
+    assert_eq!(rt; result, Err(ProcessError::Read));
+    assert_eq!(rt; (reader.calls, written.len()), (20_000_000, 0));
+    let mut text = b"enrol 7 2000".as_slice();
+    let mut writer = Interrupted { calls: 0 };
+    let result = process(&rt, &track(&rt)?, &mut text, &mut writer);
+    assert_eq!(rt; result, Err(ProcessError::Write { sent: 0 }));
+    assert_eq!(rt; writer.calls, 1_000);
+    Ok(())
+}
+
+/// Takes one byte a call up to some number, and then gives 0 or fails; every other call is interrupted.
+#[derive(Drop)]
+struct Narrow {
+    taken: Vec<u8>,
+    room: usize,
+    fails: bool,
+    interrupts: bool,
+}
+
+impl Write for Narrow {
+    fn write(&mut self, buf: &[u8]) -> io::Result<usize> {
+        self.interrupts = !self.interrupts;
+        if self.interrupts {
+            return Err(io::Error::from(ErrorKind::Interrupted));
+        }
+        if self.taken.len() >= self.room {
+            return if self.fails {
+                Err(io::Error::from(ErrorKind::BrokenPipe))
+            } else {
+                Ok(0)
+            };
+        }
+        match buf.first() {
+            Some(byte) => {
+                self.taken.push(*byte)?;
+                Ok(1)
+            }
+            None => Ok(0),
+        }
+    }
+
+    fn flush(&mut self) -> io::Result<()> {
+        Ok(())
+    }
+}
+
+#[test]
+fn counts_what_is_out_where_the_writer_fails(rt: HostRuntime) -> Result<(), Fail> {
+    let batch = b"enrol 7 2000\nstop 1 0:0-10\n";
+    let whole = output(&rt, batch)?;
+    for room in 0..=whole.len() {
+        for fails in [false, true] {
+            let mut reader = batch.as_slice();
+            let mut writer = Narrow {
+                taken: Vec::new(rt.alloc()),
+                room,
+                fails,
+                interrupts: false,
+            };
+            let result = process(&rt, &track(&rt)?, &mut reader, &mut writer);
+            if room < whole.len() {
+                let sent = room as u64;
+                assert_eq!(rt; result, Err(ProcessError::Write { sent }));
+                assert_eq!(rt; writer.taken.as_slice(), &whole[..room]);
+            } else {
+                assert_eq!(rt; result, Ok(()));
+                assert_eq!(rt; writer.taken.as_slice(), whole.as_slice());
+            }
+        }
+    }
+    Ok(())
+}
+
+#[test]
+fn takes_the_longest_batch_and_none_longer(rt: HostRuntime) -> Result<(), Fail> {
+    let longer = vec![in rt.alloc(); b'x'; 16_777_217]?;
+    let mut reader = longer.as_slice();
+    let mut written = Vec::new(rt.alloc());
+    let result = process(&rt, &track(&rt)?, &mut reader, &mut written);
+    assert_eq!(rt; result, Err(ProcessError::TooLong));
+    assert_eq!(rt; written.len(), 0);
+    assert_eq!(rt; longer.len(), 16_777_217);
+    let written = output(&rt, &longer[1..])?;
+    assert_eq!(rt; written.as_slice(), b"1 refused 1\n".as_slice());
+    Ok(())
+}
