@@ -10,6 +10,7 @@ pub mod KeepsPlaces
 pub mod KeepsSlots
 pub mod KeepsTrains
 pub mod KeepsWorlds
+pub mod Learning
 pub mod OneTrain
 pub mod Says
 pub mod SaysPlaces

@@ -19,3 +19,6 @@ pub use input::{Input, Segments};
 pub use law::{says_law, step_law};
 pub use outcome::{Outcome, Reply, RuleFault, SentList};
 pub use rule::decide;
+
+#[cfg(test)]
+mod tests;

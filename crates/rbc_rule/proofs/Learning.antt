@@ -1,0 +1,47 @@
+-- Notes that grow at their end.
+use Rattle.std.proofs.Common.{◌≡◌, refl, ap, List, [], ◌∷◌, ◌++◌, Option, Bool, true, false, ◌||◌, cond, arith}
+use Rattle.std.proofs.lemmas.Bool.Decides.{nat_tests}
+use Rattle.rbc_records.specs.declared.record.Key.{Key}
+use Rattle.rbc_records.specs.declared.record.Key.TheVariants as key
+use Rattle.rbc_records.specs.declared.record.Rec.{Rec}
+use Rattle.rbc_records.specs.Notes.{Part, Learns, note_in, is_noted, same_key}
+
+pub same_key_self : (k : Key) → same_key k k ≡ true
+same_key_self key.Roster = refl
+same_key_self (key.Train a) = grind (arith, nat_tests)
+same_key_self key.Stops = refl
+same_key_self key.Limits = refl
+
+noted_more : (notes : List (Key × Option Rec)) (more : Key × Option Rec) (k : Key) → is_noted notes k ≡ true → is_noted (notes ++ more ∷ []) k ≡ true
+noted_more [] more k h = cc
+noted_more (note ∷ notes) more k h = by (same_key k note.0) (is_noted notes k) h (noted_more notes more k)
+  where
+    by : (b c : Bool) → (b || c) ≡ true → (c ≡ true → is_noted (notes ++ more ∷ []) k ≡ true) → (b || is_noted (notes ++ more ∷ []) k) ≡ true
+    by true c h rest = refl
+    by false c h rest = rest h
+
+noted_last : (notes : List (Key × Option Rec)) (k : Key) (rec : Option Rec) → is_noted (notes ++ (k, rec) ∷ []) k ≡ true
+noted_last [] k rec = ap (λ b. b || false) (same_key_self k)
+noted_last (note ∷ notes) k rec = by (same_key k note.0) (noted_last notes k rec)
+  where
+    by : (b : Bool) → is_noted (notes ++ (k, rec) ∷ []) k ≡ true → (b || is_noted (notes ++ (k, rec) ∷ []) k) ≡ true
+    by true h = refl
+    by false h = h
+
+note_stays : (notes : List (Key × Option Rec)) (more : Key × Option Rec) (k : Key) → is_noted notes k ≡ true → note_in (notes ++ more ∷ []) k ≡ note_in notes k
+note_stays [] more k h = cc
+note_stays (note ∷ notes) more k h = by (same_key k note.0) h (note_stays notes more k)
+  where
+    by : (b : Bool) → (b || is_noted notes k) ≡ true → (is_noted notes k ≡ true → note_in (notes ++ more ∷ []) k ≡ note_in notes k) → cond b note.1 (note_in (notes ++ more ∷ []) k) ≡ cond b note.1 (note_in notes k)
+    by true h rest = refl
+    by false h rest = rest h
+
+-- notes with one more at their end have learned its key
+pub learned : (notes : List (Key × Option Rec)) (k : Key) (rec : Option Rec) → Learns (Part notes) k (Part (notes ++ (k, rec) ∷ []))
+learned notes k rec = record {
+  known = noted_last notes k rec;
+  extends = record {
+    stays_known = noted_more notes (k, rec);
+    stays_noted = note_stays notes (k, rec);
+  };
+}

@@ -1,0 +1,5 @@
+mod notes;
+mod playing;
+mod ranges;
+mod reading;
+mod setting;

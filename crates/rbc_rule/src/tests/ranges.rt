@@ -1,0 +1,92 @@
+//! Inputs at the ends of their ranges, and the lists that inputs and outcomes have.
+
+use crate::tests::setting::{UP, head, stop, to_seven};
+use crate::{Input, Segments, SentList};
+use ertms_codec::{FromTrain, ToTrain};
+use rbc_zones::{Dirs, Segment};
+use std::alloc::Global;
+use std::test::Fail;
+
+const SEGMENT: Segment = Segment {
+    line: 0,
+    from: 10_000,
+    to: 20_000,
+};
+
+fn enrol(engine: u32, length: u32) -> Input {
+    Input::Enrol { engine, length }
+}
+
+/// A stop without a segment.
+fn nowhere(alloc: Global) -> Input {
+    Input::Stop {
+        number: 1,
+        segments: Segments::new(alloc),
+    }
+}
+
+#[test]
+fn inputs_fit_up_to_the_ends_of_their_ranges(rt: HostRuntime) -> Result<(), Fail> {
+    let restricted = Input::Restrict {
+        number: 0,
+        segment: SEGMENT,
+        dirs: Dirs::Both,
+        speed: 601,
+        front: false,
+    };
+    let received = Input::Received(FromTrain::Report {
+        stamp: u32::MAX,
+        engine: 16_777_215,
+        position: UP,
+    });
+    let cases = [
+        (enrol(0, 1), true),
+        (enrol(0, 0), false),
+        (enrol(16_777_215, 40_000), true),
+        (enrol(16_777_216, 40_000), false),
+        (enrol(16_777_215, 40_001), false),
+        (Input::Withdraw { engine: 0 }, true),
+        (Input::Withdraw { engine: 16_777_215 }, true),
+        (Input::Withdraw { engine: 16_777_216 }, false),
+        (nowhere(rt.alloc()), false),
+        (stop(rt.alloc(), 0, 1, 0)?, true),
+        (Input::Release { number: 0 }, true),
+        (Input::Lift { number: u32::MAX }, true),
+        (restricted, true),
+        (received, true),
+        (Input::Bad(0), false),
+        (Input::Bad(1), true),
+        (Input::Bad(6), true),
+        (Input::Bad(7), false),
+    ];
+    for (input, wanted) in &cases {
+        assert_eq!(rt; input.fits(), *wanted, "{input:?}");
+    }
+    Ok(())
+}
+
+#[test]
+fn lists_keep_their_order(rt: HostRuntime) -> Result<(), Fail> {
+    let mut segments = Segments::new(rt.alloc());
+    assert!(rt; segments.as_slice().is_empty());
+    let other = Segment { from: 0, ..SEGMENT };
+    segments.push(SEGMENT)?;
+    segments.push(other)?;
+    assert_eq!(rt; segments.as_slice(), [SEGMENT, other].as_slice());
+    let mut sent = SentList::new(rt.alloc());
+    assert_eq!(rt; sent.len(), 0);
+    let first = to_seven(ToTrain::Stop {
+        head: head(1, false, 5),
+        id: 0,
+    });
+    let second = to_seven(ToTrain::Revoke {
+        head: head(2, true, 5),
+        id: 0,
+    });
+    sent.add(first)?;
+    sent.add(second)?;
+    assert!(rt; sent.len() == 2);
+    assert_eq!(rt; (*sent.at(0), *sent.at(1)), (first, second));
+    assert_eq!(rt; sent.into_vec().as_slice(), [first, second].as_slice());
+    Ok(())
+}
