@@ -1,5 +1,6 @@
 pub mod AllGathered
 pub mod AllTrains
+pub mod Begun
 pub mod Changes
 pub mod GatherKnown
 pub mod GatherReading
@@ -12,9 +13,11 @@ pub mod KeepsTrains
 pub mod KeepsWorlds
 pub mod Learning
 pub mod OneTrain
+pub mod Quiet
 pub mod Says
 pub mod SaysPlaces
 pub mod SaysTold
+pub mod Untouched
 pub mod WorldMaps
 pub mod WorldReading
 pub mod WorldSettling

@@ -36,7 +36,7 @@ pub(crate) fn stop<S: Reader>(
     let none = Stops::new(alloc);
     let stops = read::stops(store)?.unwrap_or(&none);
     match change::stops_after(alloc, track, number, segments, stops)? {
-        Ok(stops) => stops_changed(alloc, track, stops, None, store),
+        Ok(stops) => stops_changed(alloc, track, number, stops, store),
         Err(code) => Ok(Outcome::refused(alloc, code)),
     }
 }
@@ -59,7 +59,7 @@ pub(crate) fn release<S: Reader>(
     let none = Stops::new(alloc);
     let stops = read::stops(store)?.unwrap_or(&none);
     match change::stops_without(alloc, number, stops)? {
-        Ok(stops) => stops_changed(alloc, track, stops, Some(number), store),
+        Ok(stops) => stops_changed(alloc, track, number, stops, store),
         Err(code) => Ok(Outcome::refused(alloc, code)),
     }
 }
@@ -82,7 +82,7 @@ pub(crate) fn restrict<S: Reader>(
     let none = Limits::new(alloc);
     let limits = read::limits(store)?.unwrap_or(&none);
     match change::limits_after(alloc, track, new, limits)? {
-        Ok(limits) => limits_changed(alloc, track, limits, store),
+        Ok(limits) => limits_changed(alloc, track, new.number, limits, store),
         Err(code) => Ok(Outcome::refused(alloc, code)),
     }
 }
@@ -105,7 +105,7 @@ pub(crate) fn lift<S: Reader>(
     let none = Limits::new(alloc);
     let limits = read::limits(store)?.unwrap_or(&none);
     match change::limits_without(alloc, number, limits)? {
-        Ok(limits) => limits_changed(alloc, track, limits, store),
+        Ok(limits) => limits_changed(alloc, track, number, limits, store),
         Err(code) => Ok(Outcome::refused(alloc, code)),
     }
 }

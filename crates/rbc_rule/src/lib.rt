@@ -13,6 +13,7 @@ mod read;
 mod refuse;
 mod rule;
 mod settle_all;
+mod touch;
 mod trains;
 
 pub use input::{Input, Segments};

@@ -10,10 +10,12 @@ ghost use Rattle.rbc_records.specs.declared.record.Rec.TheVariants as rec;
 ghost use Rattle.rbc_records.specs.Notes.{knows};
 ghost use Rattle.rbc_rule.specs.World.{World};
 ghost use Rattle.rbc_rule.specs.Right.{MayBe, IsFaultOf};
+ghost use Rattle.rbc_rule.specs.Touching.{HasChanged, released_by};
 ghost use Rattle.rbc_rule.specs.Gathered.{write_of, sent_of, write_at, sent_at, AreSendable};
 
 use crate::outcome::{RuleFault, SentList};
 use crate::read;
+use crate::touch::Change;
 use rbc_records::{Key, Reader, Rec, Writes};
 use rbc_settle::{Numbers, Sent, TrainRec, UpToDate, settle, settled};
 use rbc_track::Track;
@@ -115,7 +117,7 @@ fn gather(
         .set(Key::Train(engine), Some(Rec::Train(train)))
 }
 
-/// Settles the train of an engine that is enrolled.
+/// Settles the train of an engine that is enrolled, if the change touches it.
 fn settle_engine<S: Reader>(
     alloc: Global,
     track: &Track,
@@ -123,14 +125,15 @@ fn settle_engine<S: Reader>(
     engine: u32,
     stops: &Stops,
     limits: &Limits,
-    released: Option<u32>,
+    change: Change<'_>,
     gathered: &mut Gathered,
 ) -> Result<(), RuleFault>
     requires known { IsTrue (knows (S.notes store.now) (key.Train engine)) }
     requires enrolled { (w : World) → MayBe track.now (S.notes store.now) w → IsTrue (has_number (keys w.trains) engine) }
+    requires changed { (w : World) → MayBe track.now (S.notes store.now) w → HasChanged change w stops.now limits.now }
     requires fit { AreSendable gathered.old.messages }
-    ensures writes { OnOk result ((w : World) → MayBe track.now (S.notes store.now) w → gathered.new.writes ≡ gathered.old.writes ++ write_at track.now stops.now limits.now released w.trains engine) }
-    ensures messages { OnOk result ((w : World) → MayBe track.now (S.notes store.now) w → gathered.new.messages ≡ gathered.old.messages ++ sent_at track.now stops.now limits.now released w.trains engine) }
+    ensures writes { OnOk result ((w : World) → MayBe track.now (S.notes store.now) w → gathered.new.writes ≡ gathered.old.writes ++ write_at track.now stops.now limits.now (released_by change.entry) w.trains engine) }
+    ensures messages { OnOk result ((w : World) → MayBe track.now (S.notes store.now) w → gathered.new.messages ≡ gathered.old.messages ++ sent_at track.now stops.now limits.now (released_by change.entry) w.trains engine) }
     ensures few { OnOk result (length gathered.new.messages ≤ length gathered.old.messages + 540) }
     ensures fit { OnOk result (AreSendable gathered.new.messages) }
     ensures fault { IfErr result (λ fault. IsFaultOf track.now fault (S.notes store.now)) }
@@ -138,11 +141,21 @@ fn settle_engine<S: Reader>(
     let Some(train) = read::train(store, engine)? else {
         return Err(RuleFault::Torn);
     };
-    settle_one(alloc, track, stops, limits, released, train, gathered)?;
+    if change.touches(track, train) {
+        settle_one(
+            alloc,
+            track,
+            stops,
+            limits,
+            change.released(),
+            train,
+            gathered,
+        )?;
+    }
     Ok(())
 }
 
-/// Settles the trains of the engines that are enrolled, one after another.
+/// Settles the trains of the engines that are enrolled, one after another, after a change of the stops or the restrictions.
 pub(crate) fn settle_trains<S: Reader>(
     alloc: Global,
     track: &Track,
@@ -150,12 +163,13 @@ pub(crate) fn settle_trains<S: Reader>(
     engines: &Numbers,
     stops: &Stops,
     limits: &Limits,
-    released: Option<u32>,
+    change: Change<'_>,
 ) -> Result<Gathered, RuleFault>
     requires known { All (λ engine. IsTrue (knows (S.notes store.now) (key.Train engine))) engines.now }
     requires enrolled { (w : World) → MayBe track.now (S.notes store.now) w → engines.now ≡ keys w.trains }
-    ensures writes { IfOk result (λ gathered. (w : World) → MayBe track.now (S.notes store.now) w → gathered.writes ≡ flat_map (write_at track.now stops.now limits.now released w.trains) engines.now) }
-    ensures messages { IfOk result (λ gathered. (w : World) → MayBe track.now (S.notes store.now) w → gathered.messages ≡ flat_map (sent_at track.now stops.now limits.now released w.trains) engines.now) }
+    requires changed { (w : World) → MayBe track.now (S.notes store.now) w → HasChanged change w stops.now limits.now }
+    ensures writes { IfOk result (λ gathered. (w : World) → MayBe track.now (S.notes store.now) w → gathered.writes ≡ flat_map (write_at track.now stops.now limits.now (released_by change.entry) w.trains) engines.now) }
+    ensures messages { IfOk result (λ gathered. (w : World) → MayBe track.now (S.notes store.now) w → gathered.messages ≡ flat_map (sent_at track.now stops.now limits.now (released_by change.entry) w.trains) engines.now) }
     ensures few { IfOk result (λ gathered. length gathered.messages ≤ length engines.now * 540) }
     ensures fit { IfOk result (λ gathered. AreSendable gathered.messages) }
     ensures fault { IfErr result (λ fault. IsFaultOf track.now fault (S.notes store.now)) }
@@ -172,7 +186,7 @@ pub(crate) fn settle_trains<S: Reader>(
             *engine,
             stops,
             limits,
-            released,
+            change,
             &mut gathered,
         )?;
     }

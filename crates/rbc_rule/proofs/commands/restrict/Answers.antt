@@ -1,5 +1,8 @@
-use Rattle.std.proofs.Common.{◌∙◌}
+use Rattle.std.proofs.Common.{inl, sym, subst, ◌∙◌}
 use Rattle.std.proofs.lemmas.Result.{IfOk-weaker}
+use Rattle.rbc_settle.specs.Settling.{Limits}
+use Rattle.rbc_rule.specs.Touching.{BeginsOrEnds}
+use Rattle.rbc_rule.proofs.Begun.{adding_begins}
 use Rattle.rbc_rule.specs.declared.input.Input.TheVariants.{Restrict}
 use Rattle.rbc_rule.proofs.Worlds.{may_have_been, refused_right, fault_handed_on}
 use Rattle.rbc_rule.proofs.WorldReading.{read_or}
@@ -10,6 +13,13 @@ pub returns-in_err-limits-clause-fault : goal.returns-in_err-limits-clause-fault
 returns-in_err-limits-clause-fault g c =
     let residual = c.from_residual-in_err-limits in
     fault_handed_on c.args.track.now _ _ _ residual.result c.in_err-limits.field-0.0 residual.ensures.1 (c.in_err-limits.ensures.fault c.args.track.now) c.in_ok-fetch.ensures.failed
+
+pub limits_changed-requires-clause-changed : goal.limits_changed-requires-clause-changed
+limits_changed-requires-clause-changed g c = λ w m.
+    let old = c.unwrap_or-limits.result.now in
+    let old_is = read_or c.in_ok-limits.field-0 c.unwrap_or-limits.result _ _ c.unwrap_or-limits.ensures c.new-none.ensures ∙ c.in_ok-limits.ensures.limits c.args.track.now w m in
+    let begun = adding_begins 300 _ c.args.new.now.number _ old c.in-Ok.limits (sym c.in_ok-limits-2.ensures ∙ c.in-Ok.is) in
+    subst (λ (limits : Limits). BeginsOrEnds c.args.new.now.number limits c.in-Ok.limits) old_is (inl (_, begun))
 
 -- what was read is the world's, so the outcome is the step's
 pub returns-in-Ok-clause-right : goal.returns-in-Ok-clause-right

@@ -1,5 +1,11 @@
-use Rattle.std.proofs.Common.{◌∙◌}
+use Rattle.std.proofs.Common.{inl, sym, ap, subst, ◌∙◌}
 use Rattle.std.proofs.lemmas.Result.{IfOk-weaker}
+use Rattle.rbc_records.specs.declared.record.Key.TheVariants as key
+use Rattle.rbc_records.specs.declared.record.Rec.TheVariants as rec
+use Rattle.rbc_settle.specs.Settling.{Stops}
+use Rattle.rbc_rule.specs.Touching.{BeginsOrEnds}
+use Rattle.rbc_rule.specs.Gathered.{settled_outcome}
+use Rattle.rbc_rule.proofs.Begun.{adding_begins, released_begun}
 use Rattle.rbc_rule.specs.declared.input.Input.TheVariants.{Stop}
 use Rattle.rbc_rule.proofs.Worlds.{may_have_been, refused_right, fault_handed_on}
 use Rattle.rbc_rule.proofs.WorldReading.{read_or}
@@ -11,6 +17,13 @@ returns-in_err-stops-clause-fault g c =
     let residual = c.from_residual-in_err-stops in
     fault_handed_on c.args.track.now _ _ _ residual.result c.in_err-stops.field-0.0 residual.ensures.1 (c.in_err-stops.ensures.fault c.args.track.now) c.in_ok-fetch.ensures.failed
 
+pub stops_changed-requires-clause-changed : goal.stops_changed-requires-clause-changed
+stops_changed-requires-clause-changed g c = λ w m.
+    let old = c.unwrap_or-stops.result.now in
+    let old_is = read_or c.in_ok-stops.field-0 c.unwrap_or-stops.result _ _ c.unwrap_or-stops.ensures c.new-none.ensures ∙ c.in_ok-stops.ensures.stops c.args.track.now w m in
+    let begun = adding_begins 64 _ c.args.number c.args.segments.now old c.in-Ok.stops (sym c.in_ok-stops-2.ensures ∙ c.in-Ok.is) in
+    subst (λ (stops : Stops). BeginsOrEnds c.args.number stops c.in-Ok.stops) old_is (inl (c.args.segments.now, begun))
+
 -- what was read is the world's, so the outcome is the step's
 pub returns-in-Ok-clause-right : goal.returns-in-Ok-clause-right
 returns-in-Ok-clause-right g c =
@@ -19,7 +32,9 @@ returns-in-Ok-clause-right g c =
     (λ outcome is w m.
     let before = may_have_been c.stops_changed.ensures.extends m in
     let old_is = read_or c.in_ok-stops.field-0 c.unwrap_or-stops.result _ _ c.unwrap_or-stops.ensures c.new-none.ensures ∙ c.in_ok-stops.ensures.stops c.args.track.now w before in
-    stop_right c.args.track.now w c.args.number old old_is c.in_ok-stops-2.field-0 c.args.segments.now c.in_ok-stops-2.ensures c.in-Ok.stops outcome c.in-Ok.is (is w m) m.well_formed)
+    let begun = adding_begins 64 _ c.args.number c.args.segments.now old c.in-Ok.stops (sym c.in_ok-stops-2.ensures ∙ c.in-Ok.is) in
+    let outcome_is = is w m ∙ ap (λ released. settled_outcome c.args.track.now c.in-Ok.stops w.limits released w.trains key.Stops (rec.Stops c.in-Ok.stops)) (released_begun c.args.number c.args.segments.now old c.in-Ok.stops begun) in
+    stop_right c.args.track.now w c.args.number old old_is c.in_ok-stops-2.field-0 c.args.segments.now c.in_ok-stops-2.ensures c.in-Ok.stops outcome c.in-Ok.is outcome_is m.well_formed)
     c.stops_changed.ensures.outcome
 
 pub returns-clause-right : goal.returns-clause-right

@@ -1,0 +1,73 @@
+-- Which trains a command touches (own rule): every train is settled before it, so that a stop or a restriction that begins can only be
+-- told itself, and one that ends can only be revoked.
+use Rattle.std.specs.Prelude.{◌≡◌, ◌⊎◌, ℕ, ◌<◌, Bool, true, false, nat_lt, ◌&&◌, ◌||◌, if◌then◌else◌, List, length, Option, Some, None, is_some}
+use Rattle.rbc_track.specs.Plan.{Plan}
+use Rattle.rbc_maps.specs.Maps.{has}
+use Rattle.rbc_maps.specs.Numbered.{Numbered}
+use Rattle.rbc_ids.specs.Table.{is_told}
+use Rattle.rbc_zones.specs.declared.segment.Segment.{Segment}
+use Rattle.rbc_zones.specs.declared.edge.Concern.{Concern}
+use Rattle.rbc_zones.specs.declared.edge.Concern.TheVariants as concern
+use Rattle.rbc_zones.specs.Limits.{Limit}
+use Rattle.rbc_settle.specs.declared.train.TrainRec.{TrainRec}
+use Rattle.rbc_settle.specs.Numbers.{has_number}
+use Rattle.rbc_settle.specs.Settling.{Stops, Limits, concern_to, limit_told_to}
+use Rattle.rbc_rule.specs.declared.touch.Change.{Change}
+use Rattle.rbc_rule.specs.declared.touch.Change.TheVariants as change
+use Rattle.rbc_rule.specs.World.{World}
+use Rattle.rbc_rule.specs.Effect.{with_next, with_less}
+
+abbrev pub is_concern : Concern → Bool
+is_concern concern.None = false
+is_concern concern.Now = true
+is_concern (concern.Before edge) = true
+
+-- a stop that begins concerns a train that has an identifier for it
+abbrev pub is_stop_for : TrainRec → ℕ × List Segment → Bool
+is_stop_for train stop = nat_lt (length train.stops) 15 && is_concern (concern_to train stop)
+
+-- so does a restriction
+abbrev pub is_limit_for : ℕ → TrainRec → Limit → Bool
+is_limit_for horizon train limit = nat_lt (length train.limits) 255 && is_some (limit_told_to horizon train.place limit)
+
+-- a train is told a stop, or stops at once for it
+abbrev pub has_stop : TrainRec → ℕ → Bool
+has_stop train number = is_told train.stops number || has_number train.forced number
+
+abbrev pub has_limit : TrainRec → ℕ → Bool
+has_limit train number = is_told train.limits number
+
+-- A change touches a train: a stop or a restriction begins that is something to it, or one ends that it has.
+abbrev pub touches : Plan → Change → TrainRec → Bool
+touches plan (change.Stop number None) train = has_stop train number
+touches plan (change.Stop number (Some area)) train = is_stop_for train (number, area.now)
+touches plan (change.Limit number None) train = has_limit train number
+touches plan (change.Limit number (Some limit)) train = is_limit_for plan.horizon train limit.now
+
+-- ---- what a command changes
+
+-- a value begins to be active, under a new number
+pub record HasBegun {V : Type 0} (number : ℕ) (value : V) (old new : Numbered V) : Type 0 where
+  pub above : old.last < number
+  pub next : new ≡ with_next number value old
+
+-- so the stops and the restrictions were others before
+abbrev pub HasChanged : Change → World → Stops → Limits → Type 0
+HasChanged (change.Stop number None) w stops limits = (stops ≡ with_less number w.stops) × (limits ≡ w.limits)
+HasChanged (change.Stop number (Some area)) w stops limits = HasBegun number area.now w.stops stops × (limits ≡ w.limits)
+HasChanged (change.Limit number None) w stops limits = (stops ≡ w.stops) × (limits ≡ with_less number w.limits)
+HasChanged (change.Limit number (Some limit)) w stops limits = (stops ≡ w.stops) × HasBegun number limit.now w.limits limits
+
+-- the stop that ends, if one does
+abbrev pub released_by : Change → Option ℕ
+released_by (change.Stop number None) = Some number
+released_by (change.Stop number (Some area)) = None
+released_by (change.Limit number limit) = None
+
+-- a value begins to be active under a number, or what was active under it ends
+abbrev pub BeginsOrEnds : {V : Type 0} → ℕ → Numbered V → Numbered V → Type 0
+BeginsOrEnds {V} number old new = ((value : V) × HasBegun number value old new) ⊎ (new ≡ with_less number old)
+
+-- the stop that has ended
+abbrev pub released_from : ℕ → Stops → Option ℕ
+released_from number stops = if has stops.active number then None else Some number

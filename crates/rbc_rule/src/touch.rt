@@ -1,0 +1,79 @@
+//! Which trains a command touches.
+
+ghost use Rattle.std.specs.Prelude.{◌≡◌};
+ghost use Rattle.rbc_rule.specs.Touching.{is_stop_for, is_limit_for, has_stop, has_limit, touches, released_by};
+
+use rbc_settle::TrainRec;
+use rbc_track::Track;
+use rbc_zones::{Area, Concern, Limit, concern, limit_concerns};
+
+/// A stop or a restriction that begins, with what is active under its number from now on, or that ends.
+#[derive(Clone, Copy, Debug)]
+pub(crate) enum Change<'a> {
+    Stop(u32, Option<&'a Area>),
+    Limit(u32, Option<&'a Limit>),
+}
+
+/// So many stop identifiers has a train.
+const STOP_IDENTIFIERS: usize = 15;
+
+/// So many restriction identifiers has a train.
+const LIMIT_IDENTIFIERS: usize = 255;
+
+impl Change<'_> {
+    /// Whether a train that was settled before it may have something to be told.
+    pub(crate) fn touches(self, track: &Track, train: &TrainRec) -> bool
+        ensures { result ≡ touches track.now self.entry train.now }
+    {
+        match self {
+            Change::Stop(number, Some(area)) => is_stop_for(train, number, area),
+            Change::Stop(number, None) => has_stop(train, number),
+            Change::Limit(_, Some(limit)) => is_limit_for(track.horizon(), train, limit),
+            Change::Limit(number, None) => has_limit(train, number),
+        }
+    }
+
+    /// The stop that ends, if one does.
+    pub(crate) fn released(self) -> Option<u32>
+        ensures { result ≡ released_by self.entry }
+    {
+        match self {
+            Change::Stop(number, None) => Some(number),
+            Change::Stop(_, Some(_)) | Change::Limit(_, _) => None,
+        }
+    }
+}
+
+/// Whether a stop that begins concerns a train that has an identifier for it.
+fn is_stop_for(train: &TrainRec, number: u32, area: &Area) -> bool
+    ensures { result ≡ is_stop_for train.now (number, area.now) }
+{
+    train.stops.held() < STOP_IDENTIFIERS
+        && concern(area, train.forced.has(number), train.place.as_ref()) != Concern::None
+}
+
+/// Whether a restriction that begins concerns a train that has an identifier for it.
+fn is_limit_for(horizon: u32, train: &TrainRec, limit: &Limit) -> bool
+    ensures { result ≡ is_limit_for horizon train.now limit.now }
+{
+    match train.place.as_ref() {
+        Some(place) if train.limits.held() < LIMIT_IDENTIFIERS => {
+            limit_concerns(limit, place, horizon)
+        }
+        _ => false,
+    }
+}
+
+/// Whether a train is told a stop, or stops at once for it.
+fn has_stop(train: &TrainRec, number: u32) -> bool
+    ensures { result ≡ has_stop train.now number }
+{
+    train.stops.of_number(number).is_some() || train.forced.has(number)
+}
+
+/// Whether a train is told a restriction.
+fn has_limit(train: &TrainRec, number: u32) -> bool
+    ensures { result ≡ has_limit train.now number }
+{
+    train.limits.of_number(number).is_some()
+}
