@@ -4,6 +4,7 @@ mod LineInputs
 mod LineWords
 mod Texts
 pub mod Begins
+pub mod FirstPlaces
 pub mod Kept
 pub mod Posts
 pub mod Runs

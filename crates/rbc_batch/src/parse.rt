@@ -11,6 +11,7 @@ ghost use Rattle.rbc_batch.specs.Pieces.{pieces_behind, text_behind};
 
 use ertms_codec::{DecodeError, read_from_train};
 use hex::FromHexError;
+use memchr::memchr;
 use rbc_rule::{Input, Segments};
 use rbc_zones::{Dirs, Segment};
 use std::alloc::{AllocError, Global};
@@ -31,7 +32,7 @@ const BAD_HEX: u8 = 2;
 fn place_of(text: &[u8], byte: u8) -> Option<usize>
     ensures { result ≡ position (λ b. b == byte) text.now }
 {
-    text.iter().position(|b| *b == byte)
+    memchr(byte, text)
 }
 
 /// What stands before the first separator, and what stands behind it, if there is one.
@@ -323,7 +324,7 @@ fn heard(bytes: &[u8]) -> Input
 fn has_no_return(word: &[u8]) -> bool
     ensures { result ≡ list_all (λ byte. if byte == 13 then false else true) word.now }
 {
-    word.iter().all(|byte| *byte != b'\r')
+    memchr(b'\r', word).is_none()
 }
 
 /// Whether a word is not empty, and has no carriage return.
