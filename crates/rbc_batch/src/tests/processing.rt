@@ -130,6 +130,22 @@ fn refuses_what_is_too_many(rt: HostRuntime) -> Result<(), Fail> {
     Ok(())
 }
 
+#[test]
+fn refuses_one_restriction_too_many(rt: HostRuntime) -> Result<(), Fail> {
+    let mut batch = String::new(rt.alloc());
+    for number in 1..=301 {
+        writeln!(batch, "restrict {number} 0:0-10 up 40 1")?;
+    }
+    writeln!(batch, "lift 7\nrestrict 301 0:0-10 up 40 1")?;
+    let written = output(&rt, batch.as_bytes())?;
+    let mut lines = written.split(|b| *b == b'\n').skip(299);
+    assert_eq!(rt; lines.next(), Some(b"300 ok 0".as_slice()));
+    assert_eq!(rt; lines.next(), Some(b"301 refused 13".as_slice()));
+    assert_eq!(rt; lines.next(), Some(b"302 ok 0".as_slice()));
+    assert_eq!(rt; lines.next(), Some(b"303 ok 0".as_slice()));
+    Ok(())
+}
+
 /// Gives a text in pieces of 7 bytes, and fails at one call.
 #[derive(Drop)]
 struct Pieces<'a> {
