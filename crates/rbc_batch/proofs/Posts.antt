@@ -1,14 +1,13 @@
 -- What posting does to the outboxes.
 use Rattle.std.proofs.Common.{◌≡◌, ◌≢◌, ℕ, ◌+◌, ◌<◌, ◌≤◌, Bool, true, false, cond, eqb, ltb, leb, List, [], ◌∷◌, ◌++◌, length, get_or, slice_get, Some, drop, set, map, refl, sym, ap, ◌∙◌, subst, arith, inl, inr, append_assoc}
 use Rattle.std.specs.List.{fold, filter, insert, All}
-use Rattle.std.proofs.lemmas.Bool.{cases_lt, lt-ltb, le-ltb, eq-eqb, ne_eqb, eqb-true, and_parts, and_from, leb-true, le-leb}
+use Rattle.std.proofs.lemmas.Bool.{cases_lt, lt-ltb, le-ltb, eq-eqb, ne_eqb, eqb-true, and_parts, and_from, le-leb}
 use Rattle.std.proofs.lemmas.List.{append-nil, at_drop_more, get_or_default}
 use Rattle.std.proofs.lemmas.Option.{slice_get_within, get_or_from_slice_get}
-use Rattle.std.proofs.lemmas.List.Elements.{All-nil, All-cons, All-head, All-tail}
+use Rattle.std.proofs.lemmas.List.Elements.{All-cons, All-head, All-tail}
 use Rattle.ertms_codec.specs.declared.to_train.ToTrain.{ToTrain}
 use Rattle.rbc_maps.specs.Maps.{has, place_of, keys, rises_from, value_or, with_value}
 use Rattle.rbc_maps.proofs.MapEdits.{written, inserted}
-use Rattle.rbc_maps.proofs.MapFacts.{rises_from-lower}
 use Rattle.rbc_maps.proofs.MapPlaces.{absent_below, value_or-here, value_or-absent, rises-with_value}
 use Rattle.rbc_settle.specs.declared.upkeep.Sent.{Sent}
 use Rattle.rbc_rule.specs.Right.{messages_to}

@@ -1,13 +1,10 @@
 -- To whom a step sends: its messages are by engine, ascending.
-use Rattle.std.proofs.Common.{◌≡◌, ℕ, Bool, true, false, cond, eqb, leb, ◌&&◌, List, [], ◌∷◌, map, length, Option, Some, None, Result, Ok, Err, refl, sym, subst, ap, ◌∙◌, arith}
-use Rattle.ertms_codec.specs.declared.to_train.ToTrain.{ToTrain}
-use Rattle.ertms_codec.specs.declared.from_train.FromTrain.{FromTrain}
+use Rattle.std.proofs.Common.{◌≡◌, ℕ, true, false, cond, eqb, leb, List, [], ◌∷◌, map, length, Option, Some, None, Result, Ok, Err, refl, ap, ◌∙◌, arith}
 use Rattle.rbc_track.specs.Plan.{Plan}
-use Rattle.rbc_maps.specs.Maps.{IsMap, keys, rises_from, has, value_of, with_value, without}
+use Rattle.rbc_maps.specs.Maps.{keys, rises_from, has, value_of, with_value, without}
 use Rattle.rbc_maps.proofs.MapPlaces.{rises-with_value}
 use Rattle.rbc_maps.proofs.MapValues.{rises-without}
 use Rattle.rbc_settle.specs.declared.train.TrainRec.{TrainRec}
-use Rattle.rbc_settle.specs.Settling.{Stops, Limits}
 use Rattle.rbc_settle.specs.Trains.{new_train}
 use Rattle.rbc_rule.specs.declared.input.Input.{Input}
 use Rattle.rbc_rule.specs.declared.input.Input.TheVariants.{Enrol, Withdraw, Stop, Release, Restrict, Lift, Received, Bad}

@@ -1,5 +1,5 @@
 -- What begins and what ends.
-use Rattle.std.proofs.Common.{◌≡◌, ◌⊎◌, inl, inr, ℕ, ◌<◌, Bool, true, false, cond, not, eqb, leb, List, length, Option, Some, None, is_none, Result, Ok, Err, Bor, option_copied, refl, sym, ap, subst, ◌∙◌, arith}
+use Rattle.std.proofs.Common.{◌≡◌, inl, inr, ℕ, ◌<◌, Bool, true, false, cond, not, eqb, leb, List, length, Option, Some, None, is_none, Result, Ok, Err, Bor, option_copied, refl, sym, ap, subst, ◌∙◌, arith}
 use Rattle.std.proofs.lemmas.Bool.Decides.{nat_tests}
 use Rattle.rbc_maps.specs.Maps.{has, value_of}
 use Rattle.rbc_maps.specs.Numbered.{Numbered}

@@ -1,7 +1,6 @@
 -- What a message says to a train, from its variables back to places on the track (own rule, over SUBSET-026, 7.5 and 8).
-use Rattle.std.specs.Prelude.{◌≡◌, ℕ, ◌+◌, ◌*◌, ◌^◌, Bool, ◌==◌, if◌then◌else◌, List, [], ◌∷◌, Option, Some, option_map, Result, Ok}
+use Rattle.std.specs.Prelude.{◌≡◌, ℕ, ◌+◌, ◌*◌, ◌^◌, Bool, List, [], ◌∷◌, Option, Some, option_map, Ok}
 use Rattle.std.specs.List.{All}
-use Rattle.ertms_codec.specs.declared.to_train.Head.{Head}
 use Rattle.ertms_codec.specs.declared.to_train.ToTrain.{ToTrain}
 use Rattle.ertms_codec.specs.declared.to_train.ToTrain.TheVariants as message
 use Rattle.rbc_track.specs.Plan.{Plan, IsPlan, group_of}

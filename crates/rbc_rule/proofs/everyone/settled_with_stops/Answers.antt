@@ -1,4 +1,4 @@
-use Rattle.std.proofs.Common.{◌≡◌, Option, sym, ap, ◌∙◌}
+use Rattle.std.proofs.Common.{◌∙◌}
 use Rattle.rbc_records.specs.declared.record.Key.TheVariants as key
 use Rattle.rbc_records.specs.declared.record.Rec.TheVariants as rec
 use Rattle.rbc_rule.specs.declared.touch.Change.TheVariants as change
@@ -6,7 +6,7 @@ use Rattle.rbc_rule.proofs.WorldReading.{read_or}
 use Rattle.rbc_rule.proofs.Begun.{stop_changed, stop_released}
 use Rattle.rbc_rule.proofs.AllTrains.{gathered_outcome}
 use Rattle.rbc_rule.specs.Gathered.{settled_outcome}
-use Rattle.rbc_rule.specs.Touching.{released_by, released_from}
+use Rattle.rbc_rule.specs.Touching.{released_by}
 use Rattle.rbc_rule.proofs.everyone.settled_with_stops.Goals as goal
 
 pub settle_trains-requires-clause-changed : goal.settle_trains-requires-clause-changed

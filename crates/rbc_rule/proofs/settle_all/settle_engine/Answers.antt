@@ -1,4 +1,4 @@
-use Rattle.std.proofs.Common.{rules, ◌≡◌, ◌++◌, Some, None, Option, option_copied, ap, sym, ◌∙◌}
+use Rattle.std.proofs.Common.{rules, ◌≡◌, ◌++◌, Some, None, option_copied, ap, sym, ◌∙◌}
 use Rattle.rbc_maps.specs.Maps.{value_of}
 use Rattle.rbc_rule.specs.Gathered.{write_of, sent_of, write_at, sent_at}
 use Rattle.rbc_rule.proofs.GatherReading.{has_value, gathered_of}

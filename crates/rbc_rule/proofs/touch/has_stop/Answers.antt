@@ -1,4 +1,4 @@
-use Rattle.std.proofs.Common.{◌≡◌, true, false, ◌||◌, is_some, ap, sym, ◌∙◌}
+use Rattle.std.proofs.Common.{◌≡◌, ◌||◌, is_some, ap, sym, ◌∙◌}
 use Rattle.rbc_ids.specs.Table.{is_told}
 use Rattle.rbc_settle.specs.Numbers.{has_number}
 use Rattle.rbc_settle.proofs.Judging.{identifier_is_some}
