@@ -1,3 +1,4 @@
 mod parsing;
 mod processing;
+mod refusals;
 mod rows;

@@ -1,4 +1,5 @@
 mod copies;
+mod notes;
 mod setting;
 mod stores;
 mod writes;

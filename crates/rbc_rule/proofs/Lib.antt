@@ -11,7 +11,6 @@ pub mod KeepsPlaces
 pub mod KeepsSlots
 pub mod KeepsTrains
 pub mod KeepsWorlds
-pub mod Learning
 pub mod OneTrain
 pub mod Quiet
 pub mod Says

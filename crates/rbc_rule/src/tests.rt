@@ -1,5 +1,5 @@
-mod notes;
 mod playing;
 mod ranges;
 mod reading;
+mod refusals;
 mod setting;

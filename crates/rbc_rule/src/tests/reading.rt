@@ -2,10 +2,9 @@
 
 ghost use Rattle.std.specs.Prelude.{◌≡◌};
 
-use crate::tests::notes::Notes;
 use crate::tests::setting::{enrol, enrolled, play, stop, track, write};
 use crate::{Input, Reply, RuleFault, decide};
-use rbc_records::{Key, PlainStore, ReadFault, Reader, Rec};
+use rbc_records::{Key, Notes, PlainStore, ReadFault, Reader, Rec};
 use rbc_settle::Numbers;
 use std::alloc::Global;
 use std::process::Abort;
@@ -29,7 +28,7 @@ impl Reader for Recorder<'_> {
     ghost failed = { λ recorder. recorder.failed };
 
     fn fetch(&mut self, key: Key) -> Result<(), ReadFault> {
-        if self.notes.knows(key) {
+        if self.notes.get(key).is_some() {
             return Ok(());
         }
         if self.left == 0 {
@@ -51,7 +50,7 @@ impl Reader for Recorder<'_> {
     }
 
     fn seen(&self, key: Key) -> Option<&Rec> {
-        self.notes.get(key)
+        self.notes.get(key).unwrap()
     }
 
     fn failures(&self) -> u64 {
@@ -75,7 +74,11 @@ fn reader_of(alloc: Global, store: &PlainStore, left: usize) -> Recorder<'_>
 /// Asserts that just so many of the keys are known, the first ones.
 fn assert_known(rt: &impl Abort, notes: &Notes, keys: &[Key], count: usize) {
     for (index, key) in keys.iter().enumerate() {
-        assert_eq!(rt; notes.knows(*key), index < count, "{key:?}, {count} known");
+        assert_eq!(rt;
+            notes.get(*key).is_some(),
+            index < count,
+            "{key:?}, {count} known"
+        );
     }
 }
 

@@ -1,12 +1,15 @@
--- Notes that grow at their end.
-use Rattle.std.proofs.Common.{◌≡◌, refl, ap, List, [], ◌∷◌, ◌++◌, Option, Bool, true, false, ◌||◌, cond, arith}
+-- Notes that grow at their end, and what is looked up in them.
+use Rattle.std.proofs.Common.{◌≡◌, refl, sym, ap, ◌∙◌, List, [], ◌∷◌, ◌++◌, Option, Some, None, is_some, Bool, true, false, ◌||◌, cond, arith}
 use Rattle.std.proofs.lemmas.Bool.Decides.{nat_tests}
+use Rattle.std.specs.Map.{lookup}
+use Rattle.rbc_records.proofs.Keys.{eq_is}
 use Rattle.rbc_records.specs.declared.record.Key.{Key}
 use Rattle.rbc_records.specs.declared.record.Key.TheVariants as key
 use Rattle.rbc_records.specs.declared.record.Rec.{Rec}
+use Rattle.rbc_records.specs.contracts.record.KeyPartialEq.TheImpl.{eq-value}
 use Rattle.rbc_records.specs.Notes.{Part, Learns, note_in, is_noted, same_key}
 
-pub same_key_self : (k : Key) → same_key k k ≡ true
+same_key_self : (k : Key) → same_key k k ≡ true
 same_key_self key.Roster = refl
 same_key_self (key.Train a) = grind (arith, nat_tests)
 same_key_self key.Stops = refl
@@ -45,3 +48,28 @@ learned notes k rec = record {
     stays_noted = note_stays notes (k, rec);
   };
 }
+
+-- a look-up finds something just where a key is noted
+pub found_is_noted : (notes : List (Key × Option Rec)) (k : Key) → is_some (lookup (eq-value.it k) notes) ≡ is_noted notes k
+found_is_noted [] k = refl
+found_is_noted (note ∷ notes) k = ap (λ (b : Bool). is_some (cond b (Some note.1) (lookup (eq-value.it k) notes))) (eq_is k note.0) ∙ by (same_key k note.0) (found_is_noted notes k)
+  where
+    by : (b : Bool) → is_some (lookup (eq-value.it k) notes) ≡ is_noted notes k → is_some (cond b (Some note.1) (lookup (eq-value.it k) notes)) ≡ (b || is_noted notes k)
+    by true h = refl
+    by false h = h
+
+-- and finds its note
+pub found_is_note : (notes : List (Key × Option Rec)) (k : Key) (rec : Option Rec) → lookup (eq-value.it k) notes ≡ Some rec → note_in notes k ≡ rec
+found_is_note [] k rec h = cc
+found_is_note (note ∷ notes) k rec h = by (same_key k note.0) (ap (λ (b : Bool). cond b (Some note.1) (lookup (eq-value.it k) notes)) (sym (eq_is k note.0)) ∙ h) (found_is_note notes k rec)
+  where
+    by : (b : Bool) → cond b (Some note.1) (lookup (eq-value.it k) notes) ≡ Some rec → (lookup (eq-value.it k) notes ≡ Some rec → note_in notes k ≡ rec) → cond b note.1 (note_in notes k) ≡ rec
+    by true h rest = cc
+    by false h rest = rest h
+
+nothing : {X : Type 0} (found : Option X) → is_some found ≡ false → found ≡ None
+nothing None h = refl
+nothing (Some x) h = cc
+
+pub not_found : (notes : List (Key × Option Rec)) (k : Key) → is_noted notes k ≡ false → lookup (eq-value.it k) notes ≡ None
+not_found notes k h = nothing (lookup (eq-value.it k) notes) (found_is_noted notes k ∙ h)
