@@ -27,7 +27,7 @@ fn track(alloc: Global) -> Result<Track, Fail> {
 }
 
 /// Engine numbers, none twice.
-pub fn engines(alloc: Global, all: &[u32]) -> Result<Rec, Fail> {
+pub(super) fn engines(alloc: Global, all: &[u32]) -> Result<Rec, Fail> {
     let mut engines = Numbers::new(alloc);
     for n in all {
         if engines.has(*n) {
@@ -54,14 +54,14 @@ fn issue<const N: usize>(
 }
 
 /// A train of 200 m to which stop 4 is told under its stamp.
-pub fn train(alloc: Global, engine: u32, stamp: u32) -> Result<Rec, Fail> {
+pub(super) fn train(alloc: Global, engine: u32, stamp: u32) -> Result<Rec, Fail> {
     let mut train = TrainRec::new(alloc, engine, 2_000, stamp);
     let _ = issue(&mut train.stops, 4, stamp, Kind::Conditional)?;
     Ok(Rec::Train(train))
 }
 
 /// One stop, of a segment.
-pub fn stops(rt: &impl Abort, alloc: Global, number: u32) -> Result<Rec, Fail> {
+pub(super) fn stops(rt: &impl Abort, alloc: Global, number: u32) -> Result<Rec, Fail> {
     let area = Area::new(&track(alloc)?, &[SEGMENT]).expect(rt, "a good area");
     let mut stops = Stops::new(alloc);
     assert!(rt; stops.last() < number);
@@ -70,7 +70,7 @@ pub fn stops(rt: &impl Abort, alloc: Global, number: u32) -> Result<Rec, Fail> {
 }
 
 /// One restriction of a segment, to 40 km/h.
-pub fn limits(rt: &impl Abort, alloc: Global, number: u32) -> Result<Rec, Fail> {
+pub(super) fn limits(rt: &impl Abort, alloc: Global, number: u32) -> Result<Rec, Fail> {
     let limit = Limit::new(&track(alloc)?, SEGMENT, Dirs::Up, 40, true).expect(
         rt,
         "a good restriction",
@@ -81,28 +81,28 @@ pub fn limits(rt: &impl Abort, alloc: Global, number: u32) -> Result<Rec, Fail> 
     Ok(Rec::Limits(limits))
 }
 
-pub fn engines_in(rec: Option<&Rec>) -> Option<&Numbers> {
+pub(super) fn engines_in(rec: Option<&Rec>) -> Option<&Numbers> {
     match rec {
         Some(Rec::Engines(engines)) => Some(engines),
         _ => None,
     }
 }
 
-pub fn train_in(rec: Option<&Rec>) -> Option<&TrainRec> {
+pub(super) fn train_in(rec: Option<&Rec>) -> Option<&TrainRec> {
     match rec {
         Some(Rec::Train(train)) => Some(train),
         _ => None,
     }
 }
 
-pub fn stops_in(rec: Option<&Rec>) -> Option<&Stops> {
+pub(super) fn stops_in(rec: Option<&Rec>) -> Option<&Stops> {
     match rec {
         Some(Rec::Stops(stops)) => Some(stops),
         _ => None,
     }
 }
 
-pub fn limits_in(rec: Option<&Rec>) -> Option<&Limits> {
+pub(super) fn limits_in(rec: Option<&Rec>) -> Option<&Limits> {
     match rec {
         Some(Rec::Limits(limits)) => Some(limits),
         _ => None,
@@ -119,7 +119,7 @@ fn at(numbers: &Numbers, index: usize) -> Option<u32> {
 }
 
 /// Asserts that a record is these engine numbers.
-pub fn assert_engines(rt: &impl Abort, rec: Option<&Rec>, wanted: &[u32]) {
+pub(super) fn assert_engines(rt: &impl Abort, rec: Option<&Rec>, wanted: &[u32]) {
     let engines = engines_in(rec).expect(rt, "engines");
     assert_eq!(rt; engines.len(), wanted.len());
     for (index, n) in wanted.iter().enumerate() {
