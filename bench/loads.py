@@ -16,7 +16,7 @@ LONGEST_LINE = 3_000_000
 TRAINS = 2_000
 STOPS = 64
 SIZES = (10_000, 30_000, 100_000)
-MOST_BYTES = 16 * 2**20
+MAX_BYTES = 16 * 2**20
 SHORTEST, LONGEST = 20, 60  # bytes of a line in the batch of full size, without its line feed
 
 
@@ -159,14 +159,14 @@ def full_line(random, engines):
 
 
 def full():
-    """A batch of MOST_BYTES in lines of SHORTEST to LONGEST bytes, which begins with the trains and
+    """A batch of MAX_BYTES in lines of SHORTEST to LONGEST bytes, which begins with the trains and
     the stops."""
     random = Random("full")
     engines = random.some_of(ENGINES, TRAINS)
     good = [b"enrol %010d %010d" % (engine, random.between(1, LONGEST_TRAIN)) for engine in engines]
     for i in range(STOPS):
         good.insert((i + 1) * (TRAINS // STOPS) + i, b"stop %010d %s" % (i + 1, segment(random)))
-    lines, left = [], MOST_BYTES
+    lines, left = [], MAX_BYTES
     while left > 4 * (LONGEST + 1):
         lines.append(good[len(lines)] if len(lines) < len(good) else full_line(random, engines))
         left -= len(lines[-1]) + 1
@@ -184,7 +184,7 @@ def batches():
     for size in SIZES:
         yield f"wrong-{size}", lambda size=size: ended(wrong(size))
     yield "full", lambda: ended(full())
-    yield "feeds", lambda: b"\n" * MOST_BYTES
+    yield "feeds", lambda: b"\n" * MAX_BYTES
     yield "empty", lambda: b""
 
 

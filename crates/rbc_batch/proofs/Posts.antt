@@ -6,7 +6,7 @@ use Rattle.std.proofs.lemmas.List.{append-nil, at_drop_more, get_or_default}
 use Rattle.std.proofs.lemmas.Option.{slice_get_within, get_or_from_slice_get}
 use Rattle.std.proofs.lemmas.List.Elements.{All-cons, All-head, All-tail}
 use Rattle.ertms_codec.specs.declared.to_train.ToTrain.{ToTrain}
-use Rattle.rbc_maps.specs.Maps.{has, place_of, keys, rises_from, value_or, with_value}
+use Rattle.rbc_maps.specs.Maps.{has, index_for, keys, rises_from, value_or, with_value}
 use Rattle.rbc_maps.proofs.MapEdits.{written, inserted}
 use Rattle.rbc_maps.proofs.MapPlaces.{absent_below, value_or-here, value_or-absent, rises-with_value}
 use Rattle.rbc_settle.specs.declared.upkeep.Sent.{Sent}
@@ -194,13 +194,13 @@ posted_alike input boxes messages sent h rises same =
     same_boxes 0 (fold (post_one input) boxes messages) (post_all input sent boxes) ones.ascending all.ascending ones.filled all.filled
     (λ engine. ones_posted input messages boxes engine ∙ ap (λ (more : List ToTrain). value_or [] boxes engine ++ map (mail input) more) (same engine) ∙ sym (all_posted input 0 sent boxes engine rises))
 
-module _ (engine : ℕ) (one : Mail) (boxes : List (ℕ × List Mail)) (at : ℕ) (is : at ≡ place_of engine boxes) where
+module _ (engine : ℕ) (one : Mail) (boxes : List (ℕ × List Mail)) (at : ℕ) (is : at ≡ index_for engine boxes) where
   -- the engine has an outbox, and its mails are one more now
   pub posted_there : (d m : ℕ × List Mail) (mails : List Mail) → at < length boxes → d ≡ get_or boxes at d → d.0 ≡ engine → m ≡ get_or boxes at m → mails ≡ m.1 ++ one ∷ []
       → set boxes at (m.0, mails) ≡ with_value engine (value_or [] boxes engine ++ one ∷ []) boxes
   posted_there d m mails within read same read' added =
       let wrote = written engine mails boxes at d m is within read same read' in
-      let here : (get_or boxes (place_of engine boxes) d).0 ≡ engine = subst (λ n. (get_or boxes n d).0 ≡ engine) is (ap (λ (p : ℕ × List Mail). p.0) (sym read) ∙ same) in
+      let here : (get_or boxes (index_for engine boxes) d).0 ≡ engine = subst (λ n. (get_or boxes n d).0 ≡ engine) is (ap (λ (p : ℕ × List Mail). p.0) (sym read) ∙ same) in
       let value = value_or-here [] engine 0 boxes d (subst (λ n. n < length boxes) is within) here in
       let old : m.1 ≡ value_or [] boxes engine = ap (λ (p : ℕ × List Mail). p.1) (read' ∙ get_or_default boxes at m d within) ∙ ap (λ n. (get_or boxes n d).1) is ∙ sym value in
       wrote ∙ ap (λ (ms : List Mail). with_value engine ms boxes) (added ∙ ap (λ (ms : List Mail). ms ++ one ∷ []) old)

@@ -79,7 +79,7 @@ fn post(
     ensures posted { OnOk result (outboxes.new.items ≡ with_value engine (value_or [] outboxes.old.items engine ++ mail ∷ []) outboxes.old.items) }
     ensures outboxes { OnOk result (AreOutboxes outboxes.new.items) }
 {
-    let at = rbc_maps::place_of(outboxes, engine);
+    let at = rbc_maps::index_for(outboxes, engine);
     if at < outboxes.len() && outboxes[at].0 == engine {
         outboxes[at].1.add(mail)?;
     } else {

@@ -17,10 +17,10 @@ use rbc_zones::{Dirs, Segment};
 use std::alloc::{AllocError, Global};
 
 /// The greatest engine number (NID_ENGINE has 24 bits).
-const MOST_ENGINE: u32 = 16_777_215;
+const MAX_ENGINE: u32 = 16_777_215;
 
 /// The greatest length of a train, in units of 10 cm.
-const MOST_LENGTH: u32 = 40_000;
+const MAX_LENGTH: u32 = 40_000;
 
 /// The code of a line that spells no input.
 const BAD_LINE: u8 = 1;
@@ -29,7 +29,7 @@ const BAD_LINE: u8 = 1;
 const BAD_HEX: u8 = 2;
 
 /// Where the byte stands first.
-fn place_of(text: &[u8], byte: u8) -> Option<usize>
+fn find_byte(text: &[u8], byte: u8) -> Option<usize>
     ensures { result ≡ position (λ b. b == byte) text.now }
 {
     memchr(byte, text)
@@ -43,7 +43,7 @@ fn cut(text: &[u8], separator: u8) -> (&[u8], Option<&[u8]>)
     ensures whole { IfNone result.1 (result.0.now ≡ text.now) }
     ensures behind { after_first (λ b. b == separator) text.now ≡ text_behind result.1 }
 {
-    match place_of(text, separator) {
+    match find_byte(text, separator) {
         Some(at) => (&text[..at], Some(&text[at + 1..])),
         None => (text, None),
     }
@@ -132,7 +132,7 @@ fn enrolment_from(engine: Option<u32>, length: Option<u32>) -> Option<Input>
     ensures { result ≡ enrolment_from engine length }
 {
     let (engine, length) = (engine?, length?);
-    if engine <= MOST_ENGINE && 1 <= length && length <= MOST_LENGTH {
+    if engine <= MAX_ENGINE && 1 <= length && length <= MAX_LENGTH {
         Some(Input::Enrol { engine, length })
     } else {
         None
@@ -177,7 +177,7 @@ fn withdrawal_from(engine: Option<u32>) -> Option<Input>
     ensures { result ≡ withdrawal_from engine }
 {
     match engine {
-        Some(engine) if engine <= MOST_ENGINE => Some(Input::Withdraw { engine }),
+        Some(engine) if engine <= MAX_ENGINE => Some(Input::Withdraw { engine }),
         _ => None,
     }
 }

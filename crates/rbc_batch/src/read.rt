@@ -8,10 +8,10 @@ use std::alloc::Global;
 use std::io::{ErrorKind, Read};
 
 /// A batch has at most so many bytes.
-const MOST_BYTES: usize = 16_777_216;
+const MAX_BYTES: usize = 16_777_216;
 
 /// So many calls of a reader are made, of which one has to give the end.
-const MOST_CALLS: u32 = 20_000_000;
+const MAX_CALLS: u32 = 20_000_000;
 
 /// How many bytes are asked for at once.
 const PIECE: usize = 65_536;
@@ -25,11 +25,11 @@ pub fn read_batch<R: Read>(alloc: Global, reader: &mut R) -> Result<Vec<u8>, Pro
 {
     let mut batch = Vec::new(alloc);
     let mut piece = [0u8; PIECE];
-    for _ in 0..MOST_CALLS {
+    for _ in 0..MAX_CALLS {
         match reader.read(&mut piece) {
             Ok(0) => return Ok(batch),
             Ok(count) => {
-                if MOST_BYTES - batch.len() < count {
+                if MAX_BYTES - batch.len() < count {
                     return Err(ProcessError::TooLong);
                 }
                 batch.extend_from_slice(&piece[..count])?;

@@ -6,7 +6,7 @@ ghost use Rattle.std.specs.Io.KnownBytes.{Appends};
 use std::io::{ErrorKind, Write};
 
 /// A writer may be interrupted fewer times than this.
-const MOST_INTERRUPTIONS: u32 = 1_000;
+const MAX_INTERRUPTIONS: u32 = 1_000;
 
 /// Writes a text. An error is the number of bytes that are out, exactly the first ones of the text: the
 /// writer failed, took nothing, or was interrupted too often.
@@ -22,7 +22,7 @@ pub fn write_text<W: Write>(writer: &mut W, text: &[u8]) -> Result<(), usize>
             Ok(count) => sent += count,
             Err(error) => {
                 interruptions += 1;
-                if error.kind() != ErrorKind::Interrupted || interruptions >= MOST_INTERRUPTIONS {
+                if error.kind() != ErrorKind::Interrupted || interruptions >= MAX_INTERRUPTIONS {
                     return Err(sent);
                 }
             }

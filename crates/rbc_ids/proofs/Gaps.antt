@@ -4,7 +4,7 @@ use Rattle.std.specs.List.{All, filter, range_with_len, slice_get, position_or_l
 use Rattle.std.specs.Result.{IsErrAnd, IfErr}
 use Rattle.std.proofs.lemmas.Bool.{cases_lt, cases_eq, or_from, or_left, and_parts, leb-true, lt-ltb, le-ltb, eq-eqb, ne_eqb, false≢true}
 use Rattle.std.proofs.lemmas.List.Elements.{All-head, All-tail}
-use Rattle.rbc_maps.specs.Maps.{has, place_of, keys, rises_from, with_value}
+use Rattle.rbc_maps.specs.Maps.{has, index_for, keys, rises_from, with_value}
 use Rattle.rbc_maps.proofs.MapPlaces.{has_here}
 use Rattle.rbc_maps.proofs.MapEdits.{inserted}
 use Rattle.rbc_ids.specs.declared.slot.Slot.{Slot}
@@ -43,7 +43,7 @@ module _ {V : Type 0} where
   ]
 
   -- the key at the gap would stand there
-  pub run_place : (least : ℕ) (pairs : List (ℕ × V)) → rises_from least (keys pairs) ≡ true → (key : ℕ) → key ≡ least + run least pairs → place_of key pairs ≡ run least pairs
+  pub run_place : (least : ℕ) (pairs : List (ℕ × V)) → rises_from least (keys pairs) ≡ true → (key : ℕ) → key ≡ least + run least pairs → index_for key pairs ≡ run least pairs
   run_place least [] rises key is = refl
   run_place least (pair ∷ pairs) rises key is =
       let parts = and_parts (leb least pair.0) (rises_from (pair.0 + 1) (keys pairs)) rises in
@@ -134,7 +134,7 @@ module _ (count : ℕ) (slots : Slots) (table : IsTable count slots) where
   pub insert_at_run : (slot : Slot) → insert slots (run 0 slots) (run 0 slots, slot) ≡ with_value (run 0 slots) slot slots
   insert_at_run slot =
       let gap = run 0 slots in
-      let is : gap ≡ place_of gap slots = sym (run_place 0 slots table.ascending gap (omega arith)) in
+      let is : gap ≡ index_for gap slots = sym (run_place 0 slots table.ascending gap (omega arith)) in
       let absent : has slots gap ≡ false = run_absent 0 slots table.ascending gap (omega arith) in
       inserted gap slot slots gap is (λ d within same. false≢true (sym absent ∙ sym (has_here gap slots gap d table.ascending is within) ∙ eq-eqb (get_or slots gap d).0 gap same))
 

@@ -6,7 +6,7 @@ use Rattle.std.proofs.lemmas.Bool.{cases_lt, or_parts, or_from, or_left, or_righ
 use Rattle.std.proofs.lemmas.Bool.Decides.{nat_tests}
 use Rattle.std.proofs.lemmas.List.Elements.{All-cons, All-head, All-tail}
 use Rattle.std.proofs.lemmas.Option.{same_Some}
-use Rattle.rbc_maps.specs.Maps.{has, place_of, keys, rises_from, value_of, with_value, without}
+use Rattle.rbc_maps.specs.Maps.{has, index_for, keys, rises_from, value_of, with_value, without}
 use Rattle.rbc_maps.proofs.MapPlaces.{has_is, has_here, has_past, rises-with_value}
 use Rattle.rbc_maps.proofs.MapEdits.{written}
 use Rattle.rbc_maps.proofs.MapFacts.{rises_from-lower}
@@ -25,10 +25,10 @@ module _ {V : Type 0} where
       omega arith
 
   -- a key that is there stands at its place
-  pub held_at : (key : ℕ) (pairs : List (ℕ × V)) (d : ℕ × V) → rises_from 0 (keys pairs) ≡ true → has pairs key ≡ true → (place_of key pairs < length pairs) × ((get_or pairs (place_of key pairs) d).0 ≡ key)
+  pub held_at : (key : ℕ) (pairs : List (ℕ × V)) (d : ℕ × V) → rises_from 0 (keys pairs) ≡ true → has pairs key ≡ true → (index_for key pairs < length pairs) × ((get_or pairs (index_for key pairs) d).0 ≡ key)
   held_at key pairs d rises held =
-      let parts = and_parts (ltb (place_of key pairs) (length pairs)) (eqb (get_or pairs (place_of key pairs) d).0 key) (sym (has_is key 0 pairs d rises) ∙ held) in
-      (ltb-true (place_of key pairs) (length pairs) parts.0, eqb-true (get_or pairs (place_of key pairs) d).0 key parts.1)
+      let parts = and_parts (ltb (index_for key pairs) (length pairs)) (eqb (get_or pairs (index_for key pairs) d).0 key) (sym (has_is key 0 pairs d rises) ∙ held) in
+      (ltb-true (index_for key pairs) (length pairs) parts.0, eqb-true (get_or pairs (index_for key pairs) d).0 key parts.1)
 
   pub has-value : (key : ℕ) (value : V) (pairs : List (ℕ × V)) → value_of pairs key ≡ Some value → has pairs key ≡ true
   has-value key value [] found = absurd (let bad : None ≡ Some value = found in cc)
@@ -58,26 +58,26 @@ module _ {V : Type 0} where
     | inr there ↦ or_right (eqb pair.0 key) (has pairs key) (has-any key test pairs there)
   ]
 
-  pub place_after : (key : ℕ) (pair : ℕ × V) (pairs : List (ℕ × V)) → pair.0 < key → place_of key (pair ∷ pairs) ≡ suc (place_of key pairs)
+  pub place_after : (key : ℕ) (pair : ℕ × V) (pairs : List (ℕ × V)) → pair.0 < key → index_for key (pair ∷ pairs) ≡ suc (index_for key pairs)
   place_after key pair pairs below = grind (arith, nat_tests)
 
-  pub place_here : (key : ℕ) (pair : ℕ × V) (pairs : List (ℕ × V)) → key ≤ pair.0 → place_of key (pair ∷ pairs) ≡ 0
+  pub place_here : (key : ℕ) (pair : ℕ × V) (pairs : List (ℕ × V)) → key ≤ pair.0 → index_for key (pair ∷ pairs) ≡ 0
   place_here key pair pairs not_below = grind (arith, nat_tests)
 
   -- a key that is there has a place
-  pub held_place : (key : ℕ) (pairs : List (ℕ × V)) → rises_from 0 (keys pairs) ≡ true → has pairs key ≡ true → place_of key pairs < length pairs
+  pub held_place : (key : ℕ) (pairs : List (ℕ × V)) → rises_from 0 (keys pairs) ≡ true → has pairs key ≡ true → index_for key pairs < length pairs
   held_place key [] rises held = absurd (let bad : false ≡ true = held in cc)
   held_place key (pair ∷ pairs) rises held = (held_at key (pair ∷ pairs) pair rises held).0
 
   -- the value at the key's place
-  pub value_of-here : (key : ℕ) (pairs : List (ℕ × V)) (d : ℕ × V) → place_of key pairs < length pairs → (get_or pairs (place_of key pairs) d).0 ≡ key → value_of pairs key ≡ Some (get_or pairs (place_of key pairs) d).1
+  pub value_of-here : (key : ℕ) (pairs : List (ℕ × V)) (d : ℕ × V) → index_for key pairs < length pairs → (get_or pairs (index_for key pairs) d).0 ≡ key → value_of pairs key ≡ Some (get_or pairs (index_for key pairs) d).1
   value_of-here key [] d within same = absurd (omega arith)
   value_of-here key (pair ∷ pairs) d within same = elim (cases_lt pair.0 key) [
     | inl below ↦
         let here = place_after key pair pairs below in
         let other : eqb pair.0 key ≡ false = ne_eqb pair.0 key (λ equal. absurd (omega (arith, equal))) in
-        let within' : suc (place_of key pairs) < suc (length pairs) = subst (λ n. n < suc (length pairs)) here within in
-        let same' : (get_or (pair ∷ pairs) (suc (place_of key pairs)) d).0 ≡ key = subst (λ n. (get_or (pair ∷ pairs) n d).0 ≡ key) here same in
+        let within' : suc (index_for key pairs) < suc (length pairs) = subst (λ n. n < suc (length pairs)) here within in
+        let same' : (get_or (pair ∷ pairs) (suc (index_for key pairs)) d).0 ≡ key = subst (λ n. (get_or (pair ∷ pairs) n d).0 ≡ key) here same in
         ap (λ b. cond b (Some pair.1) (value_of pairs key)) other ∙ value_of-here key pairs d (omega arith) same' ∙ sym (ap (λ n. Some (get_or (pair ∷ pairs) n d).1) here)
     | inr not_below ↦
         let here = place_here key pair pairs not_below in
@@ -100,7 +100,7 @@ module _ {V : Type 0} where
       ap (λ b. cond (not b) (pair ∷ without key pairs) (without key pairs)) parts.0 ∙ ap (λ (xs : List (ℕ × V)). pair ∷ xs) (without_absent key pairs parts.1)
 
   -- a key is taken out at its place
-  pub remove-without : (key least : ℕ) (pairs : List (ℕ × V)) (d : ℕ × V) → rises_from least (keys pairs) ≡ true → place_of key pairs < length pairs → (get_or pairs (place_of key pairs) d).0 ≡ key → remove pairs (place_of key pairs) ≡ without key pairs
+  pub remove-without : (key least : ℕ) (pairs : List (ℕ × V)) (d : ℕ × V) → rises_from least (keys pairs) ≡ true → index_for key pairs < length pairs → (get_or pairs (index_for key pairs) d).0 ≡ key → remove pairs (index_for key pairs) ≡ without key pairs
   remove-without key least [] d rises within same = absurd (omega arith)
   remove-without key least (pair ∷ pairs) d rises within same =
       let parts = and_parts (leb least pair.0) (rises_from (pair.0 + 1) (keys pairs)) rises in
@@ -108,8 +108,8 @@ module _ {V : Type 0} where
         | inl below ↦
             let here = place_after key pair pairs below in
             let other : eqb pair.0 key ≡ false = ne_eqb pair.0 key (λ equal. absurd (omega (arith, equal))) in
-            let within' : suc (place_of key pairs) < suc (length pairs) = subst (λ n. n < suc (length pairs)) here within in
-            let same' : (get_or (pair ∷ pairs) (suc (place_of key pairs)) d).0 ≡ key = subst (λ n. (get_or (pair ∷ pairs) n d).0 ≡ key) here same in
+            let within' : suc (index_for key pairs) < suc (length pairs) = subst (λ n. n < suc (length pairs)) here within in
+            let same' : (get_or (pair ∷ pairs) (suc (index_for key pairs)) d).0 ≡ key = subst (λ n. (get_or (pair ∷ pairs) n d).0 ≡ key) here same in
             ap (remove (pair ∷ pairs)) here ∙ ap (λ (xs : List (ℕ × V)). pair ∷ xs) (remove-without key (pair.0 + 1) pairs d parts.1 (omega arith) same') ∙ sym (ap (λ b. cond (not b) (pair ∷ without key pairs) (without key pairs)) other)
         | inr not_below ↦
             let here = place_here key pair pairs not_below in
@@ -183,9 +183,9 @@ module _ (count : ℕ) (slots : Slots) (table : IsTable count slots) where
   held_below id held = All-keys-has (λ other. other < count) id slots table.below held
 
 -- what stands in a vector at the place of an identifier: `items` is what the vector has, `slots` how the table is seen
-module _ (count : ℕ) (items slots : Slots) (same : items ≡ slots) (table : IsTable count slots) (id at : ℕ) (is_place : at ≡ place_of id slots) where
-  at_place : at ≡ place_of id items
-  at_place = is_place ∙ ap (place_of id) (sym same)
+module _ (count : ℕ) (items slots : Slots) (same : items ≡ slots) (table : IsTable count slots) (id at : ℕ) (is_place : at ≡ index_for id slots) where
+  at_place : at ≡ index_for id items
+  at_place = is_place ∙ ap (index_for id) (sym same)
 
   ascends : rises_from 0 (keys items) ≡ true
   ascends = subst (λ (xs : Slots). rises_from 0 (keys xs) ≡ true) (sym same) table.ascending
@@ -216,8 +216,8 @@ module _ (count : ℕ) (items slots : Slots) (same : items ≡ slots) (table : I
   pub value_there : (m : ℕ × Slot) → true ≡ ltb at (length items) → m ≡ get_or items at m → m.0 ≡ id → Some m.1 ≡ value_of slots id
   value_there m inside read key =
       let within : at < length items = ltb-true at (length items) (sym inside) in
-      let read' : m ≡ get_or items (place_of id items) m = read ∙ ap (λ n. get_or items n m) at_place in
-      let key' : (get_or items (place_of id items) m).0 ≡ id = ap (λ (p : ℕ × Slot). p.0) (sym read') ∙ key in
+      let read' : m ≡ get_or items (index_for id items) m = read ∙ ap (λ n. get_or items n m) at_place in
+      let key' : (get_or items (index_for id items) m).0 ≡ id = ap (λ (p : ℕ × Slot). p.0) (sym read') ∙ key in
       ap (λ (p : ℕ × Slot). Some p.1) read' ∙ sym (value_of-here id items m (subst (λ n. n < length items) at_place within) key') ∙ ap (λ (xs : Slots). value_of xs id) same
 
   pub value_other : (m : ℕ × Slot) → true ≡ ltb at (length items) → m ≡ get_or items at m → (m.0 ≡ id → ⊥) → None ≡ value_of slots id

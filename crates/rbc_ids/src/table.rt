@@ -2,7 +2,7 @@
 
 ghost use Rattle.std.specs.Prelude.{◌≡◌, ◌≤◌, ◌↔◌, ◌==◌, false, not, [], length, IsTrue, IfOk, IfErr, OnErr};
 ghost use Rattle.std.specs.List.{position_or_len, enumerate_from};
-ghost use Rattle.rbc_maps.specs.Maps.{has, place_of, value_of, with_value, without};
+ghost use Rattle.rbc_maps.specs.Maps.{has, index_for, value_of, with_value, without};
 ghost use Rattle.rbc_ids.specs.declared.slot.IssueError.TheVariants.{Full};
 ghost use Rattle.rbc_ids.specs.declared.slot.Slot.TheVariants.{Revoking};
 ghost use Rattle.rbc_ids.specs.Table.{IsTable, is_told, is_used_at, least_free, identifier_of, IsIssued, with_stamp, after_stamp_ack, after_id_ack};
@@ -53,7 +53,7 @@ impl<const N: usize> IdTable<N> {
         ensures value { result ≡ value_of self.now id }
         ensures sound { IsTable N self.now }
     {
-        match self.held.get(self.place_of(id)) {
+        match self.held.get(self.index_of(id)) {
             Some((held, slot)) if *held == id => Some(*slot),
             _ => None,
         }
@@ -133,7 +133,7 @@ impl<const N: usize> IdTable<N> {
         requires { IsTrue (has self.old id) }
         ensures { self.new ≡ without id self.old }
     {
-        let at = self.place_of(id);
+        let at = self.index_of(id);
         let _ = self.held.remove(at);
     }
 
@@ -213,7 +213,7 @@ impl<const N: usize> IdTable<N> {
         requires { IsTrue (has self.old id) }
         ensures { self.new ≡ with_value id slot self.old }
     {
-        let at = self.place_of(id);
+        let at = self.index_of(id);
         self.held[at].1 = slot;
     }
 
@@ -228,8 +228,8 @@ impl<const N: usize> IdTable<N> {
     }
 
     /// Where an identifier stands among those that are held, or would stand.
-    fn place_of(&self, id: u8) -> usize
-        ensures { result ≡ place_of id self.now }
+    fn index_of(&self, id: u8) -> usize
+        ensures { result ≡ index_for id self.now }
     {
         self.held.partition_point(|held| held.0 < id)
     }

@@ -4,7 +4,7 @@ use Rattle.std.specs.List.Sorted.{IsNonDecreasingBy, IsPartitionPoint}
 use Rattle.std.proofs.lemmas.Bool.{cases_lt, or_from, or_parts, ne_eqb, and_parts, leb-true, le-leb, lt-leb, ltb-true, ltb-false, lt-ltb, le-ltb, and_right, and_left, and_from, or_left, eq-eqb}
 use Rattle.std.proofs.lemmas.Bool.Decides.{nat_tests}
 use Rattle.std.proofs.lemmas.List.Sums.{position_or_len_is}
-use Rattle.rbc_maps.specs.Maps.{has, place_of, keys, rises_from, value_or, with_value}
+use Rattle.rbc_maps.specs.Maps.{has, index_for, keys, rises_from, value_or, with_value}
 
 and_true : (a b : Bool) → a ≡ true → (a && b) ≡ b
 and_true true b e = refl
@@ -34,7 +34,7 @@ module _ {V : Type 0} where
       non_decreasing (pair.0 + 1) pairs parts.1 i j d (omega arith) (omega arith)
 
   -- the point before which the keys are below
-  pub place_is : (key : ℕ) (pairs : List (ℕ × V)) (n : ℕ) → n ≤ length pairs → IsPartitionPoint (λ pair. ltb pair.0 key ≡ true) (λ pair. ltb pair.0 key ≡ false) pairs n → n ≡ place_of key pairs
+  pub place_is : (key : ℕ) (pairs : List (ℕ × V)) (n : ℕ) → n ≤ length pairs → IsPartitionPoint (λ pair. ltb pair.0 key ≡ true) (λ pair. ltb pair.0 key ≡ false) pairs n → n ≡ index_for key pairs
   place_is key [] n within parted = omega arith
   place_is key (pair ∷ pairs) n within parted =
       sym (position_or_len_is (λ (p : ℕ × V). leb key p.0) (pair ∷ pairs) n pair within
@@ -48,14 +48,14 @@ module _ {V : Type 0} where
       let above = leb-true least pair.0 parts.0 in
       or_from (eqb pair.0 key) (has pairs key) (ne_eqb pair.0 key (λ same. absurd (omega (arith, above, same)))) (absent_below key (pair.0 + 1) pairs (omega (arith, above)) parts.1)
 
-  place_after : (key : ℕ) (pair : ℕ × V) (pairs : List (ℕ × V)) → pair.0 < key → place_of key (pair ∷ pairs) ≡ suc (place_of key pairs)
+  place_after : (key : ℕ) (pair : ℕ × V) (pairs : List (ℕ × V)) → pair.0 < key → index_for key (pair ∷ pairs) ≡ suc (index_for key pairs)
   place_after key pair pairs below = grind (arith, nat_tests)
 
-  place_here : (key : ℕ) (pair : ℕ × V) (pairs : List (ℕ × V)) → key ≤ pair.0 → place_of key (pair ∷ pairs) ≡ 0
+  place_here : (key : ℕ) (pair : ℕ × V) (pairs : List (ℕ × V)) → key ≤ pair.0 → index_for key (pair ∷ pairs) ≡ 0
   place_here key pair pairs not_below = grind (arith, nat_tests)
 
   -- the key is there where the pair at its place has it
-  pub has_is : (key least : ℕ) (pairs : List (ℕ × V)) (d : ℕ × V) → rises_from least (keys pairs) ≡ true → has pairs key ≡ (ltb (place_of key pairs) (length pairs) && eqb (get_or pairs (place_of key pairs) d).0 key)
+  pub has_is : (key least : ℕ) (pairs : List (ℕ × V)) (d : ℕ × V) → rises_from least (keys pairs) ≡ true → has pairs key ≡ (ltb (index_for key pairs) (length pairs) && eqb (get_or pairs (index_for key pairs) d).0 key)
   has_is key least [] d rises = refl
   has_is key least (pair ∷ pairs) d rises =
       let parts = and_parts (leb least pair.0) (rises_from (pair.0 + 1) (keys pairs)) rises in
@@ -64,7 +64,7 @@ module _ {V : Type 0} where
             let here = place_after key pair pairs below in
             let other : eqb pair.0 key ≡ false = ne_eqb pair.0 key (λ same. absurd (omega (arith, same))) in
             let rest = has_is key (pair.0 + 1) pairs d parts.1 in
-            ap (λ b. b || has pairs key) other ∙ rest ∙ ap (λ b. b && eqb (get_or pairs (place_of key pairs) d).0 key) (grind (arith, nat_tests))
+            ap (λ b. b || has pairs key) other ∙ rest ∙ ap (λ b. b && eqb (get_or pairs (index_for key pairs) d).0 key) (grind (arith, nat_tests))
             ∙ sym (ap (λ n. ltb n (suc (length pairs)) && eqb (get_or (pair ∷ pairs) n d).0 key) here)
         | inr not_below ↦
             let here = place_here key pair pairs not_below in
@@ -81,26 +81,26 @@ module _ {V : Type 0} where
       ]
 
   -- the pair at the key's place tells whether the key is there
-  pub has_here : (key : ℕ) (pairs : List (ℕ × V)) (at : ℕ) (d : ℕ × V) → rises_from 0 (keys pairs) ≡ true → at ≡ place_of key pairs → at < length pairs → eqb (get_or pairs at d).0 key ≡ has pairs key
+  pub has_here : (key : ℕ) (pairs : List (ℕ × V)) (at : ℕ) (d : ℕ × V) → rises_from 0 (keys pairs) ≡ true → at ≡ index_for key pairs → at < length pairs → eqb (get_or pairs at d).0 key ≡ has pairs key
   has_here key pairs at d rises is within =
       ap (λ n. eqb (get_or pairs n d).0 key) is
-      ∙ sym (has_is key 0 pairs d rises ∙ and_true (ltb (place_of key pairs) (length pairs)) _ (lt-ltb (place_of key pairs) (length pairs) (omega (arith, is))))
+      ∙ sym (has_is key 0 pairs d rises ∙ and_true (ltb (index_for key pairs) (length pairs)) _ (lt-ltb (index_for key pairs) (length pairs) (omega (arith, is))))
 
   -- past the end it is not
-  pub has_past : (key : ℕ) (pairs : List (ℕ × V)) (at : ℕ) → rises_from 0 (keys pairs) ≡ true → at ≡ place_of key pairs → length pairs ≤ at → has pairs key ≡ false
+  pub has_past : (key : ℕ) (pairs : List (ℕ × V)) (at : ℕ) → rises_from 0 (keys pairs) ≡ true → at ≡ index_for key pairs → length pairs ≤ at → has pairs key ≡ false
   has_past key [] at rises is past = refl
   has_past key (pair ∷ pairs) at rises is past =
-      has_is key 0 (pair ∷ pairs) pair rises ∙ and_left (ltb (place_of key (pair ∷ pairs)) (suc (length pairs))) _ (le-ltb (place_of key (pair ∷ pairs)) (suc (length pairs)) (omega (arith, is)))
+      has_is key 0 (pair ∷ pairs) pair rises ∙ and_left (ltb (index_for key (pair ∷ pairs)) (suc (length pairs))) _ (le-ltb (index_for key (pair ∷ pairs)) (suc (length pairs)) (omega (arith, is)))
 
   -- the value at the key's place
-  pub value_or-here : (none : V) (key least : ℕ) (pairs : List (ℕ × V)) (d : ℕ × V) → place_of key pairs < length pairs → (get_or pairs (place_of key pairs) d).0 ≡ key → value_or none pairs key ≡ (get_or pairs (place_of key pairs) d).1
+  pub value_or-here : (none : V) (key least : ℕ) (pairs : List (ℕ × V)) (d : ℕ × V) → index_for key pairs < length pairs → (get_or pairs (index_for key pairs) d).0 ≡ key → value_or none pairs key ≡ (get_or pairs (index_for key pairs) d).1
   value_or-here none key least [] d within same = absurd (omega arith)
   value_or-here none key least (pair ∷ pairs) d within same = elim (cases_lt pair.0 key) [
     | inl below ↦
         let here = place_after key pair pairs below in
         let other : eqb pair.0 key ≡ false = ne_eqb pair.0 key (λ equal. absurd (omega (arith, equal))) in
-        let within' : suc (place_of key pairs) < suc (length pairs) = subst (λ n. n < suc (length pairs)) here within in
-        let same' : (get_or (pair ∷ pairs) (suc (place_of key pairs)) d).0 ≡ key = subst (λ n. (get_or (pair ∷ pairs) n d).0 ≡ key) here same in
+        let within' : suc (index_for key pairs) < suc (length pairs) = subst (λ n. n < suc (length pairs)) here within in
+        let same' : (get_or (pair ∷ pairs) (suc (index_for key pairs)) d).0 ≡ key = subst (λ n. (get_or (pair ∷ pairs) n d).0 ≡ key) here same in
         ap (λ b. cond b pair.1 (value_or none pairs key)) other ∙ value_or-here none key least pairs d (omega arith) same' ∙ sym (ap (λ n. (get_or (pair ∷ pairs) n d).1) here)
     | inr not_below ↦
         let here = place_here key pair pairs not_below in

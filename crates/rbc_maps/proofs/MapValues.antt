@@ -4,27 +4,27 @@ use Rattle.std.specs.List.{All, remove}
 use Rattle.std.proofs.lemmas.Bool.{cases_lt, or_parts, ne_eqb, and_parts, and_from, leb-true, le-leb, eq-eqb, eqb-true, ltb-true}
 use Rattle.std.proofs.lemmas.Bool.Decides.{nat_tests}
 use Rattle.std.proofs.lemmas.List.Elements.{All-head, All-tail, All-cons, All-weaker}
-use Rattle.rbc_maps.specs.Maps.{has, place_of, keys, rises_from, value_of, without}
+use Rattle.rbc_maps.specs.Maps.{has, index_for, keys, rises_from, value_of, without}
 use Rattle.rbc_maps.specs.Numbered.{Numbered, AreNumbered}
 use Rattle.rbc_maps.proofs.MapFacts.{rises_from-lower}
 use Rattle.rbc_maps.proofs.MapPlaces.{absent_below, has_is}
 
 module _ {V : Type 0} where
-  place_after : (key : ℕ) (pair : ℕ × V) (pairs : List (ℕ × V)) → pair.0 < key → place_of key (pair ∷ pairs) ≡ suc (place_of key pairs)
+  place_after : (key : ℕ) (pair : ℕ × V) (pairs : List (ℕ × V)) → pair.0 < key → index_for key (pair ∷ pairs) ≡ suc (index_for key pairs)
   place_after key pair pairs below = grind (arith, nat_tests)
 
-  place_here : (key : ℕ) (pair : ℕ × V) (pairs : List (ℕ × V)) → key ≤ pair.0 → place_of key (pair ∷ pairs) ≡ 0
+  place_here : (key : ℕ) (pair : ℕ × V) (pairs : List (ℕ × V)) → key ≤ pair.0 → index_for key (pair ∷ pairs) ≡ 0
   place_here key pair pairs not_below = grind (arith, nat_tests)
 
   -- the value at the key's place
-  pub value_of-here : (key : ℕ) (pairs : List (ℕ × V)) (d : ℕ × V) → place_of key pairs < length pairs → (get_or pairs (place_of key pairs) d).0 ≡ key → value_of pairs key ≡ Some ((get_or pairs (place_of key pairs) d).1)
+  pub value_of-here : (key : ℕ) (pairs : List (ℕ × V)) (d : ℕ × V) → index_for key pairs < length pairs → (get_or pairs (index_for key pairs) d).0 ≡ key → value_of pairs key ≡ Some ((get_or pairs (index_for key pairs) d).1)
   value_of-here key [] d within same = absurd (omega arith)
   value_of-here key (pair ∷ pairs) d within same = elim (cases_lt pair.0 key) [
     | inl below ↦
         let here = place_after key pair pairs below in
         let other : eqb pair.0 key ≡ false = ne_eqb pair.0 key (λ equal. absurd (omega (arith, equal))) in
-        let within' : suc (place_of key pairs) < suc (length pairs) = subst (λ n. n < suc (length pairs)) here within in
-        let same' : (get_or (pair ∷ pairs) (suc (place_of key pairs)) d).0 ≡ key = subst (λ n. (get_or (pair ∷ pairs) n d).0 ≡ key) here same in
+        let within' : suc (index_for key pairs) < suc (length pairs) = subst (λ n. n < suc (length pairs)) here within in
+        let same' : (get_or (pair ∷ pairs) (suc (index_for key pairs)) d).0 ≡ key = subst (λ n. (get_or (pair ∷ pairs) n d).0 ≡ key) here same in
         ap (λ b. cond b (Some pair.1) (value_of pairs key)) other ∙ value_of-here key pairs d (omega arith) same' ∙ sym (ap (λ n. Some ((get_or (pair ∷ pairs) n d).1)) here)
     | inr not_below ↦
         let here = place_here key pair pairs not_below in
@@ -46,7 +46,7 @@ module _ {V : Type 0} where
       ap (λ b. cond (not b) (pair ∷ without key pairs) (without key pairs)) parts.0 ∙ ap (λ (xs : List (ℕ × V)). pair ∷ xs) (without-absent key pairs parts.1)
 
   -- without a key that is there, the pair at its place is gone
-  pub without-here : (key least : ℕ) (pairs : List (ℕ × V)) (d : ℕ × V) → rises_from least (keys pairs) ≡ true → place_of key pairs < length pairs → (get_or pairs (place_of key pairs) d).0 ≡ key → without key pairs ≡ remove pairs (place_of key pairs)
+  pub without-here : (key least : ℕ) (pairs : List (ℕ × V)) (d : ℕ × V) → rises_from least (keys pairs) ≡ true → index_for key pairs < length pairs → (get_or pairs (index_for key pairs) d).0 ≡ key → without key pairs ≡ remove pairs (index_for key pairs)
   without-here key least [] d rises within same = absurd (omega arith)
   without-here key least (pair ∷ pairs) d rises within same =
       let parts = and_parts (leb least pair.0) (rises_from (pair.0 + 1) (keys pairs)) rises in
@@ -54,8 +54,8 @@ module _ {V : Type 0} where
         | inl below ↦
             let here = place_after key pair pairs below in
             let other : eqb pair.0 key ≡ false = ne_eqb pair.0 key (λ equal. absurd (omega (arith, equal))) in
-            let within' : suc (place_of key pairs) < suc (length pairs) = subst (λ n. n < suc (length pairs)) here within in
-            let same' : (get_or (pair ∷ pairs) (suc (place_of key pairs)) d).0 ≡ key = subst (λ n. (get_or (pair ∷ pairs) n d).0 ≡ key) here same in
+            let within' : suc (index_for key pairs) < suc (length pairs) = subst (λ n. n < suc (length pairs)) here within in
+            let same' : (get_or (pair ∷ pairs) (suc (index_for key pairs)) d).0 ≡ key = subst (λ n. (get_or (pair ∷ pairs) n d).0 ≡ key) here same in
             ap (λ b. cond (not b) (pair ∷ without key pairs) (without key pairs)) other
             ∙ ap (λ (xs : List (ℕ × V)). pair ∷ xs) (without-here key (pair.0 + 1) pairs d parts.1 (omega arith) same')
             ∙ sym (ap (λ n. remove (pair ∷ pairs) n) here)
@@ -117,18 +117,18 @@ module _ {V : Type 0} where
     within = All-without (λ k. k ≤ n.last) number n.active h.within;
   }
 
-  within_by : (key : ℕ) (pairs : List (ℕ × V)) → has pairs key ≡ true → ((d : ℕ × V) → ltb (place_of key pairs) (length pairs) ≡ true) → place_of key pairs < length pairs
+  within_by : (key : ℕ) (pairs : List (ℕ × V)) → has pairs key ≡ true → ((d : ℕ × V) → ltb (index_for key pairs) (length pairs) ≡ true) → index_for key pairs < length pairs
   within_by key [] there h = absurd (let bad : false ≡ true = there in cc)
   within_by key (pair ∷ pairs) there h = ltb-true _ _ (h pair)
 
   -- a key that is there stands at its place
-  pub found_here : (key : ℕ) (pairs : List (ℕ × V)) → rises_from 0 (keys pairs) ≡ true → has pairs key ≡ true → (place_of key pairs < length pairs) × ((d : ℕ × V) → (get_or pairs (place_of key pairs) d).0 ≡ key)
+  pub found_here : (key : ℕ) (pairs : List (ℕ × V)) → rises_from 0 (keys pairs) ≡ true → has pairs key ≡ true → (index_for key pairs < length pairs) × ((d : ℕ × V) → (get_or pairs (index_for key pairs) d).0 ≡ key)
   found_here key pairs rises there =
-      let parts = λ (d : ℕ × V). and_parts (ltb (place_of key pairs) (length pairs)) (eqb (get_or pairs (place_of key pairs) d).0 key) (sym (has_is key 0 pairs d rises) ∙ there) in
+      let parts = λ (d : ℕ × V). and_parts (ltb (index_for key pairs) (length pairs)) (eqb (get_or pairs (index_for key pairs) d).0 key) (sym (has_is key 0 pairs d rises) ∙ there) in
       (within_by key pairs there (λ d. (parts d).0), λ d. eqb-true _ _ ((parts d).1))
 
   -- and so without it that pair is gone
-  pub without-found : (key : ℕ) (pairs : List (ℕ × V)) → rises_from 0 (keys pairs) ≡ true → has pairs key ≡ true → remove pairs (place_of key pairs) ≡ without key pairs
+  pub without-found : (key : ℕ) (pairs : List (ℕ × V)) → rises_from 0 (keys pairs) ≡ true → has pairs key ≡ true → remove pairs (index_for key pairs) ≡ without key pairs
   without-found key [] rises there = absurd (let bad : false ≡ true = there in cc)
   without-found key (pair ∷ pairs) rises there =
       let found = found_here key (pair ∷ pairs) rises there in

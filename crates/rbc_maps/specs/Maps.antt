@@ -29,8 +29,8 @@ with_value key value (pair ∷ pairs) =
     else pair ∷ with_value key value pairs)
 
 -- where a key stands, or would stand: the first place whose key is not below it
-abbrev pub place_of : {V : Type 0} → ℕ → List (ℕ × V) → ℕ
-place_of key pairs = position_or_len (λ pair. nat_le key pair.0) pairs
+abbrev pub index_for : {V : Type 0} → ℕ → List (ℕ × V) → ℕ
+index_for key pairs = position_or_len (λ pair. nat_le key pair.0) pairs
 
 abbrev pub keys : {V : Type 0} → List (ℕ × V) → List ℕ
 keys pairs = map (λ pair. pair.0) pairs

@@ -4,7 +4,7 @@
 mod lookup;
 mod numbered;
 
-pub use lookup::{has, place_of, remove, value_of};
+pub use lookup::{has, index_for, remove, value_of};
 pub use numbered::Numbered;
 
 #[cfg(test)]

@@ -1,12 +1,12 @@
 //! Looking up, and taking out.
 
 ghost use Rattle.std.specs.Prelude.{◌≡◌, option_copied};
-ghost use Rattle.rbc_maps.specs.Maps.{IsMap, has, place_of, value_of, without};
+ghost use Rattle.rbc_maps.specs.Maps.{IsMap, has, index_for, value_of, without};
 
 /// Where a key stands, or would stand.
-pub fn place_of<V>(pairs: &[(u32, V)], key: u32) -> usize
+pub fn index_for<V>(pairs: &[(u32, V)], key: u32) -> usize
     requires { IsMap pairs.now }
-    ensures { result ≡ place_of key pairs.now }
+    ensures { result ≡ index_for key pairs.now }
 {
     pairs.partition_point(|pair| pair.0 < key)
 }
@@ -16,7 +16,7 @@ pub fn has<V>(pairs: &[(u32, V)], key: u32) -> bool
     requires { IsMap pairs.now }
     ensures { result ≡ has pairs.now key }
 {
-    let at = place_of(pairs, key);
+    let at = index_for(pairs, key);
     at < pairs.len() && pairs[at].0 == key
 }
 
@@ -25,7 +25,7 @@ pub fn value_of<V>(pairs: &[(u32, V)], key: u32) -> Option<&V>
     requires { IsMap pairs.now }
     ensures { option_copied result ≡ value_of pairs.now key }
 {
-    let at = place_of(pairs, key);
+    let at = index_for(pairs, key);
     if at < pairs.len() && pairs[at].0 == key {
         Some(&pairs[at].1)
     } else {
@@ -41,7 +41,7 @@ pub fn remove<V: Drop>(pairs: &mut Vec<(u32, V)>, key: u32) -> bool
 {
     let found = has(pairs, key);
     if found {
-        let at = place_of(pairs, key);
+        let at = index_for(pairs, key);
         let _ = pairs.remove(at);
     }
     found

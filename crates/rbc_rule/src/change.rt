@@ -10,10 +10,10 @@ use rbc_zones::{Area, Dirs, Limit, Limits, Segment, Stops};
 use std::alloc::{AllocError, Global};
 
 /// So many stops can be active.
-const MOST_STOPS: usize = 64;
+const MAX_STOPS: usize = 64;
 
 /// So many restrictions can be active.
-const MOST_LIMITS: usize = 300;
+const MAX_LIMITS: usize = 300;
 
 /// The stops with one more, or the code that refuses it.
 pub(crate) fn stops_after(
@@ -32,7 +32,7 @@ pub(crate) fn stops_after(
     let Ok(area) = Area::new(track, segments.as_slice()) else {
         return Ok(Err(refuse::BAD_AREA));
     };
-    if stops.count() >= MOST_STOPS {
+    if stops.count() >= MAX_STOPS {
         return Ok(Err(refuse::TOO_MANY_ACTIVE));
     }
     let mut after = stops.copy(alloc)?;
@@ -81,7 +81,7 @@ pub(crate) fn limits_after(
     let Ok(limit) = Limit::new(track, new.segment, new.dirs, new.speed, new.front) else {
         return Ok(Err(refuse::BAD_LIMIT));
     };
-    if limits.count() >= MOST_LIMITS {
+    if limits.count() >= MAX_LIMITS {
         return Ok(Err(refuse::TOO_MANY_ACTIVE));
     }
     let mut after = limits.copy(alloc)?;

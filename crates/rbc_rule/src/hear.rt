@@ -15,7 +15,7 @@ use std::alloc::{AllocError, Global};
 const UNKNOWN_STAMP: u32 = 4_294_967_295;
 
 /// The greatest T_TRAIN of a message from a train.
-const MOST_STAMP: u32 = 4_200_000_000;
+const MAX_STAMP: u32 = 4_200_000_000;
 
 /// The engine that a message names.
 pub(crate) fn engine_of(message: &FromTrain) -> u32
@@ -42,7 +42,7 @@ fn stamp_of(message: &FromTrain) -> u32
 fn is_too_high(stamp: u32) -> bool
     ensures { result ≡ is_too_high stamp }
 {
-    stamp != UNKNOWN_STAMP && stamp > MOST_STAMP
+    stamp != UNKNOWN_STAMP && stamp > MAX_STAMP
 }
 
 /// Raises the train's stamp to that of its message, where that is known.

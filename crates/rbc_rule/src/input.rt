@@ -9,13 +9,13 @@ use std::alloc::{AllocError, Global};
 use std::marker::Model;
 
 /// The greatest engine number (NID_ENGINE has 24 bits).
-const MOST_ENGINE: u32 = 16_777_215;
+const MAX_ENGINE: u32 = 16_777_215;
 
 /// The greatest length of a train, in units of 10 cm.
-const MOST_LENGTH: u32 = 40_000;
+const MAX_LENGTH: u32 = 40_000;
 
 /// The greatest code of a bad line.
-const MOST_BAD: u8 = 6;
+const MAX_BAD: u8 = 6;
 
 /// The segments of a stop, in the order in which they were given. In contracts a list.
 #[derive(Debug, Drop)]
@@ -107,11 +107,11 @@ impl Input {
     {
         match self {
             Input::Enrol { engine, length } => {
-                *engine <= MOST_ENGINE && 1 <= *length && *length <= MOST_LENGTH
+                *engine <= MAX_ENGINE && 1 <= *length && *length <= MAX_LENGTH
             }
-            Input::Withdraw { engine } => *engine <= MOST_ENGINE,
+            Input::Withdraw { engine } => *engine <= MAX_ENGINE,
             Input::Stop { segments, .. } => !segments.as_slice().is_empty(),
-            Input::Bad(code) => 1 <= *code && *code <= MOST_BAD,
+            Input::Bad(code) => 1 <= *code && *code <= MAX_BAD,
             Input::Release { .. }
             | Input::Restrict { .. }
             | Input::Lift { .. }

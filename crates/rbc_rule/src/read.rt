@@ -15,7 +15,7 @@ use rbc_settle::{Numbers, TrainRec};
 use rbc_zones::{Limits, Stops};
 
 /// So many trains can be enrolled.
-pub(crate) const MOST_TRAINS: usize = 2_000;
+pub(crate) const MAX_TRAINS: usize = 2_000;
 
 /// The engines that are enrolled, none where there is no list.
 pub(crate) fn roster<S: Reader>(store: &S) -> Result<Option<&Numbers>, RuleFault>
@@ -27,7 +27,7 @@ pub(crate) fn roster<S: Reader>(store: &S) -> Result<Option<&Numbers>, RuleFault
 {
     match store.seen(Key::Roster) {
         None => Ok(None),
-        Some(Rec::Engines(engines)) if engines.len() <= MOST_TRAINS => Ok(Some(engines)),
+        Some(Rec::Engines(engines)) if engines.len() <= MAX_TRAINS => Ok(Some(engines)),
         Some(_) => Err(RuleFault::Torn),
     }
 }

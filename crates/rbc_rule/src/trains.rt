@@ -77,7 +77,7 @@ fn enrolled<S: Reader>(
     if engines.has(engine) {
         return Ok(Outcome::refused(alloc, refuse::ALREADY_ENROLLED));
     }
-    if engines.len() >= read::MOST_TRAINS {
+    if engines.len() >= read::MAX_TRAINS {
         return Ok(Outcome::refused(alloc, refuse::TOO_MANY_TRAINS));
     }
     let no_stops = Stops::new(alloc);

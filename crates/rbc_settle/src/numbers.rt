@@ -63,7 +63,7 @@ impl Numbers {
     pub fn has(&self, n: u32) -> bool
         ensures { result ≡ has_number self.now n }
     {
-        let at = self.place_of(n);
+        let at = self.index_of(n);
         at < self.all.len() && self.all[at] == n
     }
 
@@ -73,7 +73,7 @@ impl Numbers {
         ensures ok { OnOk result (self.new ≡ with_number n self.old) }
         ensures err { OnErr result (self.new ≡ self.old) }
     {
-        let at = self.place_of(n);
+        let at = self.index_of(n);
         self.all.insert(at, n)?;
         Ok(())
     }
@@ -85,7 +85,7 @@ impl Numbers {
     {
         let found = self.has(n);
         if found {
-            let at = self.place_of(n);
+            let at = self.index_of(n);
             let _ = self.all.remove(at);
         }
         found
@@ -101,7 +101,7 @@ impl Numbers {
     }
 
     /// Where a number stands, or would stand.
-    fn place_of(&self, n: u32) -> usize
+    fn index_of(&self, n: u32) -> usize
         ensures { result ≡ position_or_len (λ other. nat_le n other) self.now }
     {
         self.all.partition_point(|other| *other < n)

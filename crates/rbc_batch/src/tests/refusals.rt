@@ -130,7 +130,7 @@ const WORKED: [(&str, &str); 3] = [
 ];
 
 /// No output text of these has more bytes.
-const MOST_OUTPUT: usize = 1_000;
+const MAX_OUTPUT: usize = 1_000;
 
 /// Memory was refused in the call that a test is about, and all was right otherwise.
 #[derive(Debug, Drop)]
@@ -173,7 +173,7 @@ fn processes_or_writes_nothing(rt: HostRuntime) -> Result<(), Fail> {
     let mut refused = false;
     for (batch, output) in WORKED {
         // what is written takes no more memory then
-        let mut written = Vec::with_capacity(rt.alloc(), MOST_OUTPUT)?;
+        let mut written = Vec::with_capacity(rt.alloc(), MAX_OUTPUT)?;
         if process_once(&rt, &track, batch, output, &mut written) {
             refused = true;
             assert!(rt;

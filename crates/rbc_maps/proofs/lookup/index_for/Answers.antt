@@ -1,7 +1,7 @@
 use Rattle.std.proofs.Common.{rules, ltb}
 use Rattle.std.proofs.lemmas.List.Sorted.{IsPartitionPoint-from_clause, IsPartitionedBy-ltb}
 use Rattle.rbc_maps.proofs.MapPlaces.{non_decreasing, place_is}
-use Rattle.rbc_maps.proofs.lookup.place_of.Goals as goal
+use Rattle.rbc_maps.proofs.lookup.index_for.Goals as goal
 
 pub returns : goal.returns
 returns g c =

@@ -1,7 +1,7 @@
 use Rattle.std.proofs.Common.{◌≡◌, ◌∙◌, rules, ltb, ap}
 use Rattle.std.proofs.lemmas.List.Sorted.{IsPartitionPoint-from_clause, IsPartitionedBy-ltb}
 use Rattle.rbc_settle.proofs.NumberLists.{place, non_decreasing, place_is}
-use Rattle.rbc_settle.proofs.numbers.Numbers.place_of.Goals as goal
+use Rattle.rbc_settle.proofs.numbers.Numbers.index_of.Goals as goal
 
 pub returns : goal.returns
 returns c =

@@ -1,9 +1,9 @@
 use Rattle.std.proofs.Common.{◌≡◌, ◌∙◌, rules, ltb, ap, sym, subst}
 use Rattle.std.proofs.lemmas.List.Sorted.{IsPartitionPoint-from_clause, IsPartitionedBy-ltb}
-use Rattle.rbc_maps.specs.Maps.{place_of}
+use Rattle.rbc_maps.specs.Maps.{index_for}
 use Rattle.rbc_maps.proofs.MapPlaces.{non_decreasing, place_is}
 use Rattle.rbc_ids.specs.Table.{Slots, IsTable}
-use Rattle.rbc_ids.proofs.table.IdTable.place_of.Goals as goal
+use Rattle.rbc_ids.proofs.table.IdTable.index_of.Goals as goal
 
 pub returns : goal.returns
 returns g c =
@@ -13,4 +13,4 @@ returns g c =
     (IsPartitionPoint-from_clause (λ pair. ltb pair.0 c.args.id) c.deref.result.now c.partition_point.result c.partition_point.ensures.partitioned
     (IsPartitionedBy-ltb (λ pair. pair.0) c.deref.result.now c.args.id (non_decreasing 0 c.deref.result.now table.ascending))
     (λ a r f called. search rules))
-    ∙ ap (λ (xs : Slots). place_of c.args.id xs) same
+    ∙ ap (λ (xs : Slots). index_for c.args.id xs) same
