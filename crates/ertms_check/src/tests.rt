@@ -2,11 +2,14 @@
 //! decoder.
 
 mod agreement;
+mod described;
 mod edited;
 mod laid_out_from_train;
 mod laid_out_to_train;
+mod ranges;
 mod spelling;
 mod vectors;
+mod written;
 
 use crate::bits_of;
 use crate::from_train::decode_from_train;
