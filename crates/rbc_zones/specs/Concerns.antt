@@ -3,7 +3,8 @@ use Rattle.std.specs.Prelude.{◌≡◌, ℕ, ◌+◌, ◌-◌, ◌*◌, ◌/◌
 use Rattle.std.specs.List.{filter, fold, list_any, All}
 use Rattle.rbc_track.specs.declared.group.Way.{Way}
 use Rattle.rbc_track.specs.declared.group.Way.TheVariants.{Up, Down}
-use Rattle.rbc_place.specs.Placing.{Place, IsSound, onward}
+use Rattle.rbc_place.specs.Placing.{Place, IsSound}
+use Rattle.rbc_place.specs.Reach.{IsAhead}
 use Rattle.rbc_zones.specs.declared.segment.Segment.{Segment}
 use Rattle.rbc_zones.specs.declared.edge.Concern.{Concern}
 use Rattle.rbc_zones.specs.declared.edge.Concern.TheVariants as concern
@@ -103,18 +104,24 @@ pub record IsNearestEdge (p : Place) (area : List Segment) (edge : ℕ) : Type 0
   pub an_edge : list_any (λ other. other == edge) (edges_ahead p area) ≡ true
   pub nearest : All (λ other. IsAtOrBeyond p.facing other edge) (edges_ahead p area)
 
--- A place is told to a train that is to stop before an edge: by the units that it is told, counted from its balise
--- group the way it faces, it never comes to stand beyond the edge, and less than a unit short of it.
+-- A train is told where to stop before an edge: the place that lies as far ahead of its balise group as it is told is
+-- not beyond the edge, and less than a unit short of it.
 pub record IsToldBefore (p : Place) (edge scale units : ℕ) : Type 0 where
-  pub not_beyond : IsAtOrBeyond p.facing edge (onward p.facing p.at (units * 10 ^ scale))
-  pub near : distance_to p.facing (onward p.facing p.at (units * 10 ^ scale)) edge < 10 ^ scale
+  pub place : ℕ
+  pub ahead : IsAhead p.facing p.at (units * 10 ^ scale) place
+  pub not_beyond : IsAtOrBeyond p.facing edge place
+  pub near : distance_to p.facing place edge < 10 ^ scale
 
--- what a stop that concerns a train later is told by
-pub record IsToldRightly (p : Place) (area : List Segment) (edge : ℕ) : Type 0 where
+-- A train is told of the nearest edge ahead of it, by the distance of that edge from its balise group in the finest unit
+-- that has room.
+pub record IsToldRightly (p : Place) (area : List Segment) (edge scale units : ℕ) : Type 0 where
   pub first : IsNearestEdge p area edge
-  pub told : IsToldBefore p edge (told_distance (distance_to p.facing p.at edge)).0 (told_distance (distance_to p.facing p.at edge)).1
+  pub finest : IsToldFor (distance_to p.facing p.at edge) scale units
+  pub told : IsToldBefore p edge scale units
 
+-- each stop before whose edge a train has to stop is told rightly
 abbrev pub EachStopIsToldRightly : Type 0
 EachStopIsToldRightly =
     (p : Place) (area : List Segment) (forced : Bool) (edge : ℕ) → IsSound p → All IsSegment area
-    → concern_at area forced p ≡ concern.Before edge → IsToldRightly p area edge
+    → concern_at area forced p ≡ concern.Before edge
+    → IsToldRightly p area edge (told_distance (distance_to p.facing p.at edge)).0 (told_distance (distance_to p.facing p.at edge)).1
