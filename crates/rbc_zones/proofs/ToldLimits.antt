@@ -80,6 +80,7 @@ told_rightly limit p kept beyond within =
             of = record { place = on.place; ahead = on.ahead; from = on.from; to = on.to };
             near = nearest_between _ begin end _ _ distance ordered units is.begun is.not_ended;
           };
+      finest = told.finest;
     }
 
 ends_beyond_from : (clear beyond near : Bool) → (not clear && beyond && near) ≡ true → IsTrue beyond

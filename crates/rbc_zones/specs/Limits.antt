@@ -1,5 +1,5 @@
 -- What a temporary speed restriction is to a train at its place (own rule).
-use Rattle.std.specs.Prelude.{◌≡◌, ℕ, ◌+◌, ◌-◌, ◌*◌, ◌/◌, ◌%◌, ◌^◌, ◌<◌, ◌≤◌, min, max, Bool, true, false, not, ◌==◌, ◌||◌, ◌&&◌, nat_lt, nat_le}
+use Rattle.std.specs.Prelude.{◌≡◌, ◌⊎◌, ℕ, ◌+◌, ◌-◌, ◌*◌, ◌/◌, ◌%◌, ◌^◌, ◌<◌, ◌≤◌, min, max, Bool, true, false, not, ◌==◌, ◌||◌, ◌&&◌, nat_lt, nat_le}
 use Rattle.rbc_track.specs.Plan.{Plan}
 use Rattle.rbc_track.specs.declared.group.Way.{Way}
 use Rattle.rbc_track.specs.declared.group.Way.TheVariants.{Up, Down}
@@ -123,8 +123,12 @@ pub record IsNearOne (limit : Limit) (p : Place) (unit distance : ℕ) : Type 0 
   pub of : IsOf limit p other
   pub near : AreNear unit distance other
 
+-- at a scale the start or the length has no room
+abbrev pub HasNoRoom : ℕ → ℕ → ℕ → Type 0
+HasNoRoom scale begin end = (32766 < start_at scale begin) ⊎ (32766 < length_at scale begin end)
+
 -- What is told of a restriction: all of it that does not lie behind the balise group, and less than a unit more at each
--- end.
+-- end, in the finest unit that has room.
 pub record IsToldPart (limit : Limit) (p : Place) (scale start length : ℕ) : Type 0 where
   pub not_spare : scale ≤ 2
   pub start_in_field : start ≤ 32766
@@ -132,7 +136,9 @@ pub record IsToldPart (limit : Limit) (p : Place) (scale start length : ℕ) : T
   pub some : 1 ≤ length
   pub covers : (distance : ℕ) → IsOf limit p distance → IsTold scale start length distance
   pub no_longer : (distance : ℕ) → IsTold scale start length distance → IsNearOne limit p (10 ^ scale) distance
+  pub finest : (finer : ℕ) → finer < scale → HasNoRoom finer (begins_at p.facing limit.segment p.at) (ends_at p.facing limit.segment p.at)
 
+-- each restriction that concerns a train is told rightly
 abbrev pub EachLimitIsToldRightly : Type 0
 EachLimitIsToldRightly =
     (limit : Limit) (p : Place) (horizon : ℕ) → IsLimit limit → IsSound p → concerns limit p horizon ≡ true
