@@ -8,7 +8,7 @@ use Rattle.rbc_track.specs.declared.group.Group.{Group}
 use Rattle.rbc_track.specs.declared.group.Way.{Way}
 use Rattle.rbc_track.specs.declared.group.Way.TheVariants.{Up, Down}
 use Rattle.rbc_place.specs.Placing.{Place, back, room, onward, onward_on_line, way_of, in_units, is_known, is_front_on_line, place_from, place_by_group, place_of_report}
-use Rattle.rbc_place.specs.Reach.{IsAhead, StandsAt, MayStandAt, EachPlaceHoldsItsTrain}
+use Rattle.rbc_place.specs.Reach.{IsAhead, StandsAt, MayStandAt, HoldsItsTrain, EachPlaceHoldsItsTrain}
 
 -- a place lies in the interval about an estimate
 pub record IsBetween (facing : Way) (end estimate ahead behind x : ℕ) : Type 0 where
@@ -91,10 +91,10 @@ is_made plan p length g place found made =
     record { fits = le_from_test _ _ both.0; made = both.1 }
 
 -- the interval that a report makes, against its train
-pub holds_its_train : (end : ℕ) (g : Group) (p : Position) (length x : ℕ) → g.at ≤ end → x ≤ end
+pub holds_its_train : (end : ℕ) (g : Group) (p : Position) (length : ℕ) → g.at ≤ end
     → in_units p.scale p.distance ≤ room (way_of g.nominal p.side) end g.at
-    → (((place_from end g p length).lo ≤ x) × (x ≤ (place_from end g p length).hi)) ↔ MayStandAt end g p length x
-holds_its_train end g p length x at there fits =
+    → HoldsItsTrain end g p length (place_from end g p length)
+holds_its_train end g p length at fits x there =
     let facing = way_of g.nominal p.dir in
     let side = way_of g.nominal p.side in
     let distance = in_units p.scale p.distance in
@@ -114,10 +114,9 @@ holds_its_train end g p length x at there fits =
     )
 
 pub each_place_holds : EachPlaceHoldsItsTrain
-each_place_holds plan p length g place x found placed made there =
+each_place_holds plan p length g place found placed made =
     let end = slice_index plan.lines g.line in
     let m = is_made plan p length g place found made in
     let end_is = get_or_from_slice_get plan.lines g.line placed.length 0 placed.line in
     let at : g.at ≤ slice_index plan.lines g.line = omega arith in
-    let P : Place → Type 0 = λ q. ((q.lo ≤ x) × (x ≤ q.hi)) ↔ MayStandAt end g p length x in
-    subst P (sym m.made) (holds_its_train end g p length x at there m.fits)
+    subst (HoldsItsTrain end g p length) (sym m.made) (holds_its_train end g p length at m.fits)

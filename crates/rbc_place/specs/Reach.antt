@@ -33,10 +33,14 @@ pub record MayStandAt (end : ℕ) (g : Group) (p : Position) (length place : ℕ
   pub counted : IsAhead (way_of g.nominal p.side) g.at (in_units p.scale p.distance) estimate
   pub stands : StandsAt end (way_of g.nominal p.dir) estimate (in_units p.scale p.under) (in_units p.scale p.over) length place
 
--- the interval of a place is just the places of its line at which a part of the train may stand
+-- The interval of a place holds a train: each place of the line lies in it exactly where a part of the train may stand.
+abbrev pub HoldsItsTrain : ℕ → Group → Position → ℕ → Place → Type 0
+HoldsItsTrain end g p length place =
+    (x : ℕ) → x ≤ end → ((place.lo ≤ x) × (x ≤ place.hi)) ↔ MayStandAt end g p length x
+
+-- the interval of each place that a report gives holds its train
 abbrev pub EachPlaceHoldsItsTrain : Type 0
 EachPlaceHoldsItsTrain =
-    (plan : Plan) (p : Position) (length : ℕ) (g : Group) (place : Place) (x : ℕ)
+    (plan : Plan) (p : Position) (length : ℕ) (g : Group) (place : Place)
     → group_of plan p.lrbg ≡ Some g → IsPlaced plan p.lrbg g → place_of_report plan p length ≡ Some place
-    → x ≤ slice_index plan.lines g.line
-    → ((place.lo ≤ x) × (x ≤ place.hi)) ↔ MayStandAt (slice_index plan.lines g.line) g p length x
+    → HoldsItsTrain (slice_index plan.lines g.line) g p length place
