@@ -5,9 +5,11 @@ mod law;
 mod line;
 mod report;
 mod standing;
+mod witnesses;
 
 pub use law::place_law;
 pub use standing::{Place, place_of};
+pub use witnesses::place_law_witnesses;
 
 #[cfg(test)]
 mod tests;

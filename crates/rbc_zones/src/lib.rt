@@ -10,6 +10,7 @@ mod limit;
 mod part;
 mod segment;
 mod stop;
+mod witnesses;
 
 pub use area::{Area, BadArea};
 pub use edge::Concern;
@@ -20,6 +21,7 @@ pub use part::limit_fields;
 use rbc_maps::Numbered;
 pub use segment::Segment;
 pub use stop::concern;
+pub use witnesses::{limit_law_witnesses, stop_law_witnesses};
 
 /// The areas of the stops that are active, by their numbers.
 pub type Stops = Numbered<Area>;
