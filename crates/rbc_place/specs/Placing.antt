@@ -2,7 +2,7 @@
 -- lengths are whole units of 10 cm. A line has the places 0 to its length, which is its end.
 use Rattle.std.specs.Prelude.{◌≡◌, ℕ, ◌+◌, ◌-◌, ◌*◌, ◌^◌, ◌≤◌, min, max, Bool, true, false, ◌&&◌, ◌==◌, nat_lt, nat_le, if◌then◌else◌, Option, Some, None, is_none, option_and_then, slice_get, slice_index}
 use Rattle.ertms_codec.specs.declared.from_train.Position.{Position}
-use Rattle.rbc_track.specs.Plan.{Plan, group_of}
+use Rattle.rbc_track.specs.Plan.{Plan, group_of, max_group_number, max_length}
 use Rattle.rbc_track.specs.declared.group.Group.{Group}
 use Rattle.rbc_track.specs.declared.group.Way.{Way}
 use Rattle.rbc_track.specs.declared.group.Way.TheVariants.{Up, Down}
@@ -19,10 +19,10 @@ pub record Place : Type 0 where
 
 -- what each place keeps: a number that a balise group can have, places that a line can have, and an interval
 pub record IsSound (p : Place) : Type 0 where
-  pub group : p.lrbg ≤ 16777214
-  pub at : p.at ≤ 3000000
+  pub group : p.lrbg ≤ max_group_number
+  pub at : p.at ≤ max_length
   pub ordered : p.lo ≤ p.hi
-  pub within : p.hi ≤ 3000000
+  pub within : p.hi ≤ max_length
 
 -- a place lies on its line, the balise group and the whole interval
 pub record LiesOnLine (plan : Plan) (p : Place) : Type 0 where
@@ -64,11 +64,15 @@ way_of nominal code = if code == 1 then nominal else back nominal
 abbrev pub in_units : ℕ → ℕ → ℕ
 in_units scale distance = distance * 10 ^ scale
 
+-- a distance that is not known
+abbrev pub unknown : ℕ
+unknown = 32767
+
 -- a report can be placed: it is packet 0, all that counts is known, and no value is spare
 abbrev pub is_known : Position → Bool
 is_known p =
     is_none p.previous && nat_le p.scale 2 && nat_le p.dir 1 && nat_le p.side 1
-    && nat_lt p.distance 32767 && nat_lt p.over 32767 && nat_lt p.under 32767
+    && nat_lt p.distance unknown && nat_lt p.over unknown && nat_lt p.under unknown
 
 -- the estimated front of the train lies on the line of the balise group
 abbrev pub is_front_on_line : ℕ → Group → Position → Bool

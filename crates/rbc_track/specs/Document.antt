@@ -5,12 +5,17 @@ use Rattle.toml.specs.Data.{Data, string, integer, Items, no_items, item, Member
 use Rattle.rbc_track.specs.declared.group.Way.{Way}
 use Rattle.rbc_track.specs.declared.group.Way.TheVariants.{Up, Down}
 use Rattle.rbc_track.specs.declared.document.Site.{Site}
+use Rattle.rbc_track.specs.Plan.{max_length, max_group_number}
 
 -- a document as it is written: its horizon, the length of each line, and its balise groups in their order
 pub record Written : Type 0 where
   pub horizon : ℕ
   pub lengths : List ℕ
   pub sites : List Site
+
+-- the greatest whole number that is read where no rule says more
+abbrev pub max_u32 : ℕ
+max_u32 = 4294967295
 
 -- a whole number from the first bound to the second
 abbrev pub number_within : ℕ → ℕ → Data → Option ℕ
@@ -23,7 +28,7 @@ number_at key low high members = option_and_then (number_within low high) (get_m
 
 -- the horizon of a document
 abbrev pub horizon_in : Members → Option ℕ
-horizon_in members = number_at (codes "horizon") 1 3000000 members
+horizon_in members = number_at (codes "horizon") 1 max_length members
 
 -- the direction that a word names
 abbrev pub way_of : List ℕ → Option Way
@@ -36,7 +41,7 @@ way_in _ = None
 
 -- the length in a line's table
 abbrev pub length_in : Members → Option ℕ
-length_in members = number_at (codes "length") 0 4294967295 members
+length_in members = number_at (codes "length") 0 max_u32 members
 
 -- the balise group of these four, where all of them are there
 abbrev pub site_from : Option ℕ → Option ℕ → Option ℕ → Option Way → Option Site
@@ -46,8 +51,8 @@ site_from _ _ _ _ = None
 -- the balise group in a group's table
 abbrev pub site_in : Members → Option Site
 site_in members =
-    site_from (number_at (codes "nid") 0 16777214 members) (number_at (codes "line") 0 4294967295 members)
-    (number_at (codes "at") 0 4294967295 members) (option_and_then way_in (get_member (codes "nominal") members))
+    site_from (number_at (codes "nid") 0 max_group_number members) (number_at (codes "line") 0 max_u32 members)
+    (number_at (codes "at") 0 max_u32 members) (option_and_then way_in (get_member (codes "nominal") members))
 
 -- a list with one more at its front, where both are there
 abbrev pub with_first : {A : Type 0} → Option A → Option (List A) → Option (List A)

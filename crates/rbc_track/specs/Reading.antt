@@ -10,12 +10,12 @@ use Rattle.rbc_track.specs.declared.document.Site.{Site}
 use Rattle.rbc_track.specs.declared.group.Group.{Group}
 use Rattle.rbc_track.specs.declared.error.TrackError.{TrackError}
 use Rattle.rbc_track.specs.declared.error.TrackError.TheVariants.{Text, Shape, TooManyLines, TooManyGroups, BadLength, GroupOffLine, GroupTwice}
-use Rattle.rbc_track.specs.Plan.{Plan, group_of}
+use Rattle.rbc_track.specs.Plan.{Plan, group_of, max_lines, max_groups, max_length}
 use Rattle.rbc_track.specs.Document.{Written, written_in}
 
 -- a line may be so long
 abbrev pub is_length : ℕ → Bool
-is_length length = nat_le 1 length && nat_le length 3000000
+is_length length = nat_le 1 length && nat_le length max_length
 
 -- the balise group's line is there, and is as long as the group's place at least
 abbrev pub is_on : List ℕ → Site → Bool
@@ -41,8 +41,8 @@ by_number sites = fold (λ groups site. insert_entry nat_cmp groups site.nid (gr
 -- the track that a document writes, or the first refusal
 abbrev pub plan_of : Written → Result Plan TrackError
 plan_of written =
-    if nat_lt 64 (length written.lengths) then Err TooManyLines
-    else if nat_lt 8000 (length written.sites) then Err TooManyGroups
+    if nat_lt max_lines (length written.lengths) then Err TooManyLines
+    else if nat_lt max_groups (length written.sites) then Err TooManyGroups
     else if not (list_all is_length written.lengths) then Err BadLength
     else if not (list_all (is_on written.lengths) written.sites) then Err GroupOffLine
     else if not (are_apart (numbers_of written.sites)) then Err GroupTwice

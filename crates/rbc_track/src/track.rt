@@ -2,7 +2,7 @@
 
 ghost use Rattle.std.specs.Prelude.{◌≡◌, ◌⊎◌, ◌≤◌, ◌<◌, true, false, IfOk, IfErr, OnOk, IfSome, All, slice_get};
 ghost use Rattle.rbc_track.specs.declared.error.TrackError.TheVariants.{GroupTwice, OutOfMemory};
-ghost use Rattle.rbc_track.specs.Plan.{group_of, IsPlan, IsPlaced, IsLength};
+ghost use Rattle.rbc_track.specs.Plan.{max_group_number, group_of, IsPlan, IsPlaced, IsLength};
 ghost use Rattle.rbc_track.specs.Outcomes.{IsUnlessMemory};
 ghost use Rattle.rbc_track.specs.Reading.{track_of, plan_of, is_length, is_on, are_apart, numbers_of, by_number, IsTrackOf, FindsItsGroups, RefusesTrack};
 ghost use Rattle.std.specs.BTreeMap.{IsOrdered};
@@ -59,7 +59,7 @@ impl Track {
         sites: &[Site],
     ) -> Result<Track, TrackError>
         requires horizon { IsLength horizon }
-        requires numbers { All (λ site. site.nid ≤ 16777214) sites.now }
+        requires numbers { All (λ site. site.nid ≤ max_group_number) sites.now }
         ensures { IsUnlessMemory
             (plan_of (record { horizon = horizon; lengths = lines.items; sites = sites.now }))
             result }

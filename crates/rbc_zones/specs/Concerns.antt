@@ -67,13 +67,17 @@ abbrev pub concern_of : List Segment → Bool → Option Place → Concern
 concern_of area forced None = concern.Now
 concern_of area forced (Some p) = concern_at area forced p
 
+-- the most units in which a message tells a distance or a length
+abbrev pub max_units : ℕ
+max_units = 32766
+
 -- the scale that a message takes: the least one at which its numbers fit, where they fit at the greatest
 abbrev pub scale_by : (ℕ → Bool) → ℕ
 scale_by fits = if fits 0 then 0 else if fits 1 then 1 else 2
 
 -- the scale of a stop's distance
 abbrev pub stop_scale : ℕ → ℕ
-stop_scale distance = scale_by (λ scale. nat_le (distance / 10 ^ scale) 32766)
+stop_scale distance = scale_by (λ scale. nat_le (distance / 10 ^ scale) max_units)
 
 -- Q_SCALE and D_EMERGENCYSTOP: whole units of the scale, rounded down
 abbrev pub told_distance : ℕ → ℕ × ℕ
@@ -82,10 +86,10 @@ told_distance distance = (stop_scale distance, distance / 10 ^ stop_scale distan
 -- what is told of a distance: never more, less than a unit short of it, and in the finest unit that has room
 pub record IsToldFor (distance scale units : ℕ) : Type 0 where
   pub not_spare : scale ≤ 2
-  pub in_field : units ≤ 32766
+  pub in_field : units ≤ max_units
   pub not_beyond : units * 10 ^ scale ≤ distance
   pub near : distance < units * 10 ^ scale + 10 ^ scale
-  pub finest : (finer : ℕ) → finer < scale → 32766 < distance / 10 ^ finer
+  pub finest : (finer : ℕ) → finer < scale → max_units < distance / 10 ^ finer
 
 -- one place lies at or beyond another, for a train that faces so
 abbrev pub IsAtOrBeyond : Way → ℕ → ℕ → Type 0

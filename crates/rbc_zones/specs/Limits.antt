@@ -1,6 +1,6 @@
 -- What a temporary speed restriction is to a train at its place (own rule).
 use Rattle.std.specs.Prelude.{◌≡◌, ◌⊎◌, ℕ, ◌+◌, ◌-◌, ◌*◌, ◌/◌, ◌%◌, ◌^◌, ◌<◌, ◌≤◌, min, max, Bool, true, false, not, ◌==◌, ◌||◌, ◌&&◌, nat_lt, nat_le}
-use Rattle.rbc_track.specs.Plan.{Plan}
+use Rattle.rbc_track.specs.Plan.{Plan, max_length}
 use Rattle.rbc_track.specs.declared.group.Way.{Way}
 use Rattle.rbc_track.specs.declared.group.Way.TheVariants.{Up, Down}
 use Rattle.rbc_place.specs.Placing.{Place, IsSound}
@@ -9,7 +9,11 @@ use Rattle.rbc_zones.specs.declared.segment.Segment.{Segment}
 use Rattle.rbc_zones.specs.declared.limit.Dirs.{Dirs}
 use Rattle.rbc_zones.specs.declared.limit.Dirs.TheVariants as dirs
 use Rattle.rbc_zones.specs.Segments.{is_good_segment}
-use Rattle.rbc_zones.specs.Concerns.{scale_by}
+use Rattle.rbc_zones.specs.Concerns.{max_units, scale_by}
+
+-- the greatest speed of a restriction, in km/h
+abbrev pub max_speed : ℕ
+max_speed = 600
 
 -- a restriction: where, for which ways, to which speed in km/h, and Q_FRONT
 pub record Limit : Type 0 where
@@ -21,14 +25,14 @@ pub record Limit : Type 0 where
 -- what each restriction keeps: its ends are apart, at places that a line can have, and its speed is one that V_TSR tells
 pub record IsLimit (limit : Limit) : Type 0 where
   pub ordered : limit.segment.from < limit.segment.to
-  pub within : limit.segment.to ≤ 3000000
-  pub speed : limit.speed ≤ 600
+  pub within : limit.segment.to ≤ max_length
+  pub speed : limit.speed ≤ max_speed
   pub in_fives : limit.speed % 5 ≡ 0
 
 -- a segment and a speed are good for a track
 abbrev pub is_good_limit : Plan → Segment → ℕ → Bool
 is_good_limit plan segment speed =
-    is_good_segment plan segment && nat_lt segment.from segment.to && nat_le speed 600 && speed % 5 == 0
+    is_good_segment plan segment && nat_lt segment.from segment.to && nat_le speed max_speed && speed % 5 == 0
 
 -- a restriction is for trains that face so
 abbrev pub is_for : Dirs → Way → Bool
@@ -89,7 +93,7 @@ length_at scale begin end = divided_up end (10 ^ scale) - begin / 10 ^ scale
 
 -- the least scale at which both have room
 abbrev pub part_scale : ℕ → ℕ → ℕ
-part_scale begin end = scale_by (λ scale. nat_le (start_at scale begin) 32766 && nat_le (length_at scale begin end) 32766)
+part_scale begin end = scale_by (λ scale. nat_le (start_at scale begin) max_units && nat_le (length_at scale begin end) max_units)
 
 -- Q_SCALE, D_TSR and L_TSR of the distances at which a part begins and ends
 abbrev pub told_of_part : ℕ → ℕ → ℕ × ℕ × ℕ
@@ -125,14 +129,14 @@ pub record IsNearOne (limit : Limit) (p : Place) (unit distance : ℕ) : Type 0 
 
 -- at a scale the start or the length has no room
 abbrev pub HasNoRoom : ℕ → ℕ → ℕ → Type 0
-HasNoRoom scale begin end = (32766 < start_at scale begin) ⊎ (32766 < length_at scale begin end)
+HasNoRoom scale begin end = (max_units < start_at scale begin) ⊎ (max_units < length_at scale begin end)
 
 -- What is told of a restriction: all of it that does not lie behind the balise group, and less than a unit more at each
 -- end, in the finest unit that has room.
 pub record IsToldPart (limit : Limit) (p : Place) (scale start length : ℕ) : Type 0 where
   pub not_spare : scale ≤ 2
-  pub start_in_field : start ≤ 32766
-  pub length_in_field : length ≤ 32766
+  pub start_in_field : start ≤ max_units
+  pub length_in_field : length ≤ max_units
   pub some : 1 ≤ length
   pub covers : (distance : ℕ) → IsOf limit p distance → IsTold scale start length distance
   pub no_longer : (distance : ℕ) → IsTold scale start length distance → IsNearOne limit p (10 ^ scale) distance

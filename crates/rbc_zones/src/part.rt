@@ -1,6 +1,8 @@
 //! The interval in a temporary speed restriction.
 
 ghost use Rattle.std.specs.Prelude.{◌≡◌, ◌-◌, ◌/◌, ◌<◌, ◌≤◌, ◌&&◌, false, nat_le, IsTrue};
+ghost use Rattle.rbc_track.specs.Plan.{max_length};
+ghost use Rattle.rbc_zones.specs.Concerns.{max_units};
 ghost use Rattle.rbc_zones.specs.Limits.{is_clear, ends_beyond, ends_beyond_group, begins_at, ends_at, divided_up, told_of_part, told_part, IsToldPart};
 
 use crate::limit::Limit;
@@ -14,10 +16,10 @@ const MAX_UNITS: u32 = 32_766;
 /// How far from the balise group the part of a segment begins that does not lie behind it, and how far it ends.
 fn distances(segment: Segment, place: &Place) -> (u32, u32)
     requires beyond { IsTrue (ends_beyond place.now.facing segment place.now.at) }
-    requires within { segment.to ≤ 3000000 }
+    requires within { segment.to ≤ max_length }
     ensures begin { result.0 ≡ begins_at place.now.facing segment place.now.at }
     ensures end { result.1 ≡ ends_at place.now.facing segment place.now.at }
-    ensures within { result.1 ≤ 3000000 }
+    ensures within { result.1 ≤ max_length }
 {
     let at = place.at();
     match place.facing() {
@@ -41,7 +43,7 @@ fn in_units(begin: u32, end: u32, unit: u32) -> (u32, u32)
 fn fits(begin: u32, end: u32, unit: u32) -> bool
     requires unit { 1 ≤ unit }
     requires ordered { begin < end }
-    ensures { result ≡ (nat_le (begin / unit) 32766 && nat_le (divided_up end unit - begin / unit) 32766) }
+    ensures { result ≡ (nat_le (begin / unit) max_units && nat_le (divided_up end unit - begin / unit) max_units) }
 {
     let (start, length) = in_units(begin, end, unit);
     start <= MAX_UNITS && length <= MAX_UNITS
@@ -51,7 +53,7 @@ fn fits(begin: u32, end: u32, unit: u32) -> bool
 /// down and the end rounded up, in the finest unit of which both have room.
 fn told_of_part(begin: u32, end: u32) -> (u8, u16, u16)
     requires ordered { begin < end }
-    requires within { end ≤ 3000000 }
+    requires within { end ≤ max_length }
     ensures { result ≡ told_of_part begin end }
 {
     let (scale, unit) = if fits(begin, end, 1) {

@@ -1,6 +1,7 @@
 //! What a stop is to a train.
 
 ghost use Rattle.std.specs.Prelude.{◌≡◌, ◌≤◌, ℕ, false, option_copied};
+ghost use Rattle.rbc_track.specs.Plan.{max_length};
 ghost use Rattle.rbc_zones.specs.declared.edge.Concern.TheVariants.{Before};
 ghost use Rattle.rbc_zones.specs.Concerns.{concern_of, concern_at, concern_by_edge, meets, is_behind_group};
 ghost use Rattle.rbc_zones.specs.Nearer.{nearer};
@@ -17,7 +18,7 @@ use rbc_track::Way;
 /// and `Before` that edge otherwise.
 pub fn concern(area: &Area, forced: bool, place: Option<&Place>) -> Concern
     ensures value { result ≡ concern_of area.now forced (option_copied place.entry) }
-    ensures in_range { (edge : ℕ) → result ≡ Before edge → edge ≤ 3000000 }
+    ensures in_range { (edge : ℕ) → result ≡ Before edge → edge ≤ max_length }
 {
     match place {
         None => Concern::Now,
