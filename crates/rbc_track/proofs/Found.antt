@@ -14,8 +14,7 @@ use Rattle.rbc_track.specs.declared.error.TrackError.{TrackError}
 use Rattle.rbc_track.specs.declared.error.TrackError.TheVariants.{TooManyLines, TooManyGroups, BadLength, GroupOffLine, GroupTwice}
 use Rattle.rbc_track.specs.Plan.{Plan, group_of}
 use Rattle.rbc_track.specs.Document.{Written, written_in}
-use Rattle.rbc_track.specs.Reading.{group_at, is_length, is_on, are_apart, numbers_of, by_number, plan_of, plan_or_shape, plan_or_text, track_of, sites_in_document, FindsItsGroups}
-use Rattle.rbc_track.specs.Outcomes.{IsUnlessMemory}
+use Rattle.rbc_track.specs.Reading.{group_at, is_length, is_on, are_apart, numbers_of, by_number, plan_of, plan_or_shape, plan_or_text, track_of, sites_in_document, FindsItsGroups, IsUnlessMemory}
 use Rattle.rbc_track.proofs.Entries.{at_is, same_from_equal}
 
 abbrev at_number : ℕ → List (ℕ × Group) → Option Group

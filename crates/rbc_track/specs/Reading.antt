@@ -1,5 +1,5 @@
 -- Which track a text is, and why a text is none: the first step that fails (own rule).
-use Rattle.std.specs.Prelude.{◌≡◌, ℕ, ◌==◌, ◌&&◌, Bool, true, false, not, nat_lt, nat_le, List, [], ◌∷◌, length, map, fold, Option, Some, None, option_map, option_and_then, Result, Ok, Err, if◌then◌else◌, slice_get}
+use Rattle.std.specs.Prelude.{◌≡◌, ◌⊎◌, ℕ, ◌==◌, ◌&&◌, Bool, true, false, not, nat_lt, nat_le, List, [], ◌∷◌, length, map, fold, Option, Some, None, option_map, option_and_then, Result, Ok, Err, if◌then◌else◌, slice_get}
 use Rattle.std.specs.List.{list_any, list_all, find}
 use Rattle.std.specs.Option.{option_map_or}
 use Rattle.std.specs.Ordering.{nat_cmp}
@@ -9,7 +9,7 @@ use Rattle.toml.specs.Parse.{parse_document}
 use Rattle.rbc_track.specs.declared.document.Site.{Site}
 use Rattle.rbc_track.specs.declared.group.Group.{Group}
 use Rattle.rbc_track.specs.declared.error.TrackError.{TrackError}
-use Rattle.rbc_track.specs.declared.error.TrackError.TheVariants.{Text, Shape, TooManyLines, TooManyGroups, BadLength, GroupOffLine, GroupTwice}
+use Rattle.rbc_track.specs.declared.error.TrackError.TheVariants.{Text, Shape, TooManyLines, TooManyGroups, BadLength, GroupOffLine, GroupTwice, OutOfMemory}
 use Rattle.rbc_track.specs.Plan.{Plan, group_of, max_lines, max_groups, max_length}
 use Rattle.rbc_track.specs.Document.{Written, written_in}
 
@@ -81,3 +81,7 @@ IsTrackOf text plan = track_of text ≡ Ok plan
 -- the text is no track, for this cause
 abbrev pub RefusesTrack : List ℕ → TrackError → Type 0
 RefusesTrack text error = track_of text ≡ Err error
+
+-- the result is this one, unless memory ran out
+abbrev pub IsUnlessMemory : Result Plan TrackError → Result Plan TrackError → Type 0
+IsUnlessMemory wanted result = (result ≡ wanted) ⊎ (result ≡ Err OutOfMemory)

@@ -3,8 +3,7 @@
 ghost use Rattle.std.specs.Prelude.{◌≡◌, ◌⊎◌, ◌≤◌, ◌<◌, true, false, IfOk, IfErr, OnOk, IfSome, All, slice_get};
 ghost use Rattle.rbc_track.specs.declared.error.TrackError.TheVariants.{GroupTwice, OutOfMemory};
 ghost use Rattle.rbc_track.specs.Plan.{max_group_number, group_of, IsPlan, IsPlaced, IsLength};
-ghost use Rattle.rbc_track.specs.Outcomes.{IsUnlessMemory};
-ghost use Rattle.rbc_track.specs.Reading.{track_of, plan_of, is_length, is_on, are_apart, numbers_of, by_number, IsTrackOf, FindsItsGroups, RefusesTrack};
+ghost use Rattle.rbc_track.specs.Reading.{track_of, plan_of, is_length, is_on, are_apart, numbers_of, by_number, IsTrackOf, FindsItsGroups, RefusesTrack, IsUnlessMemory};
 ghost use Rattle.std.specs.BTreeMap.{IsOrdered};
 ghost use Rattle.std.specs.Ordering.{nat_cmp};
 ghost use Rattle.std.specs.List.{list_all};

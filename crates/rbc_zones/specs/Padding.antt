@@ -4,8 +4,7 @@ use Rattle.std.proofs.Common.{sym, ap, ◌∙◌, le_trans, le_of_eq, add-sub_of
 use Rattle.std.proofs.lemmas.List.{length-take-le, length-replicate}
 use Rattle.rbc_zones.specs.declared.area.Area.TheInside.{Inside}
 use Rattle.rbc_zones.specs.declared.segment.Segment.{Segment}
-use Rattle.rbc_zones.specs.Segments.{padded, no_segment}
-use Rattle.rbc_zones.specs.Inside.{IsAreaIn}
+use Rattle.rbc_zones.specs.Inside.{padded, no_segment, IsAreaIn}
 
 -- padded segments are 8
 all_8 : (segments : List Segment) → length segments ≤ 8 → length (padded segments) ≡ 8

@@ -1,5 +1,5 @@
 -- Stretches of track, and when they are good for a track (own rule).
-use Rattle.std.specs.Prelude.{ℕ, ◌-◌, ◌≤◌, Bool, false, ◌&&◌, nat_le, List, length, replicate, ◌++◌, slice_get}
+use Rattle.std.specs.Prelude.{ℕ, ◌≤◌, Bool, false, ◌&&◌, nat_le, List, length, slice_get}
 use Rattle.std.specs.List.{list_all, All}
 use Rattle.std.specs.Option.{option_map_or}
 use Rattle.rbc_track.specs.Plan.{Plan, max_length}
@@ -27,11 +27,3 @@ pub record AreSegments (segments : List Segment) : Type 0 where
   pub some : 1 ≤ length segments
   pub few : length segments ≤ max_segments
   pub each : All IsSegment segments
-
--- a segment of zeros, which stands where an area has none
-abbrev pub no_segment : Segment
-no_segment = record { line = 0; from = 0; to = 0 }
-
--- segments, and behind them segments of zeros, to the most that there can be
-abbrev pub padded : List Segment → List Segment
-padded segments = segments ++ replicate (max_segments - length segments) no_segment

@@ -35,11 +35,10 @@ pub struct Area {
 impl Model for Area {
     ghost use Rattle.std.specs.Prelude.{List, length, take};
     ghost use Rattle.rbc_zones.specs.declared.segment.Segment.{Segment};
-    ghost use Rattle.rbc_zones.specs.Segments.{padded};
 
     ghost Value = { List Segment };
 
-    ghost use Rattle.rbc_zones.specs.Inside.{IsAreaIn};
+    ghost use Rattle.rbc_zones.specs.Inside.{padded, IsAreaIn};
     ghost use Rattle.rbc_zones.specs.Padding.{inverse_ok};
 
     ghost view = { λ a. take a.count a.segments };
