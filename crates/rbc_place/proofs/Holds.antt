@@ -15,7 +15,7 @@ pub record IsBetween (facing : Way) (end estimate ahead behind x : ℕ) : Type 0
   pub lowest : min (onward_on_line facing end estimate ahead) (onward_on_line (back facing) end estimate behind) ≤ x
   pub highest : x ≤ max (onward_on_line facing end estimate ahead) (onward_on_line (back facing) end estimate behind)
 
--- in the interval, there is a front: the place itself, unless that is too far behind the estimate
+-- for each place in the interval there is a front: the place itself, unless that is too far behind the estimate
 pub stands_between : (facing : Way) (end estimate under over length x : ℕ) → estimate ≤ end → x ≤ end
     → IsBetween facing end estimate under (over + length) x → StandsAt end facing estimate under over length x
 stands_between Up end estimate under over length x on_line there h =
@@ -41,7 +41,7 @@ stands_between Down end estimate under over length x on_line there h =
       to_rear = omega arith;
     }
 
--- with a front, the place is in the interval
+-- where there is a front, the place is in the interval
 pub between_by_front : (facing : Way) (end estimate under over length x : ℕ) → estimate ≤ end → x ≤ end
     → StandsAt end facing estimate under over length x → IsBetween facing end estimate under (over + length) x
 between_by_front Up end estimate under over length x on_line there h =
@@ -57,17 +57,17 @@ between_by_front Down end estimate under over length x on_line there h =
     let to_rear : x ≤ h.front + length = h.to_rear in
     record { lowest = omega arith; highest = omega arith }
 
--- where there is room, the place so far on is on the line and so far ahead
+-- where there is room, the place at a distance is on the line and lies that distance ahead
 pub onward_is_ahead : (way : Way) (end at by : ℕ) → at ≤ end → by ≤ room way end at → (onward way at by ≤ end) × IsAhead way at by (onward way at by)
 onward_is_ahead Up end at by on_line h = let h' : by ≤ end - at = h in (omega arith, refl)
 onward_is_ahead Down end at by on_line h = let h' : by ≤ at = h in (omega arith, omega arith)
 
--- no other place is so far ahead
+-- no other place lies that distance ahead
 pub only_onward : (way : Way) (at by estimate : ℕ) → IsAhead way at by estimate → estimate ≡ onward way at by
 only_onward Up at by estimate e = e
 only_onward Down at by estimate e = let e' : at ≡ estimate + by = e in omega arith
 
--- what is known of a value that is there only under two tests
+-- a value that is there only if two tests hold
 pub kept : (known on_line : Bool) (made place : Place) → (if known && on_line then Some made else None) ≡ Some place → IsTrue on_line × (place ≡ made)
 kept true true made place h = (refl, (cc))
 kept true false made place h = cc
@@ -76,7 +76,7 @@ kept false on_line made place h = cc
 pub le_from_test : (a b : ℕ) → IsTrue (nat_le a b) → a ≤ b
 le_from_test a b h = grind (arith, common_steps)
 
--- what a report made: there was room for its distance
+-- a place was made from a report: there was room for its distance
 pub record IsMade (end : ℕ) (g : Group) (p : Position) (length : ℕ) (place : Place) : Type 0 where
   pub fits : in_units p.scale p.distance ≤ room (way_of g.nominal p.side) end g.at
   pub made : place ≡ place_from end g p length
@@ -90,7 +90,7 @@ is_made plan p length g place found made =
     let both = kept (is_known p) (is_front_on_line end g p) (place_from end g p length) place (subst P found made) in
     record { fits = le_from_test _ _ both.0; made = both.1 }
 
--- the interval that a report makes, against its train
+-- the interval that is made from a report holds its train
 pub holds_its_train : (end : ℕ) (g : Group) (p : Position) (length : ℕ) → g.at ≤ end
     → in_units p.scale p.distance ≤ room (way_of g.nominal p.side) end g.at
     → HoldsItsTrain end g p length (place_from end g p length)

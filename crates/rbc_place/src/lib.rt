@@ -1,4 +1,4 @@
-//! Where a train stands, by its position report.
+//! Where a train may stand, according to its position report.
 #![tactic(auto)]
 
 mod law;

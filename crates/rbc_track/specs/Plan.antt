@@ -19,11 +19,11 @@ max_groups = 8000
 abbrev pub max_length : ℕ
 max_length = 3000000
 
--- the greatest number of a balise group: one more would be the number that stands for none
+-- the greatest number of a balise group; the next number means that the balise group is unknown
 abbrev pub max_group_number : ℕ
 max_group_number = 16777214
 
--- a track: the length of each line, and each balise group with its number, ascending in the number
+-- a track: its horizon, the length of each line, and each balise group with its number, in ascending order
 pub record Plan : Type 0 where
   pub horizon : ℕ
   pub lines : List ℕ
@@ -33,14 +33,14 @@ pub record Plan : Type 0 where
 abbrev pub group_of : Plan → ℕ → Option Group
 group_of plan nid = lookup (λ number. number == nid) plan.groups
 
--- a balise group has a number that a balise can have, and stands within the length of its line
+-- a balise group has a number that is not too great, and stands within the length of its line
 pub record IsPlaced (plan : Plan) (nid : ℕ) (group : Group) : Type 0 where
   pub number : nid ≤ max_group_number
   pub length : ℕ
   pub line : slice_get plan.lines group.line ≡ Some length
   pub place : group.at ≤ length
 
--- a length that a line can have, and so can the horizon: 1 to 3,000,000 units
+-- a length is one that a line or the horizon can have
 pub record IsLength (length : ℕ) : Type 0 where
   pub low : 1 ≤ length
   pub high : length ≤ max_length
@@ -54,7 +54,7 @@ pub record IsPlan (plan : Plan) : Type 0 where
   pub ascending : IsStrictlyIncreasing (map (λ entry. entry.0) plan.groups)
   pub groups : (nid : ℕ) (group : Group) → group_of plan nid ≡ Some group → IsPlaced plan nid group
 
--- the name of a refusal
+-- the name of an error
 abbrev pub name_of : TrackError → List ℕ
 name_of Text = codes "Text"
 name_of Shape = codes "Shape"

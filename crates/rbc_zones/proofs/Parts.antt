@@ -1,4 +1,4 @@
--- What is told of a part of a line, over plain distances.
+-- What is told of an interval, over plain distances.
 use Rattle.std.proofs.Common.{◌≡◌, ◌⊎◌, inl, inr, ℕ, zero, suc, ◌+◌, ◌-◌, ◌*◌, ◌/◌, ◌%◌, ◌^◌, ◌<◌, ◌≤◌, min, Bool, true, false, ◌&&◌, nat_le, if◌then◌else◌, arith, refl, sym}
 use Rattle.std.proofs.Math.Nat.{div-eq_of_lt-le}
 use Rattle.std.proofs.lemmas.Bool.{cases_lt}
@@ -14,7 +14,7 @@ divided_up_is distance unit h =
     let high : distance + (unit - 1) < (k + 1) * unit = grind (arith, times) in
     sym (div-eq_of_lt-le unit low high)
 
--- whole units: the start is less than a unit before the beginning, and the end less than a unit beyond the end
+-- whole units: the start is less than a unit before the beginning, and their end is less than a unit beyond the end
 pub record AreUnits (unit begin end start length : ℕ) : Type 0 where
   pub some : 1 ≤ length
   pub start_not_beyond : start * unit ≤ begin
@@ -22,11 +22,11 @@ pub record AreUnits (unit begin end start length : ℕ) : Type 0 where
   pub end_not_short : end ≤ (start + length) * unit
   pub end_near : (start + length) * unit < end + unit
 
--- what has room in whole units of a scale
+-- the start and the length have room at a scale
 abbrev pub has_room : ℕ → ℕ → ℕ → Bool
 has_room begin end scale = nat_le (start_at scale begin) 32766 && nat_le (length_at scale begin end) 32766
 
--- what is told at a scale
+-- the start and the length are right at a scale, which is the least with room
 pub record AreToldUnits (begin end scale : ℕ) : Type 0 where
   pub not_spare : scale ≤ 2
   pub start_in_field : start_at scale begin ≤ 32766

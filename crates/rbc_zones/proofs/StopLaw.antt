@@ -1,4 +1,4 @@
--- A stop that concerns a train later is told rightly.
+-- A stop before which a train has to stop is told rightly.
 use Rattle.std.proofs.Common.{◌≡◌, ℕ, Bool, List, ◌+◌, ◌-◌, ◌*◌, ◌^◌, ◌<◌, ◌≤◌, true, false, ◌||◌, arith, refl}
 use Rattle.std.specs.List.{list_any, All}
 use Rattle.std.proofs.lemmas.Grind.{common_steps}
@@ -58,7 +58,7 @@ each_stop p area forced edge sound segments before =
       told = record { place = ends.place; ahead = ends.ahead; not_beyond = ends.not_beyond; near = ends.near };
     }
 
--- the edge before which a train is to stop is a place that a line can have
+-- the edge before which a train has to stop is a place that a line can have
 pub edge_in_range : (p : Place) (area : List Segment) (forced : Bool) (edge : ℕ) → All IsSegment area → concern_at area forced p ≡ concern.Before edge → edge ≤ 3000000
 edge_in_range p area forced edge segments before =
     let edges = edges_ahead p area in

@@ -1,4 +1,4 @@
--- How the fields of an area make its segments.
+-- How the code keeps the segments of an area in an array.
 use Rattle.std.specs.Prelude.{◌≡◌, ◌-◌, ◌≤◌, List, take, length, replicate, ◌++◌}
 use Rattle.rbc_zones.specs.declared.area.Area.TheInside.{Inside}
 use Rattle.rbc_zones.specs.declared.segment.Segment.{Segment}

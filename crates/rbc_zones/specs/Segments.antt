@@ -9,20 +9,21 @@ use Rattle.rbc_zones.specs.declared.segment.Segment.{Segment}
 abbrev pub max_segments : ℕ
 max_segments = 8
 
--- a segment is good where the track has its line, its first place is not above its second, and that is on the line
+-- a segment is good for a track if the track has its line, its first place is not above its second, and both are on
+-- the line
 abbrev pub is_good_segment : Plan → Segment → Bool
 is_good_segment plan segment = option_map_or (λ length. nat_le segment.from segment.to && nat_le segment.to length) (slice_get plan.lines segment.line) false
 
--- an area has not too many segments, each of them good
+-- segments are a good area if there are not too many and each of them is good
 abbrev pub is_good_area : Plan → List Segment → Bool
 is_good_area plan segments = nat_le (length segments) max_segments && list_all (is_good_segment plan) segments
 
--- what each segment keeps: its ends are in order, at places that a line can have
+-- the ends of each segment of an area are in order and at places that a line can have
 pub record IsSegment (segment : Segment) : Type 0 where
   pub ordered : segment.from ≤ segment.to
   pub within : segment.to ≤ max_length
 
--- what each area keeps: one segment at least, and not too many
+-- each area has at least one segment, and not too many
 pub record AreSegments (segments : List Segment) : Type 0 where
   pub some : 1 ≤ length segments
   pub few : length segments ≤ max_segments
