@@ -78,7 +78,7 @@ module _ {V : Type 0} where
         | false ↦ and_from (leb least pair.0) _ parts.0 rest
       ]
 
-  -- so does a map with a key more, above all that it had
+  -- so does a map with one more key that is above all others
   pub rises-snoc : (key : ℕ) (value : V) (least : ℕ) (pairs : List (ℕ × V)) → least ≤ key → All (λ k. k < key) (keys pairs) → rises_from least (keys pairs) ≡ true → rises_from least (keys (pairs ++ (key, value) ∷ [])) ≡ true
   rises-snoc key value least [] le below rises = and_from (leb least key) true (le-leb least key le) refl
   rises-snoc key value least (pair ∷ pairs) le below rises =
@@ -86,7 +86,7 @@ module _ {V : Type 0} where
       let first : pair.0 < key = All-head (λ k. k < key) pair.0 (keys pairs) below in
       and_from (leb least pair.0) _ parts.0 (rises-snoc key value (pair.0 + 1) pairs (omega (arith, first)) (All-tail (λ k. k < key) pair.0 (keys pairs) below) parts.1)
 
-  -- what holds of each key holds of those that are left
+  -- what holds of each key holds of each key that is left
   pub All-without : (P : ℕ → Type 0) (key : ℕ) (pairs : List (ℕ × V)) → All P (keys pairs) → All P (keys (without key pairs))
   All-without P key [] all = all
   All-without P key (pair ∷ pairs) all =
@@ -96,7 +96,7 @@ module _ {V : Type 0} where
         | false ↦ All-cons P pair.0 (keys (without key pairs)) (All-head P pair.0 (keys pairs) all) rest
       ]
 
-  -- and of one more
+  -- and of each key after one more is added, if it holds of that one
   pub All-snoc : (P : ℕ → Type 0) (key : ℕ) (value : V) (pairs : List (ℕ × V)) → All P (keys pairs) → P key → All P (keys (pairs ++ (key, value) ∷ []))
   All-snoc P key value [] all it = All-cons P key [] it all
   All-snoc P key value (pair ∷ pairs) all it = All-cons P pair.0 (keys (pairs ++ (key, value) ∷ [])) (All-head P pair.0 (keys pairs) all) (All-snoc P key value pairs (All-tail P pair.0 (keys pairs) all) it)
@@ -127,7 +127,7 @@ module _ {V : Type 0} where
       let parts = λ (d : ℕ × V). and_parts (ltb (index_for key pairs) (length pairs)) (eqb (get_or pairs (index_for key pairs) d).0 key) (sym (has_is key 0 pairs d rises) ∙ there) in
       (within_by key pairs there (λ d. (parts d).0), λ d. eqb-true _ _ ((parts d).1))
 
-  -- and so without it that pair is gone
+  -- so without it the pair at its place is gone
   pub without-found : (key : ℕ) (pairs : List (ℕ × V)) → rises_from 0 (keys pairs) ≡ true → has pairs key ≡ true → remove pairs (index_for key pairs) ≡ without key pairs
   without-found key [] rises there = absurd (let bad : false ≡ true = there in cc)
   without-found key (pair ∷ pairs) rises there =

@@ -1,4 +1,4 @@
--- A finite map from numbers, as the list of its pairs, ascending in the key.
+-- A map from numbers to values, as the list of its pairs in ascending order of the key.
 use Rattle.std.specs.Prelude.{ℕ, ◌+◌, Bool, true, ◌==◌, nat_lt, nat_le, if◌then◌else◌, List, [], ◌∷◌, map, IsTrue, ◌&&◌, not, Option}
 use Rattle.std.specs.List.{list_any, filter, position_or_len}
 use Rattle.std.specs.Map.{lookup}
@@ -7,7 +7,7 @@ use Rattle.std.specs.Map.{lookup}
 abbrev pub has : {V : Type 0} → List (ℕ × V) → ℕ → Bool
 has pairs key = list_any (λ pair. pair.0 == key) pairs
 
--- the value at a key, or what stands for none
+-- the value at a key, or a default where the map has none
 abbrev pub value_or : {V : Type 0} → V → List (ℕ × V) → ℕ → V
 value_or none [] key = none
 value_or none (pair ∷ pairs) key = if pair.0 == key then pair.1 else value_or none pairs key
@@ -20,7 +20,7 @@ value_of pairs key = lookup (λ other. other == key) pairs
 abbrev pub without : {V : Type 0} → ℕ → List (ℕ × V) → List (ℕ × V)
 without key pairs = filter (λ pair. not (pair.0 == key)) pairs
 
--- the map with this value at the key, whatever it had there
+-- the map with this value at the key, in place of any that it had there
 abbrev pub with_value : {V : Type 0} → ℕ → V → List (ℕ × V) → List (ℕ × V)
 with_value key value [] = (key, value) ∷ []
 with_value key value (pair ∷ pairs) =
@@ -28,14 +28,15 @@ with_value key value (pair ∷ pairs) =
     else (if pair.0 == key then (key, value) ∷ pairs
     else pair ∷ with_value key value pairs)
 
--- where a key stands, or would stand: the first place whose key is not below it
+-- the index of a key, or where it would be inserted: the first index whose key is not below it
 abbrev pub index_for : {V : Type 0} → ℕ → List (ℕ × V) → ℕ
 index_for key pairs = position_or_len (λ pair. nat_le key pair.0) pairs
 
+-- the keys of a map
 abbrev pub keys : {V : Type 0} → List (ℕ × V) → List ℕ
 keys pairs = map (λ pair. pair.0) pairs
 
--- each key is above the one before it, and the first one is not below the least
+-- each key is above the one before it, and the first is not below a given number
 abbrev pub rises_from : ℕ → List ℕ → Bool
 rises_from least [] = true
 rises_from least (key ∷ keys) = nat_le least key && rises_from (key + 1) keys

@@ -1,4 +1,4 @@
-//! Finite maps from numbers: vectors of pairs, ascending in the number, with a binary search.
+//! Maps from numbers to values. A map is a vector of pairs in ascending order of the number, with a binary search.
 #![tactic(auto)]
 
 mod lookup;

@@ -1,9 +1,9 @@
-//! Looking up, and taking out.
+//! Looking up a key, and removing one.
 
 ghost use Rattle.std.specs.Prelude.{◌≡◌, option_copied};
 ghost use Rattle.rbc_maps.specs.Maps.{IsMap, has, index_for, value_of, without};
 
-/// Where a key stands, or would stand.
+/// The index of a key, or the index at which it would be inserted. The keys ascend.
 pub fn index_for<V>(pairs: &[(u32, V)], key: u32) -> usize
     requires { IsMap pairs.now }
     ensures { result ≡ index_for key pairs.now }
@@ -33,7 +33,7 @@ pub fn value_of<V>(pairs: &[(u32, V)], key: u32) -> Option<&V>
     }
 }
 
-/// Takes a key out with its value, and tells whether it was there.
+/// Removes a key and its value. Returns whether the key was there.
 pub fn remove<V: Drop>(pairs: &mut Vec<(u32, V)>, key: u32) -> bool
     requires { IsMap pairs.old.items }
     ensures pairs { pairs.new.items ≡ without key pairs.old.items }

@@ -1,4 +1,4 @@
-//! What is active under numbers that rise.
+//! Active values under ascending numbers.
 
 ghost use Rattle.std.specs.Prelude.{◌≡◌, ◌<◌, ◌∷◌, ◌++◌, [], OnOk, OnErr, IfOk, length, Some, slice_get, option_copied};
 ghost use Rattle.rbc_maps.specs.Maps.{has, value_of, without};
@@ -8,8 +8,8 @@ use crate::lookup;
 use std::alloc::{AllocError, Global};
 use std::marker::Model;
 
-/// Values that are active under numbers above 0, in ascending order, and the last number that was ever given: a
-/// number that was taken out is not given again.
+/// The active values by their numbers, which are above 0, and the last number that was ever given. A number that was
+/// removed is not given again.
 #[derive(Debug, Drop)]
 pub struct Numbered<V> {
     last: u32,
@@ -27,7 +27,7 @@ impl<V> Model for Numbered<V> {
 }
 
 impl<V> Numbered<V> {
-    /// Nothing is active, and the last number is 0. It takes no memory.
+    /// No value is active, and the last number is 0. Takes no memory.
     pub fn new(alloc: Global) -> Self
         ensures { result ≡ none_numbered }
     {
@@ -37,7 +37,7 @@ impl<V> Numbered<V> {
         }
     }
 
-    /// The last number that was given, at first 0.
+    /// The last number that was given, or 0 where none was.
     pub fn last(&self) -> u32
         ensures value { result ≡ self.now.last }
         ensures sound { AreNumbered self.now }
@@ -45,7 +45,7 @@ impl<V> Numbered<V> {
         self.last
     }
 
-    /// How many are active.
+    /// The number of active values.
     pub fn count(&self) -> usize
         ensures value { result ≡ length self.now.active }
         ensures sound { AreNumbered self.now }
@@ -53,7 +53,7 @@ impl<V> Numbered<V> {
         self.active.len()
     }
 
-    /// All that is active, in ascending order of the numbers.
+    /// All active values with their numbers, in ascending order of the number.
     pub fn active(&self) -> &[(u32, V)]
         ensures value { result.now ≡ self.now.active }
         ensures sound { AreNumbered self.now }
@@ -61,14 +61,14 @@ impl<V> Numbered<V> {
         self.active.as_slice()
     }
 
-    /// What is active under a number.
+    /// The value that is active under a number, if there is one.
     pub fn get(&self, number: u32) -> Option<&V>
         ensures { option_copied result ≡ value_of self.now.active number }
     {
         lookup::value_of(&self.active, number)
     }
 
-    /// The number at an index below the count, in ascending order of the numbers, and what is active under it.
+    /// The number and the active value at an index below the count, in ascending order of the number.
     pub fn at(&self, index: usize) -> (u32, &V)
         requires { index < length self.now.active }
         ensures { slice_get self.now.active index ≡ Some (result.0, result.1.now) }
@@ -77,8 +77,11 @@ impl<V> Numbered<V> {
         (*number, value)
     }
 
-    /// Makes a value active under a number above the last one, which is the last one from then on. A refusal for
-    /// want of memory changes nothing.
+    /// Adds a value under a number above the last one. That number is the last one from then on.
+    ///
+    /// # Errors
+    ///
+    /// Fails only for lack of memory, and then changes nothing.
     pub fn add(&mut self, number: u32, value: V) -> Result<(), AllocError>
     where
         V: Drop,
@@ -91,7 +94,7 @@ impl<V> Numbered<V> {
         Ok(())
     }
 
-    /// Takes out what is active under a number, and tells whether anything was. The last number stays.
+    /// Removes the value under a number. Returns whether there was one. The last number stays.
     pub fn remove(&mut self, number: u32) -> bool
     where
         V: Drop,
@@ -101,7 +104,7 @@ impl<V> Numbered<V> {
         lookup::remove(&mut self.active, number)
     }
 
-    /// The same once more. It takes the memory of what is active, and of no more.
+    /// Copies all of it. Takes memory for the active values alone, and fails only for lack of memory.
     pub fn copy(&self, alloc: Global) -> Result<Self, AllocError>
     where
         V: Copy,

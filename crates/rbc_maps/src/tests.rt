@@ -1,7 +1,7 @@
 use crate::Numbered;
 use std::test::Fail;
 
-// numbers rise, one is taken out, and is not found from then on
+// numbers are added in ascending order, one is removed, and it is not found from then on
 #[test]
 fn numbers_are_kept_in_ascending_order(rt: HostRuntime) -> Result<(), Fail> {
     let mut letters = Numbered::new(rt.alloc());

@@ -8,14 +8,14 @@ use Rattle.rbc_track.specs.declared.group.Group.{Group}
 use Rattle.rbc_track.specs.declared.group.Way.{Way}
 use Rattle.rbc_track.specs.declared.group.Way.TheVariants.{Up, Down}
 use Rattle.rbc_place.specs.Placing.{Place, back, room, onward, onward_on_line, way_of, in_units, is_known, is_front_on_line, place_from, place_by_group, place_of_report}
-use Rattle.rbc_place.specs.Reach.{IsAhead, StandsAt, MayStandAt, EachPlaceHoldsItsTrain}
+use Rattle.rbc_place.specs.Reach.{IsAhead, StandsAt, MayStandAt, HoldsItsTrain, EachPlaceHoldsItsTrain}
 
 -- a place lies in the interval about an estimate
 pub record IsBetween (facing : Way) (end estimate ahead behind x : ℕ) : Type 0 where
   pub lowest : min (onward_on_line facing end estimate ahead) (onward_on_line (back facing) end estimate behind) ≤ x
   pub highest : x ≤ max (onward_on_line facing end estimate ahead) (onward_on_line (back facing) end estimate behind)
 
--- in the interval, there is a front: the place itself, unless that is too far behind the estimate
+-- for each place in the interval there is a front: the place itself, unless that is too far behind the estimate
 pub stands_between : (facing : Way) (end estimate under over length x : ℕ) → estimate ≤ end → x ≤ end
     → IsBetween facing end estimate under (over + length) x → StandsAt end facing estimate under over length x
 stands_between Up end estimate under over length x on_line there h =
@@ -41,7 +41,7 @@ stands_between Down end estimate under over length x on_line there h =
       to_rear = omega arith;
     }
 
--- with a front, the place is in the interval
+-- where there is a front, the place is in the interval
 pub between_by_front : (facing : Way) (end estimate under over length x : ℕ) → estimate ≤ end → x ≤ end
     → StandsAt end facing estimate under over length x → IsBetween facing end estimate under (over + length) x
 between_by_front Up end estimate under over length x on_line there h =
@@ -57,17 +57,17 @@ between_by_front Down end estimate under over length x on_line there h =
     let to_rear : x ≤ h.front + length = h.to_rear in
     record { lowest = omega arith; highest = omega arith }
 
--- where there is room, the place so far on is on the line and so far ahead
+-- where there is room, the place at a distance is on the line and lies that distance ahead
 pub onward_is_ahead : (way : Way) (end at by : ℕ) → at ≤ end → by ≤ room way end at → (onward way at by ≤ end) × IsAhead way at by (onward way at by)
 onward_is_ahead Up end at by on_line h = let h' : by ≤ end - at = h in (omega arith, refl)
 onward_is_ahead Down end at by on_line h = let h' : by ≤ at = h in (omega arith, omega arith)
 
--- no other place is so far ahead
+-- no other place lies that distance ahead
 pub only_onward : (way : Way) (at by estimate : ℕ) → IsAhead way at by estimate → estimate ≡ onward way at by
 only_onward Up at by estimate e = e
 only_onward Down at by estimate e = let e' : at ≡ estimate + by = e in omega arith
 
--- what is known of a value that is there only under two tests
+-- a value that is there only if two tests hold
 pub kept : (known on_line : Bool) (made place : Place) → (if known && on_line then Some made else None) ≡ Some place → IsTrue on_line × (place ≡ made)
 kept true true made place h = (refl, (cc))
 kept true false made place h = cc
@@ -76,7 +76,7 @@ kept false on_line made place h = cc
 pub le_from_test : (a b : ℕ) → IsTrue (nat_le a b) → a ≤ b
 le_from_test a b h = grind (arith, common_steps)
 
--- what a report made: there was room for its distance
+-- a place was made from a report: there was room for its distance
 pub record IsMade (end : ℕ) (g : Group) (p : Position) (length : ℕ) (place : Place) : Type 0 where
   pub fits : in_units p.scale p.distance ≤ room (way_of g.nominal p.side) end g.at
   pub made : place ≡ place_from end g p length
@@ -90,11 +90,11 @@ is_made plan p length g place found made =
     let both = kept (is_known p) (is_front_on_line end g p) (place_from end g p length) place (subst P found made) in
     record { fits = le_from_test _ _ both.0; made = both.1 }
 
--- the interval that a report makes, against its train
-pub holds_its_train : (end : ℕ) (g : Group) (p : Position) (length x : ℕ) → g.at ≤ end → x ≤ end
+-- the interval that is made from a report holds its train
+pub holds_its_train : (end : ℕ) (g : Group) (p : Position) (length : ℕ) → g.at ≤ end
     → in_units p.scale p.distance ≤ room (way_of g.nominal p.side) end g.at
-    → (((place_from end g p length).lo ≤ x) × (x ≤ (place_from end g p length).hi)) ↔ MayStandAt end g p length x
-holds_its_train end g p length x at there fits =
+    → HoldsItsTrain end g p length (place_from end g p length)
+holds_its_train end g p length at fits x there =
     let facing = way_of g.nominal p.dir in
     let side = way_of g.nominal p.side in
     let distance = in_units p.scale p.distance in
@@ -114,10 +114,9 @@ holds_its_train end g p length x at there fits =
     )
 
 pub each_place_holds : EachPlaceHoldsItsTrain
-each_place_holds plan p length g place x found placed made there =
+each_place_holds plan p length g place found placed made =
     let end = slice_index plan.lines g.line in
     let m = is_made plan p length g place found made in
     let end_is = get_or_from_slice_get plan.lines g.line placed.length 0 placed.line in
     let at : g.at ≤ slice_index plan.lines g.line = omega arith in
-    let P : Place → Type 0 = λ q. ((q.lo ≤ x) × (x ≤ q.hi)) ↔ MayStandAt end g p length x in
-    subst P (sym m.made) (holds_its_train end g p length x at there m.fits)
+    subst (HoldsItsTrain end g p length) (sym m.made) (holds_its_train end g p length at m.fits)

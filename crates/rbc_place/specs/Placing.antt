@@ -1,8 +1,8 @@
--- Where a train stands, by its position report (own rule, over the variables of SUBSET-026, chapter 7). Places and
--- lengths are whole units of 10 cm. A line has the places 0 to its length, which is its end.
+-- Where a train may stand, according to its position report (own rule, from the variables of SUBSET-026, chapter 7).
+-- Places and lengths are whole units of 10 cm. The places of a line are 0 to its length.
 use Rattle.std.specs.Prelude.{◌≡◌, ℕ, ◌+◌, ◌-◌, ◌*◌, ◌^◌, ◌≤◌, min, max, Bool, true, false, ◌&&◌, ◌==◌, nat_lt, nat_le, if◌then◌else◌, Option, Some, None, is_none, option_and_then, slice_get, slice_index}
 use Rattle.ertms_codec.specs.declared.from_train.Position.{Position}
-use Rattle.rbc_track.specs.Plan.{Plan, group_of}
+use Rattle.rbc_track.specs.Plan.{Plan, group_of, max_group_number, max_length}
 use Rattle.rbc_track.specs.declared.group.Group.{Group}
 use Rattle.rbc_track.specs.declared.group.Way.{Way}
 use Rattle.rbc_track.specs.declared.group.Way.TheVariants.{Up, Down}
@@ -17,14 +17,14 @@ pub record Place : Type 0 where
   pub lo : ℕ
   pub hi : ℕ
 
--- what each place keeps: a number that a balise group can have, places that a line can have, and an interval
+-- each place has a number that a balise group can have, places that a line can have, and its ends in order
 pub record IsSound (p : Place) : Type 0 where
-  pub group : p.lrbg ≤ 16777214
-  pub at : p.at ≤ 3000000
+  pub group : p.lrbg ≤ max_group_number
+  pub at : p.at ≤ max_length
   pub ordered : p.lo ≤ p.hi
-  pub within : p.hi ≤ 3000000
+  pub within : p.hi ≤ max_length
 
--- a place lies on its line, the balise group and the whole interval
+-- the balise group of a place and its whole interval are on its line
 pub record LiesOnLine (plan : Plan) (p : Place) : Type 0 where
   pub length : ℕ
   pub line : slice_get plan.lines p.line ≡ Some length
@@ -47,16 +47,16 @@ abbrev pub room : Way → ℕ → ℕ → ℕ
 room Up end place = end - place
 room Down end place = place
 
--- the place that lies so far on
+-- the place at a distance from another, going one way
 abbrev pub onward : Way → ℕ → ℕ → ℕ
 onward Up place by = place + by
 onward Down place by = place - by
 
--- the same, or the last place of the line where that comes first
+-- the same, or the last place of the line if that comes first
 abbrev pub onward_on_line : Way → ℕ → ℕ → ℕ → ℕ
 onward_on_line way end place by = onward way place (min by (room way end place))
 
--- Q_DIRLRBG and Q_DLRBG: seen from a balise group 1 is its nominal direction, 0 the other one
+-- Q_DIRLRBG and Q_DLRBG: 1 is the nominal direction of the balise group, 0 the other one
 abbrev pub way_of : Way → ℕ → Way
 way_of nominal code = if code == 1 then nominal else back nominal
 
@@ -64,18 +64,22 @@ way_of nominal code = if code == 1 then nominal else back nominal
 abbrev pub in_units : ℕ → ℕ → ℕ
 in_units scale distance = distance * 10 ^ scale
 
--- a report can be placed: it is packet 0, all that counts is known, and no value is spare
+-- the value of an unknown distance
+abbrev pub unknown : ℕ
+unknown = 32767
+
+-- a report is enough to place a train: it is packet 0, no distance or direction is unknown, and no value is spare
 abbrev pub is_known : Position → Bool
 is_known p =
     is_none p.previous && nat_le p.scale 2 && nat_le p.dir 1 && nat_le p.side 1
-    && nat_lt p.distance 32767 && nat_lt p.over 32767 && nat_lt p.under 32767
+    && nat_lt p.distance unknown && nat_lt p.over unknown && nat_lt p.under unknown
 
 -- the estimated front of the train lies on the line of the balise group
 abbrev pub is_front_on_line : ℕ → Group → Position → Bool
 is_front_on_line end g p = nat_le (in_units p.scale p.distance) (room (way_of g.nominal p.side) end g.at)
 
--- The train stands between two places, both cut to the line: as far ahead of its estimated front as it may be
--- beyond that, and as far behind it as it may be short of that and is long.
+-- The interval ends ahead of the estimated front by the doubt under, and behind it by the doubt over and the length
+-- of the train. Both ends are cut to the line.
 abbrev pub place_from : ℕ → Group → Position → ℕ → Place
 place_from end g p length =
     let facing = way_of g.nominal p.dir in
@@ -92,12 +96,12 @@ place_from end g p length =
       hi = max ahead behind;
     }
 
--- the place by a balise group: there is one where all is known, and the front lies on the line
+-- the place of a train from its balise group: there is one if all is known and the front is on the line
 abbrev pub place_by_group : Plan → Position → ℕ → Group → Option Place
 place_by_group plan p length g =
     let end = slice_index plan.lines g.line in
     if is_known p && is_front_on_line end g p then Some (place_from end g p length) else None
 
--- the place of a train of some length by its report, where the track has its balise group
+-- the place of a train of some length from its report, if the track has its balise group
 abbrev pub place_of_report : Plan → Position → ℕ → Option Place
 place_of_report plan p length = option_and_then (place_by_group plan p length) (group_of plan p.lrbg)

@@ -1,4 +1,4 @@
--- What the interval of a place is, in the subject's own words (own rule).
+-- What the interval of a place means (own rule).
 use Rattle.std.specs.Prelude.{◌≡◌, ◌↔◌, ℕ, ◌+◌, ◌≤◌, Some, slice_index}
 use Rattle.ertms_codec.specs.declared.from_train.Position.{Position}
 use Rattle.rbc_track.specs.Plan.{Plan, group_of, IsPlaced}
@@ -7,18 +7,18 @@ use Rattle.rbc_track.specs.declared.group.Way.{Way}
 use Rattle.rbc_track.specs.declared.group.Way.TheVariants.{Up, Down}
 use Rattle.rbc_place.specs.Placing.{Place, back, way_of, in_units, place_of_report}
 
--- one place lies so far ahead of another, going one way
+-- a place lies at this distance ahead of another, going one way
 abbrev pub IsAhead : Way → ℕ → ℕ → ℕ → Type 0
 IsAhead Up from by place = place ≡ from + by
 IsAhead Down from by place = from ≡ place + by
 
--- one place lies at most so far ahead of another; it may lie behind it
+-- a place lies at most this distance ahead of another; it may lie behind it
 abbrev pub IsAtMostAhead : Way → ℕ → ℕ → ℕ → Type 0
 IsAtMostAhead Up from by place = place ≤ from + by
 IsAtMostAhead Down from by place = from ≤ place + by
 
--- A part of a train stands at a place: for some front on the line, no farther from the estimate than the doubts
--- say, the place is between that front and the length of the train behind it.
+-- A part of a train stands at a place: there is a front on the line, no farther from the estimate than the doubts,
+-- and the place is between that front and the rear, the length of the train behind it.
 pub record StandsAt (end : ℕ) (facing : Way) (estimate under over length place : ℕ) : Type 0 where
   pub front : ℕ
   pub on_line : front ≤ end
@@ -27,16 +27,22 @@ pub record StandsAt (end : ℕ) (facing : Way) (estimate under over length place
   pub from_front : IsAtMostAhead facing front 0 place
   pub to_rear : IsAtMostAhead (back facing) front length place
 
--- by a report: the estimated front is as far from the balise group as that says
+-- By a report, a part of the train may stand at a place: the estimated front is at the reported distance from the
+-- balise group.
 pub record MayStandAt (end : ℕ) (g : Group) (p : Position) (length place : ℕ) : Type 0 where
   pub estimate : ℕ
   pub counted : IsAhead (way_of g.nominal p.side) g.at (in_units p.scale p.distance) estimate
   pub stands : StandsAt end (way_of g.nominal p.dir) estimate (in_units p.scale p.under) (in_units p.scale p.over) length place
 
--- the interval of a place is just the places of its line at which a part of the train may stand
+-- The interval of a place holds a train: each place of the line lies in it exactly where a part of the train may
+-- stand.
+abbrev pub HoldsItsTrain : ℕ → Group → Position → ℕ → Place → Type 0
+HoldsItsTrain end g p length place =
+    (x : ℕ) → x ≤ end → ((place.lo ≤ x) × (x ≤ place.hi)) ↔ MayStandAt end g p length x
+
+-- the interval of each place that a report gives holds its train
 abbrev pub EachPlaceHoldsItsTrain : Type 0
 EachPlaceHoldsItsTrain =
-    (plan : Plan) (p : Position) (length : ℕ) (g : Group) (place : Place) (x : ℕ)
+    (plan : Plan) (p : Position) (length : ℕ) (g : Group) (place : Place)
     → group_of plan p.lrbg ≡ Some g → IsPlaced plan p.lrbg g → place_of_report plan p length ≡ Some place
-    → x ≤ slice_index plan.lines g.line
-    → ((place.lo ≤ x) × (x ≤ place.hi)) ↔ MayStandAt (slice_index plan.lines g.line) g p length x
+    → HoldsItsTrain (slice_index plan.lines g.line) g p length place

@@ -1,13 +1,15 @@
-//! Where a train stands, by its position report.
+//! Where a train may stand, according to its position report.
 #![tactic(auto)]
 
 mod law;
 mod line;
 mod report;
 mod standing;
+mod witnesses;
 
 pub use law::place_law;
 pub use standing::{Place, place_of};
+pub use witnesses::place_law_witnesses;
 
 #[cfg(test)]
 mod tests;

@@ -1,5 +1,4 @@
-//! Moving along a line. Places and lengths are whole units of 10 cm, and a line has the places 0 to its length,
-//! which is its end.
+//! Moving along a line. Places and lengths are whole units of 10 cm. The places of a line are 0 to its length.
 
 ghost use Rattle.std.specs.Prelude.{◌≡◌, ◌≤◌, Some, None, nat_le, if◌then◌else◌};
 ghost use Rattle.rbc_place.specs.Placing.{back, room, onward, onward_on_line};
@@ -16,7 +15,7 @@ pub fn back(way: Way) -> Way
     }
 }
 
-/// The place that lies `by` on from `place`, if that is on the line.
+/// The place at a distance `by` from `place`, going `way`, if it is on the line that ends at `end`.
 pub fn onward(way: Way, end: u32, place: u32, by: u32) -> Option<u32>
     requires { place ≤ end }
     ensures { result ≡ (if nat_le by (room way end place) then Some (onward way place by) else None) }
@@ -27,7 +26,7 @@ pub fn onward(way: Way, end: u32, place: u32, by: u32) -> Option<u32>
     }
 }
 
-/// The place that lies `by` on from `place`, or the last place of the line where that comes first.
+/// The place at a distance `by` from `place`, going `way`, or the last place of the line if that comes first.
 pub fn onward_on_line(way: Way, end: u32, place: u32, by: u32) -> u32
     requires { place ≤ end }
     ensures { result ≡ onward_on_line way end place by }

@@ -9,8 +9,8 @@ use ertms_codec::Position;
 use rbc_track::{Track, Way};
 use std::marker::Model;
 
-/// Where a train may stand: an interval on a line, with both its ends. Places are whole units of 10 cm from
-/// the lower end of the line, at most 3,000,000.
+/// Where a train may stand: an interval on a line, both ends included. Places are whole units of 10 cm from the lower
+/// end of the line, at most 3,000,000.
 #[derive(Clone, Copy, Debug, PartialEq, Eq)]
 pub struct Place {
     line: u8,
@@ -43,7 +43,7 @@ impl Place {
         self.line
     }
 
-    /// NID_LRBG: the balise group that the train's report counts from, at most 16,777,214.
+    /// NID_LRBG: the last relevant balise group, from which the train's report counts, at most 16,777,214.
     pub fn lrbg(&self) -> u32
         ensures value { result ≡ self.now.lrbg }
         ensures sound { IsSound self.now }
@@ -51,7 +51,7 @@ impl Place {
         self.lrbg
     }
 
-    /// Where that balise group lies.
+    /// The place of that balise group.
     pub fn at(&self) -> u32
         ensures value { result ≡ self.now.at }
         ensures sound { IsSound self.now }
@@ -66,7 +66,7 @@ impl Place {
         self.same
     }
 
-    /// How the train faces.
+    /// The direction in which the train faces.
     pub fn facing(&self) -> Way
         ensures { result ≡ self.now.facing }
     {
@@ -90,9 +90,9 @@ impl Place {
     }
 }
 
-/// Where a train of some length, in units of 10 cm, may stand by its position report (own rule). None where the
-/// report is packet 1, its balise group is not on the track, a distance or a direction in it is unknown or
-/// spare, or the estimated front of the train lies off the line. It takes no memory.
+/// Where a train may stand according to its position report (own rule). The length of the train is in units of 10 cm.
+/// None if the report is packet 1, its balise group is not on the track, a distance or direction in it is unknown or
+/// spare, or the estimated front of the train is not on the line. Takes no memory.
 pub fn place_of(track: &Track, position: &Position, length: u32) -> Option<Place>
     ensures place { result ≡ place_of_report track.now position.now length }
     ensures on_line { IfSome result (LiesOnLine track.now) }

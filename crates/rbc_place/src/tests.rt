@@ -44,11 +44,11 @@ const P1: Position = Position {
     under: 100,
 };
 
-/// What a place says: line, balise group, its place, whether its nominal direction is up, how the train
-/// faces, and both ends of the interval.
+/// The fields of a place: line, balise group, its place, whether its nominal direction is up, how the train faces,
+/// and both ends of the interval.
 type Seen = (u8, u32, u32, bool, Way, u32, u32);
 
-/// The place of a train by its report.
+/// The place of a train from its report.
 fn seen(track: &Track, position: &Position, length: u32) -> Option<Seen> {
     let place = place_of(track, position, length)?;
     let (line, lrbg, at) = (place.line(), place.lrbg(), place.at());
@@ -230,7 +230,7 @@ fn cuts_to_the_line(rt: HostRuntime) -> Result<(), Fail> {
         ),
         (near_end, at_down(Way::Down, 298_500, 300_000)),
         (all, at_up(Way::Up, 0, 300_000)),
-        // The front at an end of the line.
+        // The front is at an end of the line.
         (
             Position {
                 side: 0,
@@ -317,7 +317,7 @@ fn leaves_a_train_unplaced(rt: HostRuntime) -> Result<(), Fail> {
         },
         Position { dir: 2, ..P1 },
         Position { side: 2, ..P1 },
-        // The front off the line.
+        // The front is not on the line.
         Position {
             lrbg: 7,
             side: 0,
@@ -341,7 +341,7 @@ fn leaves_a_train_unplaced(rt: HostRuntime) -> Result<(), Fail> {
             distance: 30_001,
             ..P1
         },
-        // What no message reads as.
+        // No message is read as these.
         Position { scale: 3, ..P1 },
         Position { dir: 3, ..P1 },
         Position { side: 3, ..P1 },

@@ -1,4 +1,4 @@
--- The numbers of the balise groups that a document writes are in their range.
+-- The numbers of the balise groups of a document are in their range.
 use Rattle.std.proofs.Common.{◌≡◌, ℕ, ◌≤◌, ◌&&◌, leb, List, ◌∷◌, Option, Some, None, option_and_then, codes, refl, subst, pos, negsuc}
 use Rattle.std.specs.List.{All}
 use Rattle.std.proofs.lemmas.Bool.{and_parts, leb-true}
@@ -25,7 +25,7 @@ within_high low high (table ms) n e = absurd (cc)
 at_high : (key : List ℕ) (low high : ℕ) (members : Members) (n : ℕ) → number_at key low high members ≡ Some n → n ≤ high
 at_high key low high members n e = option_and_then_some (number_within low high) (get_member key members) n e (λ value found is. within_high low high value n is)
 
--- the number of a balise group can be one of a balise
+-- the number of a balise group is not too great
 abbrev IsNumbered : Site → Type 0
 IsNumbered site = site.nid ≤ 16777214
 

@@ -7,7 +7,7 @@ use Rattle.std.specs.Ordering.{match_ordering}
 use Rattle.std.proofs.lemmas.Bool.{cases_lt, cases_eq, cases_Bool, lt-ltb, le-ltb, eq-eqb, ne_eqb, eqb-true}
 use Rattle.rbc_track.specs.declared.group.Group.{Group}
 
--- the order finds a number where it is
+-- two numbers are in the order `Equal` exactly where they are equal
 pub at_is : (q k : ℕ) → is_eq (nat_cmp q k) ≡ eqb q k
 at_is q k = elim (cases_lt q k) [
   | inl below ↦ rw (lt-ltb q k below, ne_eqb q k (λ same. absurd (omega (arith, same))))

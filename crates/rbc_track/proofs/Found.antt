@@ -1,4 +1,4 @@
--- What is found under a number in a plan is what the text writes with that number.
+-- What is found under a number in a plan is what the text has under that number.
 use Rattle.std.proofs.Common.{◌≡◌, ℕ, Bool, true, false, not, eqb, ltb, cond, List, [], ◌∷◌, length, fold, Option, Some, None, option_map, Result, Ok, Err, IfOk, Ordering, Less, Equal, Greater, nat_cmp, is_eq, refl, sym, ap, ◌∙◌, subst, inl, inr}
 use Rattle.std.specs.BTreeMap.{insert_entry}
 use Rattle.std.specs.List.{list_any, list_all, find}
@@ -14,8 +14,7 @@ use Rattle.rbc_track.specs.declared.error.TrackError.{TrackError}
 use Rattle.rbc_track.specs.declared.error.TrackError.TheVariants.{TooManyLines, TooManyGroups, BadLength, GroupOffLine, GroupTwice}
 use Rattle.rbc_track.specs.Plan.{Plan, group_of}
 use Rattle.rbc_track.specs.Document.{Written, written_in}
-use Rattle.rbc_track.specs.Reading.{group_at, is_length, is_on, are_apart, numbers_of, by_number, plan_of, plan_or_shape, plan_or_text, track_of, sites_in_document, FindsItsGroups}
-use Rattle.rbc_track.specs.Outcomes.{IsUnlessMemory}
+use Rattle.rbc_track.specs.Reading.{group_at, is_length, is_on, are_apart, numbers_of, by_number, plan_of, plan_or_shape, plan_or_text, track_of, sites_in_document, FindsItsGroups, IsUnlessMemory}
 use Rattle.rbc_track.proofs.Entries.{at_is, same_from_equal}
 
 abbrev at_number : ℕ → List (ℕ × Group) → Option Group
@@ -89,7 +88,7 @@ or_none (Some x) = refl
 by_number_at : (q : ℕ) (sites : List Site) → are_apart (numbers_of sites) ≡ true → at_number q (by_number sites) ≡ option_map group_at (written_at q sites)
 by_number_at q sites apart = all_at q [] sites apart ∙ or_none _
 
--- where no step refused
+-- no rule was broken
 all_passed : (a b c d e : Bool) (t u v w x : TrackError) (made plan : Plan)
     → cond a (Err t) (cond b (Err u) (cond c (Err v) (cond d (Err w) (cond e (Err x) (Ok made))))) ≡ Ok plan → (e ≡ false) × (made ≡ plan)
 all_passed true b c d e t u v w x made plan is = absurd (cc)
@@ -123,7 +122,7 @@ finds_if_read : (document : Option Members) (plan : Plan) → plan_or_text docum
 finds_if_read None plan is nid = absurd (cc)
 finds_if_read (Some members) plan is nid = finds_if_written (written_in members) plan is nid
 
--- a track that is read has the balise groups that its text writes
+-- a track that is read has the balise groups of its text
 pub found_if_ok : (text : List ℕ) (result : Result Plan TrackError) → IsUnlessMemory (track_of text) result → IfOk result (FindsItsGroups text)
 found_if_ok text (Ok plan) ends = elim ends [
   | inl read ↦ finds_if_read (parse_document text) plan (sym read)

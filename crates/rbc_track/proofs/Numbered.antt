@@ -1,4 +1,4 @@
--- Balise groups put into a map one after another, until a number stands twice.
+-- Balise groups are put into a map one after another, until two have the same number.
 use Rattle.std.proofs.Common.{◌≡◌, ℕ, ◌+◌, ◌<◌, ◌≤◌, Bool, true, false, not, ◌&&◌, ◌||◌, eqb, cond, List, [], ◌∷◌, length, get_or, drop, fold, Option, Some, None, is_some, nat_cmp, refl, sym, ap, ◌∙◌}
 use Rattle.std.specs.BTreeMap.{insert_entry, is_at}
 use Rattle.std.specs.List.{list_any, list_all}
@@ -10,7 +10,7 @@ use Rattle.rbc_track.specs.declared.group.Group.{Group}
 use Rattle.rbc_track.specs.Reading.{group_at, are_apart, numbers_of, by_number}
 use Rattle.rbc_track.proofs.Entries.{any-insert, found_is}
 
--- the groups with those of these sites, or nothing where a number is there already
+-- these groups and those of the sites, or nothing where a number is there already
 abbrev pub numbered : List (ℕ × Group) → List Site → Option (List (ℕ × Group))
 numbered groups [] = Some groups
 numbered groups (site ∷ sites) =
@@ -61,7 +61,7 @@ all_new : (numbers : List ℕ) → are_new [] numbers ≡ true
 all_new [] = refl
 all_new (n ∷ numbers) = all_new numbers
 
--- no number stands twice where all of them are put into the map
+-- all are put into the map exactly where no two have the same number
 pub numbered_all : (sites : List Site) → numbered [] sites ≡ cond (are_apart (numbers_of sites)) (Some (by_number sites)) None
 numbered_all sites =
     numbered_from [] sites ∙ ap (λ b. cond (b && are_apart (numbers_of sites)) (Some (by_number sites)) None) (all_new (numbers_of sites))

@@ -72,7 +72,7 @@ IsPlan-from horizon lines sites groups far few_lines few_sites lengths on number
       groups = λ nid group found. EachEntry-lookup (IsPlaced plan) groups nid group each found;
     }
 
--- a balise group on one of few lines has the number of one
+-- a balise group that is on one of at most 64 lines has a line number below 256
 pub lines_below : (lines : List ℕ) (sites : List Site) → length lines ≤ 64 → list_all (is_on lines) sites ≡ true → All (λ site. site.line < 256) sites
 lines_below lines sites few on k d within =
     let here = AllPass-from_list_all (is_on lines) sites on k d within in

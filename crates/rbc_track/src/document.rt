@@ -1,4 +1,4 @@
-//! What a track's document says: each key is read into a type of its own, and its kind is all that is looked at.
+//! Reads a track's document key by key. Only the kind and the range of each value are checked here.
 
 ghost use Rattle.std.specs.Prelude.{◌≡◌, ◌⊎◌, Some, None, option_map, option_and_then, IfOk, IfErr, MatchResult};
 ghost use Rattle.toml.specs.Parse.{parse_document};
@@ -19,24 +19,24 @@ const MAX_HORIZON: u32 = 3_000_000;
 /// The greatest number of a balise group.
 const MAX_NID: u32 = 16_777_214;
 
-/// A balise group as a document writes it.
+/// A balise group as it is written in a document.
 #[derive(Clone, Copy)]
 pub struct Site {
     /// Its number, 0 to 16,777,214.
     pub nid: u32,
-    /// The number of its line, of which nothing is known.
+    /// The number of its line, not checked yet.
     pub line: u32,
-    /// Its place, in units of 10 cm, of which nothing is known.
+    /// Its place, in units of 10 cm, not checked yet.
     pub at: u32,
-    /// Where its nominal direction points.
+    /// Its nominal direction.
     pub nominal: Way,
 }
 
-/// The table that a text is.
+/// Parses a text as a TOML document.
 ///
 /// # Errors
 ///
-/// `Text` where the text is no TOML document, and `OutOfMemory`.
+/// `Text` if the text is not a TOML document, or `OutOfMemory`.
 pub fn document_from(alloc: Global, text: &str) -> Result<Table, TrackError>
     ensures { MatchResult result
         (λ document. parse_document text.now ≡ Some (table_view document))
@@ -52,7 +52,7 @@ pub fn document_from(alloc: Global, text: &str) -> Result<Table, TrackError>
     }
 }
 
-/// A whole number from `low` to `high`.
+/// The value as a whole number from `low` to `high`, if it is one.
 fn number_within(value: &Value, low: u32, high: u32) -> Option<u32>
     ensures { result ≡ number_within low high (view value.now) }
 {
@@ -65,14 +65,14 @@ fn number_within(value: &Value, low: u32, high: u32) -> Option<u32>
     }
 }
 
-/// The value under a key.
+/// The value under a key, if there is one.
 fn value_at<'a>(table: &'a Table, key: &str) -> Option<&'a Value>
     ensures { option_map (λ value. view value.now) result ≡ get_member key.now (table_view table.now) }
 {
     table.get(key)
 }
 
-/// The whole number from `low` to `high` under a key.
+/// The whole number from `low` to `high` under a key, if there is one.
 fn number_at(table: &Table, key: &str, low: u32, high: u32) -> Option<u32>
     ensures { result ≡ number_at key.now low high (table_view table.now) }
 {
@@ -89,7 +89,7 @@ pub fn horizon_in(document: &Table) -> Option<u32>
     number_at(document, "horizon", 1, MAX_HORIZON)
 }
 
-/// The direction that a value names.
+/// The direction that a value names, if it names one.
 fn way_in(value: &Value) -> Option<Way>
     ensures { result ≡ way_in (view value.now) }
 {
@@ -107,7 +107,7 @@ fn way_in(value: &Value) -> Option<Way>
     }
 }
 
-/// A balise group of its four keys, if all of them are there.
+/// The balise group of the values of its four keys, if all of them are there.
 fn site_from(
     nid: Option<u32>,
     line: Option<u32>,
@@ -167,7 +167,7 @@ fn length_in(row: &Value) -> Option<u32>
 ///
 /// # Errors
 ///
-/// `Shape` where a row is no table or has no length, and `OutOfMemory`.
+/// `Shape` if a row is not a table or has no length, or `OutOfMemory`.
 fn lengths_in(alloc: Global, rows: &[Value]) -> Result<Vec<u32>, TrackError>
     ensures ok { IfOk result (λ lengths. in_each length_in (items_view rows.now) ≡ Some lengths.items) }
     ensures err { IfErr result (Misses (in_each length_in (items_view rows.now))) }
@@ -184,7 +184,7 @@ fn lengths_in(alloc: Global, rows: &[Value]) -> Result<Vec<u32>, TrackError>
 ///
 /// # Errors
 ///
-/// `Shape` where a row is no table or writes no balise group, and `OutOfMemory`.
+/// `Shape` if a row is not a table or not a balise group, or `OutOfMemory`.
 fn sites_in(alloc: Global, rows: &[Value]) -> Result<Vec<Site>, TrackError>
     ensures ok { IfOk result (λ sites. in_each site_in (items_view rows.now) ≡ Some sites.items) }
     ensures err { IfErr result (Misses (in_each site_in (items_view rows.now))) }
@@ -201,7 +201,7 @@ fn sites_in(alloc: Global, rows: &[Value]) -> Result<Vec<Site>, TrackError>
 ///
 /// # Errors
 ///
-/// `Shape` where the key is missing or holds anything but tables with a length, and `OutOfMemory`.
+/// `Shape` if the key is missing or is anything but tables with a length, or `OutOfMemory`.
 pub fn lengths_under(alloc: Global, document: &Table) -> Result<Vec<u32>, TrackError>
     ensures ok { IfOk result (λ lengths. lengths_under (table_view document.now) ≡ Some lengths.items) }
     ensures err { IfErr result (Misses (lengths_under (table_view document.now))) }
@@ -212,11 +212,11 @@ pub fn lengths_under(alloc: Global, document: &Table) -> Result<Vec<u32>, TrackE
     }
 }
 
-/// The balise groups under the key `group`, none without the key.
+/// The balise groups under the key `group`, or none without the key.
 ///
 /// # Errors
 ///
-/// `Shape` where the key holds anything but tables of balise groups, and `OutOfMemory`.
+/// `Shape` if the key is anything but tables of balise groups, or `OutOfMemory`.
 pub fn sites_under(alloc: Global, document: &Table) -> Result<Vec<Site>, TrackError>
     ensures ok { IfOk result (λ sites. sites_under (table_view document.now) ≡ Some sites.items) }
     ensures err { IfErr result (Misses (sites_under (table_view document.now))) }

@@ -1,6 +1,6 @@
-//! Balise groups, and the directions that they tell.
+//! Balise groups, and the directions along a line.
 
-/// A direction along a line: up is towards rising places.
+/// A direction along a line.
 #[derive(Clone, Copy, Debug, PartialEq, Eq)]
 pub enum Way {
     /// Towards rising places.
@@ -9,13 +9,13 @@ pub enum Way {
     Down,
 }
 
-/// A balise group: where it is, and which way its nominal direction points.
+/// A balise group: where it is, and its nominal direction.
 #[derive(Clone, Copy, Debug, PartialEq, Eq)]
 pub struct Group {
     /// The number of its line, from 0.
     pub line: u8,
     /// Its place on the line, in units of 10 cm.
     pub at: u32,
-    /// Where its nominal direction points.
+    /// Its nominal direction.
     pub nominal: Way,
 }

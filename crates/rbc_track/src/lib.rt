@@ -1,6 +1,6 @@
 //! The track file of a radio block centre: how long its lines are and where its balise groups stand.
 //!
-//! A file is read once, into a [`Track`], and looked up in from then on without taking memory.
+//! A file is read once, into a [`Track`]. Looking something up in it takes no memory.
 #![tactic(auto)]
 
 mod document;

@@ -29,7 +29,7 @@ at = 0
 nominal = \"up\"
 ";
 
-/// The refusal of a text, none if it is a track.
+/// The error for a text, or none if it is a track.
 fn refusal(alloc: Global, text: &str) -> Option<TrackError> {
     track_from_toml(alloc, text).err()
 }
@@ -42,10 +42,10 @@ fn small(alloc: Global, values: [&str; 6]) -> Result<String, AllocError> {
     )
 }
 
-/// A value for each key of `small` that it may have.
+/// A good value for each key of `small`.
 const GOOD: [&str; 6] = ["100000", "300000", "5", "0", "10000", "\"up\""];
 
-/// A track of so many lines of a length, and of balise groups with the numbers below a count.
+/// A track of `lines` lines of one length, and of `groups` balise groups, numbered from 0.
 fn large(
     alloc: Global,
     horizon: &str,

@@ -1,10 +1,9 @@
-//! The track: read from its text once, and looked up in from then on.
+//! The track: read from a text once, then looked up in.
 
 ghost use Rattle.std.specs.Prelude.{◌≡◌, ◌⊎◌, ◌≤◌, ◌<◌, true, false, IfOk, IfErr, OnOk, IfSome, All, slice_get};
 ghost use Rattle.rbc_track.specs.declared.error.TrackError.TheVariants.{GroupTwice, OutOfMemory};
-ghost use Rattle.rbc_track.specs.Plan.{group_of, IsPlan, IsPlaced, IsLength};
-ghost use Rattle.rbc_track.specs.Outcomes.{IsUnlessMemory};
-ghost use Rattle.rbc_track.specs.Reading.{track_of, plan_of, is_length, is_on, are_apart, numbers_of, by_number, IsTrackOf, FindsItsGroups, RefusesTrack};
+ghost use Rattle.rbc_track.specs.Plan.{max_group_number, group_of, IsPlan, IsPlaced, IsLength};
+ghost use Rattle.rbc_track.specs.Reading.{track_of, plan_of, is_length, is_on, are_apart, numbers_of, by_number, IsTrackOf, FindsItsGroups, RefusesTrack, IsUnlessMemory};
 ghost use Rattle.std.specs.BTreeMap.{IsOrdered};
 ghost use Rattle.std.specs.Ordering.{nat_cmp};
 ghost use Rattle.std.specs.List.{list_all};
@@ -26,7 +25,8 @@ const MAX_GROUPS: usize = 8_000;
 /// The greatest length of a line, in units of 10 cm.
 const MAX_LENGTH: u32 = 3_000_000;
 
-/// A track: its lines, its balise groups, and how far ahead of a train its horizon is.
+/// A track: its lines, its balise groups, and its horizon, which is how far ahead of a train a restriction concerns
+/// it.
 #[derive(Debug, Drop)]
 pub struct Track {
     horizon: u32,
@@ -47,11 +47,11 @@ impl Model for Track {
 }
 
 impl Track {
-    /// The track that a document writes.
+    /// Makes a track of what is written in a document.
     ///
     /// # Errors
     ///
-    /// The first rule that the document breaks, of those on whole lists, and `OutOfMemory`.
+    /// The first rule on whole lists that the document breaks, or `OutOfMemory`.
     fn new(
         alloc: Global,
         horizon: u32,
@@ -59,7 +59,7 @@ impl Track {
         sites: &[Site],
     ) -> Result<Track, TrackError>
         requires horizon { IsLength horizon }
-        requires numbers { All (λ site. site.nid ≤ 16777214) sites.now }
+        requires numbers { All (λ site. site.nid ≤ max_group_number) sites.now }
         ensures { IsUnlessMemory
             (plan_of (record { horizon = horizon; lengths = lines.items; sites = sites.now }))
             result }
@@ -111,21 +111,21 @@ impl Track {
     }
 }
 
-/// Whether a line may be so long.
+/// Whether a line can have this length.
 fn is_length(length: u32) -> bool
     ensures { result ≡ is_length length }
 {
     (1..=MAX_LENGTH).contains(&length)
 }
 
-/// Whether each line may be as long as it is.
+/// Whether each length is one that a line can have.
 fn are_lengths(lines: &[u32]) -> bool
     ensures { result ≡ list_all is_length lines.now }
 {
     lines.iter().all(|length| is_length(*length))
 }
 
-/// Whether a balise group's line is there, and is as long as the group's place at least.
+/// Whether a balise group's line exists, and the group's place is not above the line's length.
 fn is_on(lines: &[u32], site: &Site) -> bool
     ensures { result ≡ is_on lines.now site.now }
 {
@@ -134,7 +134,7 @@ fn is_on(lines: &[u32], site: &Site) -> bool
         .is_some_and(|length| site.at <= *length)
 }
 
-/// Whether each balise group is on a line.
+/// Whether each balise group is on a line that exists.
 fn are_on(lines: &[u32], sites: &[Site]) -> bool
     ensures { result ≡ list_all (is_on lines.now) sites.now }
 {
@@ -145,7 +145,7 @@ fn are_on(lines: &[u32], sites: &[Site]) -> bool
 ///
 /// # Errors
 ///
-/// `GroupTwice` where two have the same number, and `OutOfMemory`.
+/// `GroupTwice` if two have the same number, or `OutOfMemory`.
 fn by_number(alloc: Global, sites: &[Site]) -> Result<BTreeMap<u32, Group>, TrackError>
     requires { All (λ site. site.line < 256) sites.now }
     ensures apart { OnOk result (are_apart (numbers_of sites.now) ≡ true) }
@@ -168,19 +168,19 @@ fn by_number(alloc: Global, sites: &[Site]) -> Result<BTreeMap<u32, Group>, Trac
     Ok(groups)
 }
 
-/// Reads a track file, a TOML document. Lengths and places are in units of 10 cm. Other keys than these are not
-/// looked at.
+/// Reads a track file, which is a TOML document. Lengths and places are in units of 10 cm. Keys other than these
+/// are ignored.
 ///
 /// - `horizon`: 1 to 3,000,000.
 /// - `line`: at most 64 tables, one for each line. Lines are numbered from 0. `length` is 1 to 3,000,000.
-/// - `group`: at most 8,000 tables, one for each balise group, in any order; none without the key. `nid` is its
-///   number, 0 to 16,777,214, `line` its line, `at` its place, which is not above the line's length, and `nominal`
-///   is `"up"` or `"down"`. No number stands twice.
+/// - `group`: at most 8,000 tables, one for each balise group, in any order. Without the key there are none. `nid`
+///   is its number, 0 to 16,777,214, `line` its line, `at` its place, which is not above the line's length, and
+///   `nominal` is `"up"` or `"down"`. No two have the same number.
 ///
 /// # Errors
 ///
-/// The first cause that applies, in the order of the variants of [`TrackError`] (own rule): each fault of kind comes
-/// before each list that is too long, and so on. `OutOfMemory` may come in place of any of them.
+/// The first cause that applies, in the order of the variants of [`TrackError`] (own rule). So a value of the wrong
+/// kind is reported before a list that is too long, and so on. `OutOfMemory` can come in place of any result.
 pub fn track_from_toml(alloc: Global, text: &str) -> Result<Track, TrackError>
     ensures ok { IfOk result (IsTrackOf text.now) }
     ensures found { IfOk result (FindsItsGroups text.now) }

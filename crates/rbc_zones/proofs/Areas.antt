@@ -1,11 +1,11 @@
--- The fields of an area that is made.
+-- The fields of a new area.
 use Rattle.std.proofs.Common.{◌≡◌, List, ◌++◌, length, take, drop, replicate, sym, ap, ◌∙◌, subst}
 use Rattle.std.proofs.lemmas.List.{drop-replicate}
 use Rattle.std.proofs.Math.Seq.{take-append_seam}
 use Rattle.rbc_zones.specs.declared.area.Area.TheInside.{Inside}
 use Rattle.rbc_zones.specs.declared.segment.Segment.{Segment}
-use Rattle.rbc_zones.specs.Segments.{padded, no_segment, AreSegments}
-use Rattle.rbc_zones.specs.Inside.{IsAreaIn}
+use Rattle.rbc_zones.specs.Segments.{AreSegments}
+use Rattle.rbc_zones.specs.Inside.{padded, no_segment, IsAreaIn}
 
 abbrev filled_with : List Segment → List Segment → Inside
 filled_with front segments = record { segments = front ++ drop (length segments) (replicate 8 no_segment); count = length segments }

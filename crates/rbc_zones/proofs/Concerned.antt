@@ -1,4 +1,4 @@
--- What a stop is to a train, by the segments that are left and the nearest edge of those before.
+-- What a stop means for a train, from the segments that are left and the nearest edge of those before.
 use Rattle.std.proofs.Common.{◌≡◌, ◌≢◌, ℕ, ◌<◌, ◌≤◌, ◌+◌, min, max, Bool, true, false, ◌||◌, ◌==◌, if◌then◌else◌, cond, List, [], ◌∷◌, length, get_or, drop, map, Option, Some, None, refl, ap, ◌∙◌}
 use Rattle.std.specs.List.{filter, fold, list_any}
 use Rattle.std.specs.Option.{option_map_or}
@@ -10,7 +10,7 @@ use Rattle.rbc_place.specs.Placing.{Place}
 use Rattle.rbc_zones.specs.declared.segment.Segment.{Segment}
 use Rattle.rbc_zones.specs.declared.edge.Concern.{Concern}
 use Rattle.rbc_zones.specs.declared.edge.Concern.TheVariants as concern
-use Rattle.rbc_zones.specs.Segments.{no_segment}
+use Rattle.rbc_zones.specs.Inside.{no_segment}
 use Rattle.rbc_zones.specs.Concerns.{on_its_line, meets, edge_of, is_ahead, nearest, concern_by_edge, concern_at}
 use Rattle.rbc_zones.specs.Nearer.{first_of, nearer}
 
@@ -36,13 +36,13 @@ joined_none Down None = refl
 joined_none Up (Some edge) = refl
 joined_none Down (Some edge) = refl
 
--- what a stop is by segments on the train's line, where the nearest edge before them is this one
+-- what a stop means, from segments on the train's line and the nearest edge of those before them
 abbrev by_segments : Place → Option ℕ → List Segment → Concern
 by_segments p found segments =
     if list_any (meets p) segments then concern.Now
     else concern_by_edge p (joined p.facing found (filter (is_ahead p.facing p) (map (edge_of p.facing) segments)))
 
--- what a stop is where the nearest edge so far is this one, and these segments are left
+-- what a stop means, from the nearest edge so far and the segments that are left
 pub concern_from : Place → Option ℕ → List Segment → Concern
 concern_from p found rest = by_segments p found (on_its_line p rest)
 
@@ -74,7 +74,7 @@ from_passed p found segment rest e passed =
     ∙ ap (λ b. if b || list_any (meets p) others then concern.Now else concern_by_edge p (joined p.facing found (filter (is_ahead p.facing p) (map (edge_of p.facing) (segment ∷ others))))) passed
     ∙ ap (λ (o : Option ℕ). if list_any (meets p) others then concern.Now else concern_by_edge p o) (joined_next p.facing found edge edges (is_ahead p.facing p edge))
 
--- the loop's steps, at a place of its segments
+-- the steps of the loop at one of its segments
 module _ (p : Place) (found : Option ℕ) (segments : List Segment) (i : ℕ) (within : i < length segments) where
   abbrev here : Segment
   here = get_or segments i no_segment

@@ -5,3 +5,5 @@ pub mod StopLaw
 pub mod ToldStops
 pub mod Parts
 pub mod ToldLimits
+pub mod WitnessStops
+pub mod WitnessLimits

@@ -15,7 +15,7 @@ this_or_rest : (P : ℕ → Type 0) (n m : ℕ) (same rest : Bool) → (m == n) 
 this_or_rest P n m true rest e this more one = subst P (eqb-true m n e) this
 this_or_rest P n m false rest e this more one = more one
 
--- what holds of each number holds of one of them
+-- what holds of each number in a list holds of any one of them
 pub of_one : (P : ℕ → Type 0) (n : ℕ) (ns : List ℕ) → All P ns → list_any (λ other. other == n) ns ≡ true → P n
 of_one P n [] all one = cc
 of_one P n (m ∷ ns) all one = this_or_rest P n m (m == n) (list_any (λ other. other == n) ns) refl (All-head P m ns all) (λ more. of_one P n ns (All-tail P m ns all) more) one
@@ -29,7 +29,7 @@ one_before true b rest h = refl
 one_before false true rest h = refl
 one_before false false rest h = h
 
--- one of the numbers, where the first two were taken together
+-- a number is in a list if it is in the list in which the first two numbers are taken together
 either : (n first second taken : ℕ) (rest : Bool) → (taken ≡ first) ⊎ (taken ≡ second) → (taken == n || rest) ≡ true → (first == n || (second == n || rest)) ≡ true
 either n first second taken rest (inl e) one = one_before (first == n) (second == n) rest (subst (λ (k : ℕ). (k == n || rest) ≡ true) e one)
 either n first second taken rest (inr e) one = one_more (first == n) (second == n) rest (subst (λ (k : ℕ). (k == n || rest) ≡ true) e one)
@@ -100,7 +100,7 @@ is_nearest Down (first ∷ ns) edge e =
     let is : IsNearest Down (first ∷ ns) n = record { one = greatest.one; nearest = All-cons (λ other. other ≤ n) first ns greatest.above greatest.above_all } in
     subst (IsNearest Down (first ∷ ns)) (the_same n edge e) is
 
--- a stop that concerns a train later has a nearest edge, which is not behind the balise group
+-- a stop before which a train has to stop has a nearest edge, which is not behind the balise group
 pub record HasEdge (p : Place) (found : Option ℕ) (edge : ℕ) : Type 0 where
   pub found_is : found ≡ Some edge
   pub not_behind : is_behind_group p.facing p.at edge ≡ false

@@ -1,11 +1,12 @@
--- A stop that concerns a train later is told rightly.
-use Rattle.std.proofs.Common.{◌≡◌, ℕ, Bool, List, ◌+◌, ◌-◌, ◌<◌, ◌≤◌, true, false, ◌||◌, arith}
+-- A stop before which a train has to stop is told rightly.
+use Rattle.std.proofs.Common.{◌≡◌, ℕ, Bool, List, ◌+◌, ◌-◌, ◌*◌, ◌^◌, ◌<◌, ◌≤◌, true, false, ◌||◌, arith, refl}
 use Rattle.std.specs.List.{list_any, All}
 use Rattle.std.proofs.lemmas.Grind.{common_steps}
 use Rattle.std.proofs.lemmas.List.Elements.{filter_passes}
 use Rattle.rbc_track.specs.declared.group.Way.{Way}
 use Rattle.rbc_track.specs.declared.group.Way.TheVariants.{Up, Down}
-use Rattle.rbc_place.specs.Placing.{Place, onward}
+use Rattle.rbc_place.specs.Placing.{Place}
+use Rattle.rbc_place.specs.Reach.{IsAhead}
 use Rattle.rbc_zones.specs.declared.segment.Segment.{Segment}
 use Rattle.rbc_zones.specs.declared.edge.Concern.TheVariants as concern
 use Rattle.rbc_zones.specs.Segments.{IsSegment}
@@ -13,19 +14,26 @@ use Rattle.rbc_zones.specs.Concerns.{on_its_line, meets, is_ahead, edges_ahead, 
 use Rattle.rbc_zones.proofs.NearestEdges.{of_one, is_nearest, has_edge, edges_within}
 use Rattle.rbc_zones.proofs.ToldStops.{told_rightly}
 
--- a distance that is never more and less than a unit short ends at such a place
+-- the place at which a distance from the balise group ends: not beyond the edge, and less than a unit short of it
+record EndsBefore (way : Way) (at edge told unit : ℕ) : Type 0 where
+  place : ℕ
+  ahead : IsAhead way at told place
+  not_beyond : IsAtOrBeyond way edge place
+  near : distance_to way place edge < unit
+
+-- a distance that is never more than the edge's, and less than a unit less, ends at such a place
 ends_before : (way : Way) (at edge told unit : ℕ) → is_behind_group way at edge ≡ false → told ≤ distance_to way at edge → distance_to way at edge < told + unit
-    → IsAtOrBeyond way edge (onward way at told) × (distance_to way (onward way at told) edge < unit)
+    → EndsBefore way at edge told unit
 ends_before Up at edge told unit ahead most near =
     let most' : told ≤ edge - at = most in
     let near' : edge - at < told + unit = near in
     let ahead' : at ≤ edge = grind (arith, common_steps) in
-    (omega arith, omega arith)
+    record { place = at + told; ahead = refl; not_beyond = omega arith; near = omega arith }
 ends_before Down at edge told unit ahead most near =
     let most' : told ≤ at - edge = most in
     let near' : at - edge < told + unit = near in
     let ahead' : edge ≤ at = grind (arith, common_steps) in
-    (omega arith, omega arith)
+    record { place = at - told; ahead = omega arith; not_beyond = omega arith; near = omega arith }
 
 distance_within : (way : Way) (at edge : ℕ) → at ≤ 3000000 → edge ≤ 3000000 → distance_to way at edge ≤ 3000000
 distance_within Up at edge h k = omega arith
@@ -46,10 +54,11 @@ each_stop p area forced edge sound segments before =
         an_edge = first.one;
         nearest = first.nearest;
       };
-      told = record { not_beyond = ends.0; near = ends.1 };
+      finest = told;
+      told = record { place = ends.place; ahead = ends.ahead; not_beyond = ends.not_beyond; near = ends.near };
     }
 
--- the edge before which a train is to stop is a place that a line can have
+-- the edge before which a train has to stop is a place that a line can have
 pub edge_in_range : (p : Place) (area : List Segment) (forced : Bool) (edge : ℕ) → All IsSegment area → concern_at area forced p ≡ concern.Before edge → edge ≤ 3000000
 edge_in_range p area forced edge segments before =
     let edges = edges_ahead p area in

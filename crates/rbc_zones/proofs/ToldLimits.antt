@@ -49,7 +49,7 @@ lies_on Down segment at distance ordered low high =
     let k : distance ≤ at - segment.from = high in
     record { place = at - distance; ahead = omega arith; from = omega arith; to = omega arith }
 
--- the distance between two that is nearest to one
+-- the nearest distance within the ends to one that is told
 pub nearest_between : (unit begin end start length distance : ℕ) → begin < end → AreUnits unit begin end start length
     → start * unit ≤ distance → distance ≤ (start + length) * unit → AreNear unit distance (max begin (min distance end))
 nearest_between unit begin end start length distance ordered units low high =
@@ -80,12 +80,13 @@ told_rightly limit p kept beyond within =
             of = record { place = on.place; ahead = on.ahead; from = on.from; to = on.to };
             near = nearest_between _ begin end _ _ distance ordered units is.begun is.not_ended;
           };
+      finest = told.finest;
     }
 
 ends_beyond_from : (clear beyond near : Bool) → (not clear && beyond && near) ≡ true → IsTrue beyond
 ends_beyond_from clear beyond near h = grind (arith, common_steps)
 
--- the same of a restriction whose distances were taken one by one
+-- the same, of a restriction whose distances are named
 pub told_rightly_by : (limit : Limit) (p : Place) (segment : Segment) (begin end : ℕ) (part : ℕ × ℕ × ℕ) → IsLimit limit
     → IsTrue (ends_beyond_group limit p) → segment ≡ limit.segment → begin ≡ begins_at p.facing segment p.at
     → end ≡ ends_at p.facing segment p.at → end ≤ 3000000 → part ≡ told_of_part begin end

@@ -1,9 +1,10 @@
--- What a stop is to a train at its place (own rule).
+-- What a stop means for a train at its place, and what the train is told of it (own rule).
 use Rattle.std.specs.Prelude.{◌≡◌, ℕ, ◌+◌, ◌-◌, ◌*◌, ◌/◌, ◌^◌, ◌<◌, ◌≤◌, min, max, Bool, true, ◌==◌, ◌||◌, ◌&&◌, nat_lt, nat_le, if◌then◌else◌, List, [], ◌∷◌, map, Option, Some, None}
 use Rattle.std.specs.List.{filter, fold, list_any, All}
 use Rattle.rbc_track.specs.declared.group.Way.{Way}
 use Rattle.rbc_track.specs.declared.group.Way.TheVariants.{Up, Down}
-use Rattle.rbc_place.specs.Placing.{Place, IsSound, onward}
+use Rattle.rbc_place.specs.Placing.{Place, IsSound}
+use Rattle.rbc_place.specs.Reach.{IsAhead}
 use Rattle.rbc_zones.specs.declared.segment.Segment.{Segment}
 use Rattle.rbc_zones.specs.declared.edge.Concern.{Concern}
 use Rattle.rbc_zones.specs.declared.edge.Concern.TheVariants as concern
@@ -22,7 +23,7 @@ abbrev pub edge_of : Way → Segment → ℕ
 edge_of Up segment = segment.from
 edge_of Down segment = segment.to
 
--- a place lies ahead of each place where the train may stand
+-- a place lies ahead of all places where the train may stand
 abbrev pub is_ahead : Way → Place → ℕ → Bool
 is_ahead Up p place = nat_lt p.hi place
 is_ahead Down p place = nat_lt place p.lo
@@ -50,48 +51,53 @@ abbrev pub is_behind_group : Way → ℕ → ℕ → Bool
 is_behind_group Up at place = nat_lt place at
 is_behind_group Down at place = nat_lt at place
 
--- a stop whose nearest edge ahead is this one: at an edge behind the balise group no distance can be told
+-- what a stop means whose nearest edge ahead is this one: no distance can be told to an edge behind the balise group
 abbrev pub concern_by_edge : Place → Option ℕ → Concern
 concern_by_edge p None = concern.None
 concern_by_edge p (Some edge) = if is_behind_group p.facing p.at edge then concern.Now else concern.Before edge
 
--- what a stop is to a train that has a place
+-- what a stop means for a train that has a place
 abbrev pub concern_at : List Segment → Bool → Place → Concern
 concern_at area forced p =
     if forced || list_any (meets p) (on_its_line p area) then concern.Now
     else concern_by_edge p (nearest p.facing (edges_ahead p area))
 
--- and to any train: a train without a place stops at once
+-- what a stop means for any train: one without a place stops at once
 abbrev pub concern_of : List Segment → Bool → Option Place → Concern
 concern_of area forced None = concern.Now
 concern_of area forced (Some p) = concern_at area forced p
 
--- the scale that a message takes: the least one at which its numbers fit, where they fit at the greatest
+-- the most units in which a message tells a distance or a length
+abbrev pub max_units : ℕ
+max_units = 32766
+
+-- the scale of a message: the least at which its numbers fit, or else the greatest
 abbrev pub scale_by : (ℕ → Bool) → ℕ
 scale_by fits = if fits 0 then 0 else if fits 1 then 1 else 2
 
 -- the scale of a stop's distance
 abbrev pub stop_scale : ℕ → ℕ
-stop_scale distance = scale_by (λ scale. nat_le (distance / 10 ^ scale) 32766)
+stop_scale distance = scale_by (λ scale. nat_le (distance / 10 ^ scale) max_units)
 
--- Q_SCALE and D_EMERGENCYSTOP: whole units of the scale, rounded down
+-- Q_SCALE and D_EMERGENCYSTOP of a distance: whole units of the scale, rounded down
 abbrev pub told_distance : ℕ → ℕ × ℕ
 told_distance distance = (stop_scale distance, distance / 10 ^ stop_scale distance)
 
--- what is told of a distance: never more, less than a unit short of it, and in the finest unit that has room
+-- a distance is told: it is never less than the units, exceeds them by less than a unit, and the unit is the finest
+-- that has room
 pub record IsToldFor (distance scale units : ℕ) : Type 0 where
   pub not_spare : scale ≤ 2
-  pub in_field : units ≤ 32766
+  pub in_field : units ≤ max_units
   pub not_beyond : units * 10 ^ scale ≤ distance
   pub near : distance < units * 10 ^ scale + 10 ^ scale
-  pub finest : (finer : ℕ) → finer < scale → 32766 < distance / 10 ^ finer
+  pub finest : (finer : ℕ) → finer < scale → max_units < distance / 10 ^ finer
 
--- one place lies at or beyond another, for a train that faces so
+-- one place lies at or beyond another, for a train that faces this way
 abbrev pub IsAtOrBeyond : Way → ℕ → ℕ → Type 0
 IsAtOrBeyond Up place other = other ≤ place
 IsAtOrBeyond Down place other = place ≤ other
 
--- how far a place lies ahead of the balise group
+-- how far one place lies ahead of another, or 0 if it lies behind
 abbrev pub distance_to : Way → ℕ → ℕ → ℕ
 distance_to Up at place = place - at
 distance_to Down at place = at - place
@@ -103,18 +109,24 @@ pub record IsNearestEdge (p : Place) (area : List Segment) (edge : ℕ) : Type 0
   pub an_edge : list_any (λ other. other == edge) (edges_ahead p area) ≡ true
   pub nearest : All (λ other. IsAtOrBeyond p.facing other edge) (edges_ahead p area)
 
--- A place is told to a train that is to stop before an edge: by the units that it is told, counted from its balise
--- group the way it faces, it never comes to stand beyond the edge, and less than a unit short of it.
+-- A train is told where to stop before an edge: the place that lies as far ahead of its balise group as it is told is
+-- not beyond the edge, and less than a unit short of it.
 pub record IsToldBefore (p : Place) (edge scale units : ℕ) : Type 0 where
-  pub not_beyond : IsAtOrBeyond p.facing edge (onward p.facing p.at (units * 10 ^ scale))
-  pub near : distance_to p.facing (onward p.facing p.at (units * 10 ^ scale)) edge < 10 ^ scale
+  pub place : ℕ
+  pub ahead : IsAhead p.facing p.at (units * 10 ^ scale) place
+  pub not_beyond : IsAtOrBeyond p.facing edge place
+  pub near : distance_to p.facing place edge < 10 ^ scale
 
--- what a stop that concerns a train later is told by
-pub record IsToldRightly (p : Place) (area : List Segment) (edge : ℕ) : Type 0 where
+-- A train is told of the nearest edge ahead of it, by the distance of that edge from its balise group in the finest
+-- unit that has room.
+pub record IsToldRightly (p : Place) (area : List Segment) (edge scale units : ℕ) : Type 0 where
   pub first : IsNearestEdge p area edge
-  pub told : IsToldBefore p edge (told_distance (distance_to p.facing p.at edge)).0 (told_distance (distance_to p.facing p.at edge)).1
+  pub finest : IsToldFor (distance_to p.facing p.at edge) scale units
+  pub told : IsToldBefore p edge scale units
 
+-- each stop before whose edge a train has to stop is told rightly
 abbrev pub EachStopIsToldRightly : Type 0
 EachStopIsToldRightly =
     (p : Place) (area : List Segment) (forced : Bool) (edge : ℕ) → IsSound p → All IsSegment area
-    → concern_at area forced p ≡ concern.Before edge → IsToldRightly p area edge
+    → concern_at area forced p ≡ concern.Before edge
+    → IsToldRightly p area edge (told_distance (distance_to p.facing p.at edge)).0 (told_distance (distance_to p.facing p.at edge)).1

@@ -4,3 +4,4 @@ pub mod Padding
 pub mod Concerns
 pub mod Nearer
 pub mod Limits
+pub mod Witnesses

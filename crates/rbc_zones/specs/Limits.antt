@@ -1,6 +1,6 @@
--- What a temporary speed restriction is to a train at its place (own rule).
-use Rattle.std.specs.Prelude.{◌≡◌, ℕ, ◌+◌, ◌-◌, ◌*◌, ◌/◌, ◌%◌, ◌^◌, ◌<◌, ◌≤◌, min, max, Bool, true, false, not, ◌==◌, ◌||◌, ◌&&◌, nat_lt, nat_le}
-use Rattle.rbc_track.specs.Plan.{Plan}
+-- What a temporary speed restriction means for a train at its place, and what the train is told of it (own rule).
+use Rattle.std.specs.Prelude.{◌≡◌, ◌⊎◌, ℕ, ◌+◌, ◌-◌, ◌*◌, ◌/◌, ◌%◌, ◌^◌, ◌<◌, ◌≤◌, min, max, Bool, true, false, not, ◌==◌, ◌||◌, ◌&&◌, nat_lt, nat_le}
+use Rattle.rbc_track.specs.Plan.{Plan, max_length}
 use Rattle.rbc_track.specs.declared.group.Way.{Way}
 use Rattle.rbc_track.specs.declared.group.Way.TheVariants.{Up, Down}
 use Rattle.rbc_place.specs.Placing.{Place, IsSound}
@@ -9,28 +9,32 @@ use Rattle.rbc_zones.specs.declared.segment.Segment.{Segment}
 use Rattle.rbc_zones.specs.declared.limit.Dirs.{Dirs}
 use Rattle.rbc_zones.specs.declared.limit.Dirs.TheVariants as dirs
 use Rattle.rbc_zones.specs.Segments.{is_good_segment}
-use Rattle.rbc_zones.specs.Concerns.{scale_by}
+use Rattle.rbc_zones.specs.Concerns.{max_units, scale_by}
 
--- a restriction: where, for which ways, to which speed in km/h, and Q_FRONT
+-- the greatest speed of a restriction, in km/h
+abbrev pub max_speed : ℕ
+max_speed = 600
+
+-- a restriction: its segment, its directions, its speed in km/h, and Q_FRONT
 pub record Limit : Type 0 where
   pub segment : Segment
   pub dirs : Dirs
   pub speed : ℕ
   pub front : Bool
 
--- what each restriction keeps: its ends are apart, at places that a line can have, and its speed is one that V_TSR tells
+-- the ends of each restriction are apart and at places that a line can have, and its speed is a value of V_TSR
 pub record IsLimit (limit : Limit) : Type 0 where
   pub ordered : limit.segment.from < limit.segment.to
-  pub within : limit.segment.to ≤ 3000000
-  pub speed : limit.speed ≤ 600
+  pub within : limit.segment.to ≤ max_length
+  pub speed : limit.speed ≤ max_speed
   pub in_fives : limit.speed % 5 ≡ 0
 
 -- a segment and a speed are good for a track
 abbrev pub is_good_limit : Plan → Segment → ℕ → Bool
 is_good_limit plan segment speed =
-    is_good_segment plan segment && nat_lt segment.from segment.to && nat_le speed 600 && speed % 5 == 0
+    is_good_segment plan segment && nat_lt segment.from segment.to && nat_le speed max_speed && speed % 5 == 0
 
--- a restriction is for trains that face so
+-- a restriction applies to trains that face this way
 abbrev pub is_for : Dirs → Way → Bool
 is_for dirs.Up Up = true
 is_for dirs.Up Down = false
@@ -48,91 +52,99 @@ abbrev pub is_clear : Limit → Place → Bool
 is_clear limit p =
     not (limit.segment.line == p.line) || not (is_for limit.dirs p.facing) || lies_behind p.facing limit.segment p
 
--- its end lies beyond a balise group
+-- a segment ends beyond a balise group
 abbrev pub ends_beyond : Way → Segment → ℕ → Bool
 ends_beyond Up segment at = nat_lt at segment.to
 ends_beyond Down segment at = nat_lt segment.from at
 
--- its end lies beyond the train's balise group
+-- a restriction ends beyond the train's balise group
 abbrev pub ends_beyond_group : Limit → Place → Bool
 ends_beyond_group limit p = ends_beyond p.facing limit.segment p.at
 
--- its start lies within a horizon ahead of the interval in which the train may stand
+-- a segment begins no farther ahead of the interval in which the train may stand than the horizon
 abbrev pub starts_within : Way → Segment → Place → ℕ → Bool
 starts_within Up segment p horizon = nat_le segment.from (p.hi + horizon)
 starts_within Down segment p horizon = nat_le p.lo (segment.to + horizon)
 
--- a restriction concerns a train
+-- a restriction concerns a train, which has to be told of it
 abbrev pub concerns : Limit → Place → ℕ → Bool
 concerns limit p horizon =
     not (is_clear limit p) && ends_beyond_group limit p && starts_within p.facing limit.segment p horizon
 
--- how far from a balise group the part of a segment begins that does not lie behind it, and how far it ends
+-- the distance from a balise group at which a segment begins, without the part that is behind the group
 abbrev pub begins_at : Way → Segment → ℕ → ℕ
 begins_at Up segment at = max segment.from at - at
 begins_at Down segment at = at - min segment.to at
 
+-- the distance from a balise group at which a segment ends
 abbrev pub ends_at : Way → Segment → ℕ → ℕ
 ends_at Up segment at = segment.to - at
 ends_at Down segment at = at - segment.from
 
--- units, rounded up
+-- a distance in whole units, rounded up
 abbrev pub divided_up : ℕ → ℕ → ℕ
 divided_up distance unit = (distance + (unit - 1)) / unit
 
--- D_TSR and L_TSR at a scale: the start is rounded down, and the length so that the end is rounded up
+-- D_TSR at a scale: the start, rounded down
 abbrev pub start_at : ℕ → ℕ → ℕ
 start_at scale begin = begin / 10 ^ scale
 
+-- L_TSR at a scale: the length from that start to the end, which is rounded up
 abbrev pub length_at : ℕ → ℕ → ℕ → ℕ
 length_at scale begin end = divided_up end (10 ^ scale) - begin / 10 ^ scale
 
--- the least scale at which both have room
+-- the least scale at which both have room in their fields
 abbrev pub part_scale : ℕ → ℕ → ℕ
-part_scale begin end = scale_by (λ scale. nat_le (start_at scale begin) 32766 && nat_le (length_at scale begin end) 32766)
+part_scale begin end = scale_by (λ scale. nat_le (start_at scale begin) max_units && nat_le (length_at scale begin end) max_units)
 
--- Q_SCALE, D_TSR and L_TSR of the distances at which a part begins and ends
+-- Q_SCALE, D_TSR and L_TSR of an interval, from the distances at which it begins and ends
 abbrev pub told_of_part : ℕ → ℕ → ℕ × ℕ × ℕ
 told_of_part begin end =
     (part_scale begin end, start_at (part_scale begin end) begin, length_at (part_scale begin end) begin end)
 
--- Q_SCALE, D_TSR and L_TSR of a restriction to a train
+-- Q_SCALE, D_TSR and L_TSR of a restriction for a train
 abbrev pub told_part : Limit → Place → ℕ × ℕ × ℕ
 told_part limit p = told_of_part (begins_at p.facing limit.segment p.at) (ends_at p.facing limit.segment p.at)
 
--- a distance from the balise group is in what is told
+-- a distance from the balise group is in the interval that is told
 pub record IsTold (scale start length distance : ℕ) : Type 0 where
   pub begun : start * 10 ^ scale ≤ distance
   pub not_ended : distance ≤ (start + length) * 10 ^ scale
 
--- a distance from the balise group is one of a place of the restriction
+-- a distance from the balise group leads to a place of the restriction
 pub record IsOf (limit : Limit) (p : Place) (distance : ℕ) : Type 0 where
   pub place : ℕ
   pub ahead : IsAhead p.facing p.at distance place
   pub from : limit.segment.from ≤ place
   pub to : place ≤ limit.segment.to
 
--- less than a unit apart
+-- two distances are less than a unit apart
 pub record AreNear (unit a b : ℕ) : Type 0 where
   pub not_above : a < b + unit
   pub not_below : b < a + unit
 
--- a distance in what is told is of the restriction, or less than a unit from one that is
+-- a distance is less than a unit from one that leads to a place of the restriction
 pub record IsNearOne (limit : Limit) (p : Place) (unit distance : ℕ) : Type 0 where
   pub other : ℕ
   pub of : IsOf limit p other
   pub near : AreNear unit distance other
 
--- What is told of a restriction: all of it that does not lie behind the balise group, and less than a unit more at each
--- end.
+-- at a scale the start or the length has no room in its field
+abbrev pub HasNoRoom : ℕ → ℕ → ℕ → Type 0
+HasNoRoom scale begin end = (max_units < start_at scale begin) ⊎ (max_units < length_at scale begin end)
+
+-- A restriction is told: the interval covers all of it that is not behind the balise group, and less than a unit
+-- more at each end, in the finest unit that has room.
 pub record IsToldPart (limit : Limit) (p : Place) (scale start length : ℕ) : Type 0 where
   pub not_spare : scale ≤ 2
-  pub start_in_field : start ≤ 32766
-  pub length_in_field : length ≤ 32766
+  pub start_in_field : start ≤ max_units
+  pub length_in_field : length ≤ max_units
   pub some : 1 ≤ length
   pub covers : (distance : ℕ) → IsOf limit p distance → IsTold scale start length distance
   pub no_longer : (distance : ℕ) → IsTold scale start length distance → IsNearOne limit p (10 ^ scale) distance
+  pub finest : (finer : ℕ) → finer < scale → HasNoRoom finer (begins_at p.facing limit.segment p.at) (ends_at p.facing limit.segment p.at)
 
+-- each restriction that concerns a train is told in this way
 abbrev pub EachLimitIsToldRightly : Type 0
 EachLimitIsToldRightly =
     (limit : Limit) (p : Place) (horizon : ℕ) → IsLimit limit → IsSound p → concerns limit p horizon ≡ true

@@ -1,33 +1,30 @@
 -- Stretches of track, and when they are good for a track (own rule).
-use Rattle.std.specs.Prelude.{◌-◌, ◌≤◌, Bool, false, ◌&&◌, nat_le, List, length, replicate, ◌++◌, slice_get}
+use Rattle.std.specs.Prelude.{ℕ, ◌≤◌, Bool, false, ◌&&◌, nat_le, List, length, slice_get}
 use Rattle.std.specs.List.{list_all, All}
 use Rattle.std.specs.Option.{option_map_or}
-use Rattle.rbc_track.specs.Plan.{Plan}
+use Rattle.rbc_track.specs.Plan.{Plan, max_length}
 use Rattle.rbc_zones.specs.declared.segment.Segment.{Segment}
 
--- a segment is good where the track has its line, its first place is not above its second, and that is on the line
+-- the most segments that an area has
+abbrev pub max_segments : ℕ
+max_segments = 8
+
+-- a segment is good for a track if the track has its line, its first place is not above its second, and both are on
+-- the line
 abbrev pub is_good_segment : Plan → Segment → Bool
 is_good_segment plan segment = option_map_or (λ length. nat_le segment.from segment.to && nat_le segment.to length) (slice_get plan.lines segment.line) false
 
--- an area has at most 8 segments, each of them good
+-- segments are a good area if there are not too many and each of them is good
 abbrev pub is_good_area : Plan → List Segment → Bool
-is_good_area plan segments = nat_le (length segments) 8 && list_all (is_good_segment plan) segments
+is_good_area plan segments = nat_le (length segments) max_segments && list_all (is_good_segment plan) segments
 
--- what each segment keeps: its ends are in order, at places that a line can have
+-- the ends of each segment of an area are in order and at places that a line can have
 pub record IsSegment (segment : Segment) : Type 0 where
   pub ordered : segment.from ≤ segment.to
-  pub within : segment.to ≤ 3000000
+  pub within : segment.to ≤ max_length
 
--- what each area keeps: 1 to 8 segments
+-- each area has at least one segment, and not too many
 pub record AreSegments (segments : List Segment) : Type 0 where
   pub some : 1 ≤ length segments
-  pub few : length segments ≤ 8
+  pub few : length segments ≤ max_segments
   pub each : All IsSegment segments
-
--- a segment of zeros, which stands where an area has none
-abbrev pub no_segment : Segment
-no_segment = record { line = 0; from = 0; to = 0 }
-
--- segments, and as many segments of zeros as make 8
-abbrev pub padded : List Segment → List Segment
-padded segments = segments ++ replicate (8 - length segments) no_segment

@@ -11,23 +11,22 @@ use std::marker::Model;
 /// The most segments that an area has.
 const MAX_SEGMENTS: usize = 8;
 
-/// What stands where an area has no segment.
+/// Fills the array of an area that has fewer segments.
 const NO_SEGMENT: Segment = Segment {
     line: 0,
     from: 0,
     to: 0,
 };
 
-/// Segments are no area of a track: there are more than 8, one is on a line that the track has not, one has its ends
-/// the wrong way round, or one ends beyond its line.
+/// The segments are not an area of the track: there are more than 8, one is on a line that the track does not have,
+/// one has its ends the wrong way round, or one ends beyond its line.
 #[derive(Clone, Copy, Debug, PartialEq, Eq)]
 pub struct BadArea;
 
-/// The area that a stop closes: 1 to 8 segments, in the order in which they were given. It is copied without taking
-/// memory.
+/// The area that a stop closes: 1 to 8 segments, in the order in which they were given. A copy takes no memory.
 #[derive(Clone, Copy, Debug, PartialEq, Eq)]
 pub struct Area {
-    /// The segments, and behind them segments of zeros.
+    /// The segments, then segments of zeros.
     segments: [Segment; MAX_SEGMENTS],
     count: usize,
 }
@@ -35,11 +34,10 @@ pub struct Area {
 impl Model for Area {
     ghost use Rattle.std.specs.Prelude.{List, length, take};
     ghost use Rattle.rbc_zones.specs.declared.segment.Segment.{Segment};
-    ghost use Rattle.rbc_zones.specs.Segments.{padded};
 
     ghost Value = { List Segment };
 
-    ghost use Rattle.rbc_zones.specs.Inside.{IsAreaIn};
+    ghost use Rattle.rbc_zones.specs.Inside.{padded, IsAreaIn};
     ghost use Rattle.rbc_zones.specs.Padding.{inverse_ok};
 
     ghost view = { λ a. take a.count a.segments };
@@ -52,11 +50,11 @@ impl Model for Area {
 }
 
 impl Area {
-    /// The area of these segments, which are not empty, on a track. It takes no memory.
+    /// Makes an area of segments on a track; there is at least one. Takes no memory.
     ///
     /// # Errors
     ///
-    /// `BadArea` just where a segment is not good for the track, or there are more than 8.
+    /// `BadArea` exactly if a segment is not good for the track or there are more than 8.
     pub fn new(track: &Track, segments: &[Segment]) -> Result<Area, BadArea>
         requires { 0 < length segments.now }
         ensures area { IfOk result (λ area. area ≡ segments.now) }
@@ -68,7 +66,7 @@ impl Area {
         Ok(Area::filled(segments))
     }
 
-    /// The area of 1 to 8 segments.
+    /// Makes an area of 1 to 8 segments.
     fn filled(segments: &[Segment]) -> Area
         requires { AreSegments segments.now }
         ensures { result ≡ segments.now }

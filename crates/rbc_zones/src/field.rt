@@ -1,15 +1,16 @@
-//! The distance in a conditional emergency stop.
+//! The distance in a conditional emergency stop message.
 
 ghost use Rattle.std.specs.Prelude.{◌≡◌, ◌≤◌};
+ghost use Rattle.rbc_track.specs.Plan.{max_length};
 ghost use Rattle.rbc_zones.specs.Concerns.{told_distance, IsToldFor};
 
-/// The most units that a distance is told in.
+/// The greatest value of D_EMERGENCYSTOP.
 const MAX_UNITS: u32 = 32_766;
 
-/// Q_SCALE and D_EMERGENCYSTOP of a distance in units of 10 cm, at most 3,000,000: whole units of 10 cm, 1 m or 10 m,
-/// rounded down, in the finest unit of which at most 32,766 are told. It takes no memory.
+/// Q_SCALE and D_EMERGENCYSTOP of a distance in units of 10 cm, at most 3,000,000. The distance is rounded down to
+/// whole units of 10 cm, 1 m or 10 m, whichever is the finest in which it is at most 32,766. Takes no memory.
 pub fn stop_field(distance: u32) -> (u8, u16)
-    requires { distance ≤ 3000000 }
+    requires { distance ≤ max_length }
     ensures field { result ≡ told_distance distance }
     ensures told { IsToldFor distance result.0 result.1 }
 {

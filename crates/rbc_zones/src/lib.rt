@@ -1,5 +1,5 @@
-//! What a stop and a temporary speed restriction are to one train at its place. Places and lengths are whole units
-//! of 10 cm from the lower end of a line.
+//! What a stop and a temporary speed restriction mean for one train at its place, and what the train is told. Places
+//! and lengths are whole units of 10 cm, and places count from the lower end of a line.
 #![tactic(auto)]
 
 mod area;
@@ -10,6 +10,7 @@ mod limit;
 mod part;
 mod segment;
 mod stop;
+mod witnesses;
 
 pub use area::{Area, BadArea};
 pub use edge::Concern;
@@ -20,11 +21,12 @@ pub use part::limit_fields;
 use rbc_maps::Numbered;
 pub use segment::Segment;
 pub use stop::concern;
+pub use witnesses::{limit_law_witnesses, stop_law_witnesses};
 
-/// The areas of the stops that are active, by their numbers.
+/// The areas of the active stops, by the numbers of the stops.
 pub type Stops = Numbered<Area>;
 
-/// The temporary speed restrictions that are active, by their numbers.
+/// The active temporary speed restrictions, by their numbers.
 pub type Limits = Numbered<Limit>;
 
 #[cfg(test)]

@@ -8,10 +8,10 @@ use rbc_place::Place;
 use rbc_track::{Track, Way};
 use std::marker::Model;
 
-/// The greatest speed, in km/h.
+/// The greatest speed of a restriction, in km/h.
 const MAX_SPEED: u32 = 600;
 
-/// The way or the ways that a restriction is for.
+/// The direction or directions in which a restriction applies.
 #[derive(Clone, Copy, Debug, PartialEq, Eq)]
 pub enum Dirs {
     /// Trains that face towards rising places.
@@ -22,12 +22,13 @@ pub enum Dirs {
     Both,
 }
 
-/// A segment and a speed are no restriction of a track: the segment is on a line that the track has not, its ends are
-/// the wrong way round or one place, it ends beyond its line, or the speed is above 600 km/h or no multiple of 5.
+/// The segment and the speed are not a restriction of the track: the segment is on a line that the track does not
+/// have, its ends are the same or the wrong way round, it ends beyond its line, or the speed is above 600 km/h or
+/// not a multiple of 5.
 #[derive(Clone, Copy, Debug, PartialEq, Eq)]
 pub struct BadLimit;
 
-/// A temporary speed restriction. It is copied without taking memory.
+/// A temporary speed restriction. A copy takes no memory.
 #[derive(Clone, Copy, Debug, PartialEq, Eq)]
 pub struct Limit {
     segment: Segment,
@@ -49,13 +50,13 @@ impl Model for Limit {
 }
 
 impl Limit {
-    /// The restriction of a segment of a track to a speed in km/h; `front` is Q_FRONT, true where the train's
-    /// length does not delay its end. It takes no memory.
+    /// Makes a restriction of a segment of a track to a speed in km/h. `front` is Q_FRONT: true if there is no
+    /// train length delay at its end. Takes no memory.
     ///
     /// # Errors
     ///
-    /// `BadLimit` just where the segment is not good for the track, its ends are one place, or the speed is above
-    /// 600 or no multiple of 5.
+    /// `BadLimit` exactly if the segment is not good for the track, its ends are the same, or the speed is above
+    /// 600 or not a multiple of 5.
     pub fn new(
         track: &Track,
         segment: Segment,
@@ -81,7 +82,7 @@ impl Limit {
         })
     }
 
-    /// Where it is.
+    /// The segment on which it applies.
     pub fn segment(&self) -> Segment
         ensures value { result ≡ self.now.segment }
         ensures sound { IsLimit self.now }
@@ -89,7 +90,7 @@ impl Limit {
         self.segment
     }
 
-    /// The way or the ways that it is for.
+    /// The direction or directions in which it applies.
     pub fn dirs(&self) -> Dirs
         ensures { result ≡ self.now.dirs }
     {
@@ -104,7 +105,7 @@ impl Limit {
         self.speed
     }
 
-    /// Q_FRONT: true where the train's length does not delay its end.
+    /// Q_FRONT: true if there is no train length delay at its end.
     pub fn front(&self) -> bool
         ensures { result ≡ self.now.front }
     {
@@ -112,7 +113,7 @@ impl Limit {
     }
 }
 
-/// Whether a restriction is for trains that face so.
+/// Whether a restriction applies to trains that face this way.
 fn is_for(dirs: Dirs, facing: Way) -> bool
     ensures { result ≡ is_for dirs facing }
 {
@@ -123,8 +124,9 @@ fn is_for(dirs: Dirs, facing: Way) -> bool
     }
 }
 
-/// Whether a restriction is of no use to a train any more (own rule): it is on another line or for trains that face
-/// the other way, or it lies wholly behind the interval in which the train may stand. It takes no memory.
+/// Whether a train has nothing more to do with a restriction (own rule): the restriction is on another line or
+/// applies to trains that face the other way, or it lies wholly behind the interval in which the train may stand.
+/// Takes no memory.
 #[inline]
 pub fn limit_clear(limit: &Limit, place: &Place) -> bool
     ensures { result ≡ is_clear limit.now place.now }
@@ -138,9 +140,9 @@ pub fn limit_clear(limit: &Limit, place: &Place) -> bool
         }
 }
 
-/// Whether a restriction has to be told to a train (own rule): the train is not clear of it, it ends beyond the
-/// balise group, and begins not farther ahead of the interval in which the train may stand than the horizon, in units
-/// of 10 cm. It takes no memory.
+/// Whether a train has to be told of a restriction (own rule): the train is not clear of it, it ends beyond the
+/// train's balise group, and it begins no farther ahead of the interval in which the train may stand than the
+/// horizon, in units of 10 cm. Takes no memory.
 #[inline]
 pub fn limit_concerns(limit: &Limit, place: &Place, horizon: u32) -> bool
     ensures { result ≡ concerns limit.now place.now horizon }

@@ -1,6 +1,8 @@
-//! The interval in a temporary speed restriction.
+//! The interval in a message with a temporary speed restriction.
 
 ghost use Rattle.std.specs.Prelude.{◌≡◌, ◌-◌, ◌/◌, ◌<◌, ◌≤◌, ◌&&◌, false, nat_le, IsTrue};
+ghost use Rattle.rbc_track.specs.Plan.{max_length};
+ghost use Rattle.rbc_zones.specs.Concerns.{max_units};
 ghost use Rattle.rbc_zones.specs.Limits.{is_clear, ends_beyond, ends_beyond_group, begins_at, ends_at, divided_up, told_of_part, told_part, IsToldPart};
 
 use crate::limit::Limit;
@@ -8,16 +10,16 @@ use crate::segment::Segment;
 use rbc_place::Place;
 use rbc_track::Way;
 
-/// The most units that a distance is told in.
+/// The greatest value of D_TSR and L_TSR.
 const MAX_UNITS: u32 = 32_766;
 
-/// How far from the balise group the part of a segment begins that does not lie behind it, and how far it ends.
+/// The distances from the balise group at which a segment begins and ends, without the part that is behind the group.
 fn distances(segment: Segment, place: &Place) -> (u32, u32)
     requires beyond { IsTrue (ends_beyond place.now.facing segment place.now.at) }
-    requires within { segment.to ≤ 3000000 }
+    requires within { segment.to ≤ max_length }
     ensures begin { result.0 ≡ begins_at place.now.facing segment place.now.at }
     ensures end { result.1 ≡ ends_at place.now.facing segment place.now.at }
-    ensures within { result.1 ≤ 3000000 }
+    ensures within { result.1 ≤ max_length }
 {
     let at = place.at();
     match place.facing() {
@@ -26,7 +28,7 @@ fn distances(segment: Segment, place: &Place) -> (u32, u32)
     }
 }
 
-/// The start in whole units, rounded down, and the length, so that the end is rounded up.
+/// The start in whole units, rounded down, and the length up to the end, which is rounded up.
 fn in_units(begin: u32, end: u32, unit: u32) -> (u32, u32)
     requires unit { 1 ≤ unit }
     requires ordered { begin < end }
@@ -37,21 +39,21 @@ fn in_units(begin: u32, end: u32, unit: u32) -> (u32, u32)
     (start, end.div_ceil(unit) - start)
 }
 
-/// Whether the start and the length have room in whole units.
+/// Whether the start and the length in whole units have room in their fields.
 fn fits(begin: u32, end: u32, unit: u32) -> bool
     requires unit { 1 ≤ unit }
     requires ordered { begin < end }
-    ensures { result ≡ (nat_le (begin / unit) 32766 && nat_le (divided_up end unit - begin / unit) 32766) }
+    ensures { result ≡ (nat_le (begin / unit) max_units && nat_le (divided_up end unit - begin / unit) max_units) }
 {
     let (start, length) = in_units(begin, end, unit);
     start <= MAX_UNITS && length <= MAX_UNITS
 }
 
-/// Q_SCALE, D_TSR and L_TSR of a part that begins and ends at distances from the balise group: the start rounded
-/// down and the end rounded up, in the finest unit of which both have room.
+/// Q_SCALE, D_TSR and L_TSR of an interval that begins and ends at these distances from the balise group. The start
+/// is rounded down and the end up, in the finest unit in which both fields have room.
 fn told_of_part(begin: u32, end: u32) -> (u8, u16, u16)
     requires ordered { begin < end }
-    requires within { end ≤ 3000000 }
+    requires within { end ≤ max_length }
     ensures { result ≡ told_of_part begin end }
 {
     let (scale, unit) = if fits(begin, end, 1) {
@@ -65,9 +67,10 @@ fn told_of_part(begin: u32, end: u32) -> (u8, u16, u16)
     (scale, start as u16, length as u16)
 }
 
-/// Q_SCALE, D_TSR and L_TSR of a restriction to a train that is not clear of it, and beyond whose balise group it ends:
-/// where it begins, counted from the balise group and rounded down, and how long it is, so that its end is rounded
-/// up, in the finest unit of which both are at most 32,766. It takes no memory.
+/// Q_SCALE, D_TSR and L_TSR of a restriction for a train that is not clear of it and beyond whose balise group it
+/// ends. D_TSR is the distance from the balise group to its start, or 0 if it starts behind the group, rounded
+/// down. L_TSR is the length from there to its end, which is rounded up. The unit is the finest of 10 cm, 1 m and
+/// 10 m in which both are at most 32,766. Takes no memory.
 pub fn limit_fields(limit: &Limit, place: &Place) -> (u8, u16, u16)
     requires not_clear { is_clear limit.now place.now ≡ false }
     requires ends_beyond { IsTrue (ends_beyond_group limit.now place.now) }

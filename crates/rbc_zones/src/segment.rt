@@ -5,7 +5,7 @@ ghost use Rattle.rbc_zones.specs.Segments.{is_good_segment, IsSegment};
 
 use rbc_track::Track;
 
-/// A stretch of one line, from a place to a place, both in it. Places are whole units of 10 cm.
+/// A stretch of one line, from one place to another, both included. Places are whole units of 10 cm.
 #[derive(Clone, Copy, Debug, PartialEq, Eq)]
 pub struct Segment {
     pub line: u32,
@@ -13,7 +13,7 @@ pub struct Segment {
     pub to: u32,
 }
 
-/// Whether the track has the segment's line, its first place is not above its second, and that is on the line.
+/// Whether the track has the segment's line, its first place is not above its second, and both are on the line.
 pub fn is_good_segment(track: &Track, segment: &Segment) -> bool
     ensures value { result ≡ is_good_segment track.now segment.now }
     ensures sound { IsTrue result → IsSegment segment.now }

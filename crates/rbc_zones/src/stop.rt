@@ -1,6 +1,7 @@
-//! What a stop is to a train.
+//! What a stop means for a train.
 
 ghost use Rattle.std.specs.Prelude.{◌≡◌, ◌≤◌, ℕ, false, option_copied};
+ghost use Rattle.rbc_track.specs.Plan.{max_length};
 ghost use Rattle.rbc_zones.specs.declared.edge.Concern.TheVariants.{Before};
 ghost use Rattle.rbc_zones.specs.Concerns.{concern_of, concern_at, concern_by_edge, meets, is_behind_group};
 ghost use Rattle.rbc_zones.specs.Nearer.{nearer};
@@ -11,13 +12,15 @@ use crate::segment::Segment;
 use rbc_place::Place;
 use rbc_track::Way;
 
-/// What a stop is to a train (own rule). It takes no memory. `Now` where the train has no place, where the stop is
-/// forced upon it, or where a segment on its line meets the interval in which it may stand. Else only the nearest
-/// edge ahead counts: without one it is `None`; behind the balise group it is `Now`, since no distance can be told;
-/// and `Before` that edge otherwise.
+/// What a stop means for a train (own rule). Takes no memory.
+///
+/// - `Now` if the train has no place, if the stop is forced on it, or if a segment on its line meets the interval
+///   in which it may stand.
+/// - Otherwise only the nearest edge ahead counts: `None` if there is none, `Now` if it is behind the balise group,
+///   as no distance to it can be told, and `Before` that edge in all other cases.
 pub fn concern(area: &Area, forced: bool, place: Option<&Place>) -> Concern
     ensures value { result ≡ concern_of area.now forced (option_copied place.entry) }
-    ensures in_range { (edge : ℕ) → result ≡ Before edge → edge ≤ 3000000 }
+    ensures in_range { (edge : ℕ) → result ≡ Before edge → edge ≤ max_length }
 {
     match place {
         None => Concern::Now,
@@ -26,7 +29,7 @@ pub fn concern(area: &Area, forced: bool, place: Option<&Place>) -> Concern
     }
 }
 
-/// What a stop that is not forced upon a train is to it at its place.
+/// What a stop that is not forced on a train means for it at its place.
 fn concern_at(segments: &[Segment], place: &Place) -> Concern
     ensures { result ≡ concern_at segments.now false place.now }
 {
@@ -44,7 +47,7 @@ fn concern_at(segments: &[Segment], place: &Place) -> Concern
     concern_by_edge(place, nearest)
 }
 
-/// What a stop is whose nearest edge ahead is this one.
+/// What a stop means whose nearest edge ahead is this one.
 fn concern_by_edge(place: &Place, nearest: Option<u32>) -> Concern
     ensures { result ≡ concern_by_edge place.now nearest }
 {
@@ -72,7 +75,7 @@ fn is_behind_group(place: &Place, edge: u32) -> bool
     }
 }
 
-/// The nearest edge found so far, or that of a segment where it is ahead and nearer.
+/// The nearest edge found so far, or the edge of a segment if that is ahead and nearer.
 fn nearer(place: &Place, nearest: Option<u32>, segment: &Segment) -> Option<u32>
     ensures { result ≡ nearer place.now nearest segment.now }
 {

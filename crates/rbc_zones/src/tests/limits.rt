@@ -44,7 +44,7 @@ fn limit(rt: &impl Abort, track: &Track, line: u32, from: u32, to: u32, dirs: Di
     }
 }
 
-/// What a train is told of a restriction, where that concerns it at a horizon as far as can be.
+/// What a train is told of a restriction, if that concerns it at the greatest horizon.
 fn told(limit: &Limit, place: &Place) -> Option<(u8, u16, u16)> {
     if limit_concerns(limit, place, u32::MAX) {
         Some(limit_fields(limit, place))
@@ -86,7 +86,7 @@ fn assert_concerns(
     }
 }
 
-/// Asserts whether restrictions of line 0 are clear of a train, and whether they concern it.
+/// Asserts whether a train is clear of restrictions of line 0, and whether they concern it.
 fn assert_seen(
     rt: &impl Abort,
     track: &Track,
@@ -174,7 +174,7 @@ fn takes_the_finest_unit_that_has_room(rt: HostRuntime) -> Result<(), Fail> {
         (1, 327_660, (1, 0, 32_766)),
         (9, 327_661, (2, 0, 3_277)),
         (10, 327_661, (1, 1, 32_766)),
-        // Both rounded outwards, and not where there is nothing to round.
+        // Both are rounded outwards, unless there is nothing to round.
         (32_769, 32_781, (1, 3_276, 3)),
         (32_770, 32_780, (1, 3_277, 1)),
         (399_999, 400_001, (2, 3_999, 2)),

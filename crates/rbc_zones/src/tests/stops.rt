@@ -40,13 +40,13 @@ fn area(rt: &impl Abort, track: &Track, segments: &[Segment]) -> Area {
     Area::new(track, segments).expect(rt, "a good area")
 }
 
-/// What a stop is to a train of 200 m that is not forced upon it.
+/// What a stop that is not forced on a train of 200 m means for it.
 fn told(rt: &impl Abort, track: &Track, position: &Position, segments: &[Segment]) -> Concern {
     let place = place_of(track, position, 2_000);
     concern(&area(rt, track, segments), false, place.as_ref())
 }
 
-/// Asserts what stops of one segment are to a train.
+/// Asserts what stops of one segment mean for a train.
 fn assert_each(rt: &impl Abort, track: &Track, position: &Position, rows: &[(Segment, Concern)]) {
     for (segment, wanted) in rows {
         assert_eq!(rt;
@@ -57,7 +57,7 @@ fn assert_each(rt: &impl Abort, track: &Track, position: &Position, rows: &[(Seg
     }
 }
 
-/// Asserts what a stop of three segments is to a train, in each order of them.
+/// Asserts what a stop of three segments means for a train, in each order of them.
 fn assert_in_each_order(
     rt: &impl Abort,
     track: &Track,

@@ -9,7 +9,7 @@ const HERE: Segment = Segment {
     to: 10,
 };
 
-// one area under each number up to the sixteenth
+// the same area under each number from 1 to 16
 fn stops(alloc: Global, area: Area) -> Result<Stops, Fail> {
     let mut stops = Stops::new(alloc);
     for number in 1..=16 {
@@ -20,7 +20,7 @@ fn stops(alloc: Global, area: Area) -> Result<Stops, Fail> {
     Ok(stops)
 }
 
-// each stop of a copy is that of its source, and taking one out leaves the source as it was
+// each stop of a copy is that of its source, and removing one from the copy leaves the source unchanged
 #[test]
 fn a_copy_of_stops_equals_its_source(rt: HostRuntime) -> Result<(), Fail> {
     let track = track(&rt)?;
@@ -43,7 +43,7 @@ fn a_copy_of_stops_equals_its_source(rt: HostRuntime) -> Result<(), Fail> {
     Ok(())
 }
 
-// the same of restrictions, in ascending number
+// each restriction of a copy is that of its source
 #[test]
 fn a_copy_of_limits_equals_its_source(rt: HostRuntime) -> Result<(), Fail> {
     let track = track(&rt)?;

@@ -4,8 +4,7 @@ use Rattle.toml.specs.View.{table_view}
 use Rattle.rbc_track.specs.declared.document.Site.{Site}
 use Rattle.rbc_track.proofs.Bounds.{sites_numbered}
 use Rattle.rbc_track.proofs.Found.{found_if_ok}
-use Rattle.rbc_track.specs.Outcomes.{IsUnlessMemory}
-use Rattle.rbc_track.specs.Reading.{track_of}
+use Rattle.rbc_track.specs.Reading.{track_of, IsUnlessMemory}
 use Rattle.rbc_track.proofs.track.track_from_toml.Goals as goal
 
 pub new-requires-clause-numbers : goal.new-requires-clause-numbers
