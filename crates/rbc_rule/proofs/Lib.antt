@@ -11,6 +11,7 @@ pub mod KeepsPlaces
 pub mod KeepsSlots
 pub mod KeepsTrains
 pub mod KeepsWorlds
+pub mod OneSaid
 pub mod OneTrain
 pub mod Quiet
 pub mod Says

@@ -8,4 +8,5 @@ pub mod Right
 pub mod Touching
 pub mod Gathered
 pub mod Saying
+pub mod SaidFor
 pub mod Laws
