@@ -17,6 +17,7 @@ pub mod Quiet
 pub mod Says
 pub mod SaysPlaces
 pub mod SaysTold
+pub mod Tells
 pub mod Untouched
 pub mod WorldMaps
 pub mod WorldReading

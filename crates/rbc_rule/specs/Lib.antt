@@ -9,4 +9,5 @@ pub mod Touching
 pub mod Gathered
 pub mod Saying
 pub mod SaidFor
+pub mod Told
 pub mod Laws

@@ -2,6 +2,7 @@
 
 ghost use Rattle.rbc_rule.specs.Laws.{EachStepKeepsWorlds};
 ghost use Rattle.rbc_rule.specs.SaidFor.{EachStepSays, EachMessageSaysOneThing};
+ghost use Rattle.rbc_rule.specs.Told.{EachStepTells};
 
 /// A step of a well-formed world leaves a well-formed world, in which every train is settled.
 pub fn step_law()
@@ -16,4 +17,10 @@ pub fn step_law()
 pub fn says_law()
     ensures says { EachStepSays }
     ensures one_thing { EachMessageSaysOneThing }
+{}
+
+/// After each step every active stop and every active temporary speed restriction that concerns a train is told to it, unless all
+/// its identifiers of that kind are held or its stamps have ended; and no identifier is used by one that is to be revoked.
+pub fn told_law()
+    ensures { EachStepTells }
 {}

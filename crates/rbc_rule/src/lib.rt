@@ -17,7 +17,7 @@ mod touch;
 mod trains;
 
 pub use input::{Input, Segments};
-pub use law::{says_law, step_law};
+pub use law::{says_law, step_law, told_law};
 pub use outcome::{Outcome, Reply, RuleFault, SentList};
 pub use rule::decide;
 
