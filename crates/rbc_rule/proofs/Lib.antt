@@ -19,6 +19,8 @@ pub mod SaysPlaces
 pub mod SaysTold
 pub mod Tells
 pub mod Untouched
+pub mod WitnessSays
+pub mod WitnessWorlds
 pub mod WorldMaps
 pub mod WorldReading
 pub mod WorldSettling

@@ -11,3 +11,4 @@ pub mod Saying
 pub mod SaidFor
 pub mod Told
 pub mod Laws
+pub mod Witnesses
