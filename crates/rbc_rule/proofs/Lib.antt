@@ -11,12 +11,16 @@ pub mod KeepsPlaces
 pub mod KeepsSlots
 pub mod KeepsTrains
 pub mod KeepsWorlds
+pub mod OneSaid
 pub mod OneTrain
 pub mod Quiet
 pub mod Says
 pub mod SaysPlaces
 pub mod SaysTold
+pub mod Tells
 pub mod Untouched
+pub mod WitnessSays
+pub mod WitnessWorlds
 pub mod WorldMaps
 pub mod WorldReading
 pub mod WorldSettling

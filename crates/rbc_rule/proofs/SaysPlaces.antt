@@ -1,5 +1,5 @@
 -- What stands on a track is at places that a line can have, and a direction that is told is that of the train.
-use Rattle.std.proofs.Common.{◌≡◌, ℕ, ◌*◌, ◌/◌, ◌%◌, ◌≤◌, Bool, true, false, ◌&&◌, eqb, ltb, leb, if◌then◌else◌, List, length, Option, Some, None, slice_get, refl, arith}
+use Rattle.std.proofs.Common.{◌≡◌, ℕ, ◌-◌, ◌*◌, ◌/◌, ◌%◌, ◌^◌, ◌≤◌, Bool, true, false, ◌&&◌, cond, eqb, ltb, leb, le-leb, if◌then◌else◌, List, length, Option, Some, None, slice_get, refl, ap, arith}
 use Rattle.std.specs.List.{All, list_all}
 use Rattle.std.specs.Option.{option_map_or}
 use Rattle.std.proofs.lemmas.Bool.{and_parts, leb-true, ltb-true, eqb-true}
@@ -8,23 +8,40 @@ use Rattle.std.proofs.lemmas.List.Sums.{AllPass-from_list_all}
 use Rattle.rbc_track.specs.Plan.{Plan, IsPlan}
 use Rattle.rbc_track.specs.declared.group.Way.{Way}
 use Rattle.rbc_track.specs.declared.group.Way.TheVariants.{Up, Down}
-use Rattle.rbc_place.specs.Placing.{Place, IsSound, way_of}
+use Rattle.rbc_place.specs.Placing.{Place, IsSound, onward}
+use Rattle.rbc_place.specs.Reach.{IsAhead}
 use Rattle.rbc_zones.specs.declared.segment.Segment.{Segment}
 use Rattle.rbc_zones.specs.Segments.{is_good_segment, is_good_area, IsSegment}
+use Rattle.rbc_zones.specs.Concerns.{distance_to}
 use Rattle.rbc_zones.specs.Limits.{Limit, IsLimit, is_good_limit}
 use Rattle.rbc_settle.specs.Settling.{direction_of}
 use Rattle.rbc_settle.specs.WellFormed.{IsPlaceOn}
+use Rattle.rbc_rule.specs.Saying.{way_told, unit_told}
 
 -- seen from its balise group, the direction that is told is the way the train faces
 pub faced : (line lrbg at : ℕ) (same : Bool) (facing : Way) (lo hi : ℕ)
-    → way_of (if same then Up else Down) (direction_of (record { line = line; lrbg = lrbg; at = at; same = same; facing = facing; lo = lo; hi = hi })) ≡ facing
+    → way_told (if same then Up else Down) (direction_of (record { line = line; lrbg = lrbg; at = at; same = same; facing = facing; lo = lo; hi = hi })) ≡ Some facing
 faced line lrbg at true Up lo hi = refl
 faced line lrbg at true Down lo hi = refl
 faced line lrbg at false Up lo hi = refl
 faced line lrbg at false Down lo hi = refl
 
+-- a scale that is not spare has its unit
+pub unit_is : (scale : ℕ) → scale ≤ 2 → unit_told scale ≡ Some (10 ^ scale)
+unit_is scale most = ap (λ (b : Bool). cond b (Some (10 ^ scale)) None) (le-leb scale 2 most)
+
+-- no place of a line is farther from a balise group than a line is long
+pub distance_within : (way : Way) (at edge : ℕ) → at ≤ 3000000 → edge ≤ 3000000 → distance_to way at edge ≤ 3000000
+distance_within Up at edge h k = omega arith
+distance_within Down at edge h k = omega arith
+
+-- the place that lies no farther on than an edge ahead lies so far ahead
+pub lies_ahead : (way : Way) (at edge by : ℕ) → by ≤ distance_to way at edge → IsAhead way at by (onward way at by)
+lies_ahead Up at edge by h = refl
+lies_ahead Down at edge by h = let most : by ≤ at - edge = h in omega arith
+
 -- a speed in fives is told whole
-pub whole_fives : (speed : ℕ) → speed % 5 ≡ 0 → speed / 5 * 5 ≡ speed
+pub whole_fives : (speed : ℕ) → speed % 5 ≡ 0 → speed ≡ 5 * (speed / 5)
 whole_fives speed fives = omega (arith, fives)
 
 module _ (plan : Plan) (track : IsPlan plan) where

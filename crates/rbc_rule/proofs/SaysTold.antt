@@ -1,14 +1,16 @@
 -- What each action of settling says.
-use Rattle.std.proofs.Common.{◌≡◌, ℕ, ◌+◌, ◌-◌, ◌*◌, ◌/◌, Bool, true, false, cond, if◌then◌else◌, List, [], ◌∷◌, ◌++◌, map, Option, Some, None, refl, ap, ◌∙◌, subst}
+use Rattle.std.proofs.Common.{◌≡◌, ℕ, ◌+◌, ◌-◌, ◌*◌, ◌/◌, ◌^◌, ◌≤◌, Bool, true, false, cond, if◌then◌else◌, List, [], ◌∷◌, ◌++◌, get_or, map, Option, Some, None, refl, ap, ◌∙◌, subst}
 use Rattle.std.specs.List.{All, AllByRecursion, cons_option, scan, zip}
 use Rattle.std.specs.Option.{option_map, option_map_or}
 use Rattle.std.proofs.lemmas.List.Elements.{All-nil, All-cons, All-head, All-tail, All-append, All-take, All-map}
 use Rattle.std.proofs.lemmas.Option.{same_Some, cond_some}
+use Rattle.ertms_codec.specs.declared.to_train.ToTrain.{ToTrain}
 use Rattle.rbc_track.specs.Plan.{Plan, IsPlan, group_of}
 use Rattle.rbc_track.specs.declared.group.Group.{Group}
 use Rattle.rbc_track.specs.declared.group.Way.{Way}
 use Rattle.rbc_track.specs.declared.group.Way.TheVariants.{Up, Down}
-use Rattle.rbc_place.specs.Placing.{Place, onward, way_of}
+use Rattle.rbc_place.specs.Placing.{Place, onward}
+use Rattle.rbc_place.specs.Reach.{IsAhead}
 use Rattle.rbc_maps.specs.Maps.{value_of}
 use Rattle.rbc_ids.specs.Table.{Slots, is_told, free_identifiers}
 use Rattle.rbc_zones.specs.declared.segment.Segment.{Segment}
@@ -17,8 +19,9 @@ use Rattle.rbc_zones.specs.declared.edge.Concern.TheVariants as concern
 use Rattle.rbc_zones.specs.Segments.{IsSegment}
 use Rattle.rbc_zones.specs.Concerns.{concern_at, concern_of, told_distance, distance_to}
 use Rattle.rbc_zones.specs.Limits.{Limit, IsLimit, is_good_limit, concerns, told_part}
-use Rattle.rbc_zones.proofs.StopLaw.{each_stop}
+use Rattle.rbc_zones.proofs.StopLaw.{edge_in_range}
 use Rattle.rbc_zones.proofs.ToldLimits.{each_limit_is_told_rightly}
+use Rattle.rbc_zones.proofs.ToldStops.{told_rightly}
 use Rattle.rbc_settle.specs.declared.train.TrainRec.{TrainRec}
 use Rattle.rbc_settle.specs.declared.action.Action.{Action}
 use Rattle.rbc_settle.specs.declared.action.Action.TheVariants.{RevokeStop, TellStop, RevokeLimit, TellLimit}
@@ -26,14 +29,15 @@ use Rattle.rbc_settle.specs.declared.action.ToldStop.{ToldStop}
 use Rattle.rbc_settle.specs.declared.action.ToldStop.TheVariants.{AtOnce, Before}
 use Rattle.rbc_settle.specs.Told.{Part}
 use Rattle.rbc_settle.specs.Numbers.{has_number}
-use Rattle.rbc_settle.specs.Settling.{Stops, Limits, last_stamp, direction_of, told_edge, told_at, told_stop, told_limit, limit_told_to, tell_stop, tell_limit, to_revoke, is_stop_gone, is_limit_gone, stops_revoked, stops_told, limits_revoked, limits_told, carried_out, message_of, actions, actions_with_stamp}
+use Rattle.rbc_settle.specs.Settling.{Stops, Limits, last_stamp, direction_of, told_edge, told_at, told_stop, told_limit, limit_told_to, tell_stop, tell_limit, to_revoke, is_stop_gone, is_limit_gone, stops_revoked, stops_told, limits_revoked, limits_told, carried_out, message_of, messages_of, actions, actions_with_stamp}
 use Rattle.rbc_settle.specs.Settling.{group_of as group_by}
 use Rattle.rbc_settle.specs.WellFormed.{IsPlaceOn, HasPlaceOn}
 use Rattle.rbc_settle.proofs.Wanted.{wanted_of}
 use Rattle.rbc_settle.proofs.Concerned.{each_value, told_as, limit_as}
 use Rattle.rbc_rule.specs.WellFormed.{IsGoodStop, AreGoodStops, AreGoodLimits}
-use Rattle.rbc_rule.specs.Saying.{StopsBefore, Restricts, in_units, stops_before, restricts, says, IsEdgeSaid, IsConcernSaid, IsLimitSaid, IsSaidFor, AllSay, AllSayTo}
-use Rattle.rbc_rule.proofs.SaysPlaces.{faced, whole_fives, sound, good_area, good_limit}
+use Rattle.rbc_rule.specs.Saying.{Said, StopsAtOnce, StopsBefore, Restricts, RevokesStop, RevokesLimit, Spot, Stretch, CountsFrom, Says}
+use Rattle.rbc_rule.specs.SaidFor.{stretch_for, IsEdgeSaid, IsConcernSaid, IsLimitSaid, SaysFor, AllSay}
+use Rattle.rbc_rule.proofs.SaysPlaces.{faced, unit_is, distance_within, lies_ahead, whole_fives, sound, good_area, good_limit}
 
 -- ---- the list of what is told
 
@@ -65,66 +69,91 @@ module _ {X T : Type 0} (slots : Slots) (what : ℕ × X → Option T) (tell : (
 abbrev pub group_at : Place → Group
 group_at p = record { line = p.line; at = p.at; nominal = if p.same then Up else Down }
 
+-- a message says something, of which a statement holds
+pub record SaysOne (plan : Plan) (sent : ToTrain) (holds : Said → Type 0) : Type 0 where
+  pub said : Said
+  pub says : Says plan sent said
+  pub is : holds said
+
 module _ (plan : Plan) (track : IsPlan plan) (train : TrainRec) where
   -- the balise group that a later message names is that of the place
   found_later : (p : Place) → train.place ≡ Some p → IsPlaceOn plan p → (later : TrainRec) → later.place ≡ train.place → group_of plan (group_by later) ≡ Some (group_at p)
   found_later p placed on later same = ap (λ (o : Option Place). group_of plan (option_map_or (λ q. q.lrbg) o 16777215)) (same ∙ placed) ∙ on.group
 
-  facing_told : (p : Place) → way_of (group_at p).nominal (direction_of p) ≡ p.facing
-  facing_told p = faced p.line p.lrbg p.at p.same p.facing p.lo p.hi
+  -- so its distances count from there, the way the train faces
+  counts : (p : Place) → train.place ≡ Some p → IsPlaceOn plan p → (later : TrainRec) → later.place ≡ train.place → (scale : ℕ) → scale ≤ 2
+      → CountsFrom plan (group_by later) (direction_of p) scale p.line p.at p.facing (10 ^ scale)
+  counts p placed on later same scale most = record {
+    group = group_at p;
+    known = found_later p placed on later same;
+    on_line = refl;
+    from_group = refl;
+    one_way = faced p.line p.lrbg p.at p.same p.facing p.lo p.hi;
+    in_units = unit_is scale most;
+  }
 
   -- a stop before an edge
   edge_said : (p : Place) → train.place ≡ Some p → IsPlaceOn plan p → (area : List Segment) (forced : Bool) (edge : ℕ) → All IsSegment area → concern_at area forced p ≡ concern.Before edge
       → (later : TrainRec) → later.place ≡ train.place → (id number : ℕ)
-      → IsEdgeSaid train edge id (says plan (message_of later (TellStop id number (Before (told_edge (direction_of p) (told_distance (distance_to p.facing p.at edge)))))))
+      → SaysOne plan (message_of later (TellStop id number (Before (told_edge (direction_of p) (told_distance (distance_to p.facing p.at edge)))))) (IsEdgeSaid train edge id)
   edge_said p placed on area forced edge segments before later same id number =
-      let told = told_distance (distance_to p.facing p.at edge) in
+      let distance = distance_to p.facing p.at edge in
+      let told = told_distance distance in
+      let by = told.1 * 10 ^ told.0 in
+      let rightly = told_rightly distance (distance_within p.facing p.at edge (sound plan track p on).at (edge_in_range p area forced edge segments before)) in
+      let spot : Spot = record { line = p.line; place = onward p.facing p.at by; unit = 10 ^ told.0 } in
+      let ahead : IsAhead p.facing p.at by spot.place = lies_ahead p.facing p.at edge by rightly.not_beyond in
       record {
-        p = p;
-        placed = placed;
-        scale = told.0;
-        units = told.1;
-        told = (each_stop p area forced edge (sound plan track p on) segments before).told;
-        says = ap (option_map (stops_before id told.0 (direction_of p) told.1)) (found_later p placed on later same)
-            ∙ ap (λ (way : Way). Some (StopsBefore id (onward way p.at (in_units told.0 told.1)))) (facing_told p);
+        said = StopsBefore id spot;
+        says = (refl, (spot, (record { origin = p.at; way = p.facing; counts = counts p placed on later same told.0 rightly.not_spare; ahead = ahead }, refl)));
+        is = record {
+          p = p;
+          placed = placed;
+          spot = spot;
+          is_for = record { scale = told.0; units = told.1; told = rightly; on_line = refl; in_units = refl; ahead = ahead };
+          is_said = refl;
+        };
       }
 
   module _ (area : List Segment) (forced : Bool) (segments : All IsSegment area) (id number : ℕ) (later : TrainRec) (same : later.place ≡ train.place) where
     -- the message of a stop, by what the stop is to the train
     abbrev pub SaidBy : Concern → ToldStop → Type 0
-    SaidBy c told = IsConcernSaid train c id (says plan (message_of later (TellStop id number told)))
+    SaidBy c told = SaysOne plan (message_of later (TellStop id number told)) (IsConcernSaid train c id)
+
+    at_once : SaidBy concern.Now AtOnce
+    at_once = record { said = StopsAtOnce id; says = refl; is = refl }
 
     concern_said_at : (p : Place) → train.place ≡ Some p → IsPlaceOn plan p → (c : Concern) → concern_at area forced p ≡ c → (told : ToldStop) → told_at p c ≡ Some told → SaidBy c told
     concern_said_at p placed on concern.None is told tells = absurd (let bad : None ≡ Some told = tells in cc)
-    concern_said_at p placed on concern.Now is told tells = subst (SaidBy concern.Now) (same_Some AtOnce told tells) refl
+    concern_said_at p placed on concern.Now is told tells = subst (SaidBy concern.Now) (same_Some AtOnce told tells) at_once
     concern_said_at p placed on (concern.Before edge) is told tells =
         let before = Before (told_edge (direction_of p) (told_distance (distance_to p.facing p.at edge))) in
         subst (SaidBy (concern.Before edge)) (same_Some before told tells) (edge_said p placed on area forced edge segments is later same id number)
 
     concern_said : (place : Option Place) → train.place ≡ place → HasPlaceOn plan place → (told : ToldStop) → told_stop place (concern_of area forced place) ≡ Some told → SaidBy (concern_of area forced place) told
-    concern_said None placed on told tells = subst (SaidBy concern.Now) (same_Some AtOnce told tells) refl
+    concern_said None placed on told tells = subst (SaidBy concern.Now) (same_Some AtOnce told tells) at_once
     concern_said (Some p) placed on told tells = concern_said_at p placed on (concern_at area forced p) refl told tells
 
   -- the message of a restriction
   limit_said : (limits : Limits) (limit : Limit) (number : ℕ) → value_of limits.active number ≡ Some limit → IsLimit limit → (place : Option Place) → train.place ≡ place → HasPlaceOn plan place
       → (told : Part) → limit_told_to plan.horizon place limit ≡ Some told → (id : ℕ) (later : TrainRec) → later.place ≡ train.place
-      → IsLimitSaid limits train id number (says plan (message_of later (TellLimit id number told)))
+      → SaysOne plan (message_of later (TellLimit id number told)) (IsLimitSaid limits train id number)
   limit_said limits limit number active kept None placed on told tells id later same = absurd (let bad : None ≡ Some told = tells in cc)
   limit_said limits limit number active kept (Some p) placed on told tells id later same =
       let parts = cond_some (concerns limit p plan.horizon) (told_limit limit p) told tells in
       let part = told_part limit p in
-      subst (λ (one : Part). IsLimitSaid limits train id number (says plan (message_of later (TellLimit id number one)))) parts.1 (record {
-        limit = limit;
-        active = active;
-        p = p;
-        placed = placed;
-        scale = part.0;
-        start = part.1;
-        length = part.2;
-        told = each_limit_is_told_rightly limit p plan.horizon kept (sound plan track p on) parts.0;
-        says = ap (option_map (restricts id part.0 (direction_of p) part.1 part.2 limit.front (limit.speed / 5))) (found_later p placed on later same)
-            ∙ ap (λ (way : Way). Some (Restricts id way p.at (in_units part.0 part.1) (in_units part.0 (part.1 + part.2)) limit.front (limit.speed / 5 * 5))) (facing_told p)
-            ∙ ap (λ (speed : ℕ). Some (Restricts id p.facing p.at (in_units part.0 part.1) (in_units part.0 (part.1 + part.2)) limit.front speed)) (whole_fives limit.speed kept.in_fives);
+      let rightly = each_limit_is_told_rightly limit p plan.horizon kept (sound plan track p on) parts.0 in
+      let stretch : Stretch = stretch_for limit p in
+      subst (λ (one : Part). SaysOne plan (message_of later (TellLimit id number one)) (IsLimitSaid limits train id number)) parts.1 (record {
+        said = Restricts id stretch limit.front limit.speed;
+        says = (
+          stretch,
+          (
+            record { counts = counts p placed on later same part.0 rightly.not_spare; begins = refl; ends = refl },
+            ap (λ (speed : ℕ). Restricts id stretch limit.front speed) (whole_fives limit.speed kept.in_fives),
+          ),
+        );
+        is = record { limit = limit; active = active; p = p; placed = placed; is_said = refl };
       })
 
 -- ---- all messages to a train
@@ -132,13 +161,23 @@ module _ (plan : Plan) (track : IsPlan plan) (train : TrainRec) where
 module _ (plan : Plan) (track : IsPlan plan) (stops : Stops) (limits : Limits) (good_stops : AreGoodStops plan stops) (good_limits : AreGoodLimits plan limits) (train : TrainRec) (on : HasPlaceOn plan train.place) where
   -- an action says what it has to, whatever was done to the train before, as long as it stands where it stood
   abbrev pub IsSaid : Action → Type 0
-  IsSaid action = (later : TrainRec) → later.place ≡ train.place → IsSaidFor stops limits train action (says plan (message_of later action))
+  IsSaid action = (later : TrainRec) → later.place ≡ train.place → SaysFor plan stops limits train action (message_of later action)
+
+  revoked_stop : (id : ℕ) → IsSaid (RevokeStop id)
+  revoked_stop id later same = record { said = RevokesStop id; says = refl; is_for = refl }
 
   revoked_stops : All IsSaid (stops_revoked stops train)
-  revoked_stops = All-map IsSaid RevokeStop (to_revoke (is_stop_gone stops) train.stops) (λ k d below later same. refl)
+  revoked_stops =
+      let ids = to_revoke (is_stop_gone stops) train.stops in
+      All-map IsSaid RevokeStop ids (λ k d below. revoked_stop (get_or ids k d))
+
+  revoked_limit : (id : ℕ) → IsSaid (RevokeLimit id)
+  revoked_limit id later same = record { said = RevokesLimit id; says = (refl, refl); is_for = refl }
 
   revoked_limits : All IsSaid (limits_revoked limits train)
-  revoked_limits = All-map IsSaid RevokeLimit (to_revoke (is_limit_gone limits train.place) train.limits) (λ k d below later same. refl)
+  revoked_limits =
+      let ids = to_revoke (is_limit_gone limits train.place) train.limits in
+      All-map IsSaid RevokeLimit ids (λ k d below. revoked_limit (get_or ids k d))
 
   told_stops : All IsSaid (stops_told stops train)
   told_stops = each_telling train.stops (told_as train.place train.forced) tell_stop IsSaid stops.active (each stops.active (each_value 1 stops.active good_stops.numbered.ascending) good_stops.good) (free_identifiers 15 train.stops)
@@ -147,12 +186,10 @@ module _ (plan : Plan) (track : IsPlan plan) (stops : Stops) (limits : Limits) (
           → AllByRecursion (HoldsOfTelling train.stops (told_as train.place train.forced) tell_stop IsSaid) some
       each [] values good = tt
       each (stop ∷ some) values good = (
-        λ told tells id later same. record {
-          area = stop.1;
-          active = values.0;
-          concern = concern_said plan track train stop.1 (has_number train.forced stop.0) (good_area plan track stop.1 (All-head (IsGoodStop plan) stop some good).good) id stop.0 later same
-              train.place refl on told tells;
-        },
+        λ told tells id later same.
+            let one = concern_said plan track train stop.1 (has_number train.forced stop.0) (good_area plan track stop.1 (All-head (IsGoodStop plan) stop some good).good) id stop.0 later same
+                train.place refl on told tells in
+            record { said = one.said; says = one.says; is_for = record { area = stop.1; active = values.0; concern = one.is } },
         each some values.1 (All-tail (IsGoodStop plan) stop some good),
       )
 
@@ -167,7 +204,8 @@ module _ (plan : Plan) (track : IsPlan plan) (stops : Stops) (limits : Limits) (
       each [] values good = tt
       each (limit ∷ some) values good = (
         λ told tells id later same.
-            limit_said plan track train limits limit.1 limit.0 values.0 (good_limit plan track limit.1 (All-head IsGood limit some good)) train.place refl on told tells id later same,
+            let one = limit_said plan track train limits limit.1 limit.0 values.0 (good_limit plan track limit.1 (All-head IsGood limit some good)) train.place refl on told tells id later same in
+            record { said = one.said; says = one.says; is_for = one.is },
         each some values.1 (All-tail IsGood limit some good),
       )
 
@@ -190,5 +228,5 @@ module _ (plan : Plan) (track : IsPlan plan) (stops : Stops) (limits : Limits) (
   each_says (action ∷ acts) all later same =
       (All-head IsSaid action acts all later same, each_says acts (All-tail IsSaid action acts all) (carried_out later action) (stands later action same))
 
-  pub all_say_to : AllSayTo plan stops limits train
-  all_say_to = each_says (actions_with_stamp plan stops limits train) (All-take IsSaid (last_stamp - train.stamp) (actions plan stops limits train) all_said) train refl
+  pub all_say : AllSay plan stops limits train (actions_with_stamp plan stops limits train) (messages_of plan stops limits train)
+  all_say = each_says (actions_with_stamp plan stops limits train) (All-take IsSaid (last_stamp - train.stamp) (actions plan stops limits train) all_said) train refl

@@ -8,4 +8,7 @@ pub mod Right
 pub mod Touching
 pub mod Gathered
 pub mod Saying
+pub mod SaidFor
+pub mod Told
 pub mod Laws
+pub mod Witnesses

@@ -1,112 +1,79 @@
--- What a message says to a train, from its variables back to places on the track (own rule, over SUBSET-026, 7.5 and 8).
-use Rattle.std.specs.Prelude.{◌≡◌, ℕ, ◌+◌, ◌*◌, ◌^◌, Bool, List, [], ◌∷◌, Option, Some, option_map, Ok}
-use Rattle.std.specs.List.{All}
+-- What a message says to a train, from its variables back to places on the track (SUBSET-026, 7.5 and 8; own rule).
+use Rattle.std.specs.Prelude.{◌≡◌, ℕ, ◌+◌, ◌*◌, ◌^◌, Bool, ◌==◌, nat_le, if◌then◌else◌, Option, Some, None, pos}
 use Rattle.ertms_codec.specs.declared.to_train.ToTrain.{ToTrain}
 use Rattle.ertms_codec.specs.declared.to_train.ToTrain.TheVariants as message
-use Rattle.rbc_track.specs.Plan.{Plan, IsPlan, group_of}
+use Rattle.rbc_track.specs.Plan.{Plan, group_of}
 use Rattle.rbc_track.specs.declared.group.Group.{Group}
 use Rattle.rbc_track.specs.declared.group.Way.{Way}
-use Rattle.rbc_place.specs.Placing.{Place, onward, way_of}
-use Rattle.rbc_maps.specs.Maps.{value_of}
-use Rattle.rbc_zones.specs.declared.segment.Segment.{Segment}
-use Rattle.rbc_zones.specs.declared.edge.Concern.{Concern}
-use Rattle.rbc_zones.specs.declared.edge.Concern.TheVariants as concern
-use Rattle.rbc_zones.specs.Concerns.{IsToldBefore}
-use Rattle.rbc_zones.specs.Limits.{Limit, IsToldPart}
-use Rattle.rbc_settle.specs.declared.train.TrainRec.{TrainRec}
-use Rattle.rbc_settle.specs.declared.action.Action.{Action}
-use Rattle.rbc_settle.specs.declared.action.Action.TheVariants.{RevokeStop, TellStop, RevokeLimit, TellLimit}
-use Rattle.rbc_settle.specs.Settling.{Stops, Limits, concern_to, actions_with_stamp, messages_of}
-use Rattle.rbc_rule.specs.declared.input.Input.{Input}
-use Rattle.rbc_rule.specs.Inputs.{Fits}
-use Rattle.rbc_rule.specs.World.{World}
-use Rattle.rbc_rule.specs.Effect.{effect}
-use Rattle.rbc_rule.specs.WellFormed.{IsWellFormed}
+use Rattle.rbc_place.specs.Placing.{back}
+use Rattle.rbc_place.specs.Reach.{IsAhead}
 
--- What a train is told under an identifier: to stop at once; to stop before a place; to keep to a speed in km/h on the places that
--- lie so far ahead of a place, from a distance to another, with Q_FRONT; or that a stop, or a restriction, is revoked.
+-- ---- what can be said
+
+-- a place on a line before which a train is to stop, and the unit that it was counted in
+pub record Spot : Type 0 where
+  pub line : ℕ
+  pub place : ℕ
+  pub unit : ℕ
+
+-- what lies ahead of an origin on a line, one way on, from one distance to another, and the unit that they were counted in
+pub record Stretch : Type 0 where
+  pub line : ℕ
+  pub origin : ℕ
+  pub way : Way
+  pub begin : ℕ
+  pub end : ℕ
+  pub unit : ℕ
+
+-- What a train is told under an identifier: to stop at once; to stop before a place; to keep to a speed in km/h on a stretch, with
+-- Q_FRONT; or that a stop, or a restriction, is revoked.
 pub data Said : Type 0 where
   StopsAtOnce : ℕ → Said
-  StopsBefore : ℕ → ℕ → Said
-  Restricts : ℕ → Way → ℕ → ℕ → ℕ → Bool → ℕ → Said
+  StopsBefore : ℕ → Spot → Said
+  Restricts : ℕ → Stretch → Bool → ℕ → Said
   RevokesStop : ℕ → Said
   RevokesLimit : ℕ → Said
 
--- units of Q_SCALE
-abbrev pub in_units : ℕ → ℕ → ℕ
-in_units scale units = units * 10 ^ scale
+-- ---- what a message says
 
--- Q_DIR 1 counts in the nominal direction of the balise group, 0 in the other one
-abbrev pub stops_before : ℕ → ℕ → ℕ → ℕ → Group → Said
-stops_before id scale dir distance g = StopsBefore id (onward (way_of g.nominal dir) g.at (in_units scale distance))
+-- Q_DIR, seen from a balise group: 1 is its nominal direction and 0 the other one. 2 (both) and 3 (spare) are no way to count.
+abbrev pub way_told : Way → ℕ → Option Way
+way_told nominal dir = if dir == 1 then Some nominal else if dir == 0 then Some (back nominal) else None
 
-abbrev pub restricts : ℕ → ℕ → ℕ → ℕ → ℕ → Bool → ℕ → Group → Said
-restricts id scale dir start length front speed g =
-    Restricts id (way_of g.nominal dir) g.at (in_units scale start) (in_units scale (start + length)) front (speed * 5)
+-- Q_SCALE: distances are counted in units of 10 cm, 1 m or 10 m. 3 is spare.
+abbrev pub unit_told : ℕ → Option ℕ
+unit_told scale = if nat_le scale 2 then Some (10 ^ scale) else None
 
--- what a message says on a track: places count from the balise group that it names
-abbrev pub says : Plan → ToTrain → Option Said
-says plan (message.StopAt head id scale reference dir distance) = option_map (stops_before id scale dir distance) (group_of plan head.lrbg)
-says plan (message.Stop head id) = Some (StopsAtOnce id)
-says plan (message.Revoke head id) = Some (RevokesStop id)
-says plan (message.Restrict head dir scale id start length front speed) = option_map (restricts id scale dir start length front speed) (group_of plan head.lrbg)
-says plan (message.Lift head dir id) = Some (RevokesLimit id)
+-- what the distances of a message count from: the balise group that it names, one way on, in a unit
+pub record CountsFrom (plan : Plan) (lrbg dir scale line origin : ℕ) (way : Way) (unit : ℕ) : Type 0 where
+  pub group : Group
+  pub known : group_of plan lrbg ≡ Some group
+  pub on_line : line ≡ group.line
+  pub from_group : origin ≡ group.at
+  pub one_way : way_told group.nominal dir ≡ Some way
+  pub in_units : unit_told scale ≡ Some unit
 
--- ---- what it has to say
+-- the place that lies so many units ahead
+pub record IsSpotTold (plan : Plan) (lrbg dir scale distance : ℕ) (spot : Spot) : Type 0 where
+  pub origin : ℕ
+  pub way : Way
+  pub counts : CountsFrom plan lrbg dir scale spot.line origin way spot.unit
+  pub ahead : IsAhead way origin (distance * spot.unit) spot.place
 
--- a place before an edge: never beyond it, and less than a unit short of it
-pub record IsEdgeSaid (train : TrainRec) (edge id : ℕ) (said : Option Said) : Type 0 where
-  pub p : Place
-  pub placed : train.place ≡ Some p
-  pub scale : ℕ
-  pub units : ℕ
-  pub told : IsToldBefore p edge scale units
-  pub says : said ≡ Some (StopsBefore id (onward p.facing p.at (in_units scale units)))
+-- the stretch that begins so many units ahead, and is so many units long
+pub record IsStretchTold (plan : Plan) (lrbg dir scale start length : ℕ) (stretch : Stretch) : Type 0 where
+  pub counts : CountsFrom plan lrbg dir scale stretch.line stretch.origin stretch.way stretch.unit
+  pub begins : stretch.begin ≡ start * stretch.unit
+  pub ends : stretch.end ≡ (start + length) * stretch.unit
 
--- what an active stop is to the train
-abbrev pub IsConcernSaid : TrainRec → Concern → ℕ → Option Said → Type 0
-IsConcernSaid train concern.None id said = ⊥
-IsConcernSaid train concern.Now id said = said ≡ Some (StopsAtOnce id)
-IsConcernSaid train (concern.Before edge) id said = IsEdgeSaid train edge id said
+-- Q_DIR of the revocation of a restriction: it holds both ways
+abbrev pub both_ways : ℕ
+both_ways = 2
 
-pub record IsStopSaid (stops : Stops) (train : TrainRec) (id number : ℕ) (said : Option Said) : Type 0 where
-  pub area : List Segment
-  pub active : value_of stops.active number ≡ Some area
-  pub concern : IsConcernSaid train (concern_to train (number, area)) id said
-
--- an interval that covers an active restriction but for what lies behind the balise group, and is longer by less than a unit at
--- each end, with its speed
-pub record IsLimitSaid (limits : Limits) (train : TrainRec) (id number : ℕ) (said : Option Said) : Type 0 where
-  pub limit : Limit
-  pub active : value_of limits.active number ≡ Some limit
-  pub p : Place
-  pub placed : train.place ≡ Some p
-  pub scale : ℕ
-  pub start : ℕ
-  pub length : ℕ
-  pub told : IsToldPart limit p scale start length
-  pub says : said ≡ Some (Restricts id p.facing p.at (in_units scale start) (in_units scale (start + length)) limit.front limit.speed)
-
--- for an action of settling a train
-abbrev pub IsSaidFor : Stops → Limits → TrainRec → Action → Option Said → Type 0
-IsSaidFor stops limits train (RevokeStop id) said = said ≡ Some (RevokesStop id)
-IsSaidFor stops limits train (TellStop id number told) said = IsStopSaid stops train id number said
-IsSaidFor stops limits train (RevokeLimit id) said = said ≡ Some (RevokesLimit id)
-IsSaidFor stops limits train (TellLimit id number told) said = IsLimitSaid limits train id number said
-
--- each message, for its action
-abbrev pub AllSay : Plan → Stops → Limits → TrainRec → List Action → List ToTrain → Type 0
-AllSay plan stops limits train [] [] = Unit
-AllSay plan stops limits train (action ∷ actions) (sent ∷ more) = IsSaidFor stops limits train action (says plan sent) × AllSay plan stops limits train actions more
-AllSay plan stops limits train [] (sent ∷ more) = ⊥
-AllSay plan stops limits train (action ∷ actions) [] = ⊥
-
-abbrev pub AllSayTo : Plan → Stops → Limits → TrainRec → Type 0
-AllSayTo plan stops limits train =
-    AllSay plan stops limits train (actions_with_stamp plan stops limits train) (messages_of plan stops limits train)
-
--- each message of a step, to each train
-abbrev pub EachStepSays : Type 0
-EachStepSays =
-    (plan : Plan) (w changed : World) (input : Input) → IsPlan plan → Fits input → IsWellFormed plan w → effect plan input w ≡ Ok changed
-    → All (λ train. AllSayTo plan changed.stops changed.limits train.1) changed.trains
+-- What a message says. D_REF is 0: distances count from the balise group itself.
+abbrev pub Says : Plan → ToTrain → Said → Type 0
+Says plan (message.StopAt head id scale reference dir distance) said = (reference ≡ pos 0) × ((spot : Spot) × (IsSpotTold plan head.lrbg dir scale distance spot × (said ≡ StopsBefore id spot)))
+Says plan (message.Stop head id) said = said ≡ StopsAtOnce id
+Says plan (message.Revoke head id) said = said ≡ RevokesStop id
+Says plan (message.Restrict head dir scale id start length front speed) said = (stretch : Stretch) × (IsStretchTold plan head.lrbg dir scale start length stretch × (said ≡ Restricts id stretch front (5 * speed)))
+Says plan (message.Lift head dir id) said = (dir ≡ both_ways) × (said ≡ RevokesLimit id)

@@ -15,11 +15,13 @@ mod rule;
 mod settle_all;
 mod touch;
 mod trains;
+mod witnesses;
 
 pub use input::{Input, Segments};
-pub use law::{says_law, step_law};
+pub use law::{says_law, step_law, told_law};
 pub use outcome::{Outcome, Reply, RuleFault, SentList};
 pub use rule::decide;
+pub use witnesses::{says_law_witnesses, step_law_witnesses, told_law_witnesses};
 
 #[cfg(test)]
 mod tests;

@@ -1,5 +1,9 @@
+use Rattle.rbc_rule.proofs.OneSaid.{says_one_thing}
 use Rattle.rbc_rule.proofs.Says.{step_says}
 use Rattle.rbc_rule.proofs.law.says_law.Goals as goal
 
-pub returns : goal.returns
-returns c = step_says
+pub returns-clause-says : goal.returns-clause-says
+returns-clause-says c = step_says
+
+pub returns-clause-one_thing : goal.returns-clause-one_thing
+returns-clause-one_thing c = says_one_thing

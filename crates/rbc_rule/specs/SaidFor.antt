@@ -1,0 +1,117 @@
+-- What a message has to say to a train: what the rules give that train (own rule).
+use Rattle.std.specs.Prelude.{◌≡◌, ℕ, ◌+◌, ◌*◌, ◌^◌, List, [], ◌∷◌, Some, Result, Ok, Err}
+use Rattle.ertms_codec.specs.declared.to_train.ToTrain.{ToTrain}
+use Rattle.rbc_track.specs.Plan.{Plan, IsPlan}
+use Rattle.rbc_place.specs.Placing.{Place}
+use Rattle.rbc_place.specs.Reach.{IsAhead}
+use Rattle.rbc_maps.specs.Maps.{value_of}
+use Rattle.rbc_zones.specs.declared.segment.Segment.{Segment}
+use Rattle.rbc_zones.specs.declared.edge.Concern.{Concern}
+use Rattle.rbc_zones.specs.declared.edge.Concern.TheVariants as concern
+use Rattle.rbc_zones.specs.Concerns.{distance_to, IsToldFor}
+use Rattle.rbc_zones.specs.Limits.{Limit, told_part}
+use Rattle.rbc_settle.specs.declared.train.TrainRec.{TrainRec}
+use Rattle.rbc_settle.specs.declared.action.Action.{Action}
+use Rattle.rbc_settle.specs.declared.action.Action.TheVariants.{RevokeStop, TellStop, RevokeLimit, TellLimit}
+use Rattle.rbc_settle.specs.Settling.{Stops, Limits, concern_to, actions_with_stamp}
+use Rattle.rbc_rule.specs.declared.input.Input.{Input}
+use Rattle.rbc_rule.specs.Inputs.{Fits}
+use Rattle.rbc_rule.specs.World.{World}
+use Rattle.rbc_rule.specs.Effect.{effect}
+use Rattle.rbc_rule.specs.Step.{step}
+use Rattle.rbc_rule.specs.WellFormed.{IsWellFormed}
+use Rattle.rbc_rule.specs.Saying.{Spot, Stretch, Said, StopsAtOnce, StopsBefore, Restricts, RevokesStop, RevokesLimit, Says}
+
+-- ---- what it has to say
+
+-- the place for an edge: whole units ahead of the balise group, rounded down, in the finest unit that has room
+pub record IsSpotFor (p : Place) (edge : ℕ) (spot : Spot) : Type 0 where
+  pub scale : ℕ
+  pub units : ℕ
+  pub told : IsToldFor (distance_to p.facing p.at edge) scale units
+  pub on_line : spot.line ≡ p.line
+  pub in_units : spot.unit ≡ 10 ^ scale
+  pub ahead : IsAhead p.facing p.at (units * 10 ^ scale) spot.place
+
+-- the stretch for a restriction: the part of it that is told, ahead of the balise group
+abbrev pub stretch_for : Limit → Place → Stretch
+stretch_for limit p =
+    let unit = 10 ^ (told_part limit p).0 in
+    record {
+      line = p.line;
+      origin = p.at;
+      way = p.facing;
+      begin = (told_part limit p).1 * unit;
+      end = ((told_part limit p).1 + (told_part limit p).2) * unit;
+      unit = unit;
+    }
+
+-- to stop before an edge
+pub record IsEdgeSaid (train : TrainRec) (edge id : ℕ) (said : Said) : Type 0 where
+  pub p : Place
+  pub placed : train.place ≡ Some p
+  pub spot : Spot
+  pub is_for : IsSpotFor p edge spot
+  pub is_said : said ≡ StopsBefore id spot
+
+-- what an active stop is to the train
+abbrev pub IsConcernSaid : TrainRec → Concern → ℕ → Said → Type 0
+IsConcernSaid train concern.None id said = ⊥
+IsConcernSaid train concern.Now id said = said ≡ StopsAtOnce id
+IsConcernSaid train (concern.Before edge) id said = IsEdgeSaid train edge id said
+
+pub record IsStopSaid (stops : Stops) (train : TrainRec) (id number : ℕ) (said : Said) : Type 0 where
+  pub area : List Segment
+  pub active : value_of stops.active number ≡ Some area
+  pub concern : IsConcernSaid train (concern_to train (number, area)) id said
+
+-- an active restriction, on its stretch, with its speed
+pub record IsLimitSaid (limits : Limits) (train : TrainRec) (id number : ℕ) (said : Said) : Type 0 where
+  pub limit : Limit
+  pub active : value_of limits.active number ≡ Some limit
+  pub p : Place
+  pub placed : train.place ≡ Some p
+  pub is_said : said ≡ Restricts id (stretch_for limit p) limit.front limit.speed
+
+-- for an action of settling a train
+abbrev pub IsSaidFor : Stops → Limits → TrainRec → Action → Said → Type 0
+IsSaidFor stops limits train (RevokeStop id) said = said ≡ RevokesStop id
+IsSaidFor stops limits train (TellStop id number told) said = IsStopSaid stops train id number said
+IsSaidFor stops limits train (RevokeLimit id) said = said ≡ RevokesLimit id
+IsSaidFor stops limits train (TellLimit id number told) said = IsLimitSaid limits train id number said
+
+-- a message says what it has to say for an action
+pub record SaysFor (plan : Plan) (stops : Stops) (limits : Limits) (train : TrainRec) (action : Action) (message : ToTrain) : Type 0 where
+  pub said : Said
+  pub says : Says plan message said
+  pub is_for : IsSaidFor stops limits train action said
+
+-- one message for each action, in order
+abbrev pub AllSay : Plan → Stops → Limits → TrainRec → List Action → List ToTrain → Type 0
+AllSay plan stops limits train [] [] = Unit
+AllSay plan stops limits train (action ∷ actions) (sent ∷ more) = SaysFor plan stops limits train action sent × AllSay plan stops limits train actions more
+AllSay plan stops limits train [] (sent ∷ more) = ⊥
+AllSay plan stops limits train (action ∷ actions) [] = ⊥
+
+-- to each train one list of messages, one for each action that settling it carries out
+abbrev pub AllSayTo : Plan → Stops → Limits → List (ℕ × TrainRec) → List (ℕ × List ToTrain) → Type 0
+AllSayTo plan stops limits [] [] = Unit
+AllSayTo plan stops limits (train ∷ trains) (sent ∷ more) =
+    (sent.0 ≡ train.0) × (AllSay plan stops limits train.1 (actions_with_stamp plan stops limits train.1) sent.1 × AllSayTo plan stops limits trains more)
+AllSayTo plan stops limits [] (sent ∷ more) = ⊥
+AllSayTo plan stops limits (train ∷ trains) [] = ⊥
+
+-- what is sent after an input: nothing where it is refused, and else what settling says to each train
+abbrev pub IsSaidAfter : Plan → Result World ℕ → List (ℕ × List ToTrain) → Type 0
+IsSaidAfter plan (Err code) sent = sent ≡ []
+IsSaidAfter plan (Ok changed) sent = AllSayTo plan changed.stops changed.limits changed.trains sent
+
+-- each step, from any well-formed world
+abbrev pub EachStepSays : Type 0
+EachStepSays =
+    (plan : Plan) (w : World) (input : Input) → IsPlan plan → Fits input → IsWellFormed plan w
+    → IsSaidAfter plan (effect plan input w) (step plan w input).sent
+
+-- a message says one thing at most
+abbrev pub EachMessageSaysOneThing : Type 0
+EachMessageSaysOneThing = (plan : Plan) (message : ToTrain) (a b : Said) → Says plan message a → Says plan message b → a ≡ b

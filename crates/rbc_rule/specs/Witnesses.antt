@@ -1,0 +1,151 @@
+-- Worked cases on one track, and what the laws say of them: units of 10 cm and km/h, by the rules of the laws (own rule).
+use Rattle.std.specs.Prelude.{ℕ, Bool, true, false, List, [], ◌∷◌, Option, Some, None, pos}
+use Rattle.ertms_codec.specs.declared.to_train.Head.{Head}
+use Rattle.ertms_codec.specs.declared.to_train.ToTrain.{ToTrain}
+use Rattle.ertms_codec.specs.declared.to_train.ToTrain.TheVariants as message
+use Rattle.rbc_track.specs.Plan.{Plan}
+use Rattle.rbc_track.specs.declared.group.Way.TheVariants.{Up, Down}
+use Rattle.rbc_place.specs.Placing.{Place}
+use Rattle.rbc_maps.specs.Numbered.{none_numbered}
+use Rattle.rbc_ids.specs.declared.slot.Slot.TheVariants.{Used}
+use Rattle.rbc_ids.specs.declared.slot.Kind.TheVariants.{Conditional}
+use Rattle.rbc_ids.specs.Table.{Slots}
+use Rattle.rbc_zones.specs.declared.segment.Segment.{Segment}
+use Rattle.rbc_zones.specs.declared.limit.Dirs.TheVariants as dirs
+use Rattle.rbc_zones.specs.Limits.{Limit}
+use Rattle.rbc_settle.specs.declared.train.TrainRec.{TrainRec}
+use Rattle.rbc_settle.specs.Settling.{Stops, Limits, last_stamp}
+use Rattle.rbc_rule.specs.declared.input.Input.{Input}
+use Rattle.rbc_rule.specs.declared.input.Input.TheVariants.{Enrol, Stop, Release, Restrict}
+use Rattle.rbc_rule.specs.World.{World}
+use Rattle.rbc_rule.specs.Effect.{effect}
+use Rattle.rbc_rule.specs.Saying.{Spot}
+use Rattle.rbc_rule.specs.SaidFor.{IsSaidAfter}
+
+-- ---- the track, and a train on it
+
+-- two lines, of 30 km and of 300 km, with two balise groups on the first and one on the second
+abbrev pub track_a : Plan
+track_a = record {
+  horizon = 100000;
+  lines = 300000 ∷ 3000000 ∷ [];
+  groups = (5, record { line = 0; at = 10000; nominal = Up }) ∷ (6, record { line = 0; at = 200000; nominal = Down }) ∷ (7, record { line = 1; at = 0; nominal = Up }) ∷ [];
+}
+
+-- 200 m beyond balise group 5, facing up
+abbrev pub facing_up : Place
+facing_up = record { line = 0; lrbg = 5; at = 10000; same = true; facing = Up; lo = 9900; hi = 12100 }
+
+-- 200 m before balise group 5, facing down
+abbrev pub facing_down : Place
+facing_down = record { line = 0; lrbg = 5; at = 10000; same = true; facing = Down; lo = 7900; hi = 10100 }
+
+-- train 7 of 200 m at a place, with its last stamp, and what is told to it under stop identifiers
+abbrev pub train_7 : Option Place → ℕ → Slots → TrainRec
+train_7 place stamp slots = record { engine = 7; length = 2000; stamp = stamp; place = place; forced = []; stops = slots; limits = [] }
+
+-- a stretch of line 0
+abbrev pub on_line_0 : ℕ → ℕ → Segment
+on_line_0 from to = record { line = 0; from = from; to = to }
+
+-- stop 1 on such a stretch, and a restriction there to 80 km/h
+abbrev pub stop_1 : Segment → Stops
+stop_1 segment = record { last = 1; active = (1, segment ∷ []) ∷ [] }
+
+abbrev pub limit_80 : Segment → Limit
+limit_80 segment = record { segment = segment; dirs = dirs.Both; speed = 80; front = false }
+
+abbrev pub restriction_1 : Segment → Limits
+restriction_1 segment = record { last = 1; active = (1, limit_80 segment) ∷ [] }
+
+-- a world of one train
+abbrev pub world_of : TrainRec → Stops → Limits → World
+world_of train stops limits = record { trains = (7, train) ∷ []; stops = stops; limits = limits }
+
+-- ---- messages
+
+-- the head of a message under a stamp, from balise group 5
+abbrev pub head_at : ℕ → Bool → Head
+head_at stamp ack = record { stamp = stamp; ack = ack; lrbg = 5 }
+
+-- message 15 under identifier 0, with Q_DIR, Q_SCALE and D_EMERGENCYSTOP
+abbrev pub stop_before : ℕ → ℕ → ℕ → ToTrain
+stop_before dir scale distance = message.StopAt (head_at 1001 false) 0 scale (pos 0) dir distance
+
+-- message 24 with packet 65 under identifier 0, with Q_DIR, Q_SCALE, D_TSR, L_TSR and V_TSR
+abbrev pub restrict_to : ℕ → ℕ → ℕ → ℕ → ℕ → ToTrain
+restrict_to dir scale start length speed = message.Restrict (head_at 1001 true) dir scale 0 start length false speed
+
+-- message 16 to a train without a place, and message 18
+abbrev pub stop_now : ℕ → ℕ → ToTrain
+stop_now stamp id = message.Stop (record { stamp = stamp; ack = false; lrbg = 16777215 }) id
+
+abbrev pub revoke : ℕ → ToTrain
+revoke id = message.Revoke (head_at 1002 true) id
+
+-- ---- what is said
+
+-- what the law says of the messages of a step
+abbrev pub IsSaidIn : World → Input → List (ℕ × List ToTrain) → Type 0
+IsSaidIn w input sent = IsSaidAfter track_a (effect track_a input w) sent
+
+-- train 7 at a place, to which nothing was told
+abbrev pub only_train_7 : Place → World
+only_train_7 place = world_of (train_7 (Some place) 1000 []) none_numbered none_numbered
+
+-- of the messages to it in the step in which stop 1 becomes active on a stretch of line 0
+abbrev pub IsSaidOfStop : Place → ℕ → ℕ → List ToTrain → Type 0
+IsSaidOfStop place from to sent = IsSaidIn (only_train_7 place) (Stop 1 (on_line_0 from to ∷ [])) ((7, sent) ∷ [])
+
+-- and of those in the step in which a restriction to 80 km/h does
+abbrev pub IsSaidOfLimit : Place → ℕ → ℕ → List ToTrain → Type 0
+IsSaidOfLimit place from to sent = IsSaidIn (only_train_7 place) (Restrict 1 (on_line_0 from to) dirs.Both 80 false) ((7, sent) ∷ [])
+
+-- nobody is enrolled, and two stops are active
+abbrev pub two_stops : World
+two_stops = record { trains = []; stops = record { last = 2; active = (1, on_line_0 20000 21000 ∷ []) ∷ (2, on_line_0 40000 41000 ∷ []) ∷ [] }; limits = none_numbered }
+
+-- of the messages to train 7 in the step in which it is enrolled there
+abbrev pub IsSaidAtEnrolment : List ToTrain → Type 0
+IsSaidAtEnrolment sent = IsSaidIn two_stops (Enrol 7 2000) ((7, sent) ∷ [])
+
+-- a place of line 0, counted in units of 10 cm
+abbrev pub spot_at : ℕ → Spot
+spot_at place = record { line = 0; place = place; unit = 1 }
+
+-- ---- worlds in which stop 1 is active from 20000 to 21000
+
+-- identifier 0 is used by a stop, told under stamp 1001
+abbrev pub told_as_0 : ℕ → Slots
+told_as_0 number = (0, Used number 1001 Conditional false) ∷ []
+
+-- train 7 with its last stamp, told what stands in its slots
+abbrev pub world_told : Option Place → ℕ → Slots → World
+world_told place stamp slots = world_of (train_7 place stamp slots) (stop_1 (on_line_0 20000 21000)) none_numbered
+
+-- it faces up, and was told the stop under stamp 1001, its last
+abbrev pub told_world : World
+told_world = world_told (Some facing_up) 1001 (told_as_0 1)
+
+-- it was told the stop under two identifiers
+abbrev pub told_twice : World
+told_twice = world_told (Some facing_up) 1002 ((0, Used 1 1001 Conditional false) ∷ (1, Used 1 1002 Conditional false) ∷ [])
+
+-- ---- other worlds
+
+-- it was told a stop that is not active any more
+abbrev pub world_released : World
+world_released = world_of (train_7 (Some facing_up) 1001 (told_as_0 1)) (record { last = 1; active = [] }) none_numbered
+
+-- a restriction ahead is active, and not told
+abbrev pub world_restricted : World
+world_restricted = world_of (train_7 (Some facing_up) 1000 []) none_numbered (restriction_1 (on_line_0 11050 12050))
+
+-- it may stand beyond the end of its line
+abbrev pub world_off_line : World
+world_off_line = world_of (train_7 (Some (record facing_up { hi = 300001 })) 1000 []) none_numbered none_numbered
+
+-- stop 2 is active and told, and the last number of a stop is 1
+abbrev pub world_numbered_high : World
+world_numbered_high =
+    world_of (train_7 (Some facing_up) 1001 (told_as_0 2)) (record { last = 1; active = (2, on_line_0 20000 21000 ∷ []) ∷ [] }) none_numbered
