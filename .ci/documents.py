@@ -105,7 +105,7 @@ def path_faults(root, document, text):
             yield match.start(), f"links to #{anchor}, which is no heading of {linked.name}"
     for match in FILE.finditer(text):
         name = match.group(1)
-        if name in words.FILES or is_there(root, document, name):
+        if name in words.FILES or name.startswith("Rattle.") or is_there(root, document, name):
             continue
         yield match.start(), f"names {name}, which is not there"
 
@@ -113,7 +113,7 @@ def path_faults(root, document, text):
 # ---- names
 
 def known_names(world):
-    names = set(words.KNOWN) | set(world.crates)
+    names = set(words.KNOWN) | set(world.crates) | {name for _, name in world.kit_words()}
     for crate in world.crates.values():
         names |= crate.rust_names | crate.antt_names | {path.stem for path in crate.edits}
     return names
@@ -168,6 +168,9 @@ def model_faults(world, text):
     for place, part, names, where in model_rows(text):
         if where.startswith("Rattle."):
             kit |= {(where, name) for name in names}
+            for name in names:
+                if (where, name) not in world.kit_words():
+                    yield place, f"names `{name}` ({where}), which nothing reaches"
             continue
         crate, _, file = where.partition(", ")
         seen.add((crate, file))

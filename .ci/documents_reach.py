@@ -1,7 +1,7 @@
 """What public contracts and laws reach: the definitions of specs/ that a reader of a contract has to read.
 
-A contract is public where a crate's lib.rt gives its function away, or the type that its method is of. Of a program, which gives
-nothing away, each contract counts. From the words of a contract the way goes by the imports (`ghost use` in src/, `use` in
+A contract is public where a crate's lib.rt gives its function away, or the type that its method is of. Of a program with a
+specs/ of its own each contract counts, since a program gives nothing away. From the words of a contract the way goes by the imports (`ghost use` in src/, `use` in
 specs/) to definitions, from the words of a definition to further ones, and from a type of src/ to the types of its fields, or
 to its value in contracts where it has one. How private fields make that value, and what a type keeps, is of the code: a caller
 sees it only through contracts.
@@ -266,7 +266,7 @@ class Crate:
     def is_given(self, found):
         """Whether a function is one that the crate gives away."""
         if self.is_program:
-            return True
+            return bool(self.specs)
         return (found.public or found.trait is not None) and (found.owner or found.name) in self.source.given
 
 
@@ -307,7 +307,9 @@ class World:
         return parts
 
     def kit_words(self):
-        return {(module, name) for part in self.reached.values() for kind, _, module, name in part if kind == "kit"}
+        """Words of the kit that are reached; types that it declares in Rust are known by their names."""
+        return {(module, name) for part in self.reached.values() for kind, _, module, name in part
+                if kind == "kit" and ".declared." not in module}
 
     def by_file(self):
         """The reached definitions of each specs file, in its order: name, part, lines."""
@@ -339,7 +341,7 @@ class World:
                         yield from self.words(crate, found.scope, clause)
                     yield from self.types_in(crate, found.signature)
             for owner, trait, name, text, scope in [] if laws else crate.source.ghosts:
-                if trait != "Model" and (crate.is_program or owner in crate.source.given):
+                if trait != "Model" and (owner in crate.source.given or crate.is_program and crate.specs):
                     yield from self.words(crate, scope, text)
 
     def next(self, node):

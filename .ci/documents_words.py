@@ -1,7 +1,7 @@
 """Words that documents use in backticks and that are no names of the crates."""
 
-# names of files that a build makes, of a caller or of the kit
-FILES = set()
+# names of files that stand for any
+FILES = {"crates/CRATE/specs/FILE.antt", "FILE.rt", "crates/CRATE/src/"}
 
 # whole pieces of code that are not looked at
 SPANS = set()
@@ -27,7 +27,7 @@ PORTED = "anyhow clap hex indexmap itoa memchr thiserror toml"
 
 # of rt, and of the folders and files that it knows
 TOOL = """
-ci check doc fail fmt lemma must plant program proofs specs src test tests tidy tries try version rt allocations
+python3 Prelude ci check doc fail fmt lemma must plant program proofs specs src test tests tidy tries try version rt allocations
 """
 
 # of batches, outputs, tracks, texts of messages and command lines
