@@ -1,7 +1,7 @@
 """Words that documents use in backticks and that are no names of the crates."""
 
 # names of files that stand for any
-FILES = {"crates/CRATE/specs/FILE.antt", "FILE.rt", "crates/CRATE/src/"}
+FILES = {"crates/CRATE/specs/FILE.antt", "FILE.rt", "crates/CRATE/src/", "crates/CRATE/src/FILE.rt"}
 
 # whole pieces of code that are not looked at
 SPANS = set()
