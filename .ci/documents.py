@@ -126,7 +126,10 @@ def is_variable(name):
 
 def name_faults(world, known, text):
     for place, span in spans(text):
-        if FILE.fullmatch(span) or span in words.SPANS or "--" in span and span.startswith(("rt ", "./dispatch ", "dispatch ")):
+        if span in known or FILE.fullmatch(span):
+            continue
+        if re.fullmatch(r"[a-z0-9]+(?:-[a-z0-9]+)+", span):
+            yield place, f"names `{span}`, which is no must-fail edit"
             continue
         for word in NAME.findall(FILE.sub(" ", re.sub(r'b?"[^"]*"', " ", span))):
             if word not in known and not is_variable(word) and len(word) > 1:
@@ -182,8 +185,8 @@ def model_faults(world, text):
                 yield place, f"names `{name}` ({where}) twice"
             else:
                 said[key] = part
-                if needed.get(key, "code") != part:
-                    yield place, f"has `{name}` ({where}) in the part '{part}', and it belongs to '{needed.get(key, 'code')}'"
+                if world.part_of(*key) != part:
+                    yield place, f"has `{name}` ({where}) in the part '{part}', and it belongs to '{world.part_of(*key)}'"
     for (crate, file, name), part in sorted(needed.items()):
         if (crate, file, name) not in said:
             yield None, f"misses `{name}` ({crate}, {file}), of the part '{part}'"

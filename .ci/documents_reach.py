@@ -4,7 +4,7 @@ A contract is public where a crate's lib.rt gives its function away, or the type
 specs/ of its own each contract counts, since a program gives nothing away. From the words of a contract the way goes by the imports (`ghost use` in src/, `use` in
 specs/) to definitions, from the words of a definition to further ones, and from a type of src/ to the types of its fields, or
 to its value in contracts where it has one. How private fields make that value, and what a type keeps, is of the code: a caller
-sees it only through contracts.
+sees it only through contracts. What the witnesses of laws reach is apart: worked cases, of which nothing has to be named.
 """
 import re
 
@@ -89,6 +89,12 @@ class Function:
         self.name, self.public, self.owner, self.trait = name, public, owner, trait
         self.scope, self.module = scope, module
         self.signature, self.clauses, self.is_law = "", [], False
+
+    def part(self):
+        """Of docs/MODEL.md: a law is a function that does nothing, and so are its witnesses."""
+        if not self.is_law:
+            return "believed"
+        return "witness" if self.name.endswith("_witnesses") else "law"
 
 
 class Type:
@@ -275,7 +281,7 @@ class World:
 
     def __init__(self, root):
         self.crates = {p.name: Crate(p) for p in sorted((root / "crates").iterdir()) if (p / "src").is_dir()}
-        self.reached = {"believed": self.closure(False), "law": self.closure(True)}
+        self.reached = {part: self.closure(part) for part in ("believed", "law", "witness")}
 
     # -- questions
 
@@ -306,9 +312,14 @@ class World:
                     parts[(crate, file, name)] = part
         return parts
 
+    def part_of(self, crate, file, name):
+        """The part in which a name has to stand, where it is named: cases of witnesses stand with the laws."""
+        witnessed = {node[1:] for node in self.reached["witness"]}
+        return self.needed().get((crate, file, name)) or ("law" if (crate, file, name) in witnessed else "code")
+
     def kit_words(self):
         """Words of the kit that are reached; types that it declares in Rust are known by their names."""
-        return {(module, name) for part in self.reached.values() for kind, _, module, name in part
+        return {(module, name) for part in ("believed", "law") for kind, _, module, name in self.reached[part]
                 if kind == "kit" and ".declared." not in module}
 
     def by_file(self):
@@ -324,8 +335,8 @@ class World:
 
     # -- the way
 
-    def closure(self, laws):
-        todo, reached = list(self.roots(laws)), set()
+    def closure(self, part):
+        todo, reached = list(self.roots(part)), set()
         while todo:
             node = todo.pop()
             if node not in reached:
@@ -333,14 +344,14 @@ class World:
                 todo.extend(self.next(node))
         return reached
 
-    def roots(self, laws):
+    def roots(self, part):
         for crate in self.crates.values():
             for found in crate.source.functions:
-                if crate.is_given(found) and found.is_law == laws:
+                if crate.is_given(found) and found.part() == part:
                     for clause in found.clauses:
                         yield from self.words(crate, found.scope, clause)
                     yield from self.types_in(crate, found.signature)
-            for owner, trait, name, text, scope in [] if laws else crate.source.ghosts:
+            for owner, trait, name, text, scope in crate.source.ghosts if part == "believed" else []:
                 if trait != "Model" and (owner in crate.source.given or crate.is_program and crate.specs):
                     yield from self.words(crate, scope, text)
 

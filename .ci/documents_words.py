@@ -3,9 +3,6 @@
 # names of files that stand for any
 FILES = {"crates/CRATE/specs/FILE.antt", "FILE.rt", "crates/CRATE/src/", "crates/CRATE/src/FILE.rt"}
 
-# whole pieces of code that are not looked at
-SPANS = set()
-
 # of Rust
 RUST = """
 Abort Bool Bor Copy Display Env IndexMap List Option Vec allow always as bool collect copied data div_ceil entry env false for from get_index
