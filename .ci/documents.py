@@ -131,7 +131,8 @@ def name_faults(world, known, text):
         if re.fullmatch(r"[a-z0-9]+(?:-[a-z0-9]+)+", span):
             yield place, f"names `{span}`, which is no must-fail edit"
             continue
-        for word in NAME.findall(FILE.sub(" ", re.sub(r'b?"[^"]*"', " ", span))):
+        code = re.sub(r'b?"[^"]*"|(?<!\S)--[a-z-]+', " ", span)
+        for word in NAME.findall(FILE.sub(" ", code)):
             if word not in known and not is_variable(word) and len(word) > 1:
                 yield place, f"names `{word}`, which is no name of crates/"
 
