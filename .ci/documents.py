@@ -27,7 +27,7 @@ import documents_words as words
 ROOT = Path(__file__).resolve().parent.parent
 CITATION = re.compile(
     r"\b[Dd]ocument 0?[1-4]\b|\b0[1-4] section\b|\b(?:T[1-5](?:\.\d)|[DW]\d{1,2}|R(?:1[0-5]|[1-9]))\b(?!\()"
-    r"|\brow \d{1,2}\b|\b(?:scope|theorems|requests|formats)\.md\b|shared/papers"
+    r"|\brow \d{1,2}\b|\b(?:scope|theorems|requests|formats)\.md\b"
 )
 CITED_IN = {".rt", ".antt", ".md", ".edit", ".txt", ".toml", ".sh", ".py", ""}
 PARTS = {"To be believed": "believed", "Laws: proved, need not be believed": "law", "Of the code alone": "code"}
@@ -167,7 +167,6 @@ def model_rows(text):
 
 
 def model_faults(world, text):
-    needed = world.needed()
     said, kit, seen = {}, set(), set()
     for place, part, names, where in model_rows(text):
         if where.startswith("Rattle."):
@@ -188,7 +187,7 @@ def model_faults(world, text):
                 said[key] = part
                 if world.part_of(*key) != part:
                     yield place, f"has `{name}` ({where}) in the part '{part}', and it belongs to '{world.part_of(*key)}'"
-    for (crate, file, name), part in sorted(needed.items()):
+    for (crate, file, name), part in sorted(world.needed.items()):
         if (crate, file, name) not in said:
             yield None, f"misses `{name}` ({crate}, {file}), of the part '{part}'"
     for crate, file in sorted(world.specs()):
@@ -280,7 +279,7 @@ def main():
         broken += 1
         at = "" if place is None else f":{line_at(text, place)}"
         print(f"{document.relative_to(root)}{at}: {fault}")
-    print(f"documents: {broken} faults in {len(documents(root))} documents, {len(world.needed())} definitions to be named")
+    print(f"documents: {broken} faults in {len(documents(root))} documents, {len(world.needed)} definitions to be named")
     return 1 if broken else 0
 
 

@@ -198,6 +198,8 @@ class Source:
         public = match.group().startswith("pub fn") or match.group().startswith("pub const fn") or public_trait
         found = Function(name, public, owner, trait, scope, self.module)
         self.name(name)
+        if public and owner is None and self.module == "lib.rt":
+            self.given.add(name)
         at = match.end()
         while True:
             brace = re.compile(r"[{;]").search(text, at)
@@ -226,6 +228,8 @@ class Source:
         at = stop.end() if stop.group() == ";" else closing(text, stop.start())
         found = Type(name, self.module, text[match.start():at])
         self.name(name, *found.members)
+        if self.module == "lib.rt" and found.text.startswith("pub "):
+            self.given.add(name)
         if not self.is_test:
             self.types[name] = found
         return at
@@ -282,6 +286,8 @@ class World:
     def __init__(self, root):
         self.crates = {p.name: Crate(p) for p in sorted((root / "crates").iterdir()) if (p / "src").is_dir()}
         self.reached = {part: self.closure(part) for part in ("believed", "law", "witness")}
+        self.needed = self.parts()
+        self.witnessed = {node[1:] for node in self.reached["witness"]}
 
     # -- questions
 
@@ -303,7 +309,7 @@ class World:
             return name in crate.source.in_file.get(file, ())
         return file in crate.specs and name in crate.specs[file].makes
 
-    def needed(self):
+    def parts(self):
         """The part in which each reached definition and type has to stand."""
         parts = {}
         for part in ("law", "believed"):
@@ -314,8 +320,8 @@ class World:
 
     def part_of(self, crate, file, name):
         """The part in which a name has to stand, where it is named: cases of witnesses stand with the laws."""
-        witnessed = {node[1:] for node in self.reached["witness"]}
-        return self.needed().get((crate, file, name)) or ("law" if (crate, file, name) in witnessed else "code")
+        key = (crate, file, name)
+        return self.needed.get(key) or ("law" if key in self.witnessed else "code")
 
     def kit_words(self):
         """Words of the kit that are reached; types that it declares in Rust are known by their names."""
@@ -324,11 +330,11 @@ class World:
 
     def by_file(self):
         """The reached definitions of each specs file, in its order: name, part, lines."""
-        found, needed = {}, self.needed()
+        found = {}
         for crate in self.crates.values():
             for file, spec in crate.specs.items():
                 for name, definition in spec.definitions.items():
-                    part = needed.get((crate.name, file, name))
+                    part = self.needed.get((crate.name, file, name))
                     if part:
                         found.setdefault((crate.name, file), []).append((name, part, definition.length()))
         return found
