@@ -8,7 +8,7 @@
 What is checked:
 - each path, module, file and link that a document names is there, and so is each name in backticks: a function, a type, a
   constant or a field of src/, a definition or a field of specs/ and proofs/, or a word of documents_words.py;
-- `name` of CRATE, `TYPE::name`, `CRATE::name`, and names before (CRATE, FILE) or (CRATE, FILE.rt) are where that says;
+- `name` of CRATE, `TYPE::name`, `CRATE::name`, names in a table's row of a crate, and names before (CRATE, FILE) or (CRATE, FILE.rt) are where that says;
 - docs/MODEL.md names each definition that a public contract or a law reaches, in the part where it belongs, each specs file,
   and each module of the kit that is not of everyday use;
 - the table of docs/ARCHITECTURE.md says what crates.txt says, and an output in README.md is that of its file;
@@ -138,7 +138,7 @@ def name_faults(world, known, text):
 
 
 def owned_faults(world, text):
-    """`name` of CRATE, `TYPE::name`, and names before (CRATE, FILE)."""
+    """`name` of CRATE, `TYPE::name`, names in the row of a crate, and names before (CRATE, FILE)."""
     for match in re.finditer(rf"`([A-Za-z_]\w*)`\s+of\s+({CRATE})\b", text):
         crate = world.crates.get(match.group(2))
         if crate is None or match.group(1) not in crate.rust_names | crate.antt_names:
@@ -146,6 +146,11 @@ def owned_faults(world, text):
     for match in re.finditer(r"`[^`]*?\b(\w+)::(\w+)", text):
         if not world.has_member(match.group(1), match.group(2)):
             yield match.start(), f"names {match.group(1)}::{match.group(2)}, which is not there"
+    for match in re.finditer(rf"^\| `({CRATE})` \|(.*)$", text, flags=re.M):
+        crate = world.crates.get(match.group(1))
+        for name in re.findall(r"`([A-Za-z_]\w*)`", match.group(2)):
+            if crate and name not in crate.rust_names | crate.antt_names | set(words.KNOWN) | set(world.crates):
+                yield match.start(), f"names `{name}` beside {match.group(1)}, which has no such name"
     for match in re.finditer(rf"((?:`\w+`(?:,\s+|\s+and\s+)?)+)\s*\(({CRATE}),\s+([\w/]+(?:\.rt)?)\)", text):
         for name in re.findall(r"`(\w+)`", match.group(1)):
             if not world.is_in(match.group(2), match.group(3), name):
