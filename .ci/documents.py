@@ -1,0 +1,292 @@
+#!/usr/bin/env python3
+"""Checks README.md and docs/ against the crates. It reads files only.
+
+    python3 .ci/documents.py            prints each fault on a line, and one line of summary; status 1 where there is a fault
+    python3 .ci/documents.py --count    also tells how long the part of docs/MODEL.md is that has to be believed, and lists the
+                                        definitions that public contracts and laws reach
+
+What is checked:
+- each path, module, file and link that a document names is there, and so is each name in backticks: a function, a type, a
+  constant or a field of src/, a definition or a field of specs/ and proofs/, or a word of documents_words.py;
+- `name` of CRATE, `TYPE::name`, `CRATE::name`, names in a table's row of a crate, and names before (CRATE, FILE) or (CRATE, FILE.rt) are where that says;
+- docs/MODEL.md names each definition that a public contract or a law reaches, in the part where it belongs, each specs file,
+  and each module of the kit that is not of everyday use;
+- the table of docs/ARCHITECTURE.md says what crates.txt says, and an output in README.md is that of its file;
+- no file cites a paper, or a demand by its number.
+"""
+import re
+import sys
+from pathlib import Path
+
+sys.path.insert(0, str(Path(__file__).resolve().parent))
+sys.dont_write_bytecode = True
+
+import documents_reach as reach
+import documents_words as words
+
+ROOT = Path(__file__).resolve().parent.parent
+CITATION = re.compile(
+    r"\b[Dd]ocument 0?[1-4]\b|\b0[1-4] section\b|\b(?:T[1-5](?:\.\d)|[DW]\d{1,2}|R(?:1[0-5]|[1-9]))\b(?!\()"
+    r"|\brow \d{1,2}\b|\b(?:scope|theorems|requests|formats)\.md\b"
+)
+CITED_IN = {".rt", ".antt", ".md", ".edit", ".txt", ".toml", ".sh", ".py", ""}
+PARTS = {"To be believed": "believed", "Laws: proved, need not be believed": "law", "Of the code alone": "code"}
+NAME = re.compile(r"(?<!\w)[A-Za-z_][A-Za-z0-9_']*")
+CRATE = r"(?:ertms|rbc)_[a-z]+"
+FILE = re.compile(r"(?<![\w/.-])((?:[\w.-]+/)*[\w.-]+\.(?:md|rt|antt|sh|py|toml|batch|expected|edit|tsv|txt|c)|"
+                  r"(?:crates|docs|examples|bench|\.ci)(?:/[\w.-]+)*/?)(?![\w/-])")
+
+
+# ---- documents
+
+def files(root):
+    """All files of the repository, but for what a build makes."""
+    for path in sorted(root.rglob("*")):
+        parts = path.relative_to(root).parts
+        if path.is_file() and not {".git", "out", "target", "__pycache__"} & set(parts):
+            yield path
+
+
+def documents(root):
+    return [root / "README.md"] + sorted((root / "docs").glob("*.md"))
+
+
+def without_blocks(text):
+    """The text with its fenced blocks blanked, so that line numbers stay."""
+    return re.sub(r"^```.*?^```", lambda m: re.sub(r"[^\n]", " ", m.group()), text, flags=re.M | re.S)
+
+
+def line_at(text, place):
+    return text.count("\n", 0, place) + 1
+
+
+def spans(text):
+    """Each inline piece of code: its place and its text on one line."""
+    for match in re.finditer(r"`([^`]+)`", text):
+        yield match.start(), re.sub(r"\s+", " ", match.group(1))
+
+
+# ---- paths and links
+
+def is_there(root, document, name):
+    """Whether a path is in the repository: from its top, from the document, or as the end of some path."""
+    name = name.rstrip("/")
+    if (root / name).exists() or (document.parent / name).exists():
+        return True
+    return f"/{name}\n" in ENDS.get(name.rsplit("/", 1)[-1], "")
+
+
+def ends_of(root):
+    """For each file name, the paths that end with it, so that `specs/X.antt` and `X.antt` are found."""
+    ends = {}
+    for path in files(root):
+        ends[path.name] = ends.get(path.name, "") + "\n/" + path.relative_to(root).as_posix() + "\n"
+    return {name: re.sub(r"\n\n", "\n", all_paths) for name, all_paths in ends.items()}
+
+
+ENDS = {}
+
+
+def anchors(text):
+    """The anchors of a document's headings."""
+    headings = re.findall(r"^#+ (.*)$", without_blocks(text), flags=re.M)
+    return {re.sub(r"[^\w -]", "", heading.lower()).replace(" ", "-") for heading in headings}
+
+
+def path_faults(root, document, text):
+    for match in re.finditer(r"\]\(([^)\s]+)\)", text):
+        target, _, anchor = match.group(1).partition("#")
+        if target.startswith("http"):
+            continue
+        linked = (document.parent / target).resolve() if target else document
+        if not linked.exists():
+            yield match.start(), f"links to {target}, which is not there"
+        elif anchor and anchor not in anchors(linked.read_text()):
+            yield match.start(), f"links to #{anchor}, which is no heading of {linked.name}"
+    for match in FILE.finditer(text):
+        name = match.group(1)
+        if name in words.FILES or name.startswith("Rattle.") or is_there(root, document, name):
+            continue
+        yield match.start(), f"names {name}, which is not there"
+
+
+# ---- names
+
+def known_names(world):
+    names = set(words.KNOWN) | set(world.crates) | {name for _, name in world.kit_words()}
+    for crate in world.crates.values():
+        names |= crate.rust_names | crate.antt_names | {path.stem for path in crate.edits}
+    return names
+
+
+def is_variable(name):
+    """Whether a name is a variable of SUBSET-026."""
+    return re.fullmatch(r"(?:NID|Q|D|L|T|M|V)_[A-Z]+", name) is not None
+
+
+def name_faults(world, known, text):
+    for place, span in spans(text):
+        if span in known or FILE.fullmatch(span):
+            continue
+        if re.fullmatch(r"[a-z0-9]+(?:-[a-z0-9]+)+", span):
+            yield place, f"names `{span}`, which is no must-fail edit"
+            continue
+        code = re.sub(r'b?"[^"]*"|(?<!\S)--[a-z-]+', " ", span)
+        for word in NAME.findall(FILE.sub(" ", code)):
+            if word not in known and not is_variable(word) and len(word) > 1:
+                yield place, f"names `{word}`, which is no name of crates/"
+
+
+def owned_faults(world, text):
+    """`name` of CRATE, `TYPE::name`, names in the row of a crate, and names before (CRATE, FILE)."""
+    for match in re.finditer(rf"`([A-Za-z_]\w*)`\s+of\s+({CRATE})\b", text):
+        crate = world.crates.get(match.group(2))
+        if crate is None or match.group(1) not in crate.rust_names | crate.antt_names:
+            yield match.start(), f"names `{match.group(1)}` of {match.group(2)}, which has no such name"
+    for match in re.finditer(r"`[^`]*?\b(\w+)::(\w+)", text):
+        if not world.has_member(match.group(1), match.group(2)):
+            yield match.start(), f"names {match.group(1)}::{match.group(2)}, which is not there"
+    for match in re.finditer(rf"^\| `({CRATE})` \|(.*)$", text, flags=re.M):
+        crate = world.crates.get(match.group(1))
+        for name in re.findall(r"`([A-Za-z_]\w*)`", match.group(2)):
+            if crate and name not in crate.rust_names | crate.antt_names | set(words.KNOWN) | set(world.crates):
+                yield match.start(), f"names `{name}` beside {match.group(1)}, which has no such name"
+    for match in re.finditer(rf"((?:`\w+`(?:,\s+|\s+and\s+)?)+)\s*\(({CRATE}),\s+([\w/]+(?:\.rt)?)\)", text):
+        for name in re.findall(r"`(\w+)`", match.group(1)):
+            if not world.is_in(match.group(2), match.group(3), name):
+                yield match.start(), f"names `{name}` ({match.group(2)}, {match.group(3)}), where it is not"
+
+
+# ---- the model
+
+def model_rows(text):
+    """Of each row of a table of docs/MODEL.md: its place, its part, the names in it, and where they stand."""
+    part, place = None, 0
+    for line in text.split("\n"):
+        if line.startswith("## "):
+            part = PARTS.get(line[3:].strip())
+        cells = [cell.strip() for cell in line.split("|")]
+        if part and len(cells) >= 5 and cells[2] not in {"file", "---", ""}:
+            yield place, part, re.findall(r"`([^`]+)`", cells[1]), cells[2]
+        place += len(line) + 1
+
+
+def model_faults(world, text):
+    said, kit, seen = {}, set(), set()
+    for place, part, names, where in model_rows(text):
+        if where.startswith("Rattle."):
+            kit |= {(where, name) for name in names}
+            for name in names:
+                if (where, name) not in world.kit_words():
+                    yield place, f"names `{name}` ({where}), which nothing reaches"
+            continue
+        crate, _, file = where.partition(", ")
+        seen.add((crate, file))
+        for name in names:
+            key = (crate, file, name)
+            if not world.is_in(crate, file, name):
+                yield place, f"names `{name}` ({where}), where it is not"
+            elif key in said:
+                yield place, f"names `{name}` ({where}) twice"
+            else:
+                said[key] = part
+                if world.part_of(*key) != part:
+                    yield place, f"has `{name}` ({where}) in the part '{part}', and it belongs to '{world.part_of(*key)}'"
+    for (crate, file, name), part in sorted(world.needed.items()):
+        if (crate, file, name) not in said:
+            yield None, f"misses `{name}` ({crate}, {file}), of the part '{part}'"
+    for crate, file in sorted(world.specs()):
+        if (crate, file) not in seen:
+            yield None, f"misses the file {file} of {crate}"
+    for module, name in sorted(world.kit_words()):
+        if module not in words.EVERYDAY and (module, name) not in kit:
+            yield None, f"misses `{name}` ({module}), a word of the kit"
+
+
+# ---- tables and outputs
+
+def table_faults(root, text):
+    """The crates that each crate stands on, by docs/ARCHITECTURE.md and by crates.txt."""
+    wanted = {}
+    for line in (root / "crates.txt").read_text().split("\n"):
+        found = re.split(r"[\s:]+", line.split("#")[0].strip())
+        if found[0]:
+            wanted[found[0]] = {name for name in found[1:] if name}
+    said = {}
+    for match in re.finditer(rf"^\| `({CRATE})` \|([^|]*)\|([^|]*)\|$", text, flags=re.M):
+        said[match.group(1)] = set(re.findall(r"[a-z_]+", match.group(3).replace("of the kit", "").replace("and", "")))
+        if said[match.group(1)] != wanted.get(match.group(1)):
+            yield match.start(), f"says that {match.group(1)} stands on {sorted(said[match.group(1)])}, and crates.txt {sorted(wanted.get(match.group(1), []))}"
+    for crate in sorted(set(wanted) - set(said)):
+        yield None, f"says nothing of the crate {crate}"
+
+
+def output_faults(root, text):
+    """A block behind a line that ends with `FILE`: is what that file holds."""
+    for match in re.finditer(r"`(examples/[\w.]+)`:\n\n```text\n(.*?)```", text, flags=re.S):
+        file = root / match.group(1)
+        if not file.exists() or file.read_text() != match.group(2):
+            yield match.start(), f"shows another text than {match.group(1)} has"
+
+
+def citation_faults(root):
+    for path in files(root):
+        if path.suffix not in CITED_IN or "data" in path.parts or path.resolve() == Path(__file__).resolve():
+            continue
+        try:
+            text = path.read_text()
+        except UnicodeDecodeError:
+            continue
+        for match in CITATION.finditer(text):
+            yield path, match.start(), f"cites a paper or a number of a demand: '{match.group()}'"
+
+
+# ---- all of it
+
+def faults(root, world):
+    known = known_names(world)
+    for document in documents(root):
+        whole = document.read_text()
+        text = without_blocks(whole)
+        found = [*path_faults(root, document, text), *name_faults(world, known, text), *owned_faults(world, text), *output_faults(root, whole)]
+        if document.name == "MODEL.md":
+            found += model_faults(world, whole)
+        if document.name == "ARCHITECTURE.md":
+            found += table_faults(root, whole)
+        for place, fault in found:
+            yield document, whole, place, fault
+    for path, place, fault in citation_faults(root):
+        yield path, path.read_text(), place, fault
+
+
+def count(world):
+    """What has to be believed, by file, with its lines."""
+    total = {}
+    for (crate, file), found in sorted(world.by_file().items()):
+        for part in ("believed", "law"):
+            names = [(name, lines) for name, at, lines in found if at == part]
+            if names:
+                lines = sum(lines for _, lines in names)
+                total[part] = total.get(part, 0) + lines
+                print(f"{part:8} {crate}, {file}: {lines} lines: {', '.join(name for name, _ in names)}")
+    for part, lines in total.items():
+        print(f"{part}: {lines} lines without imports, blanks and comments")
+
+
+def main():
+    root = ROOT
+    ENDS.update(ends_of(root))
+    world = reach.World(root)
+    if "--count" in sys.argv[1:]:
+        count(world)
+    broken = 0
+    for document, text, place, fault in faults(root, world):
+        broken += 1
+        at = "" if place is None else f":{line_at(text, place)}"
+        print(f"{document.relative_to(root)}{at}: {fault}")
+    print(f"documents: {broken} faults in {len(documents(root))} documents, {len(world.needed)} definitions to be named")
+    return 1 if broken else 0
+
+
+if __name__ == "__main__":
+    sys.exit(main())

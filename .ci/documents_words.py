@@ -1,0 +1,43 @@
+"""Words that documents use in backticks and that are no names of the crates."""
+
+# names of files that stand for any
+FILES = {"crates/CRATE/specs/FILE.antt", "FILE.rt", "crates/CRATE/src/", "crates/CRATE/src/FILE.rt"}
+
+# of Rust
+RUST = """
+Abort Bool Bor Copy Display Env IndexMap List Option Vec allow always as bool collect copied data div_ceil entry env false for from get_index
+ghost i16 if impl inline into iter iterator let malloc map match max min mut not pub realloc ref self source string true type u32 u8
+unwrap_or unwrap use usize var vec while
+"""
+
+# of antt, its tactics and the kit's std
+ANTT = """
+All Appends Next args pair signed CLAUSE CallerLemmas Consumes FitsSigned IfNone IfOk IfSome IsAtEnd IsErrAnd IsFirstByte IsTrue Keeps STEP YieldsList absurd ap arith
+at_drop_all at_drop_more bytes_eq c cc clap_on_literals cond drop elim ensures eq find find_from_yields_List flat_map fold from_ from_residual
+holes ids length-drop zero-add insert_entry-new infixr inl inr insert_entry into_iter_items it loop ne_eqb now of_z old omega on_ok_weaker opaque option_and_then option_copied
+option_map position_or_len proof proved record refl requires rules rw search shift simp slice_get slice_index subst suc take_all to_z tt
+unfolding w16 was weaker where with_items xs zip
+"""
+
+# of the kit's other crates
+PORTED = "anyhow clap hex indexmap itoa memchr thiserror toml"
+
+# of rt, and of the folders and files that it knows
+TOOL = """
+python3 Prelude ci must-fail check doc fail fmt lemma must plant program proofs specs src test tests tidy tries try version rt allocations
+"""
+
+# of batches, outputs, tracks, texts of messages and command lines
+FORMATS = """
+CODE COUNT CRATE ENGINE FILE FROM FRONT HEX INPUT LENGTH LINE MODULE NAME NAME_tests NUMBER SPEED TO WAYS WORD bad both dispatch down em enrol
+fault group horizon lift line long memory out recv refused release restrict stop too track tsr unreadable up withdraw write
+"""
+
+KNOWN = set(" ".join([RUST, ANTT, PORTED, TOOL, FORMATS]).split())
+
+# modules of the kit that docs/MODEL.md need not name: numbers, options, lists, maps, text, and how a program ends
+EVERYDAY = {
+    "Rattle.std.specs.Prelude",
+    "Rattle.std.specs.List",
+    "Rattle.std.specs.Option",
+}
