@@ -6,6 +6,3 @@ mod numbered;
 
 pub use lookup::{has, index_for, remove, value_of};
 pub use numbered::Numbered;
-
-#[cfg(test)]
-mod tests;

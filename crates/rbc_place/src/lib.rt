@@ -10,6 +10,3 @@ mod witnesses;
 pub use law::place_law;
 pub use standing::{Place, place_of};
 pub use witnesses::place_law_witnesses;
-
-#[cfg(test)]
-mod tests;

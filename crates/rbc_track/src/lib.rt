@@ -11,6 +11,3 @@ mod track;
 pub use error::TrackError;
 pub use group::{Group, Way};
 pub use track::{Track, track_from_toml};
-
-#[cfg(test)]
-mod tests;

@@ -28,6 +28,3 @@ pub type Stops = Numbered<Area>;
 
 /// The active temporary speed restrictions, by their numbers.
 pub type Limits = Numbered<Limit>;
-
-#[cfg(test)]
-mod tests;

@@ -1,10 +1,11 @@
 //! Restrictions on two lines, worked by hand.
 
+use super::same;
 use crate::tests::setting::{DOWN_BEYOND, UP_BEYOND, track};
-use crate::{BadLimit, Dirs, Limit, Segment, limit_clear, limit_concerns, limit_fields};
 use ertms_codec::Position;
 use rbc_place::{Place, place_of};
 use rbc_track::Track;
+use rbc_zones::{BadLimit, Dirs, Limit, Segment, limit_clear, limit_concerns, limit_fields};
 use std::process::Abort;
 use std::test::Fail;
 
@@ -64,7 +65,7 @@ fn assert_told(
     let place = place(rt, track, position);
     for (from, to, fields) in rows {
         let limit = limit(rt, track, line, *from, *to, Dirs::Both);
-        assert_eq!(rt; told(&limit, &place), *fields, "{from} to {to}");
+        same(rt, told(&limit, &place), *fields);
     }
 }
 
@@ -78,11 +79,7 @@ fn assert_concerns(
     let place = place(rt, track, position);
     for (from, to, horizon, concerns) in rows {
         let limit = limit(rt, track, 0, *from, *to, Dirs::Both);
-        assert_eq!(rt;
-            limit_concerns(&limit, &place, *horizon),
-            *concerns,
-            "{from} to {to} at {horizon}"
-        );
+        same(rt, limit_concerns(&limit, &place, *horizon), *concerns);
     }
 }
 
@@ -96,13 +93,13 @@ fn assert_seen(
     let place = place(rt, track, position);
     for (from, to, dirs, clear, concerns) in rows {
         let limit = limit(rt, track, 0, *from, *to, *dirs);
-        assert_eq!(rt;
+        same(
+            rt,
             (
                 limit_clear(&limit, &place),
-                limit_concerns(&limit, &place, track.horizon())
+                limit_concerns(&limit, &place, track.horizon()),
             ),
             (*clear, *concerns),
-            "{from} to {to} for {dirs:?}"
         );
     }
 }
@@ -116,9 +113,10 @@ fn tells_worked_restrictions(rt: HostRuntime) -> Result<(), Fail> {
     ];
     assert_told(&rt, &track, &AT_LOWER_END, 1, &far);
     let cut = limit(&rt, &track, 0, 9_000, 11_000, Dirs::Up);
-    assert_eq!(rt;
+    same(
+        &rt,
         told(&cut, &place(&rt, &track, &UP_BEYOND)),
-        Some((0, 0, 1_000))
+        Some((0, 0, 1_000)),
     );
     Ok(())
 }
@@ -283,16 +281,8 @@ fn is_clear_on_another_line(rt: HostRuntime) -> Result<(), Fail> {
     ] {
         let place = place(&rt, &track, &position);
         let limit = limit(&rt, &track, line, 0, 300_000, Dirs::Both);
-        assert_eq!(rt;
-            limit_clear(&limit, &place),
-            clear,
-            "{position:?} and line {line}"
-        );
-        assert_eq!(rt;
-            limit_concerns(&limit, &place, track.horizon()),
-            !clear,
-            "{position:?} and line {line}"
-        );
+        same(&rt, limit_clear(&limit, &place), clear);
+        same(&rt, limit_concerns(&limit, &place, track.horizon()), !clear);
     }
     Ok(())
 }
@@ -315,11 +305,11 @@ fn takes_good_restrictions(rt: HostRuntime) -> Result<(), Fail> {
             Err(BadLimit) => panic!(rt; "{segment:?} is refused"),
         };
         let copy = limit;
-        assert_eq!(rt; limit, copy);
-        assert_eq!(rt; copy.segment(), segment);
-        assert_eq!(rt; copy.dirs(), dirs);
-        assert_eq!(rt; copy.speed(), speed);
-        assert_eq!(rt; copy.front(), front);
+        same(&rt, limit, copy);
+        same(&rt, copy.segment(), segment);
+        same(&rt, copy.dirs(), dirs);
+        same(&rt, copy.speed(), speed);
+        same(&rt, copy.front(), front);
     }
     Ok(())
 }
@@ -346,10 +336,10 @@ fn refuses_bad_restrictions(rt: HostRuntime) -> Result<(), Fail> {
     ];
     for (line, from, to, speed) in rows {
         let segment = Segment { line, from, to };
-        assert_eq!(rt;
+        same(
+            &rt,
             Limit::new(&track, segment, Dirs::Both, speed, true),
             Err(BadLimit),
-            "{segment:?} to {speed} km/h"
         );
     }
     Ok(())

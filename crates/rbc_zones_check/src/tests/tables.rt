@@ -1,5 +1,6 @@
+use super::same;
 use crate::tests::setting::track;
-use crate::{Area, Dirs, Limit, Limits, Segment, Stops};
+use rbc_zones::{Area, Dirs, Limit, Limits, Segment, Stops};
 use std::alloc::Global;
 use std::test::Fail;
 
@@ -27,19 +28,19 @@ fn a_copy_of_stops_equals_its_source(rt: HostRuntime) -> Result<(), Fail> {
     let area = Area::new(&track, &[HERE]).expect(&rt, "a good area");
     let stops = stops(rt.alloc(), area)?;
     let mut copy = stops.copy(rt.alloc())?;
-    assert_eq!(rt; (stops.last(), stops.count()), (16, 16));
-    assert_eq!(rt; (copy.last(), copy.count()), (16, 16));
+    same(&rt, (stops.last(), stops.count()), (16, 16));
+    same(&rt, (copy.last(), copy.count()), (16, 16));
     for number in 0..=17 {
-        assert_eq!(rt; copy.get(number), stops.get(number), "{number}");
-        assert_eq!(rt;
-            copy.get(number).is_some(),
-            (1..=16).contains(&number),
-            "{number}"
-        );
+        same(&rt, copy.get(number), stops.get(number));
+        same(&rt, copy.get(number).is_some(), (1..=16).contains(&number));
     }
-    assert_eq!(rt; copy.remove(7), true);
-    assert_eq!(rt; copy.get(7), None);
-    assert_eq!(rt; (copy.last(), copy.count(), stops.count()), (16, 15, 16));
+    same(&rt, copy.remove(7), true);
+    same(&rt, copy.get(7), None);
+    same(
+        &rt,
+        (copy.last(), copy.count(), stops.count()),
+        (16, 15, 16),
+    );
     Ok(())
 }
 
@@ -53,7 +54,7 @@ fn a_copy_of_limits_equals_its_source(rt: HostRuntime) -> Result<(), Fail> {
     limits.add(3, slow)?;
     limits.add(5, fast)?;
     let copy = limits.copy(rt.alloc())?;
-    assert_eq!(rt; (copy.at(0), copy.at(1)), ((3, &slow), (5, &fast)));
-    assert_eq!(rt; (copy.last(), copy.count(), copy.get(4)), (5, 2, None));
+    same(&rt, (copy.at(0), copy.at(1)), ((3, &slow), (5, &fast)));
+    same(&rt, (copy.last(), copy.count(), copy.get(4)), (5, 2, None));
     Ok(())
 }

@@ -1,8 +1,9 @@
+use super::same;
 use crate::tests::setting::{DOWN_BEYOND, UP_BEYOND, track};
-use crate::{Area, BadArea, Concern, Segment, concern, stop_field};
 use ertms_codec::Position;
 use rbc_place::{Place, place_of};
 use rbc_track::Track;
+use rbc_zones::{Area, BadArea, Concern, Segment, concern, stop_field};
 use std::process::Abort;
 use std::test::Fail;
 
@@ -49,11 +50,7 @@ fn told(rt: &impl Abort, track: &Track, position: &Position, segments: &[Segment
 /// Asserts what stops of one segment mean for a train.
 fn assert_each(rt: &impl Abort, track: &Track, position: &Position, rows: &[(Segment, Concern)]) {
     for (segment, wanted) in rows {
-        assert_eq!(rt;
-            told(rt, track, position, &[*segment]),
-            *wanted,
-            "{segment:?}"
-        );
+        same(rt, told(rt, track, position, &[*segment]), *wanted);
     }
 }
 
@@ -75,7 +72,7 @@ fn assert_in_each_order(
         [c, b, a],
     ];
     for order in orders {
-        assert_eq!(rt; told(rt, track, position, &order), wanted, "{order:?}");
+        same(rt, told(rt, track, position, &order), wanted);
     }
 }
 
@@ -243,9 +240,9 @@ fn stops_at_once_by_force_or_without_a_place(rt: HostRuntime) -> Result<(), Fail
     ];
     for segment in segments {
         let area = area(&rt, &track, &[segment]);
-        assert_eq!(rt; concern(&area, true, place.as_ref()), Concern::Now);
-        assert_eq!(rt; concern(&area, false, None), Concern::Now);
-        assert_eq!(rt; concern(&area, true, None), Concern::Now);
+        same(&rt, concern(&area, true, place.as_ref()), Concern::Now);
+        same(&rt, concern(&area, false, None), Concern::Now);
+        same(&rt, concern(&area, true, None), Concern::Now);
     }
     Ok(())
 }
@@ -270,7 +267,7 @@ fn tells_distances_in_the_finest_unit(rt: HostRuntime) -> Result<(), Fail> {
     ];
     for (distance, wanted) in rows {
         assert!(rt; distance <= 3_000_000);
-        assert_eq!(rt; stop_field(distance), wanted, "{distance}");
+        same(&rt, stop_field(distance), wanted);
     }
     Ok(())
 }
@@ -292,9 +289,9 @@ fn makes_areas(rt: HostRuntime) -> Result<(), Fail> {
     for segments in [one.as_slice(), &eight[..2], &eight] {
         let area = area(&rt, &track, segments);
         let copy = area;
-        assert_eq!(rt; area.segments(), segments);
-        assert_eq!(rt; copy.segments(), segments);
-        assert_eq!(rt; copy, area);
+        same(&rt, area.segments(), segments);
+        same(&rt, copy.segments(), segments);
+        same(&rt, copy, area);
     }
     Ok(())
 }
@@ -313,19 +310,11 @@ fn refuses_bad_areas(rt: HostRuntime) -> Result<(), Fail> {
         on(1, 4_294_967_295, 4_294_967_295),
     ];
     for segment in bad {
-        assert_eq!(rt; Area::new(&track, &[segment]), Err(BadArea), "{segment:?}");
-        assert_eq!(rt;
-            Area::new(&track, &[good, segment]),
-            Err(BadArea),
-            "{segment:?}"
-        );
-        assert_eq!(rt;
-            Area::new(&track, &[segment, good]),
-            Err(BadArea),
-            "{segment:?}"
-        );
+        same(&rt, Area::new(&track, &[segment]), Err(BadArea));
+        same(&rt, Area::new(&track, &[good, segment]), Err(BadArea));
+        same(&rt, Area::new(&track, &[segment, good]), Err(BadArea));
     }
     assert!(rt; Area::new(&track, &[good; 8]).is_ok());
-    assert_eq!(rt; Area::new(&track, &[good; 9]), Err(BadArea));
+    same(&rt, Area::new(&track, &[good; 9]), Err(BadArea));
     Ok(())
 }

@@ -1,6 +1,7 @@
 //! Texts of track files, and what each of them is.
 
-use super::{Group, Track, TrackError, Way, track_from_toml};
+use super::same;
+use rbc_track::{Group, Track, TrackError, Way, track_from_toml};
 use std::alloc::{AllocError, Global};
 use std::fmt::Write;
 use std::process::Abort;
@@ -71,9 +72,9 @@ fn large(
 
 /// Asserts that a track is track A.
 fn assert_track_a(rt: &impl Abort, track: &Track) {
-    assert_eq!(rt; track.horizon(), 100_000);
-    assert_eq!(rt; track.line_len(0), Some(300_000));
-    assert_eq!(rt; track.line_len(1), Some(3_000_000));
+    same(rt, track.horizon(), 100_000);
+    same(rt, track.line_len(0), Some(300_000));
+    same(rt, track.line_len(1), Some(3_000_000));
     let first = Group {
         line: 0,
         at: 10_000,
@@ -89,9 +90,9 @@ fn assert_track_a(rt: &impl Abort, track: &Track) {
         at: 0,
         nominal: Way::Up,
     };
-    assert_eq!(rt; track.group(5), Some(first));
-    assert_eq!(rt; track.group(6), Some(second));
-    assert_eq!(rt; track.group(7), Some(third));
+    same(rt, track.group(5), Some(first));
+    same(rt, track.group(6), Some(second));
+    same(rt, track.group(7), Some(third));
 }
 
 #[test]
@@ -99,10 +100,10 @@ fn reads_track_a(rt: HostRuntime) -> Result<(), Fail> {
     let track = track_from_toml(rt.alloc(), TRACK_A)?;
     assert_track_a(&rt, &track);
     for line in [2, 63, 64, 256, 65_536, u32::MAX] {
-        assert_eq!(rt; track.line_len(line), None, "line {line}");
+        same(&rt, track.line_len(line), None);
     }
     for nid in [0, 4, 8, 16_777_214, 16_777_215, u32::MAX] {
-        assert_eq!(rt; track.group(nid), None, "group {nid}");
+        same(&rt, track.group(nid), None);
     }
     Ok(())
 }
@@ -112,21 +113,23 @@ fn reads_the_order_of_groups_as_it_comes(rt: HostRuntime) -> Result<(), Fail> {
     let text =
         "group = [{nid = 9, line = 0, at = 9, nominal = 'down'}, {nid = 2, line = 0, at = 2, nominal = 'up'}]\nline = [{length = 9}]\nhorizon = 1\n";
     let track = track_from_toml(rt.alloc(), text)?;
-    assert_eq!(rt;
+    same(
+        &rt,
         track.group(2),
         Some(Group {
             line: 0,
             at: 2,
-            nominal: Way::Up
-        })
+            nominal: Way::Up,
+        }),
     );
-    assert_eq!(rt;
+    same(
+        &rt,
         track.group(9),
         Some(Group {
             line: 0,
             at: 9,
-            nominal: Way::Down
-        })
+            nominal: Way::Down,
+        }),
     );
     Ok(())
 }
@@ -148,14 +151,14 @@ fn reads_other_line_ends_and_marks(rt: HostRuntime) -> Result<(), Fail> {
 #[test]
 fn takes_tracks_without_lines_or_groups(rt: HostRuntime) -> Result<(), Fail> {
     let empty = track_from_toml(rt.alloc(), "horizon = 1\nline = []\n")?;
-    assert_eq!(rt; empty.line_len(0), None);
-    assert_eq!(rt; empty.group(0), None);
+    same(&rt, empty.line_len(0), None);
+    same(&rt, empty.group(0), None);
     let lone = track_from_toml(
         rt.alloc(),
         "horizon = 3000000\ngroup = []\n[[line]]\nlength = 1\n",
     )?;
-    assert_eq!(rt; lone.horizon(), 3_000_000);
-    assert_eq!(rt; lone.line_len(0), Some(1));
+    same(&rt, lone.horizon(), 3_000_000);
+    same(&rt, lone.line_len(0), Some(1));
     Ok(())
 }
 
@@ -208,7 +211,7 @@ fn refuses_texts(rt: HostRuntime) -> Result<(), Fail> {
             TrackError::BadLength,
         ),
     ] {
-        assert_eq!(rt; refusal(alloc, text), Some(want), "at {text}");
+        same(&rt, refusal(alloc, text), Some(want));
     }
     Ok(())
 }
@@ -216,7 +219,7 @@ fn refuses_texts(rt: HostRuntime) -> Result<(), Fail> {
 #[test]
 fn refuses_values_of_other_kinds(rt: HostRuntime) -> Result<(), Fail> {
     let alloc = rt.alloc();
-    assert_eq!(rt; refusal(alloc, small(alloc, GOOD)?.as_str()), None);
+    same(&rt, refusal(alloc, small(alloc, GOOD)?.as_str()), None);
     for key in 0..6usize {
         for value in [
             "1.5",
@@ -234,10 +237,10 @@ fn refuses_values_of_other_kinds(rt: HostRuntime) -> Result<(), Fail> {
         ] {
             let mut values = GOOD;
             values[key] = value;
-            assert_eq!(rt;
+            same(
+                &rt,
                 refusal(alloc, small(alloc, values)?.as_str()),
                 Some(TrackError::Shape),
-                "{value} at key {key}"
             );
         }
     }
@@ -267,11 +270,7 @@ fn tells_values_at_their_bounds(rt: HostRuntime) -> Result<(), Fail> {
     ] {
         let mut values = GOOD;
         values[key] = value;
-        assert_eq!(rt;
-            refusal(alloc, small(alloc, values)?.as_str()),
-            want,
-            "{value} at key {key}"
-        );
+        same(&rt, refusal(alloc, small(alloc, values)?.as_str()), want);
     }
     Ok(())
 }
@@ -290,14 +289,10 @@ fn refuses_what_is_too_much(rt: HostRuntime) -> Result<(), Fail> {
         (0, 0, 1, Some(TrackError::GroupOffLine)),
     ] {
         let text = large(alloc, "1", lines, length, groups)?;
-        assert_eq!(rt;
-            refusal(alloc, text.as_str()),
-            want,
-            "{lines} lines of {length}, {groups} groups"
-        );
+        same(&rt, refusal(alloc, text.as_str()), want);
     }
     let shape = large(alloc, "0", 65, 0, 8_001)?;
-    assert_eq!(rt; refusal(alloc, shape.as_str()), Some(TrackError::Shape));
+    same(&rt, refusal(alloc, shape.as_str()), Some(TrackError::Shape));
     Ok(())
 }
 
@@ -320,7 +315,7 @@ fn refuses_the_first_of_two_faults(rt: HostRuntime) -> Result<(), Fail> {
         (wrong, broken, TrackError::Text),
     ] {
         let text = format!(in alloc; "{TRACK_A}{more}{then}")?;
-        assert_eq!(rt; refusal(alloc, text.as_str()), Some(want), "{more}{then}");
+        same(&rt, refusal(alloc, text.as_str()), Some(want));
     }
     Ok(())
 }
@@ -331,16 +326,17 @@ fn finds_each_of_many_groups(rt: HostRuntime) -> Result<(), Fail> {
     let text = large(alloc, "1", 1, 8_000, 8_000)?;
     let track = track_from_toml(alloc, text.as_str())?;
     for nid in 0..8_000 {
-        assert_eq!(rt;
+        same(
+            &rt,
             track.group(nid),
             Some(Group {
                 line: 0,
                 at: nid,
-                nominal: Way::Up
-            })
+                nominal: Way::Up,
+            }),
         );
     }
-    assert_eq!(rt; track.group(8_000), None);
+    same(&rt, track.group(8_000), None);
     Ok(())
 }
 
@@ -348,14 +344,16 @@ fn finds_each_of_many_groups(rt: HostRuntime) -> Result<(), Fail> {
 fn says_what_is_wrong(rt: HostRuntime) -> Result<(), Fail> {
     let alloc = rt.alloc();
     let off = format!(in alloc; "{}", TrackError::GroupOffLine)?;
-    assert_eq!(rt;
+    same(
+        &rt,
         off.as_str(),
-        "a balise group's line is not there (lines are numbered from 0), or its place is above the line's length"
+        "a balise group's line is not there (lines are numbered from 0), or its place is above the line's length",
     );
     let length = format!(in alloc; "{}", TrackError::BadLength)?;
-    assert_eq!(rt;
+    same(
+        &rt,
         length.as_str(),
-        "a line's length is outside 1 to 3000000 (in units of 10 cm)"
+        "a line's length is outside 1 to 3000000 (in units of 10 cm)",
     );
     Ok(())
 }

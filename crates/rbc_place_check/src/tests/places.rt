@@ -1,5 +1,6 @@
-use crate::place_of;
+use super::same;
 use ertms_codec::Position;
+use rbc_place::place_of;
 use rbc_track::{Track, Way, track_from_toml};
 use std::process::Abort;
 use std::test::Fail;
@@ -59,7 +60,7 @@ fn seen(track: &Track, position: &Position, length: u32) -> Option<Seen> {
 /// Asserts the places of trains of 200 m.
 fn assert_places(rt: &impl Abort, track: &Track, rows: &[(Position, Option<Seen>)]) {
     for (position, place) in rows {
-        assert_eq!(rt; seen(track, position, 2_000), *place, "{position:?}");
+        same(rt, seen(track, position, 2_000), *place);
     }
 }
 
@@ -285,11 +286,7 @@ fn takes_any_length(rt: HostRuntime) -> Result<(), Fail> {
         (down, 4_294_967_295, at(Way::Down, 11_900, 300_000)),
     ];
     for (position, length, place) in rows {
-        assert_eq!(rt;
-            seen(&track, &position, length),
-            place,
-            "{position:?} at {length}"
-        );
+        same(&rt, seen(&track, &position, length), place);
     }
     Ok(())
 }
@@ -357,7 +354,7 @@ fn leaves_a_train_unplaced(rt: HostRuntime) -> Result<(), Fail> {
     ];
     let track = track_a(&rt)?;
     for position in rows {
-        assert_eq!(rt; seen(&track, &position, 2_000), None, "{position:?}");
+        same(&rt, seen(&track, &position, 2_000), None);
     }
     Ok(())
 }

@@ -1,4 +1,0 @@
-mod limits;
-mod setting;
-mod stops;
-mod tables;
