@@ -1,11 +1,9 @@
 -- Carrying out one action that is allowed: its identifier is one of the table's, and the tables stay sound.
-use Rattle.std.proofs.Common.{◌≡◌, ℕ, zero, suc, ◌+◌, ◌<◌, Bool, true, false, not, cond, ◌∷◌, Some, None, arith}
-use Rattle.std.specs.List.{filter, range_with_len, slice_get}
-use Rattle.rbc_maps.specs.Maps.{has}
+use Rattle.std.proofs.Common.{◌≡◌, ℕ, ◌+◌, ◌<◌, true}
 use Rattle.rbc_ids.specs.declared.slot.Slot.{Slot}
 use Rattle.rbc_ids.specs.declared.slot.Slot.TheVariants.{Revoking}
 use Rattle.rbc_ids.specs.declared.slot.Kind.TheVariants.{Restriction}
-use Rattle.rbc_ids.specs.Table.{Slots, IsTable, is_used, is_used_at, least_free, told_now}
+use Rattle.rbc_ids.specs.Table.{Slots, IsTable, is_used, is_used_at, told_now}
 use Rattle.rbc_ids.proofs.Tables.{has-any, held_below, stays_with}
 use Rattle.rbc_settle.specs.declared.train.TrainRec.{TrainRec}
 use Rattle.rbc_settle.specs.declared.action.Action.{Action}

@@ -34,7 +34,7 @@ use Rattle.rbc_settle.specs.Numbers.{has_number}
 abbrev pub Stops : Type 0
 Stops = Numbered (List Segment)
 
--- the same of restrictions
+-- the active restrictions in the same way
 abbrev pub Limits : Type 0
 Limits = Numbered Limit
 
@@ -46,14 +46,14 @@ last_stamp = 4294967294
 abbrev pub unknown_group : ℕ
 unknown_group = 16777215
 
--- Q_DIR: the way the train faces, seen from its balise group
+-- Q_DIR: 1 if the train faces in the nominal direction of its balise group, else 0
 abbrev pub direction_of : Place → ℕ
 direction_of p = if is_up_way p.facing p.same then 1 else 0
   where
     is_up_way : Way → Bool → Bool
     is_up_way way same = if is_up way then same else not same
 
--- an edge as it is told
+-- an edge with its Q_DIR, and with its scale and distance in one
 abbrev pub told_edge : ℕ → ℕ × ℕ → Edge
 told_edge dir (scale, distance) = record { dir = dir; scale = scale; distance = distance }
 
@@ -65,7 +65,7 @@ told_at p (concern.Before edge) =
     let distance = distance_to p.facing p.at edge in
     Some (Before (told_edge (direction_of p) (told_distance distance)))
 
--- How a stop is told to any train: a train without a place is told to stop at once.
+-- How a stop is told to any train: a train without a place is told each stop that concerns it at once.
 abbrev pub told_stop : Option Place → Concern → Option ToldStop
 told_stop (Some p) c = told_at p c
 told_stop None concern.None = None
@@ -115,7 +115,7 @@ to_revoke is_gone slots = keys (filter (λ held. is_used_by is_gone held.1) slot
 abbrev pub is_stop_gone : Stops → ℕ → Bool
 is_stop_gone stops number = not (has stops.active number)
 
--- A restriction is clear of a train, of which the place is known.
+-- A restriction is clear of a train; of a train without a place none is.
 abbrev pub is_clear_of : Option Place → Limit → Bool
 is_clear_of None limit = false
 is_clear_of (Some p) limit = is_clear limit p
@@ -144,7 +144,7 @@ stops_told stops train = map tell_stop (zip (filter_map (stop_to_tell train) sto
 abbrev pub limits_revoked : Limits → TrainRec → List Action
 limits_revoked limits train = map RevokeLimit (to_revoke (is_limit_gone limits train.place) train.limits)
 
--- and at last the restrictions that have to be told, in pairs with the free identifiers
+-- then the restrictions that have to be told, in pairs with the free identifiers
 abbrev pub limits_told : ℕ → Limits → TrainRec → List Action
 limits_told horizon limits train = map tell_limit (zip (filter_map (limit_to_tell horizon train) limits.active) (free_identifiers limit_identifiers train.limits))
 
@@ -157,7 +157,7 @@ actions plan stops limits train =
 abbrev pub actions_with_stamp : Plan → Stops → Limits → TrainRec → List Action
 actions_with_stamp plan stops limits train = take (last_stamp - train.stamp) (actions plan stops limits train)
 
--- the message by which a stop is told
+-- the kind of message by which a stop is told
 abbrev pub kind_of : ToldStop → Kind
 kind_of AtOnce = Unconditional
 kind_of (Before edge) = Conditional

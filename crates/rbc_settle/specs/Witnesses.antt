@@ -1,5 +1,5 @@
 -- Worked cases of what settling promises: right trains, and trains that are wrong in one point.
-use Rattle.std.specs.Prelude.{ℕ, true, false, List, [], ◌∷◌, Some}
+use Rattle.std.specs.Prelude.{ℕ, true, false, [], ◌∷◌, Some}
 use Rattle.rbc_track.specs.Plan.{Plan}
 use Rattle.rbc_track.specs.declared.group.Way.TheVariants.{Up, Down}
 use Rattle.rbc_place.specs.Placing.{Place}

@@ -6,7 +6,7 @@ use rbc_ids::{Kind, StampAck};
 use rbc_zones::Dirs;
 use std::test::Fail;
 
-/// The numbers of a train's record, one after another.
+/// Returns the engine number, the length, the stamp, and how many stops were rejected and identifiers are held.
 fn numbers_of(train: &TrainRec) -> [usize; 6] {
     [
         train.engine as usize,
