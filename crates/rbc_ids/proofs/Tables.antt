@@ -1,14 +1,14 @@
 -- What is held at the place of an identifier, and that each change keeps a table.
 use Rattle.std.proofs.Common.{◌≡◌, ℕ, suc, ◌+◌, ◌<◌, ◌≤◌, Bool, true, false, not, cond, ◌||◌, ◌&&◌, eqb, ltb, leb, List, [], ◌∷◌, length, get_or, set, Some, None, refl, sym, ap, ◌∙◌, subst, arith, inl, inr}
-use Rattle.std.specs.List.{All, filter, find, list_any, remove}
+use Rattle.std.specs.List.{All, filter, find, insert, list_any, remove}
 use Rattle.std.specs.Option.{option_map}
-use Rattle.std.proofs.lemmas.Bool.{cases_lt, or_parts, or_from, or_left, or_right, or_cases, and_parts, and_from, leb-true, ltb-true, ltb-false, eqb-true, eq-eqb, ne_eqb}
+use Rattle.std.proofs.lemmas.Bool.{cases_lt, or_parts, or_from, or_left, or_right, or_cases, and_parts, and_from, leb-true, ltb-true, ltb-false, eqb-true, eq-eqb, ne_eqb, false≢true}
 use Rattle.std.proofs.lemmas.Bool.Decides.{nat_tests}
 use Rattle.std.proofs.lemmas.List.Elements.{All-cons, All-head, All-tail}
 use Rattle.std.proofs.lemmas.Option.{same_Some}
 use Rattle.rbc_maps.specs.Maps.{has, index_for, keys, rises_from, value_of, with_value, without}
 use Rattle.rbc_maps.proofs.MapPlaces.{has_is, has_here, has_past, rises-with_value}
-use Rattle.rbc_maps.proofs.MapEdits.{written}
+use Rattle.rbc_maps.proofs.MapEdits.{inserted, position_or_len_le, written}
 use Rattle.rbc_maps.proofs.MapFacts.{rises_from-lower}
 use Rattle.rbc_ids.specs.declared.slot.Slot.{Slot}
 use Rattle.rbc_ids.specs.Table.{Slots, IsTable, tells, is_told, is_used, is_used_at, identifier_of}
@@ -205,6 +205,21 @@ module _ (count : ℕ) (items slots : Slots) (same : items ≡ slots) (table : I
   pub put_stays : has slots id ≡ true → (slot : Slot) (m : ℕ × Slot) → m ≡ get_or items at m → IsTable count (set items at (m.0, slot))
   put_stays held slot m read = subst (IsTable count) (sym (put_there held slot m read)) (stays_with count slots table id slot (held_below count slots table id held))
 
+  -- a pair can be put in at its place
+  pub place_within : at ≤ length items
+  place_within = subst (λ n. n ≤ length items) (sym at_place) (position_or_len_le (λ pair. leb id pair.0) items)
+
+  -- a slot that is put in there is the identifier's, where it is free
+  pub told_there : has slots id ≡ false → (slot : Slot) (new : Slots) → new ≡ insert items at (id, slot) → new ≡ with_value id slot slots
+  told_there free slot new is =
+      let absent : has items id ≡ false = subst (λ (xs : Slots). has xs id ≡ false) (sym same) free in
+      is
+      ∙ inserted id slot items at at_place (λ d within key. false≢true (sym absent ∙ sym (has_here id items at d ascends at_place within) ∙ eq-eqb (get_or items at d).0 id key))
+      ∙ ap (with_value id slot) same
+
+  pub told_stays : has slots id ≡ false → id < count → (slot : Slot) (new : Slots) → new ≡ insert items at (id, slot) → IsTable count new
+  told_stays free below slot new is = subst (IsTable count) (sym (told_there free slot new is)) (stays_with count slots table id slot below)
+
   pub removed_there : has slots id ≡ true → (m : ℕ × Slot) (new : Slots) → new ≡ remove items at → new ≡ without id slots
   removed_there held m new is =
       let here = held_at id items m ascends (is_held held) in
@@ -238,6 +253,15 @@ not_told (held ∷ slots) number none =
     (elim (tells number held.1) as (λ b. option_map (λ (pair : ℕ × Slot). pair.0) (cond b (Some held) (find (λ other. tells number other.1) slots)) ≡ None → (b || is_told slots number) ≡ false) [
       | true ↦ λ e. absurd (let bad : Some held.0 ≡ None = e in cc)
       | false ↦ λ e. not_told slots number e
+    ]) none
+
+-- an identifier without a slot is free
+pub free_where_none : (slots : Slots) (id : ℕ) → value_of slots id ≡ None → has slots id ≡ false
+free_where_none [] id none = refl
+free_where_none (held ∷ slots) id none =
+    (elim (eqb held.0 id) as (λ b. cond b (Some held.1) (value_of slots id) ≡ None → (b || has slots id) ≡ false) [
+      | true ↦ λ e. absurd (let bad : Some held.1 ≡ None = e in cc)
+      | false ↦ λ e. free_where_none slots id e
     ]) none
 
 -- an identifier whose slot is used is used

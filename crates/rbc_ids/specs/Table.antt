@@ -11,39 +11,39 @@ use Rattle.rbc_ids.specs.declared.slot.StampAck.TheVariants as stamp_ack
 use Rattle.rbc_ids.specs.declared.slot.IdAck.{IdAck}
 use Rattle.rbc_ids.specs.declared.slot.IdAck.TheVariants as id_ack
 
--- the identifiers that are held, ascending, with their slots
+-- the held identifiers in ascending order, each with its slot
 abbrev pub Slots : Type 0
 Slots = List (ℕ × Slot)
 
--- what each table of identifiers below `count` keeps
+-- A table is sound: it has at most 255 identifiers, and those that are held ascend and are below `count`.
 pub record IsTable (count : ℕ) (slots : Slots) : Type 0 where
   pub small : count ≤ 255
   pub ascending : IsMap slots
   pub below : All (λ id. id < count) (keys slots)
 
--- a slot tells this number; one that is being revoked tells none
+-- A slot tells this number. A slot that is being revoked tells none.
 abbrev pub tells : ℕ → Slot → Bool
 tells number (Used told stamp kind acked) = told == number
 tells number (Revoking stamp) = false
 
--- a number is told where a slot tells it
+-- a number is told if a slot tells it
 abbrev pub is_told : Slots → ℕ → Bool
 is_told slots number = list_any (λ held. tells number held.1) slots
 
--- a slot is used
+-- a slot is used, and not being revoked
 abbrev pub is_used : Slot → Bool
 is_used (Used number stamp kind acked) = true
 is_used (Revoking stamp) = false
 
--- an identifier is held, and used
+-- an identifier is held by a slot that is used
 abbrev pub is_used_at : Slots → ℕ → Bool
 is_used_at slots id = list_any (λ held. held.0 == id && is_used held.1) slots
 
--- the identifiers that are free, ascending
+-- the free identifiers in ascending order
 abbrev pub free_identifiers : ℕ → Slots → List ℕ
 free_identifiers count slots = filter (λ id. not (has slots id)) (range_with_len 0 count)
 
--- the least of them
+-- the least free identifier
 abbrev pub least_free : ℕ → Slots → Option ℕ
 least_free count slots = slice_get (free_identifiers count slots) 0
 
@@ -51,11 +51,11 @@ least_free count slots = slice_get (free_identifiers count slots) 0
 abbrev pub identifier_of : Slots → ℕ → Option ℕ
 identifier_of slots number = option_map (λ held. held.0) (find (λ held. tells number held.1) slots)
 
--- the slot of a number that is told now
+-- the slot of a number that is told now, which the train has not acknowledged
 abbrev pub told_now : ℕ → ℕ → Kind → Slot
 told_now number stamp kind = Used number stamp kind false
 
--- a table that has issued an identifier for a number: the least free one
+-- the table after the least free identifier was issued for a number
 pub record IsIssued (count : ℕ) (old : Slots) (number stamp : ℕ) (kind : Kind) (id : ℕ) (new : Slots) : Type 0 where
   pub least : least_free count old ≡ Some id
   pub slots : new ≡ with_value id (told_now number stamp kind) old
@@ -69,14 +69,15 @@ stamp_of (Revoking stamp) = stamp
 abbrev pub with_stamp : Slots → ℕ → Option (ℕ × Slot)
 with_stamp slots stamp = find (λ held. stamp_of held.1 == stamp) slots
 
--- what an acknowledgement does to a table, and what it is
+-- an outcome, with the table in which an identifier is free
 abbrev pub freed : {A : Type 0} → A → ℕ → Slots → A × Slots
 freed answer id slots = (answer, without id slots)
 
+-- an outcome, with the table in which an identifier has this slot
 abbrev pub put : {A : Type 0} → A → ℕ → Slot → Slots → A × Slots
 put answer id slot slots = (answer, with_value id slot slots)
 
--- the message that a slot stands for is acknowledged: a revocation, or a restriction
+-- The message of a slot is acknowledged: a revocation frees its identifier, a restriction is marked, and a stop stays as it is.
 abbrev pub acked_by_stamp : Slots → Option (ℕ × Slot) → StampAck × Slots
 acked_by_stamp slots None = (stamp_ack.Nothing, slots)
 acked_by_stamp slots (Some (id, Revoking stamp)) = freed stamp_ack.Freed id slots
@@ -84,23 +85,23 @@ acked_by_stamp slots (Some (id, Used number stamp Restriction acked)) = put stam
 acked_by_stamp slots (Some (id, Used number stamp Conditional acked)) = (stamp_ack.Nothing, slots)
 acked_by_stamp slots (Some (id, Used number stamp Unconditional acked)) = (stamp_ack.Nothing, slots)
 
--- by the acknowledgement of a message with this stamp
+-- what the acknowledgement of the message with this stamp does, and the table after it
 abbrev pub after_stamp_ack : Slots → ℕ → StampAck × Slots
 after_stamp_ack slots stamp = acked_by_stamp slots (with_stamp slots stamp)
 
--- Q_EMERGENCYSTOP says that a conditional stop was accepted, changing the end of authority or not; that an
--- unconditional stop was accepted; or that the stop was rejected
+-- Q_EMERGENCYSTOP accepts a stop: 0 and 1 a conditional one, 2 an unconditional one
 abbrev pub is_acceptance : Kind → ℕ → Bool
 is_acceptance Conditional answer = nat_le answer 1
 is_acceptance Unconditional answer = answer == 2
 is_acceptance Restriction answer = false
 
+-- Q_EMERGENCYSTOP rejects a stop: 3 a conditional one
 abbrev pub is_rejection : Kind → ℕ → Bool
 is_rejection Conditional answer = answer == 3
 is_rejection Unconditional answer = false
 is_rejection Restriction answer = false
 
--- a stop is acknowledged
+-- The stop of a slot is answered: it is marked if it was accepted, and its identifier is free if it was rejected.
 abbrev pub acked_by_id : Slots → ℕ → ℕ → Option Slot → IdAck × Slots
 acked_by_id slots id answer None = (id_ack.Nothing, slots)
 acked_by_id slots id answer (Some (Revoking stamp)) = (id_ack.Nothing, slots)
@@ -109,6 +110,6 @@ acked_by_id slots id answer (Some (Used number stamp kind acked)) =
     else if is_rejection kind answer then freed (id_ack.Rejected number) id slots
     else (id_ack.Nothing, slots)
 
--- by the acknowledgement of the stop under an identifier
+-- what the train's answer to the stop under an identifier does, and the table after it
 abbrev pub after_id_ack : Slots → ℕ → ℕ → IdAck × Slots
 after_id_ack slots id answer = acked_by_id slots id answer (value_of slots id)

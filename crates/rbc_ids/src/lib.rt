@@ -1,4 +1,4 @@
-//! The identifiers under which a train is told stops and restrictions: each is free, used, or being revoked.
+//! The identifiers under which a train is told of stops and restrictions. Each is free, used, or being revoked.
 #![tactic(auto)]
 
 mod slot;

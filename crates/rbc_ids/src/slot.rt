@@ -1,9 +1,9 @@
-//! What an identifier that is held is for, and what becomes of it.
+//! The slot of a held identifier, and the outcomes of changes to it.
 
 use std::alloc::AllocFailed;
 use thiserror::Error;
 
-/// The message that told a number.
+/// The kind of message that told a number.
 #[derive(Clone, Copy, Debug, PartialEq, Eq)]
 pub enum Kind {
     /// Message 15, conditional emergency stop.
@@ -14,18 +14,19 @@ pub enum Kind {
     Restriction,
 }
 
-/// An identifier that is held.
+/// What a held identifier is held for.
 #[derive(Clone, Copy, Debug, PartialEq, Eq)]
 pub enum Slot {
-    /// It tells the train a number, by a message with this stamp (T_TRAIN, 10 ms); `acked` once the train has
-    /// acknowledged it.
+    /// It is used by a number, which a message with this stamp (T_TRAIN, 10 ms) told the train. `acked` is true once the
+    /// train has acknowledged that message.
     Used {
         number: u32,
         stamp: u32,
         kind: Kind,
         acked: bool,
     },
-    /// It is revoked by a message with this stamp, which the train has not acknowledged: it is not free.
+    /// It is being revoked by a message with this stamp (T_TRAIN, 10 ms), which the train has not acknowledged yet. It is
+    /// not free.
     Revoking {
         stamp: u32,
     },
@@ -35,7 +36,7 @@ impl Slot {
     ghost use Rattle.std.specs.Prelude.{◌≡◌};
     ghost use Rattle.rbc_ids.specs.Table.{stamp_of};
 
-    /// The stamp of the message that told or revoked it.
+    /// Returns the stamp of the message that told the number or revoked it.
     pub fn stamp(&self) -> u32
         ensures { result ≡ stamp_of self.now }
     {
@@ -45,36 +46,36 @@ impl Slot {
     }
 }
 
-/// No identifier is issued; the table stays as it was.
+/// Why no identifier was issued. The table stays as it was.
 #[derive(Clone, Copy, Debug, PartialEq, Eq, Error)]
 pub enum IssueError {
-    /// Each identifier is held.
-    #[error("each identifier is held")]
+    /// Every identifier is held.
+    #[error("every identifier is held")]
     Full,
     /// Memory ran out.
     #[error("out of memory")]
     OutOfMemory,
 }
 
-/// What the acknowledgement of a message does, by the stamp of that message.
+/// What the acknowledgement of the message with a stamp did.
 #[derive(Clone, Copy, Debug, PartialEq, Eq)]
 pub enum StampAck {
-    /// The identifier that the message revoked is free.
+    /// The identifier that the message revoked is free now.
     Freed,
-    /// The restriction that the message told is acknowledged, now or before.
+    /// The restriction that the message told is acknowledged. It may have been acknowledged before.
     Marked,
-    /// There is nothing to acknowledge, and nothing changes.
+    /// There was nothing to acknowledge, and nothing changed.
     Nothing,
 }
 
-/// What the acknowledgement of an emergency stop does, by its identifier.
+/// What the train's answer to the emergency stop under an identifier did.
 #[derive(Clone, Copy, Debug, PartialEq, Eq)]
 pub enum IdAck {
-    /// The stop is acknowledged, now or before.
+    /// The stop is acknowledged. It may have been acknowledged before.
     Marked,
-    /// The train has rejected the stop of this number: its identifier is free.
+    /// The train has rejected the stop of this number, and its identifier is free now.
     Rejected(u32),
-    /// There is nothing to acknowledge, and nothing changes.
+    /// There was nothing to acknowledge, and nothing changed.
     Nothing,
 }
 

@@ -1,20 +1,20 @@
-//! A table of identifiers.
+//! The table of a train's identifiers.
 
-ghost use Rattle.std.specs.Prelude.{◌≡◌, ◌≤◌, ◌↔◌, ◌==◌, false, not, [], length, IsTrue, IfOk, IfErr, OnErr};
+ghost use Rattle.std.specs.Prelude.{◌≡◌, ◌<◌, ◌≤◌, ◌↔◌, ◌==◌, false, not, [], length, IsTrue, IfOk, IfErr, OnOk, OnErr};
 ghost use Rattle.std.specs.List.{position_or_len, enumerate_from};
 ghost use Rattle.rbc_maps.specs.Maps.{has, index_for, value_of, with_value, without};
 ghost use Rattle.rbc_ids.specs.declared.slot.IssueError.TheVariants.{Full};
 ghost use Rattle.rbc_ids.specs.declared.slot.Slot.TheVariants.{Revoking};
-ghost use Rattle.rbc_ids.specs.Table.{IsTable, is_told, is_used_at, least_free, identifier_of, IsIssued, with_stamp, after_stamp_ack, after_id_ack};
+ghost use Rattle.rbc_ids.specs.Table.{IsTable, is_told, is_used_at, least_free, identifier_of, told_now, IsIssued, with_stamp, after_stamp_ack, after_id_ack};
 
 use crate::slot::{IdAck, IssueError, Kind, Slot, StampAck};
 use std::alloc::{AllocError, Global};
 use std::marker::Model;
 
-/// The identifiers 0 to `N - 1` of one train, of which some are held. It has memory for those alone.
+/// The identifiers 0 to `N - 1` of one train. Each is free, or held by a slot. Takes memory only for those that are held.
 #[derive(Debug, Drop)]
 pub struct IdTable<const N: usize> {
-    /// Those that are held, ascending.
+    /// The held identifiers in ascending order, each with its slot.
     held: Vec<(u8, Slot)>,
 }
 
@@ -29,7 +29,7 @@ impl<const N: usize> Model for IdTable<N> {
 }
 
 impl<const N: usize> IdTable<N> {
-    /// Each identifier is free. There are at most 255 of them. It takes no memory.
+    /// Makes a table in which every identifier is free. `N` is at most 255. Takes no memory.
     pub fn new(alloc: Global) -> Self
         requires { N ≤ 255 }
         ensures { result ≡ [] }
@@ -39,7 +39,7 @@ impl<const N: usize> IdTable<N> {
         }
     }
 
-    /// The same once more. It takes the memory of what is held, and of no more.
+    /// Copies the table; fails only for lack of memory. The copy takes memory only for what is held.
     pub fn copy(&self, alloc: Global) -> Result<Self, AllocError>
         ensures { IfOk result (λ copy. copy ≡ self.now) }
     {
@@ -48,7 +48,7 @@ impl<const N: usize> IdTable<N> {
         })
     }
 
-    /// What an identifier is held for; None where it is free, or is none of the table's.
+    /// Returns the slot of an identifier, or `None` if it is free or not below `N`.
     pub fn slot(&self, id: u8) -> Option<Slot>
         ensures value { result ≡ value_of self.now id }
         ensures sound { IsTable N self.now }
@@ -59,7 +59,7 @@ impl<const N: usize> IdTable<N> {
         }
     }
 
-    /// All that are held, ascending, with what each is held for.
+    /// Returns the held identifiers in ascending order, each with its slot.
     pub fn slots(&self) -> &[(u8, Slot)]
         ensures value { result.now ≡ self.now }
         ensures sound { IsTable N self.now }
@@ -67,7 +67,7 @@ impl<const N: usize> IdTable<N> {
         self.held.as_slice()
     }
 
-    /// How many are held.
+    /// Returns how many identifiers are held, at most `N`.
     pub fn held(&self) -> usize
         ensures value { result ≡ length self.now }
         ensures most { result ≤ N }
@@ -75,7 +75,7 @@ impl<const N: usize> IdTable<N> {
         self.held.len()
     }
 
-    /// The least identifier that is free.
+    /// Returns the least free identifier, or `None` if every identifier is held.
     pub fn least_free(&self) -> Option<u8>
         ensures { result ≡ least_free N self.now }
     {
@@ -83,7 +83,7 @@ impl<const N: usize> IdTable<N> {
         if gap < N { Some(gap as u8) } else { None }
     }
 
-    /// The identifier under which a number is told.
+    /// Returns the least identifier that is used by a number. A number whose slot is being revoked is not found.
     pub fn of_number(&self, number: u32) -> Option<u8>
         ensures { result ≡ identifier_of self.now number }
     {
@@ -93,11 +93,12 @@ impl<const N: usize> IdTable<N> {
             .map(|held| held.0)
     }
 
-    /// Gives the least free identifier to a number that is not told, for a message of some kind with some stamp.
+    /// Uses the least free identifier for a number, told by a message of this kind with this stamp (T_TRAIN, 10 ms), and
+    /// returns that identifier. The number must not be told already.
     ///
     /// # Errors
     ///
-    /// `Full` where each identifier is held, and `OutOfMemory`. The table stays as it was.
+    /// `Full` exactly if every identifier is held, else `OutOfMemory`. Either leaves the table as it was.
     pub fn issue(&mut self, number: u32, stamp: u32, kind: Kind) -> Result<u8, IssueError>
         requires { is_told self.old number ≡ false }
         ensures issued { IfOk result (λ id. IsIssued N self.old number stamp kind id self.new) }
@@ -119,8 +120,27 @@ impl<const N: usize> IdTable<N> {
         Ok(id)
     }
 
-    /// An identifier that is used is revoked by a message with some stamp. It stays held until the train has
-    /// acknowledged that message.
+    /// Uses an identifier for a number, told by a message of this kind with this stamp (T_TRAIN, 10 ms). The identifier must
+    /// be free and below `N`. Fails only for lack of memory, which leaves the table as it was.
+    pub fn tell(&mut self, id: u8, number: u32, stamp: u32, kind: Kind) -> Result<(), AllocError>
+        requires below { id < N }
+        requires free { has self.old id ≡ false }
+        ensures ok { OnOk result (self.new ≡ with_value id (told_now number stamp kind) self.old) }
+        ensures err { OnErr result (self.new ≡ self.old) }
+    {
+        let at = self.index_of(id);
+        let told = Slot::Used {
+            number,
+            stamp,
+            kind,
+            acked: false,
+        };
+        self.held.insert(at, (id, told))?;
+        Ok(())
+    }
+
+    /// Marks a used identifier as being revoked by a message with this stamp (T_TRAIN, 10 ms). It stays held until the
+    /// train has acknowledged that message.
     pub fn revoke(&mut self, id: u8, stamp: u32)
         requires { IsTrue (is_used_at self.old id) }
         ensures { self.new ≡ with_value id (Revoking stamp) self.old }
@@ -128,7 +148,7 @@ impl<const N: usize> IdTable<N> {
         self.put(id, Slot::Revoking { stamp });
     }
 
-    /// An identifier that is held is free from now on.
+    /// Frees a held identifier.
     pub fn free(&mut self, id: u8)
         requires { IsTrue (has self.old id) }
         ensures { self.new ≡ without id self.old }
@@ -137,8 +157,8 @@ impl<const N: usize> IdTable<N> {
         let _ = self.held.remove(at);
     }
 
-    /// The train has acknowledged the message with this stamp. It frees the identifier that the message revoked, or
-    /// marks the restriction that it told; a stop is not acknowledged by its stamp.
+    /// Takes the train's acknowledgement of the message with this stamp (own rule). It frees the identifier that the message
+    /// revoked, or marks the restriction that it told as acknowledged. A stop is not acknowledged by its stamp.
     pub fn ack_stamp(&mut self, stamp: u32) -> StampAck
         ensures { (result, self.new) ≡ after_stamp_ack self.old stamp }
     {
@@ -171,8 +191,8 @@ impl<const N: usize> IdTable<N> {
         }
     }
 
-    /// The train has answered (Q_EMERGENCYSTOP) the stop under an identifier: 0 and 1 accept a conditional one, 2 accepts an
-    /// unconditional one, 3 rejects a conditional one.
+    /// Takes the train's answer (Q_EMERGENCYSTOP) to the stop under an identifier (own rule). 0 and 1 accept a conditional
+    /// stop, 2 accepts an unconditional one, and 3 rejects a conditional one. Any other answer changes nothing.
     pub fn ack_id(&mut self, id: u8, answer: u8) -> IdAck
         ensures { (result, self.new) ≡ after_id_ack self.old id answer }
     {
@@ -208,7 +228,7 @@ impl<const N: usize> IdTable<N> {
         }
     }
 
-    /// Puts another slot under an identifier that is held.
+    /// Replaces the slot of a held identifier.
     fn put(&mut self, id: u8, slot: Slot)
         requires { IsTrue (has self.old id) }
         ensures { self.new ≡ with_value id slot self.old }
@@ -217,7 +237,7 @@ impl<const N: usize> IdTable<N> {
         self.held[at].1 = slot;
     }
 
-    /// The least identifier whose slot has a stamp, with that slot.
+    /// Returns the least identifier whose slot has this stamp, with that slot.
     fn with_stamp(&self, stamp: u32) -> Option<(u8, Slot)>
         ensures { result ≡ with_stamp self.now stamp }
     {
@@ -227,14 +247,14 @@ impl<const N: usize> IdTable<N> {
             .copied()
     }
 
-    /// Where an identifier stands among those that are held, or would stand.
+    /// Returns the index at which an identifier stands in `held`, or would stand.
     fn index_of(&self, id: u8) -> usize
         ensures { result ≡ index_for id self.now }
     {
         self.held.partition_point(|held| held.0 < id)
     }
 
-    /// How many identifiers from 0 on are held without a gap.
+    /// Returns how many identifiers from 0 on are held without a gap.
     fn gap(&self) -> usize
         ensures value { result ≡ position_or_len (λ entry. not (entry.1.0 == entry.0)) (enumerate_from 0 self.now) }
         ensures sound { IsTable N self.now }

@@ -1,13 +1,13 @@
-//! Tables of a train: identifiers that are issued, revoked, acknowledged and freed.
+//! Tables of a train whose identifiers are issued, revoked, acknowledged and freed.
 
 ghost use Rattle.std.specs.Prelude.{◌≤◌};
 
 use super::{IdAck, IdTable, IssueError, Kind, Slot, StampAck};
-use std::alloc::Global;
+use std::alloc::{AllocError, Global};
 use std::process::Abort;
 use std::test::Fail;
 
-/// Issues an identifier to a number; None where the number is told.
+/// Issues an identifier for a number, or returns `None` if the number is told already.
 fn issue<const N: usize>(
     table: &mut IdTable<N>,
     number: u32,
@@ -20,7 +20,18 @@ fn issue<const N: usize>(
     }
 }
 
-/// Revokes an identifier, and says whether it was used.
+/// Uses an identifier for a number with stamp 40 if it is free, and returns whether it was.
+fn tell(table: &mut IdTable<15>, id: u8, number: u32) -> Result<bool, AllocError> {
+    match table.slot(id) {
+        None if id < 15 => {
+            table.tell(id, number, 40, Kind::Conditional)?;
+            Ok(true)
+        }
+        _ => Ok(false),
+    }
+}
+
+/// Revokes an identifier if it is used, and returns whether it was.
 fn revoke<const N: usize>(table: &mut IdTable<N>, id: u8, stamp: u32) -> bool {
     match table.slot(id) {
         Some(Slot::Used { .. }) => {
@@ -31,7 +42,7 @@ fn revoke<const N: usize>(table: &mut IdTable<N>, id: u8, stamp: u32) -> bool {
     }
 }
 
-/// Frees an identifier, and says whether it was held.
+/// Frees an identifier if it is held, and returns whether it was.
 fn free<const N: usize>(table: &mut IdTable<N>, id: u8) -> bool {
     match table.slot(id) {
         Some(_) => {
@@ -42,7 +53,7 @@ fn free<const N: usize>(table: &mut IdTable<N>, id: u8) -> bool {
     }
 }
 
-/// A table in which unconditional stops have the first identifiers, each told with its number as the stamp.
+/// Makes a table in which the first identifiers are used by unconditional stops, each with its number as the stamp.
 fn stops<const N: usize>(rt: &impl Abort, alloc: Global, count: u8) -> Result<IdTable<N>, Fail>
     requires { N ≤ 255 }
 {
@@ -55,7 +66,7 @@ fn stops<const N: usize>(rt: &impl Abort, alloc: Global, count: u8) -> Result<Id
     Ok(table)
 }
 
-/// The slot of such an identifier.
+/// Returns the slot of such an identifier.
 fn stop(id: u8) -> Slot {
     Slot::Used {
         number: u32::from(id),
@@ -65,14 +76,14 @@ fn stop(id: u8) -> Slot {
     }
 }
 
-/// A table of 15 in which number 1 is told by stamp 7 under identifier 0.
+/// Makes a table of 15 in which identifier 0 is used by number 1 with stamp 7.
 fn one(rt: &impl Abort, alloc: Global, kind: Kind) -> Result<IdTable<15>, Fail> {
     let mut table = IdTable::new(alloc);
     assert_eq!(rt; issue(&mut table, 1, 7, kind), Some(Ok(0)));
     Ok(table)
 }
 
-/// The slot of `one`, once it is acknowledged or before.
+/// Returns the slot of `one`, acknowledged or not.
 fn told(kind: Kind, acked: bool) -> Option<Slot> {
     Some(Slot::Used {
         number: 1,
@@ -120,6 +131,29 @@ fn issues_the_least_free_identifier(rt: HostRuntime) -> Result<(), Fail> {
         );
         assert_eq!(rt; table.of_number(number), Some(want));
     }
+    Ok(())
+}
+
+// identifiers below it may be free, and identifiers above it held
+#[test]
+fn tells_under_the_identifier_that_was_chosen(rt: HostRuntime) -> Result<(), Fail> {
+    let mut table = IdTable::<15>::new(rt.alloc());
+    let numbers = [(7u8, 30u32), (14, 31), (0, 32), (6, 33)];
+    for (id, number) in numbers {
+        assert!(rt; tell(&mut table, id, number)?);
+    }
+    for (id, number) in numbers {
+        let slot = Slot::Used {
+            number,
+            stamp: 40,
+            kind: Kind::Conditional,
+            acked: false,
+        };
+        assert_eq!(rt; table.slot(id), Some(slot));
+        assert!(rt; !tell(&mut table, id, 34)?);
+    }
+    assert!(rt; !tell(&mut table, 15, 34)?);
+    assert_eq!(rt; (table.held(), table.least_free()), (4, Some(1)));
     Ok(())
 }
 

@@ -18,7 +18,7 @@ use Rattle.rbc_settle.specs.Settling.{Stops, Limits, carried_out, kind_of, tell_
 use Rattle.rbc_settle.specs.Following.{CanFollow}
 use Rattle.rbc_settle.specs.UpToDate.{HasTables}
 use Rattle.rbc_settle.proofs.Revoking.{revoked_all, revoked_each, revoked_is, free-revoked, untold-revoked, to_revoke-rises, to_revoke-used, used_above}
-use Rattle.rbc_settle.proofs.Telling.{is_least, free_after, untold_above}
+use Rattle.rbc_settle.proofs.Telling.{can_tell, free_after, untold_above}
 use Rattle.rbc_settle.proofs.Wanted.{wanted_of, wanted-rises, wanted-untold}
 use Rattle.rbc_settle.proofs.Concerned.{told_as, limit_as}
 use Rattle.rbc_settle.proofs.Parts.{after_first, after_second, after_third, to_first, limits_at_second, limits_at_third}
@@ -55,7 +55,7 @@ tell_stops [] ids least train free rises untold = tt
 tell_stops (w ∷ wanted) [] least train free rises untold = tt
 tell_stops ((number, told) ∷ wanted) (id ∷ ids) least train free rises untold =
     let parts = and_parts (leb least number) (rises_from (number + 1) (keys wanted)) rises in (
-      (is_least 15 train.stops id ids free, untold.0),
+      can_tell 15 train.stops id ids free number untold.0,
       tell_stops wanted ids (number + 1) (carried_out train (TellStop id number told)) (free_after 15 train.stops id ids free (told_now number (train.stamp + 1) (kind_of told))) parts.1
           (untold_above 15 train.stops id ids free number (train.stamp + 1) (number + 1) (kind_of told) wanted (omega arith) parts.1 untold.1),
     )
@@ -67,7 +67,7 @@ tell_limits [] ids least train free rises untold = tt
 tell_limits (w ∷ wanted) [] least train free rises untold = tt
 tell_limits ((number, told) ∷ wanted) (id ∷ ids) least train free rises untold =
     let parts = and_parts (leb least number) (rises_from (number + 1) (keys wanted)) rises in (
-      (is_least 255 train.limits id ids free, untold.0),
+      can_tell 255 train.limits id ids free number untold.0,
       tell_limits wanted ids (number + 1) (carried_out train (TellLimit id number told)) (free_after 255 train.limits id ids free (told_now number (train.stamp + 1) Restriction)) parts.1
           (untold_above 255 train.limits id ids free number (train.stamp + 1) (number + 1) Restriction wanted (omega arith) parts.1 untold.1),
     )

@@ -66,7 +66,7 @@ keeps_one plan stops limits train (TellStop id number told) well allowed given r
       forced_ascend = well.forced_ascend;
       forced = well.forced;
       tables = keeps_tables train (TellStop id number told) well.tables allowed;
-      stop_slots = slots_told is_stop_kind stops.last train.stops well.stop_slots id number (train.stamp + 1) (kind_of told) (stop_kind told) given allowed.1;
+      stop_slots = slots_told is_stop_kind stops.last train.stops well.stop_slots id number (train.stamp + 1) (kind_of told) (stop_kind told) given allowed.untold;
       limit_slots = well.limit_slots;
       stamp = room;
       stamps_within = good.within;
@@ -97,7 +97,7 @@ keeps_one plan stops limits train (TellLimit id number told) well allowed given 
       forced = well.forced;
       tables = keeps_tables train (TellLimit id number told) well.tables allowed;
       stop_slots = well.stop_slots;
-      limit_slots = slots_told is_limit_kind limits.last train.limits well.limit_slots id number (train.stamp + 1) Restriction refl given allowed.1;
+      limit_slots = slots_told is_limit_kind limits.last train.limits well.limit_slots id number (train.stamp + 1) Restriction refl given allowed.untold;
       stamp = room;
       stamps_within = good.within;
       stamps_distinct = good.distinct;

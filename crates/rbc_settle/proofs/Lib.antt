@@ -17,3 +17,4 @@ pub mod Keeps
 pub mod NothingLeft
 pub mod NumberLists
 pub mod Judging
+pub mod WitnessTrains

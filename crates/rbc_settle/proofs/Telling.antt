@@ -6,10 +6,11 @@ use Rattle.rbc_maps.specs.Maps.{has, with_value, keys, rises_from}
 use Rattle.rbc_maps.proofs.MapFacts.{any-with_value}
 use Rattle.rbc_ids.specs.declared.slot.Slot.{Slot}
 use Rattle.rbc_ids.specs.declared.slot.Kind.{Kind}
-use Rattle.rbc_ids.specs.Table.{Slots, IsTable, tells, is_told, free_identifiers, least_free, told_now}
+use Rattle.rbc_ids.specs.Table.{Slots, IsTable, tells, is_told, free_identifiers, told_now}
 use Rattle.rbc_ids.proofs.Tables.{stays_with}
 use Rattle.rbc_ids.proofs.Gaps.{run, least_free-run, run_below, all_from_run}
 use Rattle.rbc_settle.specs.Settling.{is_used_by}
+use Rattle.rbc_settle.specs.Following.{CanTell}
 
 -- the table after that: each takes the next stamp
 abbrev pub told_all : {T : Type 0} → (T → Kind) → ℕ → List ((ℕ × T) × ℕ) → Slots → Slots
@@ -72,9 +73,13 @@ module _ (count : ℕ) (slots : Slots) (id : ℕ) (ids : List ℕ) (free : free_
   pub absent : has slots id ≡ false
   absent = first_free (has slots) (range_with_len 0 count) id ids free
 
-  -- it is the least
-  pub is_least : least_free count slots ≡ Some id
-  is_least = ap (λ (xs : List ℕ). slice_get xs 0) free
+  -- it is one of the table's
+  below : id < count
+  below = let within = first_below (λ q. not (has slots q)) 0 count id ids free in omega (arith, within)
+
+  -- a number that is not told may be told under it
+  pub can_tell : (number : ℕ) → is_told slots number ≡ false → CanTell count slots id number
+  can_tell number untold = record { below = below; free = absent; untold = untold }
 
   -- once it is held, the others are free
   pub free_after : (slot : Slot) → free_identifiers count (with_value id slot slots) ≡ ids
@@ -82,7 +87,7 @@ module _ (count : ℕ) (slots : Slots) (id : ℕ) (ids : List ℕ) (free : free_
 
   -- and the table is still one
   pub table_after : (slot : Slot) → IsTable count slots → IsTable count (with_value id slot slots)
-  table_after slot table = stays_with count slots table id slot (let below = first_below (λ q. not (has slots q)) 0 count id ids free in omega (arith, below))
+  table_after slot table = stays_with count slots table id slot below
 
   -- a number told under it is told, and the others are as before
   pub told_after : (number stamp : ℕ) (kind : Kind) (n : ℕ) → is_told (with_value id (told_now number stamp kind) slots) n ≡ (eqb number n || is_told slots n)

@@ -1,7 +1,9 @@
 pub mod Numbers
 pub mod Trains
 pub mod Told
+pub mod InField
 pub mod Settling
 pub mod Following
 pub mod UpToDate
 pub mod WellFormed
+pub mod Witnesses

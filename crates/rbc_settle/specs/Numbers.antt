@@ -1,4 +1,4 @@
--- Ascending lists of numbers, none twice (own rule).
+-- Ascending lists of numbers, each of them once (own rule).
 use Rattle.std.specs.Prelude.{ℕ, Bool, ◌==◌, not, nat_lt, if◌then◌else◌, List, [], ◌∷◌, IsTrue}
 use Rattle.std.specs.List.{list_any, filter}
 use Rattle.rbc_maps.specs.Maps.{rises_from}
@@ -7,10 +7,11 @@ use Rattle.rbc_maps.specs.Maps.{rises_from}
 abbrev pub AreNumbers : List ℕ → Type 0
 AreNumbers numbers = IsTrue (rises_from 0 numbers)
 
+-- the list has a number
 abbrev pub has_number : List ℕ → ℕ → Bool
 has_number numbers n = list_any (λ other. other == n) numbers
 
--- the list with a number at its place, which it has not yet
+-- the list with a number that it had not, at its place
 abbrev pub with_number : ℕ → List ℕ → List ℕ
 with_number n [] = n ∷ []
 with_number n (first ∷ rest) = if nat_lt n first then n ∷ first ∷ rest else first ∷ with_number n rest

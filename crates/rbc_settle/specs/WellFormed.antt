@@ -11,25 +11,26 @@ use Rattle.rbc_ids.specs.declared.slot.Kind.{Kind}
 use Rattle.rbc_ids.specs.declared.slot.Kind.TheVariants.{Conditional, Unconditional, Restriction}
 use Rattle.rbc_ids.specs.Table.{Slots, stamp_of}
 use Rattle.rbc_settle.specs.declared.train.TrainRec.{TrainRec}
+use Rattle.rbc_settle.specs.Trains.{max_engine, max_train_length}
 use Rattle.rbc_settle.specs.Numbers.{AreNumbers, has_number}
 use Rattle.rbc_settle.specs.Settling.{Stops, Limits, last_stamp, settled}
 use Rattle.rbc_settle.specs.UpToDate.{HasTables}
 
--- none stands twice
+-- no number stands twice in a list
 abbrev pub AreDistinct : List ℕ → Type 0
 AreDistinct [] = Unit
 AreDistinct (n ∷ ns) = (has_number ns n ≡ false) × AreDistinct ns
 
--- a number is above 0, and not above the last one that was given
+-- a number was given: it is above 0, and not above the last one
 abbrev pub IsGiven : ℕ → ℕ → Type 0
 IsGiven last n = (1 ≤ n) × (n ≤ last)
 
--- the number that a slot tells: one that is being revoked tells none
+-- The number that a slot tells: a slot that is being revoked tells none.
 abbrev pub number_in : Slot → Option ℕ
 number_in (Used number stamp kind acked) = Some number
 number_in (Revoking stamp) = None
 
--- the numbers that a table tells, ascending in the identifier
+-- the numbers that a table tells, in ascending order of the identifiers
 abbrev pub told_numbers : Slots → List ℕ
 told_numbers slots = filter_map (λ held. number_in held.1) slots
 
@@ -37,34 +38,36 @@ told_numbers slots = filter_map (λ held. number_in held.1) slots
 abbrev pub stamps : TrainRec → List ℕ
 stamps train = map (λ held. stamp_of held.1) (train.stops ++ train.limits)
 
--- a slot that is used has such a kind
+-- a slot has such a kind, if it is used
 abbrev pub has_kind : (Kind → Bool) → Slot → Bool
 has_kind is_kind (Used number stamp kind acked) = is_kind kind
 has_kind is_kind (Revoking stamp) = true
 
+-- the kinds of stops
 abbrev pub is_stop_kind : Kind → Bool
 is_stop_kind Conditional = true
 is_stop_kind Unconditional = true
 is_stop_kind Restriction = false
 
+-- the kind of restrictions
 abbrev pub is_limit_kind : Kind → Bool
 is_limit_kind Conditional = false
 is_limit_kind Unconditional = false
 is_limit_kind Restriction = true
 
--- a table of one kind tells numbers that were given, each under one identifier
+-- All slots of a table have such a kind, and tell numbers that were given, each under one identifier.
 pub record AreGoodSlots (is_kind : Kind → Bool) (last : ℕ) (slots : Slots) : Type 0 where
   pub kinds : All (λ held. has_kind is_kind held.1 ≡ true) slots
   pub given : All (IsGiven last) (told_numbers slots)
   pub once : AreDistinct (told_numbers slots)
 
--- a place stands on the track: its balise group is there, on its line, at its position and with its direction, and the
--- interval lies on that line
+-- A place is on the track: the track has its balise group, on its line, at its position and with its direction, and the interval
+-- lies on that line.
 pub record IsPlaceOn (plan : Plan) (p : Place) : Type 0 where
   pub group : group_of plan p.lrbg ≡ Some (record { line = p.line; at = p.at; nominal = if p.same then Up else Down })
   pub on_line : LiesOnLine plan p
 
--- so does that of a train, where it has one
+-- the place of a train is on the track, if it has one
 abbrev pub HasPlaceOn : Plan → Option Place → Type 0
 HasPlaceOn plan None = Unit
 HasPlaceOn plan (Some p) = IsPlaceOn plan p
@@ -73,8 +76,8 @@ HasPlaceOn plan (Some p) = IsPlaceOn plan p
 -- 40,000 units; it stands on the track; what it rejected and what it is told was given a number; and its stamps are
 -- distinct, and not above the last one.
 pub record IsWellFormedTrain (plan : Plan) (stops : Stops) (limits : Limits) (train : TrainRec) : Type 0 where
-  pub engine : train.engine ≤ 16777215
-  pub length : (1 ≤ train.length) × (train.length ≤ 40000)
+  pub engine : train.engine ≤ max_engine
+  pub length : (1 ≤ train.length) × (train.length ≤ max_train_length)
   pub place : HasPlaceOn plan train.place
   pub forced_ascend : AreNumbers train.forced
   pub forced : All (IsGiven stops.last) train.forced
@@ -85,7 +88,7 @@ pub record IsWellFormedTrain (plan : Plan) (stops : Stops) (limits : Limits) (tr
   pub stamps_within : All (λ s. s ≤ train.stamp) (stamps train)
   pub stamps_distinct : AreDistinct (stamps train)
 
--- a well-formed train is well-formed after it was settled
+-- A well-formed train is well-formed after it was settled.
 abbrev pub SettlingKeepsTrains : Type 0
 SettlingKeepsTrains =
     (plan : Plan) (stops : Stops) (limits : Limits) (train : TrainRec) → AreNumbered stops → AreNumbered limits

@@ -1,17 +1,17 @@
-//! What is done to bring a train up to date.
+//! The actions that bring a train up to date.
 
 use std::marker::Model;
 
-/// What a stop is told as.
+/// How a stop is told.
 #[derive(Clone, Copy, Debug, PartialEq, Eq)]
 pub enum ToldStop {
     /// By message 16: the train stops at once.
     AtOnce,
-    /// By message 15: the train stops before a place.
+    /// By message 15: the train stops before an edge of the stop's area.
     Before(ToldEdge),
 }
 
-/// The place before which a train stops, as it is told: Q_DIR, Q_SCALE and D_EMERGENCYSTOP.
+/// The edge before which a train stops, as message 15 tells it: Q_DIR, Q_SCALE and D_EMERGENCYSTOP.
 #[derive(Clone, Copy, Debug, PartialEq, Eq)]
 pub struct ToldEdge {
     pub dir: u8,
@@ -20,18 +20,19 @@ pub struct ToldEdge {
 }
 
 impl Model for ToldEdge {
-    ghost use Rattle.rbc_settle.specs.Told as told;
+    ghost use Rattle.rbc_settle.specs.Told.{Edge};
+    ghost use Rattle.rbc_settle.specs.InField.{IsEdgeInField};
 
-    ghost Value = { told.Edge };
+    ghost Value = { Edge };
 
     ghost view = { λ e. record { dir = e.dir; scale = e.scale; distance = e.distance } };
 
-    ghost invariant = { λ e. told.IsEdgeInField (record { dir = e.dir; scale = e.scale; distance = e.distance }) };
+    ghost invariant = { λ e. IsEdgeInField (record { dir = e.dir; scale = e.scale; distance = e.distance }) };
 
     ghost inverse = { λ v. record { dir = v.dir; scale = v.scale; distance = v.distance } };
 }
 
-/// What a restriction is told as, by packet 65: Q_DIR, Q_SCALE, D_TSR, L_TSR, Q_FRONT and V_TSR.
+/// A restriction as packet 65 tells it: Q_DIR, Q_SCALE, D_TSR, L_TSR, Q_FRONT and V_TSR.
 #[derive(Clone, Copy, Debug, PartialEq, Eq)]
 pub struct ToldLimit {
     pub dir: u8,
@@ -43,18 +44,19 @@ pub struct ToldLimit {
 }
 
 impl Model for ToldLimit {
-    ghost use Rattle.rbc_settle.specs.Told as told;
+    ghost use Rattle.rbc_settle.specs.Told.{Part};
+    ghost use Rattle.rbc_settle.specs.InField.{IsPartInField};
 
-    ghost Value = { told.Part };
+    ghost Value = { Part };
 
     ghost view = { λ l. record { dir = l.dir; scale = l.scale; start = l.start; length = l.length; front = l.front; speed = l.speed } };
 
-    ghost invariant = { λ l. told.IsPartInField (record { dir = l.dir; scale = l.scale; start = l.start; length = l.length; front = l.front; speed = l.speed }) };
+    ghost invariant = { λ l. IsPartInField (record { dir = l.dir; scale = l.scale; start = l.start; length = l.length; front = l.front; speed = l.speed }) };
 
     ghost inverse = { λ v. record { dir = v.dir; scale = v.scale; start = v.start; length = v.length; front = v.front; speed = v.speed } };
 }
 
-/// One thing that is done to a train, by one message.
+/// One change to a train's identifiers, made by one message.
 #[derive(Clone, Copy, Debug, PartialEq, Eq)]
 pub enum Action {
     /// Revokes the stop under an identifier.

@@ -3,6 +3,7 @@
 ghost use Rattle.std.specs.Prelude.{◌≡◌, ℕ, ◌+◌, ◌^◌, ◌<◌, ◌≤◌, OnOk, OnErr};
 ghost use Rattle.ertms_codec.specs.ToTrain.{Fits};
 ghost use Rattle.rbc_settle.specs.declared.action.Action.TheVariants.{TellStop};
+ghost use Rattle.rbc_settle.specs.Trains.{stop_identifiers};
 ghost use Rattle.rbc_settle.specs.Settling.{kind_of, head_of, carried_out, message_of};
 ghost use Rattle.rbc_settle.specs.Following.{Allows};
 ghost use Rattle.rbc_settle.specs.UpToDate.{HasTables};
@@ -16,11 +17,11 @@ use std::alloc::AllocError;
 /// NID_LRBG of a message to a train without a place.
 const UNKNOWN_GROUP: u32 = 16_777_215;
 
-/// Q_DIR of a revocation: it is for both ways.
+/// Q_DIR of a revoked restriction: both directions.
 const BOTH: u8 = 2;
 
 impl TrainRec {
-    /// The message by which an action is carried out, with the next stamp.
+    /// Returns the message that carries out an action, with the next stamp.
     pub(crate) fn message_of(&self, action: &Action) -> ToTrain
         requires stamp { self.now.stamp + 1 < 2 ^ 32 }
         requires tables { HasTables self.now }
@@ -52,10 +53,10 @@ impl TrainRec {
         }
     }
 
-    /// The message by which a stop is told under an identifier.
+    /// Returns the message that tells a stop under an identifier.
     fn stop_message(&self, id: u8, told: ToldStop) -> ToTrain
         requires stamp { self.now.stamp + 1 < 2 ^ 32 }
-        requires issued { id < 15 }
+        requires one_of_them { id < stop_identifiers }
         ensures message { (number : ℕ) → result ≡ message_of self.now (TellStop id number told) }
         ensures fits { Fits result }
     {
@@ -73,7 +74,7 @@ impl TrainRec {
         }
     }
 
-    /// What the next message begins with.
+    /// Returns the head of the next message.
     fn head(&self, ack: bool) -> Head
         requires { self.now.stamp + 1 < 2 ^ 32 }
         ensures head { result ≡ head_of self.now ack }
@@ -89,8 +90,8 @@ impl TrainRec {
         }
     }
 
-    /// Carries out an action. A told number gets the action's own identifier, which is the least free one. A refusal for
-    /// want of memory leaves the train as it was.
+    /// Carries out an action, under the identifier that it names. Fails only for lack of memory, which leaves the train as it
+    /// was.
     pub(crate) fn carry_out(&mut self, action: &Action) -> Result<(), AllocError>
         requires stamp { self.old.stamp + 1 < 2 ^ 32 }
         requires allowed { Allows self.old action.now }
@@ -100,14 +101,12 @@ impl TrainRec {
         let stamp = self.stamp + 1;
         match *action {
             Action::RevokeStop { id } => self.stops.revoke(id, stamp),
-            Action::TellStop { number, told, .. } => {
-                let issued = self.stops.issue(number, stamp, kind_of(told));
-                let _ = issued.map_err(|_| AllocError)?;
+            Action::TellStop { id, number, told } => {
+                self.stops.tell(id, number, stamp, kind_of(told))?
             }
             Action::RevokeLimit { id } => self.limits.revoke(id, stamp),
-            Action::TellLimit { number, .. } => {
-                let issued = self.limits.issue(number, stamp, Kind::Restriction);
-                let _ = issued.map_err(|_| AllocError)?;
+            Action::TellLimit { id, number, .. } => {
+                self.limits.tell(id, number, stamp, Kind::Restriction)?
             }
         }
         self.stamp = stamp;
@@ -115,7 +114,7 @@ impl TrainRec {
     }
 }
 
-/// The kind of message by which a stop is told.
+/// Returns the kind of message that tells a stop.
 fn kind_of(told: ToldStop) -> Kind
     ensures { result ≡ kind_of told }
 {

@@ -1,9 +1,10 @@
-//! What is to be done to a train, judged before the first action.
+//! What has to be done to a train. All of it is judged before the first action.
 
 ghost use Rattle.std.specs.Prelude.{◌≡◌, ◌≤◌, ℕ, IfOk, OnOk, Some, option_copied};
 ghost use Rattle.rbc_maps.specs.Numbered.{AreNumbered};
 ghost use Rattle.rbc_ids.specs.Table.{IsTable};
 ghost use Rattle.rbc_zones.specs.declared.edge.Concern.TheVariants.{Before};
+ghost use Rattle.rbc_settle.specs.Trains.{stop_identifiers, limit_identifiers};
 ghost use Rattle.rbc_settle.specs.Settling.{direction_of, told_at, told_stop, told_limit, limit_told_to, stop_to_tell, limit_to_tell, is_used_by, is_stop_gone, is_limit_gone, stops_revoked, stops_told, limits_revoked, limits_told, actions_with_stamp};
 ghost use Rattle.rbc_settle.specs.UpToDate.{HasTables};
 
@@ -18,10 +19,11 @@ use rbc_zones::{
 };
 use std::alloc::{AllocError, Global};
 
-/// The last stamp that a message may have: the next one means that the time is unknown.
+/// The last stamp that a message may have. The number after it means that the time is unknown.
 const LAST_STAMP: u32 = 4_294_967_294;
 
-/// All actions for which stamps are left, in their order. It takes memory only where something is to be revoked or told.
+/// Returns the actions for which stamps are left, in their order (own rule). Takes memory only if there is something to revoke
+/// or to tell. Fails only for lack of memory.
 pub fn actions(
     alloc: Global,
     track: &Track,
@@ -40,10 +42,10 @@ pub fn actions(
     Ok(actions)
 }
 
-/// A revocation of each stop that is told and not active.
+/// Returns a revocation of each told stop that is not active, in ascending order of the identifiers.
 fn stops_revoked(alloc: Global, stops: &Stops, train: &TrainRec) -> Result<Vec<Action>, AllocError>
     ensures actions { IfOk result (λ found. found.items ≡ stops_revoked stops.now train.now) }
-    ensures sound { IsTable 15 train.now.stops }
+    ensures sound { IsTable stop_identifiers train.now.stops }
 {
     train
         .stops
@@ -54,7 +56,7 @@ fn stops_revoked(alloc: Global, stops: &Stops, train: &TrainRec) -> Result<Vec<A
         .collect(alloc)
 }
 
-/// Whether a slot is used by a stop that is to be revoked: it is not active.
+/// Whether a slot is used by a stop that is not active, and so has to be revoked.
 fn is_used_by_gone_stop(stops: &Stops, slot: Slot) -> bool
     ensures { result ≡ is_used_by (is_stop_gone stops.now) slot }
 {
@@ -64,7 +66,8 @@ fn is_used_by_gone_stop(stops: &Stops, slot: Slot) -> bool
     }
 }
 
-/// A telling of each stop that is to be told, as long as identifiers are free.
+/// Pairs the stops that have to be told, in ascending order of the numbers, with the free identifiers, in ascending order. The
+/// pairs end with the shorter of both lists.
 fn stops_told(alloc: Global, stops: &Stops, train: &TrainRec) -> Result<Vec<Action>, AllocError>
     ensures actions { IfOk result (λ found. found.items ≡ stops_told stops.now train.now) }
     ensures sound { AreNumbered stops.now }
@@ -79,14 +82,15 @@ fn stops_told(alloc: Global, stops: &Stops, train: &TrainRec) -> Result<Vec<Acti
         .collect(alloc)
 }
 
-/// A revocation of each restriction that is told and not active, or clear of the train.
+/// Returns a revocation of each told restriction that is not active, or is clear of the train, in ascending order of the
+/// identifiers.
 fn limits_revoked(
     alloc: Global,
     limits: &Limits,
     train: &TrainRec,
 ) -> Result<Vec<Action>, AllocError>
     ensures actions { IfOk result (λ found. found.items ≡ limits_revoked limits.now train.now) }
-    ensures sound { IsTable 255 train.now.limits }
+    ensures sound { IsTable limit_identifiers train.now.limits }
 {
     train
         .limits
@@ -97,7 +101,7 @@ fn limits_revoked(
         .collect(alloc)
 }
 
-/// Whether a slot is used by a restriction that is to be revoked.
+/// Whether a slot is used by a restriction that has to be revoked.
 fn is_used_by_gone_limit(limits: &Limits, place: Option<&Place>, slot: Slot) -> bool
     ensures { result ≡ is_used_by (is_limit_gone limits.now (option_copied place.entry)) slot }
 {
@@ -107,7 +111,7 @@ fn is_used_by_gone_limit(limits: &Limits, place: Option<&Place>, slot: Slot) -> 
     }
 }
 
-/// A telling of each restriction that is to be told, as long as identifiers are free.
+/// Pairs the restrictions that have to be told with the free identifiers, as `stops_told` does with stops.
 fn limits_told(
     alloc: Global,
     horizon: u32,
@@ -127,7 +131,7 @@ fn limits_told(
         .collect(alloc)
 }
 
-/// A stop that is not told and concerns the train, with what it is told as.
+/// Returns a stop and how it is told, if it is not told yet and concerns the train.
 fn stop_to_tell(train: &TrainRec, number: u32, area: &Area) -> Option<(u32, ToldStop)>
     ensures { result ≡ stop_to_tell train.now (number, area.now) }
 {
@@ -139,7 +143,7 @@ fn stop_to_tell(train: &TrainRec, number: u32, area: &Area) -> Option<(u32, Told
     Some((number, told))
 }
 
-/// What a stop is told as.
+/// How a stop is told, by its concern to a train. A train without a place is told to stop at once.
 fn told_stop(place: Option<&Place>, concern: Concern) -> Option<ToldStop>
     requires { (edge : ℕ) → concern ≡ Before edge → edge ≤ 3000000 }
     ensures { result ≡ told_stop (option_copied place.entry) concern }
@@ -151,7 +155,7 @@ fn told_stop(place: Option<&Place>, concern: Concern) -> Option<ToldStop>
     }
 }
 
-/// A restriction that is not told and concerns the train, with what it is told as.
+/// Returns a restriction and how it is told, if it is not told yet and concerns the train.
 fn limit_to_tell(
     horizon: u32,
     train: &TrainRec,
@@ -167,7 +171,7 @@ fn limit_to_tell(
     }
 }
 
-/// What a restriction is told as, where it concerns a train at its place.
+/// How a restriction is told, if it concerns a train at this place. The horizon is in units of 10 cm.
 fn told_limit(horizon: u32, place: &Place, limit: &Limit) -> Option<ToldLimit>
     ensures { result ≡ limit_told_to horizon (Some place.now) limit.now }
 {
@@ -185,7 +189,7 @@ fn told_limit(horizon: u32, place: &Place, limit: &Limit) -> Option<ToldLimit>
     })
 }
 
-/// A stop before an edge, with the distance to it from the balise group.
+/// How a stop before an edge is told: with the distance from the balise group to the edge.
 fn told_before(place: &Place, edge: u32) -> ToldStop
     requires { edge ≤ 3000000 }
     ensures { Some result ≡ told_at place.now (Before edge) }
@@ -203,7 +207,7 @@ fn told_before(place: &Place, edge: u32) -> ToldStop
     })
 }
 
-/// Q_DIR: the way a train faces, seen from its balise group: 1 is its nominal direction, 0 the other one.
+/// Q_DIR: 1 if the train faces in the nominal direction of its balise group, else 0.
 fn direction_of(place: &Place) -> u8
     ensures value { result ≡ direction_of place.now }
     ensures small { result ≤ 1 }
@@ -212,7 +216,7 @@ fn direction_of(place: &Place) -> u8
     u8::from(up == place.same())
 }
 
-/// Whether a restriction that is told is to be revoked: it is not active, or clear of the train.
+/// Whether a told restriction has to be revoked, because it is not active or is clear of the train.
 fn is_limit_gone(limits: &Limits, place: Option<&Place>, number: u32) -> bool
     ensures { result ≡ is_limit_gone limits.now (option_copied place.entry) number }
 {

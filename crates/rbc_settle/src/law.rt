@@ -1,10 +1,10 @@
-//! What the rules of settling promise.
+//! What settling promises.
 
 ghost use Rattle.rbc_settle.specs.UpToDate.{SettlingTwiceIsOnce, NothingIsLeftToDo};
 ghost use Rattle.rbc_settle.specs.WellFormed.{SettlingKeepsTrains};
 
-/// A train that is settled again stays as it is, and is sent nothing; a well-formed train stays well-formed; and to a train
-/// that is up to date nothing is to be done.
+/// A train that is settled a second time stays as it is, and is sent nothing. A well-formed train is well-formed after it was
+/// settled. Nothing has to be done to a train that is up to date.
 pub fn settle_law()
     ensures twice { SettlingTwiceIsOnce }
     ensures keeps { SettlingKeepsTrains }

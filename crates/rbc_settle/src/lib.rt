@@ -1,4 +1,4 @@
-//! Settling one train: what is revoked and what is told, under which identifier and stamp, in which order.
+//! Settling one train: what is revoked and what is told, under which identifiers and stamps, and in which order.
 #![tactic(auto)]
 
 mod action;
@@ -8,11 +8,13 @@ mod law;
 mod numbers;
 mod train;
 mod upkeep;
+mod witnesses;
 
 pub use law::settle_law;
 pub use numbers::Numbers;
 pub use train::TrainRec;
 pub use upkeep::{Sent, UpToDate, settle, settled};
+pub use witnesses::settle_law_witnesses;
 
 #[cfg(test)]
 mod tests;

@@ -7,7 +7,7 @@ ghost use Rattle.rbc_settle.specs.Numbers.{AreNumbers, has_number, with_number, 
 use std::alloc::{AllocError, Global};
 use std::marker::Model;
 
-/// Numbers in ascending order, none twice.
+/// Numbers in ascending order, each of them once.
 #[derive(Debug, Drop)]
 pub struct Numbers {
     all: Vec<u32>,
@@ -26,7 +26,7 @@ impl Model for Numbers {
 }
 
 impl Numbers {
-    /// No numbers. It takes no memory.
+    /// Makes an empty list. Takes no memory.
     pub fn new(alloc: Global) -> Self
         ensures { result ≡ [] }
     {
@@ -35,7 +35,7 @@ impl Numbers {
         }
     }
 
-    /// How many there are.
+    /// Returns how many numbers there are.
     pub fn len(&self) -> usize
         ensures value { result ≡ length self.now }
         ensures sound { AreNumbers self.now }
@@ -43,7 +43,7 @@ impl Numbers {
         self.all.len()
     }
 
-    /// The numbers, ascending.
+    /// Returns the numbers in ascending order.
     pub fn as_slice(&self) -> &[u32]
         ensures value { result.now ≡ self.now }
         ensures sound { AreNumbers self.now }
@@ -51,7 +51,7 @@ impl Numbers {
         &self.all[..]
     }
 
-    /// The number at an index below their count, in ascending order.
+    /// Returns the number at an index, in ascending order. The index must be below the length.
     pub fn at(&self, index: usize) -> u32
         requires { index < length self.now }
         ensures { slice_get self.now index ≡ Some result }
@@ -59,7 +59,7 @@ impl Numbers {
         self.all[index]
     }
 
-    /// Whether a number is among them.
+    /// Whether the list has a number.
     pub fn has(&self, n: u32) -> bool
         ensures { result ≡ has_number self.now n }
     {
@@ -67,7 +67,7 @@ impl Numbers {
         at < self.all.len() && self.all[at] == n
     }
 
-    /// Puts a number at its place, which is not among them yet. A refusal for want of memory changes nothing.
+    /// Adds a number, which the list must not have yet. Fails only for lack of memory, which changes nothing.
     pub fn add(&mut self, n: u32) -> Result<(), AllocError>
         requires { has_number self.old n ≡ false }
         ensures ok { OnOk result (self.new ≡ with_number n self.old) }
@@ -78,7 +78,7 @@ impl Numbers {
         Ok(())
     }
 
-    /// Takes a number out, and tells whether it was among them.
+    /// Removes a number, and returns whether the list had it.
     pub fn remove(&mut self, n: u32) -> bool
         ensures numbers { self.new ≡ without_number n self.old }
         ensures found { result ≡ has_number self.old n }
@@ -91,7 +91,7 @@ impl Numbers {
         found
     }
 
-    /// The same once more. It takes the memory of the numbers, and of no more.
+    /// Copies the list; fails only for lack of memory. The copy takes memory only for its numbers.
     pub fn copy(&self, alloc: Global) -> Result<Self, AllocError>
         ensures { IfOk result (λ copy. copy ≡ self.now) }
     {
@@ -100,7 +100,7 @@ impl Numbers {
         })
     }
 
-    /// Where a number stands, or would stand.
+    /// Returns the index at which a number stands, or would stand.
     fn index_of(&self, n: u32) -> usize
         ensures { result ≡ position_or_len (λ other. nat_le n other) self.now }
     {

@@ -8,18 +8,18 @@ use rbc_ids::IdTable;
 use rbc_place::Place;
 use std::alloc::{AllocError, Global};
 
-/// A train that is enrolled.
+/// An enrolled train.
 #[derive(Debug, Drop)]
 pub struct TrainRec {
     /// The number of its on-board equipment (NID_ENGINE).
     pub engine: u32,
-    /// Its length in units of 10 cm, by its enrolment.
+    /// Its length in units of 10 cm, from its enrolment.
     pub length: u32,
-    /// T_TRAIN of the last message to it, or of one from it that was later: units of 10 ms.
+    /// The later of T_TRAIN of the last message to it and T_TRAIN of its own messages, in units of 10 ms.
     pub stamp: u32,
-    /// Where it may stand, if that is known.
+    /// The interval in which it stands, if that is known.
     pub place: Option<Place>,
-    /// The numbers of the stops that it rejected: each stops it at once.
+    /// The numbers of the stops that it rejected. Each of them is told as a stop at once.
     pub forced: Numbers,
     /// Its stop identifiers (NID_EM), 0 to 14.
     pub stops: IdTable<15>,
@@ -28,7 +28,8 @@ pub struct TrainRec {
 }
 
 impl TrainRec {
-    /// A train without a place to which nothing was told, with a stamp. It takes no memory.
+    /// Makes the record of a train without a place, to which nothing was told. The length is in units of 10 cm, the stamp in
+    /// units of 10 ms. Takes no memory.
     pub fn new(alloc: Global, engine: u32, length: u32, stamp: u32) -> Self
         ensures { result ≡ new_train engine length stamp }
     {
@@ -43,7 +44,7 @@ impl TrainRec {
         }
     }
 
-    /// The same once more.
+    /// Copies the record; fails only for lack of memory.
     pub fn copy(&self, alloc: Global) -> Result<Self, AllocError>
         ensures { IfOk result (λ copy. copy ≡ self.now) }
     {

@@ -1,8 +1,9 @@
 //! Settling one train.
 
-ghost use Rattle.std.specs.Prelude.{◌≡◌, ◌+◌, ◌≤◌, [], map, length, IfOk, OnOk, OnErr, IfSome, IfNone};
+ghost use Rattle.std.specs.Prelude.{◌≡◌, ◌+◌, ◌*◌, ◌≤◌, [], map, length, IfOk, OnOk, OnErr, IfSome, IfNone};
 ghost use Rattle.std.specs.List.{All};
 ghost use Rattle.ertms_codec.specs.ToTrain.{Fits};
+ghost use Rattle.rbc_settle.specs.Trains.{stop_identifiers, limit_identifiers};
 ghost use Rattle.rbc_settle.specs.Settling.{actions_with_stamp, settled, messages_of};
 ghost use Rattle.rbc_settle.specs.UpToDate.{IsUpToDateOrAtTheEnd};
 
@@ -18,20 +19,23 @@ use std::alloc::{AllocError, Global};
 pub struct Sent {
     /// NID_ENGINE of the train.
     pub engine: u32,
+    /// The message itself.
     pub message: ToTrain,
 }
 
-/// A train after it was brought up to date, and the messages that did it, in their order: at least one, and at most 540.
+/// A train that was brought up to date, and the 1 to 540 messages that did it, in their order.
 #[derive(Debug, Drop)]
 pub struct UpToDate {
     pub train: TrainRec,
     pub sent: Vec<Sent>,
 }
 
-/// What brings a train up to date (own rule): stops that are not active any more are revoked, stops that concern the
-/// train are told, and then the same of restrictions. All is judged before the first action. The answer is the train
-/// after that, as a copy, with the messages; or `None` where there is nothing to do, and then no memory is taken, or no
-/// stamp is left.
+/// Brings a copy of a train up to date (own rule). Stops that are not active any more are revoked, and stops that concern the
+/// train are told; then the same is done with restrictions. All of it is judged before the first action, and each action takes
+/// the next stamp, as long as stamps are left.
+///
+/// Returns the copy with its messages, or `None` if there is nothing to do or no stamp is left. `None` takes no memory if there
+/// is nothing to do. Fails only for lack of memory.
 pub fn settled(
     alloc: Global,
     track: &Track,
@@ -45,7 +49,7 @@ pub fn settled(
     ensures engine { IfOk result (λ found. IfSome found (λ after. All (λ one. one.engine ≡ train.now.engine) after.sent.items)) }
     ensures fit { IfOk result (λ found. IfSome found (λ after. All (λ one. Fits one.message) after.sent.items)) }
     ensures some { IfOk result (λ found. IfSome found (λ after. 1 ≤ length after.sent.items)) }
-    ensures few { IfOk result (λ found. IfSome found (λ after. length after.sent.items ≤ 15 + 15 + 255 + 255)) }
+    ensures few { IfOk result (λ found. IfSome found (λ after. length after.sent.items ≤ 2 * stop_identifiers + 2 * limit_identifiers)) }
     ensures up_to_date { OnOk result (IsUpToDateOrAtTheEnd track.now stops.now limits.now (settled track.now stops.now limits.now train.now)) }
 {
     let actions = actions(alloc, track, stops, limits, train)?;
@@ -64,8 +68,8 @@ pub fn settled(
     Ok(Some(UpToDate { train: after, sent }))
 }
 
-/// Brings a train up to date, as `settled` says, and gives the messages that do it, in their order. It takes memory
-/// only where there is something to do; a refusal leaves the train as it was.
+/// Brings a train up to date as `settled` does, and returns the messages that do it, in their order. Takes memory only if there
+/// is something to do. Fails only for lack of memory, which leaves the train as it was.
 pub fn settle(
     alloc: Global,
     track: &Track,
@@ -77,7 +81,7 @@ pub fn settle(
     ensures messages { IfOk result (λ sent. map (λ one. one.message) sent.items ≡ messages_of track.now stops.now limits.now train.old) }
     ensures engine { IfOk result (λ sent. All (λ one. one.engine ≡ train.old.engine) sent.items) }
     ensures fit { IfOk result (λ sent. All (λ one. Fits one.message) sent.items) }
-    ensures few { IfOk result (λ sent. length sent.items ≤ 15 + 15 + 255 + 255) }
+    ensures few { IfOk result (λ sent. length sent.items ≤ 2 * stop_identifiers + 2 * limit_identifiers) }
     ensures up_to_date { OnOk result (IsUpToDateOrAtTheEnd track.now stops.now limits.now train.new) }
     ensures err { OnErr result (train.new ≡ train.old) }
 {

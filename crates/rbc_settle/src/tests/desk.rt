@@ -67,7 +67,7 @@ impl Desk {
         })
     }
 
-    /// Makes one segment of line 0 a stop.
+    /// Activates a stop on one segment of line 0.
     pub(crate) fn stop(
         &mut self,
         rt: &impl Abort,
@@ -82,7 +82,7 @@ impl Desk {
         Ok(())
     }
 
-    /// Makes one segment of line 0 a restriction to 40 km/h.
+    /// Activates a restriction to 40 km/h on one segment of line 0.
     pub(crate) fn slow(
         &mut self,
         rt: &impl Abort,
@@ -136,7 +136,7 @@ pub(crate) fn lost(alloc: Global, stamp: u32) -> TrainRec {
     TrainRec::new(alloc, 7, 2_000, stamp)
 }
 
-/// Holds an identifier for a number that is not told.
+/// Issues an identifier for a number that is not told.
 pub(crate) fn issue<const N: usize>(
     table: &mut IdTable<N>,
     number: u32,

@@ -1,9 +1,22 @@
 //! Trains whose identifiers are all held.
 
 use super::desk::{Desk, UNKNOWN, UP, at_once, lift, lost, restrict, revoke, used};
+use crate::{TrainRec, settle};
 use rbc_ids::{Kind, StampAck};
 use rbc_zones::Dirs;
 use std::test::Fail;
+
+/// Returns the engine number, the length, the stamp, and how many stops were rejected and identifiers are held.
+fn numbers_of(train: &TrainRec) -> [usize; 6] {
+    [
+        train.engine as usize,
+        train.length as usize,
+        train.stamp as usize,
+        train.forced.len(),
+        train.stops.held(),
+        train.limits.held(),
+    ]
+}
 
 // an identifier that is being revoked is not free: the stop waits until the train has acknowledged the revocation
 #[test]
@@ -69,5 +82,49 @@ fn the_last_of_256_restrictions_waits(rt: HostRuntime) -> Result<(), Fail> {
         train.limits.slot(99),
         Some(used(256, 1_257, Kind::Restriction))
     );
+    Ok(())
+}
+
+// of a full table, of 16 active stops and of a full train, each compared with its source
+#[test]
+fn copies_are_whole(rt: HostRuntime) -> Result<(), Fail> {
+    let mut desk = Desk::new(rt.alloc())?;
+    for number in 1..=16 {
+        desk.stop(&rt, number, 0, 10)?;
+    }
+    let mut train = lost(rt.alloc(), 0);
+    let _ = settle(
+        rt.alloc(),
+        &desk.track,
+        &desk.stops,
+        &desk.limits,
+        &mut train,
+    )?;
+    let table = train.stops.copy(rt.alloc())?;
+    let stops = desk.stops.copy(rt.alloc())?;
+    let copy = train.copy(rt.alloc())?;
+    for id in 0..15 {
+        let number = 1 + u32::from(id);
+        let slot = Some(used(number, number, Kind::Unconditional));
+        assert_eq!(rt; train.stops.slot(id), slot, "identifier {id}");
+        assert_eq!(rt; table.slot(id), slot, "identifier {id} of the table's copy");
+        assert_eq!(rt;
+            copy.stops.slot(id),
+            slot,
+            "identifier {id} of the train's copy"
+        );
+    }
+    for number in 1..=16 {
+        assert!(rt; desk.stops.get(number).is_some(), "stop {number}");
+        assert_eq!(rt;
+            stops.get(number),
+            desk.stops.get(number),
+            "copy of stop {number}"
+        );
+    }
+    assert_eq!(rt; (table.held(), stops.last(), stops.count()), (15, 16, 16));
+    assert_eq!(rt; numbers_of(&train), [7, 2_000, 15, 0, 15, 0]);
+    assert_eq!(rt; numbers_of(&copy), numbers_of(&train));
+    assert_eq!(rt; copy.place, None);
     Ok(())
 }

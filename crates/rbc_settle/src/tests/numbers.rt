@@ -5,7 +5,7 @@ use std::alloc::{AllocError, Global};
 use std::process::Abort;
 use std::test::Fail;
 
-/// Adds a number, and says whether it was not among them.
+/// Adds a number if the list does not have it, and returns whether it was added.
 fn add(numbers: &mut Numbers, n: u32) -> Result<bool, AllocError> {
     if numbers.has(n) {
         Ok(false)
@@ -15,7 +15,7 @@ fn add(numbers: &mut Numbers, n: u32) -> Result<bool, AllocError> {
     }
 }
 
-/// The numbers 1, 3, 5 and 9, not added in order.
+/// Makes a list of 1, 3, 5 and 9, which are not added in order.
 fn four(rt: &impl Abort, alloc: Global) -> Result<Numbers, Fail> {
     let mut numbers = Numbers::new(alloc);
     for n in [5, 1, 9, 3] {
@@ -24,7 +24,7 @@ fn four(rt: &impl Abort, alloc: Global) -> Result<Numbers, Fail> {
     Ok(numbers)
 }
 
-/// The number at an index.
+/// Returns the number at an index, or `None` beyond the end.
 fn at(numbers: &Numbers, index: usize) -> Option<u32> {
     if index < numbers.len() {
         Some(numbers.at(index))
@@ -33,7 +33,7 @@ fn at(numbers: &Numbers, index: usize) -> Option<u32> {
     }
 }
 
-/// Asserts which numbers there are.
+/// Asserts which numbers a list has.
 fn assert_numbers(rt: &impl Abort, numbers: &Numbers, want: &[u32]) {
     assert_eq!(rt; numbers.len(), want.len());
     for (index, n) in want.iter().enumerate() {

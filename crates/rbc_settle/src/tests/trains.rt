@@ -32,7 +32,7 @@ const BEYOND: Position = Position {
     under: 100,
 };
 
-/// Issues an identifier to a number; None where the number is told.
+/// Issues an identifier for a number, or returns `None` if the number is told already.
 fn issue<const N: usize>(
     table: &mut IdTable<N>,
     number: u32,
@@ -45,7 +45,7 @@ fn issue<const N: usize>(
     }
 }
 
-/// Makes a train reject a stop, and says whether it had not rejected it.
+/// Makes a train reject a stop, and returns whether it had not rejected it before.
 fn reject(train: &mut TrainRec, stop: u32) -> Result<bool, AllocError> {
     if train.forced.has(stop) {
         Ok(false)

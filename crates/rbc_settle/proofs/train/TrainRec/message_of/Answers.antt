@@ -2,7 +2,7 @@ use Rattle.std.proofs.Common.{arith, ap, sym, ◌∙◌, subst}
 use Rattle.rbc_settle.specs.declared.action.Action.TheVariants.{RevokeStop, TellStop}
 use Rattle.rbc_settle.specs.Settling.{message_of}
 use Rattle.rbc_settle.specs.Following.{Allows}
-use Rattle.rbc_settle.proofs.Carrying.{free_below, used_below}
+use Rattle.rbc_settle.proofs.Carrying.{used_below}
 use Rattle.rbc_settle.proofs.train.TrainRec.message_of.Goals as goal
 
 pub returns-in-RevokeStop-clause-fits : goal.returns-in-RevokeStop-clause-fits
@@ -11,10 +11,10 @@ returns-in-RevokeStop-clause-fits c =
     let below = used_below 15 c.args.self.now.stops c.requires.tables.stops c.in-RevokeStop.id allowed in
     record { lrbg = c.head.ensures.group; body = omega arith }
 
-pub stop_message-requires-clause-issued : goal.stop_message-requires-clause-issued
-stop_message-requires-clause-issued c =
+pub stop_message-requires-clause-one_of_them : goal.stop_message-requires-clause-one_of_them
+stop_message-requires-clause-one_of_them c =
     let allowed : Allows c.args.self.now (TellStop c.in-TellStop.id c.in-TellStop.number c.in-TellStop.told) = subst (Allows c.args.self.now) c.in-TellStop.is c.requires.allowed in
-    free_below 15 c.args.self.now.stops c.in-TellStop.id allowed.0
+    allowed.below
 
 pub returns-in-TellStop-clause-message : goal.returns-in-TellStop-clause-message
 returns-in-TellStop-clause-message c = c.stop_message.ensures.message c.in-TellStop.number ∙ ap (message_of c.args.self.now) (sym c.in-TellStop.is)
