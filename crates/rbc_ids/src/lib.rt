@@ -6,6 +6,3 @@ mod table;
 
 pub use slot::{IdAck, IssueError, Kind, Slot, StampAck};
 pub use table::IdTable;
-
-#[cfg(test)]
-mod tests;

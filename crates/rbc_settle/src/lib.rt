@@ -15,6 +15,3 @@ pub use numbers::Numbers;
 pub use train::TrainRec;
 pub use upkeep::{Sent, UpToDate, settle, settled};
 pub use witnesses::settle_law_witnesses;
-
-#[cfg(test)]
-mod tests;

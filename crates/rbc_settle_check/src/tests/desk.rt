@@ -1,9 +1,10 @@
 //! A track with what is active on it, the trains on it, and the messages that they are sent.
 
-use crate::{TrainRec, settle};
+use super::same;
 use ertms_codec::{Head, Position, ToTrain};
 use rbc_ids::{IdTable, Kind, Slot};
 use rbc_place::place_of;
+use rbc_settle::{TrainRec, settle};
 use rbc_track::{Track, track_from_toml};
 use rbc_zones::{Area, Dirs, Limit, Limits, Segment, Stops};
 use std::alloc::Global;
@@ -119,14 +120,14 @@ impl Desk {
         let sent = settle(alloc, &self.track, &self.stops, &self.limits, train)?;
         let mut messages = Vec::new(alloc);
         for one in &sent {
-            assert_eq!(rt; one.engine, 7);
+            same(rt, one.engine, 7);
             messages.push(one.message)?;
         }
-        assert_eq!(rt; messages.as_slice(), wanted);
+        same(rt, messages.as_slice(), wanted);
         let stamp = train.stamp;
         let again = settle(alloc, &self.track, &self.stops, &self.limits, train)?;
         assert!(rt; again.is_empty());
-        assert_eq!(rt; train.stamp, stamp);
+        same(rt, train.stamp, stamp);
         Ok(())
     }
 }

@@ -2,7 +2,8 @@
 
 ghost use Rattle.std.specs.Prelude.{◌≤◌};
 
-use super::{IdAck, IdTable, IssueError, Kind, Slot, StampAck};
+use super::same;
+use rbc_ids::{IdAck, IdTable, IssueError, Kind, Slot, StampAck};
 use std::alloc::{AllocError, Global};
 use std::process::Abort;
 use std::test::Fail;
@@ -61,7 +62,7 @@ fn stops<const N: usize>(rt: &impl Abort, alloc: Global, count: u8) -> Result<Id
     for id in 0..count {
         let number = u32::from(id);
         let issued = issue(&mut table, number, number, Kind::Unconditional);
-        assert_eq!(rt; issued, Some(Ok(id)));
+        same(rt, issued, Some(Ok(id)));
     }
     Ok(table)
 }
@@ -79,7 +80,7 @@ fn stop(id: u8) -> Slot {
 /// Makes a table of 15 in which identifier 0 is used by number 1 with stamp 7.
 fn one(rt: &impl Abort, alloc: Global, kind: Kind) -> Result<IdTable<15>, Fail> {
     let mut table = IdTable::new(alloc);
-    assert_eq!(rt; issue(&mut table, 1, 7, kind), Some(Ok(0)));
+    same(rt, issue(&mut table, 1, 7, kind), Some(Ok(0)));
     Ok(table)
 }
 
@@ -96,24 +97,26 @@ fn told(kind: Kind, acked: bool) -> Option<Slot> {
 #[test]
 fn fills_and_frees(rt: HostRuntime) -> Result<(), Fail> {
     let mut table = stops::<15>(&rt, rt.alloc(), 15)?;
-    assert_eq!(rt; table.least_free(), None);
-    assert_eq!(rt;
+    same(&rt, table.least_free(), None);
+    same(
+        &rt,
         issue(&mut table, 15, 15, Kind::Conditional),
-        Some(Err(IssueError::Full))
+        Some(Err(IssueError::Full)),
     );
     for id in 0u8..15 {
-        assert_eq!(rt; table.slot(id), Some(stop(id)));
+        same(&rt, table.slot(id), Some(stop(id)));
     }
     assert!(rt; revoke(&mut table, 3, 99));
-    assert_eq!(rt; table.slot(3), Some(Slot::Revoking { stamp: 99 }));
-    assert_eq!(rt;
+    same(&rt, table.slot(3), Some(Slot::Revoking { stamp: 99 }));
+    same(
+        &rt,
         issue(&mut table, 15, 15, Kind::Conditional),
-        Some(Err(IssueError::Full))
+        Some(Err(IssueError::Full)),
     );
-    assert_eq!(rt; table.held(), 15);
+    same(&rt, table.held(), 15);
     assert!(rt; free(&mut table, 3));
-    assert_eq!(rt; table.least_free(), Some(3));
-    assert_eq!(rt; table.held(), 14);
+    same(&rt, table.least_free(), Some(3));
+    same(&rt, table.held(), 14);
     Ok(())
 }
 
@@ -124,12 +127,13 @@ fn issues_the_least_free_identifier(rt: HostRuntime) -> Result<(), Fail> {
         assert!(rt; free(&mut table, id));
     }
     for (number, want) in [(20, 1), (21, 2), (22, 4), (23, 6)] {
-        assert_eq!(rt; table.least_free(), Some(want));
-        assert_eq!(rt;
+        same(&rt, table.least_free(), Some(want));
+        same(
+            &rt,
             issue(&mut table, number, 50, Kind::Restriction),
-            Some(Ok(want))
+            Some(Ok(want)),
         );
-        assert_eq!(rt; table.of_number(number), Some(want));
+        same(&rt, table.of_number(number), Some(want));
     }
     Ok(())
 }
@@ -149,25 +153,26 @@ fn tells_under_the_identifier_that_was_chosen(rt: HostRuntime) -> Result<(), Fai
             kind: Kind::Conditional,
             acked: false,
         };
-        assert_eq!(rt; table.slot(id), Some(slot));
+        same(&rt, table.slot(id), Some(slot));
         assert!(rt; !tell(&mut table, id, 34)?);
     }
     assert!(rt; !tell(&mut table, 15, 34)?);
-    assert_eq!(rt; (table.held(), table.least_free()), (4, Some(1)));
+    same(&rt, (table.held(), table.least_free()), (4, Some(1)));
     Ok(())
 }
 
 #[test]
 fn issues_255_identifiers(rt: HostRuntime) -> Result<(), Fail> {
     let mut table = stops::<255>(&rt, rt.alloc(), 255)?;
-    assert_eq!(rt;
+    same(
+        &rt,
         issue(&mut table, 255, 0, Kind::Restriction),
-        Some(Err(IssueError::Full))
+        Some(Err(IssueError::Full)),
     );
-    assert_eq!(rt; table.held(), 255);
-    assert_eq!(rt; table.slot(0), Some(stop(0)));
-    assert_eq!(rt; table.slot(254), Some(stop(254)));
-    assert_eq!(rt; table.slot(255), None);
+    same(&rt, table.held(), 255);
+    same(&rt, table.slot(0), Some(stop(0)));
+    same(&rt, table.slot(254), Some(stop(254)));
+    same(&rt, table.slot(255), None);
     Ok(())
 }
 
@@ -190,21 +195,13 @@ fn acknowledges_stops_by_their_identifier(rt: HostRuntime) -> Result<(), Fail> {
         (Kind::Restriction, 0, 3, IdAck::Nothing),
     ] {
         let mut table = one(&rt, rt.alloc(), kind)?;
-        assert_eq!(rt;
-            table.ack_id(id, answer),
-            want,
-            "answer {answer} to {kind:?} {id}"
-        );
+        same(&rt, table.ack_id(id, answer), want);
         let after = match want {
             IdAck::Marked => told(kind, true),
             IdAck::Rejected(_) => None,
             IdAck::Nothing => told(kind, false),
         };
-        assert_eq!(rt;
-            table.slot(0),
-            after,
-            "after answer {answer} to {kind:?} {id}"
-        );
+        same(&rt, table.slot(0), after);
     }
     Ok(())
 }
@@ -212,10 +209,10 @@ fn acknowledges_stops_by_their_identifier(rt: HostRuntime) -> Result<(), Fail> {
 #[test]
 fn acknowledges_a_stop_twice(rt: HostRuntime) -> Result<(), Fail> {
     let mut table = one(&rt, rt.alloc(), Kind::Conditional)?;
-    assert_eq!(rt; table.ack_id(0, 1), IdAck::Marked);
-    assert_eq!(rt; table.ack_id(0, 1), IdAck::Marked);
-    assert_eq!(rt; table.ack_id(0, 3), IdAck::Rejected(1));
-    assert_eq!(rt; table.ack_id(0, 3), IdAck::Nothing);
+    same(&rt, table.ack_id(0, 1), IdAck::Marked);
+    same(&rt, table.ack_id(0, 1), IdAck::Marked);
+    same(&rt, table.ack_id(0, 3), IdAck::Rejected(1));
+    same(&rt, table.ack_id(0, 3), IdAck::Nothing);
     Ok(())
 }
 
@@ -225,13 +222,9 @@ fn acknowledges_no_stop_that_is_revoked(rt: HostRuntime) -> Result<(), Fail> {
         let mut table = one(&rt, rt.alloc(), kind)?;
         assert!(rt; revoke(&mut table, 0, 8));
         for answer in 0u8..4 {
-            assert_eq!(rt;
-                table.ack_id(0, answer),
-                IdAck::Nothing,
-                "answer {answer} to {kind:?}"
-            );
+            same(&rt, table.ack_id(0, answer), IdAck::Nothing);
         }
-        assert_eq!(rt; table.slot(0), Some(Slot::Revoking { stamp: 8 }));
+        same(&rt, table.slot(0), Some(Slot::Revoking { stamp: 8 }));
     }
     Ok(())
 }
@@ -244,16 +237,16 @@ fn acknowledges_by_the_stamp(rt: HostRuntime) -> Result<(), Fail> {
         (Kind::Restriction, StampAck::Marked),
     ] {
         let mut table = one(&rt, rt.alloc(), kind)?;
-        assert_eq!(rt; table.ack_stamp(6), StampAck::Nothing);
+        same(&rt, table.ack_stamp(6), StampAck::Nothing);
         for _ in 0..2 {
-            assert_eq!(rt; table.ack_stamp(7), want, "{kind:?}");
-            assert_eq!(rt; table.slot(0), told(kind, want == StampAck::Marked));
+            same(&rt, table.ack_stamp(7), want);
+            same(&rt, table.slot(0), told(kind, want == StampAck::Marked));
         }
         assert!(rt; revoke(&mut table, 0, 8));
-        assert_eq!(rt; table.ack_stamp(7), StampAck::Nothing);
-        assert_eq!(rt; table.ack_stamp(8), StampAck::Freed);
-        assert_eq!(rt; table.slot(0), None);
-        assert_eq!(rt; table.ack_stamp(8), StampAck::Nothing);
+        same(&rt, table.ack_stamp(7), StampAck::Nothing);
+        same(&rt, table.ack_stamp(8), StampAck::Freed);
+        same(&rt, table.slot(0), None);
+        same(&rt, table.ack_stamp(8), StampAck::Nothing);
     }
     Ok(())
 }
@@ -261,12 +254,16 @@ fn acknowledges_by_the_stamp(rt: HostRuntime) -> Result<(), Fail> {
 #[test]
 fn finds_numbers_that_are_told(rt: HostRuntime) -> Result<(), Fail> {
     let mut table = stops::<15>(&rt, rt.alloc(), 3)?;
-    assert_eq!(rt; table.of_number(1), Some(1));
-    assert_eq!(rt; table.of_number(3), None);
+    same(&rt, table.of_number(1), Some(1));
+    same(&rt, table.of_number(3), None);
     assert!(rt; revoke(&mut table, 1, 9));
-    assert_eq!(rt; table.of_number(1), None);
-    assert_eq!(rt; issue(&mut table, 1, 10, Kind::Conditional), Some(Ok(3)));
-    assert_eq!(rt; table.of_number(1), Some(3));
+    same(&rt, table.of_number(1), None);
+    same(
+        &rt,
+        issue(&mut table, 1, 10, Kind::Conditional),
+        Some(Ok(3)),
+    );
+    same(&rt, table.of_number(1), Some(3));
     Ok(())
 }
 
@@ -274,18 +271,18 @@ fn finds_numbers_that_are_told(rt: HostRuntime) -> Result<(), Fail> {
 fn copies_each_slot(rt: HostRuntime) -> Result<(), Fail> {
     let mut table = stops::<15>(&rt, rt.alloc(), 15)?;
     assert!(rt; revoke(&mut table, 6, 20));
-    assert_eq!(rt; table.ack_id(9, 2), IdAck::Marked);
+    same(&rt, table.ack_id(9, 2), IdAck::Marked);
     let copy = table.copy(rt.alloc())?;
-    assert_eq!(rt; copy.held(), 15);
+    same(&rt, copy.held(), 15);
     for id in 0u8..16 {
-        assert_eq!(rt; copy.slot(id), table.slot(id), "identifier {id}");
+        same(&rt, copy.slot(id), table.slot(id));
     }
     Ok(())
 }
 
 #[test]
 fn reads_the_stamp_of_a_slot(rt: HostRuntime) -> Result<(), Fail> {
-    assert_eq!(rt; stop(5).stamp(), 5);
-    assert_eq!(rt; Slot::Revoking { stamp: 6 }.stamp(), 6);
+    same(&rt, stop(5).stamp(), 5);
+    same(&rt, Slot::Revoking { stamp: 6 }.stamp(), 6);
     Ok(())
 }

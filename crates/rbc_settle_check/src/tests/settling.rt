@@ -3,8 +3,9 @@
 use super::desk::{
     DOWN, Desk, FAR, UNKNOWN, UP, at_once, before, issue, lift, lost, restrict, revoke, used,
 };
-use crate::TrainRec;
+use super::same;
 use rbc_ids::{Kind, Slot};
+use rbc_settle::TrainRec;
 use rbc_zones::Dirs;
 use std::alloc::Global;
 use std::process::Abort;
@@ -55,8 +56,8 @@ fn revocations_ascend_in_the_identifier(rt: HostRuntime) -> Result<(), Fail> {
         (2, used(5, 55, Kind::Restriction)),
         (3, Slot::Revoking { stamp: 66 }),
     ];
-    assert_eq!(rt; train.stops.slots(), stops.as_slice());
-    assert_eq!(rt; train.limits.slots(), limits.as_slice());
+    same(&rt, train.stops.slots(), stops.as_slice());
+    same(&rt, train.limits.slots(), limits.as_slice());
     Ok(())
 }
 
@@ -83,8 +84,8 @@ fn stamps_end_inside_a_list(rt: HostRuntime) -> Result<(), Fail> {
     let mut train = lost(rt.alloc(), 4_294_967_293);
     let last = at_once(4_294_967_294, UNKNOWN, 0);
     desk.assert_sent(&rt, rt.alloc(), &mut train, &[last])?;
-    assert_eq!(rt; train.stamp, 4_294_967_294);
-    assert_eq!(rt; train.stops.of_number(2), None);
+    same(&rt, train.stamp, 4_294_967_294);
+    same(&rt, train.stops.of_number(2), None);
     Ok(())
 }
 
@@ -124,9 +125,9 @@ fn the_first_two_actions_get_the_last_two_stamps(rt: HostRuntime) -> Result<(), 
         (1, used(2, 4_294_967_294, Kind::Conditional)),
     ];
     let limits = [(0, used(1, 91, Kind::Restriction))];
-    assert_eq!(rt; train.stamp, 4_294_967_294);
-    assert_eq!(rt; train.stops.slots(), stops.as_slice());
-    assert_eq!(rt; train.limits.slots(), limits.as_slice());
+    same(&rt, train.stamp, 4_294_967_294);
+    same(&rt, train.stops.slots(), stops.as_slice());
+    same(&rt, train.limits.slots(), limits.as_slice());
     Ok(())
 }
 
@@ -241,10 +242,11 @@ fn a_restriction_behind_is_revoked_and_a_stop_is_not(rt: HostRuntime) -> Result<
     train.place = desk.train(rt.alloc(), 0, &FAR).place;
     desk.assert_sent(&rt, rt.alloc(), &mut train, &[lift(303, 5, 0)])?;
     let stops = [(0, used(1, 301, Kind::Conditional))];
-    assert_eq!(rt; train.stops.slots(), stops.as_slice());
-    assert_eq!(rt;
+    same(&rt, train.stops.slots(), stops.as_slice());
+    same(
+        &rt,
         train.limits.slots(),
-        [(0, Slot::Revoking { stamp: 303 })].as_slice()
+        [(0, Slot::Revoking { stamp: 303 })].as_slice(),
     );
     Ok(())
 }
@@ -266,6 +268,6 @@ fn a_train_without_a_place_keeps_what_is_active(rt: HostRuntime) -> Result<(), F
         (1, Slot::Revoking { stamp: 401 }),
         (2, used(3, 390, Kind::Restriction)),
     ];
-    assert_eq!(rt; train.limits.slots(), limits.as_slice());
+    same(&rt, train.limits.slots(), limits.as_slice());
     Ok(())
 }

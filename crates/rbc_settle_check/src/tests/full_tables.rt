@@ -1,8 +1,9 @@
 //! Trains whose identifiers are all held.
 
 use super::desk::{Desk, UNKNOWN, UP, at_once, lift, lost, restrict, revoke, used};
-use crate::{TrainRec, settle};
+use super::same;
 use rbc_ids::{Kind, StampAck};
+use rbc_settle::{TrainRec, settle};
 use rbc_zones::Dirs;
 use std::test::Fail;
 
@@ -31,20 +32,21 @@ fn the_sixteenth_stop_waits(rt: HostRuntime) -> Result<(), Fail> {
         wanted.push(at_once(101 + u32::from(id), UNKNOWN, id))?;
     }
     desk.assert_sent(&rt, rt.alloc(), &mut train, wanted.as_slice())?;
-    assert_eq!(rt; train.stops.held(), 15);
+    same(&rt, train.stops.held(), 15);
     for id in 0..15 {
         let slot = used(1 + u32::from(id), 101 + u32::from(id), Kind::Unconditional);
-        assert_eq!(rt; train.stops.slot(id), Some(slot));
+        same(&rt, train.stops.slot(id), Some(slot));
     }
     assert!(rt; desk.stops.remove(5));
     desk.assert_sent(&rt, rt.alloc(), &mut train, &[revoke(116, UNKNOWN, 4)])?;
-    assert_eq!(rt; train.stops.ack_stamp(105), StampAck::Nothing);
+    same(&rt, train.stops.ack_stamp(105), StampAck::Nothing);
     desk.assert_sent(&rt, rt.alloc(), &mut train, &[])?;
-    assert_eq!(rt; train.stops.ack_stamp(116), StampAck::Freed);
+    same(&rt, train.stops.ack_stamp(116), StampAck::Freed);
     desk.assert_sent(&rt, rt.alloc(), &mut train, &[at_once(117, UNKNOWN, 4)])?;
-    assert_eq!(rt;
+    same(
+        &rt,
         train.stops.slot(4),
-        Some(used(16, 117, Kind::Unconditional))
+        Some(used(16, 117, Kind::Unconditional)),
     );
     Ok(())
 }
@@ -62,25 +64,26 @@ fn the_last_of_256_restrictions_waits(rt: HostRuntime) -> Result<(), Fail> {
         wanted.push(restrict(1_001 + u32::from(id), id, 1, 1_000, 1_000))?;
     }
     desk.assert_sent(&rt, rt.alloc(), &mut train, wanted.as_slice())?;
-    assert_eq!(rt; train.limits.held(), 255);
+    same(&rt, train.limits.held(), 255);
     for id in 0..255 {
         let slot = used(1 + u32::from(id), 1_001 + u32::from(id), Kind::Restriction);
-        assert_eq!(rt; train.limits.slot(id), Some(slot));
+        same(&rt, train.limits.slot(id), Some(slot));
     }
     assert!(rt; desk.limits.remove(100));
     desk.assert_sent(&rt, rt.alloc(), &mut train, &[lift(1_256, 5, 99)])?;
-    assert_eq!(rt; train.limits.ack_stamp(1_100), StampAck::Nothing);
+    same(&rt, train.limits.ack_stamp(1_100), StampAck::Nothing);
     desk.assert_sent(&rt, rt.alloc(), &mut train, &[])?;
-    assert_eq!(rt; train.limits.ack_stamp(1_256), StampAck::Freed);
+    same(&rt, train.limits.ack_stamp(1_256), StampAck::Freed);
     desk.assert_sent(
         &rt,
         rt.alloc(),
         &mut train,
         &[restrict(1_257, 99, 1, 1_000, 1_000)],
     )?;
-    assert_eq!(rt;
+    same(
+        &rt,
         train.limits.slot(99),
-        Some(used(256, 1_257, Kind::Restriction))
+        Some(used(256, 1_257, Kind::Restriction)),
     );
     Ok(())
 }
@@ -106,25 +109,21 @@ fn copies_are_whole(rt: HostRuntime) -> Result<(), Fail> {
     for id in 0..15 {
         let number = 1 + u32::from(id);
         let slot = Some(used(number, number, Kind::Unconditional));
-        assert_eq!(rt; train.stops.slot(id), slot, "identifier {id}");
-        assert_eq!(rt; table.slot(id), slot, "identifier {id} of the table's copy");
-        assert_eq!(rt;
-            copy.stops.slot(id),
-            slot,
-            "identifier {id} of the train's copy"
-        );
+        same(&rt, train.stops.slot(id), slot);
+        same(&rt, table.slot(id), slot);
+        same(&rt, copy.stops.slot(id), slot);
     }
     for number in 1..=16 {
         assert!(rt; desk.stops.get(number).is_some(), "stop {number}");
-        assert_eq!(rt;
-            stops.get(number),
-            desk.stops.get(number),
-            "copy of stop {number}"
-        );
+        same(&rt, stops.get(number), desk.stops.get(number));
     }
-    assert_eq!(rt; (table.held(), stops.last(), stops.count()), (15, 16, 16));
-    assert_eq!(rt; numbers_of(&train), [7, 2_000, 15, 0, 15, 0]);
-    assert_eq!(rt; numbers_of(&copy), numbers_of(&train));
-    assert_eq!(rt; copy.place, None);
+    same(
+        &rt,
+        (table.held(), stops.last(), stops.count()),
+        (15, 16, 16),
+    );
+    same(&rt, numbers_of(&train), [7, 2_000, 15, 0, 15, 0]);
+    same(&rt, numbers_of(&copy), numbers_of(&train));
+    same(&rt, copy.place, None);
     Ok(())
 }

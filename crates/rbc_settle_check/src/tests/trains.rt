@@ -1,9 +1,10 @@
 //! What is known of a train, at first and in a copy.
 
-use crate::TrainRec;
+use super::same;
 use ertms_codec::Position;
 use rbc_ids::{IdTable, IssueError, Kind, Slot};
 use rbc_place::{Place, place_of};
+use rbc_settle::TrainRec;
 use rbc_track::track_from_toml;
 use std::alloc::AllocError;
 use std::process::Abort;
@@ -57,20 +58,21 @@ fn reject(train: &mut TrainRec, stop: u32) -> Result<bool, AllocError> {
 
 /// Asserts that a train has the numbers 3 and 8 forced, and no more.
 fn assert_forced(rt: &impl Abort, train: &TrainRec) {
-    assert_eq!(rt; train.forced.len(), 2);
+    same(rt, train.forced.len(), 2);
     assert!(rt; train.forced.has(3) && train.forced.has(8));
 }
 
 #[test]
 fn nothing_is_told_at_first(rt: HostRuntime) -> Result<(), Fail> {
     let train = TrainRec::new(rt.alloc(), 7, 2_000, 1_000);
-    assert_eq!(rt;
+    same(
+        &rt,
         (train.engine, train.length, train.stamp),
-        (7, 2_000, 1_000)
+        (7, 2_000, 1_000),
     );
-    assert_eq!(rt; train.place, None);
-    assert_eq!(rt; train.forced.len(), 0);
-    assert_eq!(rt; (train.stops.held(), train.limits.held()), (0, 0));
+    same(&rt, train.place, None);
+    same(&rt, train.forced.len(), 0);
+    same(&rt, (train.stops.held(), train.limits.held()), (0, 0));
     Ok(())
 }
 
@@ -81,38 +83,47 @@ fn copies_each_field(rt: HostRuntime) -> Result<(), Fail> {
     let mut train = TrainRec::new(rt.alloc(), 7, 2_000, 1_000);
     train.place = Some(place);
     assert!(rt; reject(&mut train, 8)? && reject(&mut train, 3)?);
-    assert_eq!(rt;
+    same(
+        &rt,
         issue(&mut train.stops, 4, 1_001, Kind::Conditional),
-        Some(Ok(0))
+        Some(Ok(0)),
     );
-    assert_eq!(rt;
+    same(
+        &rt,
         issue(&mut train.stops, 5, 1_002, Kind::Unconditional),
-        Some(Ok(1))
+        Some(Ok(1)),
     );
-    assert_eq!(rt;
+    same(
+        &rt,
         issue(&mut train.limits, 6, 1_003, Kind::Restriction),
-        Some(Ok(0))
+        Some(Ok(0)),
     );
     let copy = train.copy(rt.alloc())?;
-    assert_eq!(rt; (copy.engine, copy.length, copy.stamp), (7, 2_000, 1_000));
-    assert_eq!(rt;
-        copy.place.map(|place: Place| (place.lo(), place.hi())),
-        Some((9_900, 12_100))
+    same(
+        &rt,
+        (copy.engine, copy.length, copy.stamp),
+        (7, 2_000, 1_000),
     );
-    assert_eq!(rt; copy.place, train.place);
+    same(
+        &rt,
+        copy.place.map(|place: Place| (place.lo(), place.hi())),
+        Some((9_900, 12_100)),
+    );
+    same(&rt, copy.place, train.place);
     assert_forced(&rt, &train);
     assert_forced(&rt, &copy);
-    assert_eq!(rt; copy.stops.slots(), train.stops.slots());
-    assert_eq!(rt; copy.stops.held(), 2);
-    assert_eq!(rt; copy.limits.slots(), train.limits.slots());
-    assert_eq!(rt;
+    same(&rt, copy.stops.slots(), train.stops.slots());
+    same(&rt, copy.stops.held(), 2);
+    same(&rt, copy.limits.slots(), train.limits.slots());
+    same(
+        &rt,
         copy.limits.slot(0),
         Some(Slot::Used {
             number: 6,
             stamp: 1_003,
             kind: Kind::Restriction,
             acked: false,
-        })
+        }),
     );
     Ok(())
 }

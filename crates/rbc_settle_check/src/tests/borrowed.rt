@@ -1,7 +1,8 @@
 //! A train settled while it is borrowed.
 
-use crate::{Sent, TrainRec, settled};
+use super::same;
 use ertms_codec::{Head, ToTrain};
+use rbc_settle::{Sent, TrainRec, settled};
 use rbc_track::track_from_toml;
 use rbc_zones::{Area, Limits, Segment, Stops};
 use std::test::Fail;
@@ -38,11 +39,11 @@ fn a_borrowed_train_stays_as_it_is(rt: HostRuntime) -> Result<(), Fail> {
         id: 0,
     };
     let wanted = [Sent { engine: 7, message }];
-    assert_eq!(rt; after.sent.as_slice(), wanted.as_slice());
-    assert_eq!(rt; after.train.stamp, 21);
-    assert_eq!(rt; after.train.stops.of_number(1), Some(0));
-    assert_eq!(rt; train.stamp, 20);
-    assert_eq!(rt; train.stops.of_number(1), None);
+    same(&rt, after.sent.as_slice(), wanted.as_slice());
+    same(&rt, after.train.stamp, 21);
+    same(&rt, after.train.stops.of_number(1), Some(0));
+    same(&rt, train.stamp, 20);
+    same(&rt, train.stops.of_number(1), None);
     let again = settled(rt.alloc(), &track, &stops, &limits, &after.train)?;
     assert!(rt; again.is_none());
     Ok(())

@@ -1,6 +1,7 @@
 //! Ascending lists of numbers.
 
-use crate::Numbers;
+use super::same;
+use rbc_settle::Numbers;
 use std::alloc::{AllocError, Global};
 use std::process::Abort;
 use std::test::Fail;
@@ -35,9 +36,9 @@ fn at(numbers: &Numbers, index: usize) -> Option<u32> {
 
 /// Asserts which numbers a list has.
 fn assert_numbers(rt: &impl Abort, numbers: &Numbers, want: &[u32]) {
-    assert_eq!(rt; numbers.len(), want.len());
+    same(rt, numbers.len(), want.len());
     for (index, n) in want.iter().enumerate() {
-        assert_eq!(rt; at(numbers, index), Some(*n));
+        same(rt, at(numbers, index), Some(*n));
     }
 }
 
@@ -66,7 +67,7 @@ fn tells_which_numbers_there_are(rt: HostRuntime) -> Result<(), Fail> {
         (9, true),
         (10, false),
     ] {
-        assert_eq!(rt; numbers.has(n), there, "{n}");
+        same(&rt, numbers.has(n), there);
     }
     assert!(rt; !Numbers::new(rt.alloc()).has(0));
     Ok(())

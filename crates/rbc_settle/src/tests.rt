@@ -1,6 +1,0 @@
-mod borrowed;
-mod desk;
-mod full_tables;
-mod numbers;
-mod settling;
-mod trains;

@@ -1,0 +1,15 @@
+mod borrowed;
+mod desk;
+mod full_tables;
+mod identifiers;
+mod numbers;
+mod settling;
+mod trains;
+
+use std::fmt::Debug;
+use std::process::Abort;
+
+/// Asserts that two values are the same.
+fn same<T: Debug + PartialEq + Copy>(rt: &impl Abort, got: T, wanted: T) {
+    assert_eq!(rt; got, wanted);
+}
