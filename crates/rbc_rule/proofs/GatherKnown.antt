@@ -8,7 +8,8 @@ use Rattle.rbc_records.specs.declared.record.Key.TheVariants as key
 use Rattle.rbc_records.specs.Notes.{Notes, Extends, Learns, knows}
 use Rattle.rbc_rule.specs.declared.outcome.RuleFault.{RuleFault}
 use Rattle.rbc_rule.specs.declared.outcome.RuleFault.TheVariants as fault
-use Rattle.rbc_rule.specs.Right.{IsFault, IsFaultOf}
+use Rattle.rbc_rule.specs.Right.{IsFault}
+use Rattle.rbc_rule.specs.Faults.{IsFaultOf}
 
 -- what stays known twice stays known
 pub extends_on : {old middle new : Notes} → Extends old middle → Extends middle new → Extends old new

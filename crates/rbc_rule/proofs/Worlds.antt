@@ -12,7 +12,8 @@ use Rattle.rbc_rule.specs.Step.{after}
 use Rattle.rbc_rule.specs.Records.{record_of}
 use Rattle.rbc_rule.specs.declared.outcome.RuleFault.{RuleFault}
 use Rattle.rbc_rule.specs.declared.outcome.RuleFault.TheVariants.{OutOfMemory, Torn, Reader}
-use Rattle.rbc_rule.specs.Right.{IsStep, MayBe, IsFault, IsFaultOf}
+use Rattle.rbc_rule.specs.Right.{IsStep, MayBe, IsFault}
+use Rattle.rbc_rule.specs.Faults.{IsFaultOf}
 
 -- a world that agrees with notes agrees with those before them
 pub may_have_been : {plan : Plan} {old new : Notes} {w : World} → Extends old new → MayBe plan new w → MayBe plan old w

@@ -5,6 +5,7 @@ pub mod Step
 pub mod Records
 pub mod WellFormed
 pub mod Right
+pub mod Faults
 pub mod Touching
 pub mod Gathered
 pub mod Saying

@@ -47,9 +47,3 @@ abbrev pub IsFault : Plan → RuleFault → Notes → ℕ → ℕ → Type 0
 IsFault plan fault.OutOfMemory notes old new = new ≡ old
 IsFault plan fault.Torn notes old new = (new ≡ old) × IsTorn plan notes
 IsFault plan fault.Reader notes old new = new ≡ old + 1
-
--- and what it says where nothing is read any more
-abbrev pub IsFaultOf : Plan → RuleFault → Notes → Type 0
-IsFaultOf plan fault.OutOfMemory notes = Unit
-IsFaultOf plan fault.Torn notes = IsTorn plan notes
-IsFaultOf plan fault.Reader notes = ⊥

@@ -1,6 +1,6 @@
--- One step of the world, and a run of them (own rule).
+-- One step of the world (own rule).
 use Rattle.std.specs.Prelude.{ℕ, List, [], map, length, Result, Ok, Err}
-use Rattle.std.specs.List.{fold, sum_by}
+use Rattle.std.specs.List.{sum_by}
 use Rattle.ertms_codec.specs.declared.to_train.ToTrain.{ToTrain}
 use Rattle.rbc_track.specs.Plan.{Plan}
 use Rattle.rbc_settle.specs.declared.train.TrainRec.{TrainRec}
@@ -46,7 +46,3 @@ after plan w (Ok changed) = record {
 
 abbrev pub step : Plan → World → Input → Step
 step plan w input = after plan w (effect plan input w)
-
--- the world after inputs, one after another
-abbrev pub world_after : Plan → World → List Input → World
-world_after plan w inputs = fold (λ world input. (step plan world input).world) w inputs

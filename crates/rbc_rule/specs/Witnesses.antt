@@ -1,4 +1,4 @@
--- Worked cases on one track, and what the laws say of them: units of 10 cm and km/h, by the rules of the laws (own rule).
+-- Worked cases of the laws, on one track. Places and lengths are in units of 10 cm, speeds in km/h.
 use Rattle.std.specs.Prelude.{ℕ, Bool, true, false, List, [], ◌∷◌, Option, Some, None, pos}
 use Rattle.ertms_codec.specs.declared.to_train.Head.{Head}
 use Rattle.ertms_codec.specs.declared.to_train.ToTrain.{ToTrain}

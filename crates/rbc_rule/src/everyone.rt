@@ -5,7 +5,8 @@ ghost use Rattle.rbc_records.specs.declared.record.Key.TheVariants as key;
 ghost use Rattle.rbc_records.specs.declared.record.Rec.TheVariants as rec;
 ghost use Rattle.rbc_records.specs.Notes.{Extends, knows};
 ghost use Rattle.rbc_rule.specs.World.{World};
-ghost use Rattle.rbc_rule.specs.Right.{MayBe, IsFault, IsFaultOf};
+ghost use Rattle.rbc_rule.specs.Right.{MayBe, IsFault};
+ghost use Rattle.rbc_rule.specs.Faults.{IsFaultOf};
 ghost use Rattle.rbc_rule.specs.Touching.{BeginsOrEnds, released_from};
 ghost use Rattle.rbc_rule.specs.Gathered.{AreSendable, AreTrainsKnown, settled_outcome};
 

@@ -9,11 +9,11 @@ pub fn step_law()
     ensures { EachStepKeepsWorlds }
 {}
 
-/// A step sends each train one message for each action that settling it carries out, in order, and to nobody anything else; a
-/// step that is refused sends nothing. Each message says to its train what the rules give that train at its place: that a stop
-/// or a restriction is revoked; to stop at once; to stop before the place that lies whole units short of the edge, rounded
-/// down in the finest unit that has room; or to keep to the speed on the told part of the restriction. A message says one
-/// thing at most.
+/// Each step sends to each train one message for each action that settling it carries out, in order, and nothing else; an input
+/// that is refused sends nothing. Read back from its variables, by the balise group that it names, each message says what the rules
+/// give its train there: that a stop or a restriction is revoked; to stop at once; to stop before the last whole unit that does not
+/// lie beyond the edge, in the finest unit that has room; or to keep to the speed of a restriction on the part of it that is told.
+/// No message says two things.
 pub fn says_law()
     ensures says { EachStepSays }
     ensures one_thing { EachMessageSaysOneThing }

@@ -6,7 +6,8 @@ ghost use Rattle.rbc_maps.specs.Maps.{value_of, keys};
 ghost use Rattle.rbc_records.specs.declared.record.Key.TheVariants as key;
 ghost use Rattle.rbc_records.specs.Notes.{knows, noted};
 ghost use Rattle.rbc_rule.specs.World.{World};
-ghost use Rattle.rbc_rule.specs.Right.{MayBe, IsFaultOf};
+ghost use Rattle.rbc_rule.specs.Right.{MayBe};
+ghost use Rattle.rbc_rule.specs.Faults.{IsFaultOf};
 ghost use Rattle.rbc_rule.specs.Gathered.{engines_in, or_none, or_nobody};
 
 use crate::outcome::RuleFault;

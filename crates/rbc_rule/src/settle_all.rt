@@ -9,7 +9,8 @@ ghost use Rattle.rbc_records.specs.declared.record.Key.TheVariants as key;
 ghost use Rattle.rbc_records.specs.declared.record.Rec.TheVariants as rec;
 ghost use Rattle.rbc_records.specs.Notes.{knows};
 ghost use Rattle.rbc_rule.specs.World.{World};
-ghost use Rattle.rbc_rule.specs.Right.{MayBe, IsFaultOf};
+ghost use Rattle.rbc_rule.specs.Right.{MayBe};
+ghost use Rattle.rbc_rule.specs.Faults.{IsFaultOf};
 ghost use Rattle.rbc_rule.specs.Touching.{HasChanged, released_by};
 ghost use Rattle.rbc_rule.specs.Gathered.{write_of, sent_of, write_at, sent_at, AreSendable};
 

@@ -8,7 +8,8 @@ ghost use Rattle.rbc_settle.specs.Trains.{new_train};
 ghost use Rattle.rbc_rule.specs.Records.{engines_record};
 ghost use Rattle.rbc_rule.specs.Inputs as inputs;
 ghost use Rattle.rbc_rule.specs.Effect.{engine_of};
-ghost use Rattle.rbc_rule.specs.Right.{IsRight, IsFault, IsFaultOf};
+ghost use Rattle.rbc_rule.specs.Right.{IsRight, IsFault};
+ghost use Rattle.rbc_rule.specs.Faults.{IsFaultOf};
 ghost use Rattle.rbc_rule.specs.Gathered.{AreSendable, enrolled_outcome, withdrawn_outcome, heard_outcome};
 
 use crate::fetch::fetch;

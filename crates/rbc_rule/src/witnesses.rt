@@ -14,14 +14,14 @@ ghost use Rattle.rbc_rule.specs.Witnesses.{track_a, facing_up, facing_down, stop
 ///
 /// Right: facing up, a stop of 20000 to 21000 is told by 10000 units of 10 cm, and one of 50005 to 60000 by 4000 units of 1 m;
 /// facing down, one of 1000 to 3000 is told by 7000 units the other way; a restriction of 9000 to 11000 is told from the balise
-/// group on, over 1000 units; two stops at the enrolment of a train without a place are told by two messages; a stop that is
-/// released is revoked under its identifier; where nothing is released nothing is sent; and a message that tells 10000 units
-/// says to stop before 20000.
+/// group on, over 1000 units; two stops that are active when a train is enrolled are told by two messages; a stop that is released
+/// is revoked under its identifier; a release that is refused sends nothing; and a message that tells 10000 units says to stop before
+/// 20000.
 ///
 /// Wrong: the spare scale 5; 0 units for an edge that is 10000 units ahead; a restriction of 11050 to 12050 told from 11000 to
 /// 12100; its speed in units of 1 km/h; its part told the wrong way; a distance that leads beyond the end of the line; Q_DIR
 /// both; a distance rounded up, and one in coarser units than need be; a message dropped; a message sent twice; one sent to another
-/// train; the revocation of another identifier; a message where nothing is to be said; and another place read from the message.
+/// train; the revocation of another identifier; a message though the release is refused; and another place read from the message.
 pub fn says_law_witnesses()
     ensures edge_at_20000 { IsSaidOfStop facing_up 20000 21000 (stop_before 1 0 10000 ∷ []) }
     ensures edge_at_50005 { IsSaidOfStop facing_up 50005 60000 (stop_before 1 1 4000 ∷ []) }
