@@ -148,12 +148,16 @@ class Source:
     def __init__(self, folder):
         self.functions, self.types, self.names, self.given, self.ghosts = [], {}, set(), set(), []
         self.in_file = {}
+        self.clauses_written = 0  # in the text, to be held against those that were read
         for path in sorted(folder.rglob("*.rt")):
             module = path.relative_to(folder).as_posix()
             self.is_test = "tests" in module
             self.module = module
             self.in_file.setdefault(module, set())
             text = blank(RUST_NOISE, path.read_text())
+            if not self.is_test:
+                shown = text.split("#[cfg(test)]\nmod tests {")[0]
+                self.clauses_written += len(re.findall(r"\b(?:requires|ensures)\b", shown))
             self.walk(text, 0, len(text), Scope(), None, None, False)
 
     def name(self, *names):
@@ -299,6 +303,11 @@ class World:
         self.witnessed = {node[1:] for node in self.reached["witness"]}
 
     # -- questions
+
+    def misread(self):
+        """The crates in whose text there are more or fewer clauses than were read."""
+        return [crate.name for crate in self.crates.values()
+                if crate.source.clauses_written != sum(len(found.clauses) for found in crate.source.functions)]
 
     def specs(self):
         return {(crate.name, file) for crate in self.crates.values() for file in crate.specs}
