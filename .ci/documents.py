@@ -172,6 +172,8 @@ def model_rows(text):
 
 
 def model_faults(world, text):
+    for crate in world.misread():
+        yield None, f"cannot be checked: not all clauses of {crate} were read"
     said, kit, seen = {}, set(), set()
     for place, part, names, where in model_rows(text):
         if where.startswith("Rattle."):

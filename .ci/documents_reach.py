@@ -126,6 +126,16 @@ def statement_end(text, place):
     return len(text)
 
 
+def head_end(text, place):
+    """The first brace or semicolon from a place on that stands in no parentheses, as that of `[u8; 32]` does."""
+    depth = 0
+    for at in range(place, len(text)):
+        depth += {"(": 1, "[": 1, ")": -1, "]": -1}.get(text[at], 0)
+        if text[at] in "{;" and depth == 0:
+            return at
+    return len(text)
+
+
 class Source:
     """What stands in the files of a crate's src/."""
     ITEM = re.compile(
@@ -138,12 +148,16 @@ class Source:
     def __init__(self, folder):
         self.functions, self.types, self.names, self.given, self.ghosts = [], {}, set(), set(), []
         self.in_file = {}
+        self.clauses_written = 0  # in the text, to be held against those that were read
         for path in sorted(folder.rglob("*.rt")):
             module = path.relative_to(folder).as_posix()
             self.is_test = "tests" in module
             self.module = module
             self.in_file.setdefault(module, set())
             text = blank(RUST_NOISE, path.read_text())
+            if not self.is_test:
+                shown = text.split("#[cfg(test)]\nmod tests {")[0]
+                self.clauses_written += len(re.findall(r"\b(?:requires|ensures)\b", shown))
             self.walk(text, 0, len(text), Scope(), None, None, False)
 
     def name(self, *names):
@@ -202,21 +216,20 @@ class Source:
             self.given.add(name)
         at = match.end()
         while True:
-            brace = re.compile(r"[{;]").search(text, at)
-            head = text[at:brace.start()]
+            stop = head_end(text, at)
+            head = text[at:stop]
             clause = re.search(r"\b(?:requires|ensures)(?:\s+(\w+))?\s*$", head)
             found.signature += head[:clause.start()] if clause else head
-            if brace.group() == ";":
-                at = brace.end()
+            if text[stop] == ";":
+                at = stop + 1
                 break
-            stop = closing(text, brace.start())
+            at = closing(text, stop)
+            inner = text[stop + 1:at - 1]
             if not clause:
-                found.is_law = not text[brace.end():stop - 1].strip() and bool(found.clauses) and "->" not in found.signature
-                at = stop
+                found.is_law = not inner.strip() and bool(found.clauses) and "->" not in found.signature
                 break
-            found.clauses.append(text[brace.end():stop - 1])
+            found.clauses.append(inner)
             self.name(*(name for name in [clause.group(1)] if name))
-            at = stop
         self.name(*re.findall(r"(\w+): ", found.signature))
         if not self.is_test:
             self.functions.append(found)
@@ -224,8 +237,8 @@ class Source:
 
     def type(self, text, match):
         name = re.compile(r"\s*(\w+)").match(text, match.end()).group(1)
-        stop = re.compile(r"[{;]").search(text, match.end())
-        at = stop.end() if stop.group() == ";" else closing(text, stop.start())
+        stop = head_end(text, match.end())
+        at = stop + 1 if text[stop] == ";" else closing(text, stop)
         found = Type(name, self.module, text[match.start():at])
         self.name(name, *found.members)
         if self.module == "lib.rt" and found.text.startswith("pub "):
@@ -290,6 +303,11 @@ class World:
         self.witnessed = {node[1:] for node in self.reached["witness"]}
 
     # -- questions
+
+    def misread(self):
+        """The crates in whose text there are more or fewer clauses than were read."""
+        return [crate.name for crate in self.crates.values()
+                if crate.source.clauses_written != sum(len(found.clauses) for found in crate.source.functions)]
 
     def specs(self):
         return {(crate.name, file) for crate in self.crates.values() for file in crate.specs}
