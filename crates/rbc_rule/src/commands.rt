@@ -2,7 +2,7 @@
 
 ghost use Rattle.std.specs.Prelude.{◌≡◌, ◌+◌, ◌≤◌, ◌<◌, ◌^◌, IfOk, IfErr, OnOk, length};
 ghost use Rattle.rbc_records.specs.Notes.{Extends};
-ghost use Rattle.rbc_rule.specs.Right.{IsRight, IsFault};
+ghost use Rattle.rbc_rule.specs.Right.{IsRight, IsSilentIfRefused, IsFault};
 ghost use Rattle.rbc_rule.specs.Gathered.{AreSendable};
 
 use crate::change::{self, Restriction};
@@ -27,6 +27,7 @@ pub(crate) fn stop<S: Reader>(
     requires room { S.failed store.old + 1 < 2 ^ 64 }
     requires some { 1 ≤ length segments.now }
     ensures right { IfOk result (λ outcome. IsRight track.now (Input.Stop number segments.now) (S.notes store.new) outcome.result outcome.writes outcome.messages) }
+    ensures refused { IfOk result (λ outcome. IsSilentIfRefused outcome.result outcome.writes outcome.messages) }
     ensures fit { IfOk result (λ outcome. AreSendable outcome.messages) }
     ensures extends { Extends (S.notes store.old) (S.notes store.new) }
     ensures fault { IfErr result (λ fault. IsFault track.now fault (S.notes store.new) (S.failed store.old) (S.failed store.new)) }
@@ -50,6 +51,7 @@ pub(crate) fn release<S: Reader>(
 ) -> Result<Outcome, RuleFault>
     requires { S.failed store.old + 1 < 2 ^ 64 }
     ensures right { IfOk result (λ outcome. IsRight track.now (Input.Release number) (S.notes store.new) outcome.result outcome.writes outcome.messages) }
+    ensures refused { IfOk result (λ outcome. IsSilentIfRefused outcome.result outcome.writes outcome.messages) }
     ensures fit { IfOk result (λ outcome. AreSendable outcome.messages) }
     ensures extends { Extends (S.notes store.old) (S.notes store.new) }
     ensures fault { IfErr result (λ fault. IsFault track.now fault (S.notes store.new) (S.failed store.old) (S.failed store.new)) }
@@ -73,6 +75,7 @@ pub(crate) fn restrict<S: Reader>(
 ) -> Result<Outcome, RuleFault>
     requires { S.failed store.old + 1 < 2 ^ 64 }
     ensures right { IfOk result (λ outcome. IsRight track.now (Input.Restrict new.now.number new.now.segment new.now.dirs new.now.speed new.now.front) (S.notes store.new) outcome.result outcome.writes outcome.messages) }
+    ensures refused { IfOk result (λ outcome. IsSilentIfRefused outcome.result outcome.writes outcome.messages) }
     ensures fit { IfOk result (λ outcome. AreSendable outcome.messages) }
     ensures extends { Extends (S.notes store.old) (S.notes store.new) }
     ensures fault { IfErr result (λ fault. IsFault track.now fault (S.notes store.new) (S.failed store.old) (S.failed store.new)) }
@@ -96,6 +99,7 @@ pub(crate) fn lift<S: Reader>(
 ) -> Result<Outcome, RuleFault>
     requires { S.failed store.old + 1 < 2 ^ 64 }
     ensures right { IfOk result (λ outcome. IsRight track.now (Input.Lift number) (S.notes store.new) outcome.result outcome.writes outcome.messages) }
+    ensures refused { IfOk result (λ outcome. IsSilentIfRefused outcome.result outcome.writes outcome.messages) }
     ensures fit { IfOk result (λ outcome. AreSendable outcome.messages) }
     ensures extends { Extends (S.notes store.old) (S.notes store.new) }
     ensures fault { IfErr result (λ fault. IsFault track.now fault (S.notes store.new) (S.failed store.old) (S.failed store.new)) }

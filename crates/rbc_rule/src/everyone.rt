@@ -5,7 +5,7 @@ ghost use Rattle.rbc_records.specs.declared.record.Key.TheVariants as key;
 ghost use Rattle.rbc_records.specs.declared.record.Rec.TheVariants as rec;
 ghost use Rattle.rbc_records.specs.Notes.{Extends, knows};
 ghost use Rattle.rbc_rule.specs.World.{World};
-ghost use Rattle.rbc_rule.specs.Right.{MayBe, IsFault, IsFaultOf};
+ghost use Rattle.rbc_rule.specs.Right.{MayBe, IsSilentIfRefused, IsFault, IsFaultOf};
 ghost use Rattle.rbc_rule.specs.Touching.{BeginsOrEnds, released_from};
 ghost use Rattle.rbc_rule.specs.Gathered.{AreSendable, AreTrainsKnown, settled_outcome};
 
@@ -31,6 +31,7 @@ pub(crate) fn stops_changed<S: Reader>(
     requires room { S.failed store.old + 1 < 2 ^ 64 }
     requires changed { (w : World) → MayBe track.now (S.notes store.old) w → BeginsOrEnds number w.stops stops }
     ensures outcome { IfOk result (λ outcome. (w : World) → MayBe track.now (S.notes store.new) w → outcome ≡ settled_outcome track.now stops w.limits (released_from number stops) w.trains key.Stops (rec.Stops stops)) }
+    ensures refused { IfOk result (λ outcome. IsSilentIfRefused outcome.result outcome.writes outcome.messages) }
     ensures fit { IfOk result (λ outcome. AreSendable outcome.messages) }
     ensures extends { Extends (S.notes store.old) (S.notes store.new) }
     ensures fault { IfErr result (λ fault. IsFault track.now fault (S.notes store.new) (S.failed store.old) (S.failed store.new)) }
@@ -53,6 +54,7 @@ fn settled_with_stops<S: Reader>(
     requires trains { AreTrainsKnown (S.notes store.now) }
     requires changed { (w : World) → MayBe track.now (S.notes store.now) w → BeginsOrEnds number w.stops stops }
     ensures outcome { IfOk result (λ outcome. (w : World) → MayBe track.now (S.notes store.now) w → outcome ≡ settled_outcome track.now stops w.limits (released_from number stops) w.trains key.Stops (rec.Stops stops)) }
+    ensures refused { IfOk result (λ outcome. IsSilentIfRefused outcome.result outcome.writes outcome.messages) }
     ensures fit { IfOk result (λ outcome. AreSendable outcome.messages) }
     ensures fault { IfErr result (λ fault. IsFaultOf track.now fault (S.notes store.now)) }
 {
@@ -77,6 +79,7 @@ pub(crate) fn limits_changed<S: Reader>(
     requires room { S.failed store.old + 1 < 2 ^ 64 }
     requires changed { (w : World) → MayBe track.now (S.notes store.old) w → BeginsOrEnds number w.limits limits }
     ensures outcome { IfOk result (λ outcome. (w : World) → MayBe track.now (S.notes store.new) w → outcome ≡ settled_outcome track.now w.stops limits None w.trains key.Limits (rec.Limits limits)) }
+    ensures refused { IfOk result (λ outcome. IsSilentIfRefused outcome.result outcome.writes outcome.messages) }
     ensures fit { IfOk result (λ outcome. AreSendable outcome.messages) }
     ensures extends { Extends (S.notes store.old) (S.notes store.new) }
     ensures fault { IfErr result (λ fault. IsFault track.now fault (S.notes store.new) (S.failed store.old) (S.failed store.new)) }
@@ -99,6 +102,7 @@ fn settled_with_limits<S: Reader>(
     requires trains { AreTrainsKnown (S.notes store.now) }
     requires changed { (w : World) → MayBe track.now (S.notes store.now) w → BeginsOrEnds number w.limits limits }
     ensures outcome { IfOk result (λ outcome. (w : World) → MayBe track.now (S.notes store.now) w → outcome ≡ settled_outcome track.now w.stops limits None w.trains key.Limits (rec.Limits limits)) }
+    ensures refused { IfOk result (λ outcome. IsSilentIfRefused outcome.result outcome.writes outcome.messages) }
     ensures fit { IfOk result (λ outcome. AreSendable outcome.messages) }
     ensures fault { IfErr result (λ fault. IsFaultOf track.now fault (S.notes store.now)) }
 {

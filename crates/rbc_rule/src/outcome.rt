@@ -2,6 +2,7 @@
 
 ghost use Rattle.std.specs.Prelude.{◌≡◌, ◌<◌, ◌^◌, [], ◌∷◌, ◌++◌, OnOk, OnErr, length, slice_get, Some};
 ghost use Rattle.rbc_rule.specs.declared.outcome.Reply.TheVariants.{Done, Refused};
+ghost use Rattle.rbc_rule.specs.Right.{IsSilentIfRefused};
 
 use rbc_records::Writes;
 use rbc_settle::Sent;
@@ -101,7 +102,8 @@ pub struct Outcome {
 impl Outcome {
     /// Of an input that is refused.
     pub(crate) fn refused(alloc: Global, code: u8) -> Self
-        ensures { result ≡ record { result = Refused code; writes = []; messages = [] } }
+        ensures outcome { result ≡ record { result = Refused code; writes = []; messages = [] } }
+        ensures silent { IsSilentIfRefused result.result result.writes result.messages }
     {
         Outcome {
             result: Reply::Refused(code),
@@ -113,7 +115,8 @@ impl Outcome {
     /// Of an input that is accepted.
     pub(crate) fn done(writes: Writes, messages: SentList) -> Self
         requires { length messages < 2 ^ 32 }
-        ensures { result ≡ record { result = Done (length messages); writes = writes; messages = messages } }
+        ensures outcome { result ≡ record { result = Done (length messages); writes = writes; messages = messages } }
+        ensures silent { IsSilentIfRefused result.result result.writes result.messages }
     {
         Outcome {
             result: Reply::Done(messages.len() as u32),

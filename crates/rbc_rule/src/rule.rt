@@ -3,7 +3,7 @@
 ghost use Rattle.std.specs.Prelude.{◌≡◌, ◌+◌, ◌<◌, ◌^◌, IfOk, IfErr, OnOk};
 ghost use Rattle.rbc_records.specs.Notes.{Extends};
 ghost use Rattle.rbc_rule.specs.Inputs.{Fits};
-ghost use Rattle.rbc_rule.specs.Right.{IsRight, IsFault};
+ghost use Rattle.rbc_rule.specs.Right.{IsRight, IsSilentIfRefused, IsFault};
 ghost use Rattle.rbc_rule.specs.Gathered.{AreSendable};
 
 use crate::change::Restriction;
@@ -31,6 +31,7 @@ pub fn decide<S: Reader>(
     requires room { S.failed store.old + 1 < 2 ^ 64 }
     requires fits { Fits input.now }
     ensures right { IfOk result (λ outcome. IsRight track.now (input.now) (S.notes store.new) outcome.result outcome.writes outcome.messages) }
+    ensures refused { IfOk result (λ outcome. IsSilentIfRefused outcome.result outcome.writes outcome.messages) }
     ensures fit { IfOk result (λ outcome. AreSendable outcome.messages) }
     ensures extends { Extends (S.notes store.old) (S.notes store.new) }
     ensures fault { IfErr result (λ fault. IsFault track.now fault (S.notes store.new) (S.failed store.old) (S.failed store.new)) }

@@ -8,7 +8,7 @@ ghost use Rattle.rbc_settle.specs.Trains.{new_train};
 ghost use Rattle.rbc_rule.specs.Records.{engines_record};
 ghost use Rattle.rbc_rule.specs.Inputs as inputs;
 ghost use Rattle.rbc_rule.specs.Effect.{engine_of};
-ghost use Rattle.rbc_rule.specs.Right.{IsRight, IsFault, IsFaultOf};
+ghost use Rattle.rbc_rule.specs.Right.{IsRight, IsSilentIfRefused, IsFault, IsFaultOf};
 ghost use Rattle.rbc_rule.specs.Gathered.{AreSendable, enrolled_outcome, withdrawn_outcome, heard_outcome};
 
 use crate::fetch::fetch;
@@ -45,6 +45,7 @@ pub(crate) fn enrol<S: Reader>(
     requires room { S.failed store.old + 1 < 2 ^ 64 }
     requires fits { inputs.Fits (Input.Enrol engine train_length) }
     ensures right { IfOk result (λ outcome. IsRight track.now (Input.Enrol engine train_length) (S.notes store.new) outcome.result outcome.writes outcome.messages) }
+    ensures refused { IfOk result (λ outcome. IsSilentIfRefused outcome.result outcome.writes outcome.messages) }
     ensures fit { IfOk result (λ outcome. AreSendable outcome.messages) }
     ensures extends { Extends (S.notes store.old) (S.notes store.new) }
     ensures fault { IfErr result (λ fault. IsFault track.now fault (S.notes store.new) (S.failed store.old) (S.failed store.new)) }
@@ -69,6 +70,7 @@ fn enrolled<S: Reader>(
     requires stops { IsTrue (knows (S.notes store.now) key.Stops) }
     requires limits { IsTrue (knows (S.notes store.now) key.Limits) }
     ensures right { IfOk result (λ outcome. IsRight track.now (Input.Enrol engine train_length) (S.notes store.now) outcome.result outcome.writes outcome.messages) }
+    ensures refused { IfOk result (λ outcome. IsSilentIfRefused outcome.result outcome.writes outcome.messages) }
     ensures fit { IfOk result (λ outcome. AreSendable outcome.messages) }
     ensures fault { IfErr result (λ fault. IsFaultOf track.now fault (S.notes store.now)) }
 {
@@ -101,6 +103,7 @@ fn enrolled_outcome(
     requires new { has_number engines.now train.engine ≡ false }
     requires plain { train ≡ new_train train.engine train.length 0 }
     ensures outcome { IfOk result (λ outcome. outcome ≡ enrolled_outcome track.now stops.now limits.now train.engine train.length engines.now) }
+    ensures refused { IfOk result (λ outcome. IsSilentIfRefused outcome.result outcome.writes outcome.messages) }
     ensures fit { IfOk result (λ outcome. AreSendable outcome.messages) }
 {
     let mut train = train;
@@ -123,6 +126,7 @@ pub(crate) fn withdraw<S: Reader>(
 ) -> Result<Outcome, RuleFault>
     requires { S.failed store.old + 1 < 2 ^ 64 }
     ensures right { IfOk result (λ outcome. IsRight track.now (Input.Withdraw engine) (S.notes store.new) outcome.result outcome.writes outcome.messages) }
+    ensures refused { IfOk result (λ outcome. IsSilentIfRefused outcome.result outcome.writes outcome.messages) }
     ensures fit { IfOk result (λ outcome. AreSendable outcome.messages) }
     ensures extends { Extends (S.notes store.old) (S.notes store.new) }
     ensures fault { IfErr result (λ fault. IsFault track.now fault (S.notes store.new) (S.failed store.old) (S.failed store.new)) }
@@ -143,6 +147,7 @@ fn withdrawn<S: Reader>(
     requires train { IsTrue (knows (S.notes store.now) (key.Train engine)) }
     requires roster { IsTrue (knows (S.notes store.now) key.Roster) }
     ensures right { IfOk result (λ outcome. IsRight track.now (Input.Withdraw engine) (S.notes store.now) outcome.result outcome.writes outcome.messages) }
+    ensures refused { IfOk result (λ outcome. IsSilentIfRefused outcome.result outcome.writes outcome.messages) }
     ensures fit { IfOk result (λ outcome. AreSendable outcome.messages) }
     ensures fault { IfErr result (λ fault. IsFaultOf track.now fault (S.notes store.now)) }
 {
@@ -160,7 +165,8 @@ fn withdrawn<S: Reader>(
 
 /// The outcome for a train that leaves.
 fn withdrawn_outcome(alloc: Global, engine: u32, engines: &Numbers) -> Result<Outcome, AllocError>
-    ensures { IfOk result (λ outcome. outcome ≡ withdrawn_outcome engine engines.now) }
+    ensures outcome { IfOk result (λ outcome. outcome ≡ withdrawn_outcome engine engines.now) }
+    ensures refused { IfOk result (λ outcome. IsSilentIfRefused outcome.result outcome.writes outcome.messages) }
 {
     let mut engines = engines.copy(alloc)?;
     let _ = engines.remove(engine);
@@ -179,6 +185,7 @@ pub(crate) fn receive<S: Reader>(
 ) -> Result<Outcome, RuleFault>
     requires { S.failed store.old + 1 < 2 ^ 64 }
     ensures right { IfOk result (λ outcome. IsRight track.now (Input.Received message.now) (S.notes store.new) outcome.result outcome.writes outcome.messages) }
+    ensures refused { IfOk result (λ outcome. IsSilentIfRefused outcome.result outcome.writes outcome.messages) }
     ensures fit { IfOk result (λ outcome. AreSendable outcome.messages) }
     ensures extends { Extends (S.notes store.old) (S.notes store.new) }
     ensures fault { IfErr result (λ fault. IsFault track.now fault (S.notes store.new) (S.failed store.old) (S.failed store.new)) }
@@ -201,6 +208,7 @@ fn received<S: Reader>(
     requires stops { IsTrue (knows (S.notes store.now) key.Stops) }
     requires limits { IsTrue (knows (S.notes store.now) key.Limits) }
     ensures right { IfOk result (λ outcome. IsRight track.now (Input.Received message.now) (S.notes store.now) outcome.result outcome.writes outcome.messages) }
+    ensures refused { IfOk result (λ outcome. IsSilentIfRefused outcome.result outcome.writes outcome.messages) }
     ensures fit { IfOk result (λ outcome. AreSendable outcome.messages) }
     ensures fault { IfErr result (λ fault. IsFaultOf track.now fault (S.notes store.now)) }
 {
@@ -229,6 +237,7 @@ fn heard_outcome(
     limits: &Limits,
 ) -> Result<Outcome, AllocError>
     ensures outcome { IfOk result (λ outcome. outcome ≡ heard_outcome track.now stops.now limits.now engine train) }
+    ensures refused { IfOk result (λ outcome. IsSilentIfRefused outcome.result outcome.writes outcome.messages) }
     ensures fit { IfOk result (λ outcome. AreSendable outcome.messages) }
 {
     let mut train = train;

@@ -41,5 +41,5 @@ pub returns-clause-right : goal.returns-clause-right
 returns-clause-right g c = λ w m.
     let old = c.unwrap_or-stops.result.now in
     let old_is = read_or c.in_ok-stops.field-0 c.unwrap_or-stops.result _ _ c.unwrap_or-stops.ensures c.new-none.ensures ∙ c.in_ok-stops.ensures.stops c.args.track.now w m in
-    refused_right c.args.track.now (Release c.args.number) w c.in-Err.code c.refused.result c.refused.ensures
+    refused_right c.args.track.now (Release c.args.number) w c.in-Err.code c.refused.result c.refused.ensures.outcome
     (release_refused c.args.track.now w c.args.number old old_is c.in_ok-stops-2.field-0 c.in_ok-stops-2.ensures c.in-Err.code c.in-Err.is)

@@ -36,5 +36,5 @@ pub returns-clause-right : goal.returns-clause-right
 returns-clause-right g c = λ w m.
     let old = c.unwrap_or-limits.result.now in
     let old_is = read_or c.in_ok-limits.field-0 c.unwrap_or-limits.result _ _ c.unwrap_or-limits.ensures c.new-none.ensures ∙ c.in_ok-limits.ensures.limits c.args.track.now w m in
-    refused_right c.args.track.now (Restrict c.args.new.now.number c.args.new.now.segment c.args.new.now.dirs c.args.new.now.speed c.args.new.now.front) w c.in-Err.code c.refused.result c.refused.ensures
+    refused_right c.args.track.now (Restrict c.args.new.now.number c.args.new.now.segment c.args.new.now.dirs c.args.new.now.speed c.args.new.now.front) w c.in-Err.code c.refused.result c.refused.ensures.outcome
     (restrict_refused c.args.track.now w c.args.new.now.number old old_is c.in_ok-limits-2.field-0 c.args.new.now.segment c.args.new.now.dirs c.args.new.now.speed c.args.new.now.front c.in_ok-limits-2.ensures c.in-Err.code c.in-Err.is)

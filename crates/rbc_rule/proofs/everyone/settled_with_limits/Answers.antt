@@ -19,5 +19,5 @@ returns-clause-outcome g c = λ w m.
     let engines = read_or c.in_ok-roster.field-0 c.unwrap_or-engines.result _ _ c.unwrap_or-engines.ensures c.new-nobody.ensures ∙ c.in_ok-roster.ensures.engines plan w m in
     let stops = read_or c.in_ok-stops.field-0 c.unwrap_or-stops.result _ _ c.unwrap_or-stops.ensures c.new-none.ensures ∙ c.in_ok-stops.ensures.stops plan w m in
     gathered_outcome plan c.unwrap_or-stops.result.now c.args.limits None w key.Limits (rec.Limits c.args.limits) c.done.result c.in_ok-gathered.gathered.writes c.set.new.self c.in_ok-gathered.gathered.messages c.unwrap_or-engines.result.now
-    m.well_formed c.done.ensures c.in_ok-set.ensures.ok (c.in_ok-gathered.ensures.writes w m) (c.in_ok-gathered.ensures.messages w m) engines
+    m.well_formed c.done.ensures.outcome c.in_ok-set.ensures.ok (c.in_ok-gathered.ensures.writes w m) (c.in_ok-gathered.ensures.messages w m) engines
     ∙ ap (λ stops. settled_outcome plan stops c.args.limits None w.trains key.Limits (rec.Limits c.args.limits)) stops

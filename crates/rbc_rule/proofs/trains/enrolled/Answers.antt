@@ -10,14 +10,14 @@ pub returns-then-has-clause-right : goal.returns-then-has-clause-right
 returns-then-has-clause-right g c = λ w m.
     let plan = c.args.track.now in
     let engines = read_or c.in_ok-roster.field-0 c.unwrap_or-engines.result _ _ c.unwrap_or-engines.ensures c.new-nobody.ensures ∙ c.in_ok-roster.ensures.engines plan w m in
-    refused_right plan (Enrol c.args.engine c.args.train_length) w 8 c.refused.result c.refused.ensures
+    refused_right plan (Enrol c.args.engine c.args.train_length) w 8 c.refused.result c.refused.ensures.outcome
     (enrol_known plan w c.args.engine c.args.train_length c.unwrap_or-engines.result.now engines c.has.result c.has.ensures c.if-has.true)
 
 pub returns-then-len-ge-MAX_TRAINS-clause-right : goal.returns-then-len-ge-MAX_TRAINS-clause-right
 returns-then-len-ge-MAX_TRAINS-clause-right g c = λ w m.
     let plan = c.args.track.now in
     let engines = read_or c.in_ok-roster.field-0 c.unwrap_or-engines.result _ _ c.unwrap_or-engines.ensures c.new-nobody.ensures ∙ c.in_ok-roster.ensures.engines plan w m in
-    refused_right plan (Enrol c.args.engine c.args.train_length) w 9 c.refused-then-len-ge-MAX_TRAINS.result c.refused-then-len-ge-MAX_TRAINS.ensures
+    refused_right plan (Enrol c.args.engine c.args.train_length) w 9 c.refused-then-len-ge-MAX_TRAINS.result c.refused-then-len-ge-MAX_TRAINS.ensures.outcome
     (enrol_full plan w c.args.engine c.args.train_length c.unwrap_or-engines.result.now engines c.has.result c.has.ensures c.if-has.false (omega arith))
 
 -- what was read is the world's, so the outcome is the step's

@@ -34,4 +34,4 @@ returns-clause-outcome c =
     c.from_vec.ensures
     ∙ sent_is engine (messages_of plan stops limits train) c.in_ok-sent.sent.items c.in_ok-sent.ensures.messages c.in_ok-sent.ensures.engine
     ∙ ap (λ (t : TrainRec). to_engine engine (messages_of plan stops limits t)) plain in
-    done_is engine (messages_of plan stops limits new) c.from_vec.result c.set-2.new.self writes c.done.result c.done.ensures written sent
+    done_is engine (messages_of plan stops limits new) c.from_vec.result c.set-2.new.self writes c.done.result c.done.ensures.outcome written sent

@@ -21,4 +21,4 @@ returns-clause-outcome c =
     c.in_ok-set.ensures.ok ∙ (λ i. none i ++ (key.Train c.args.engine, Some (rec.Train (after i))) ∷ []) in
     let sent : c.from_vec.result ≡ to_engine train.engine (messages_of plan stops limits train) =
     c.from_vec.ensures ∙ sent_is train.engine (messages_of plan stops limits train) c.in_ok-sent.sent.items c.in_ok-sent.ensures.messages c.in_ok-sent.ensures.engine in
-    done_is train.engine (messages_of plan stops limits train) c.from_vec.result c.set.new.self writes c.done.result c.done.ensures written sent
+    done_is train.engine (messages_of plan stops limits train) c.from_vec.result c.set.new.self writes c.done.result c.done.ensures.outcome written sent

@@ -11,7 +11,7 @@ pub returns-in-Err-clause-right : goal.returns-in-Err-clause-right
 returns-in-Err-clause-right g c = λ w m.
     let plan = c.args.track.now in
     let found = sym (ap option_copied c.in-Some.is) ∙ c.in_ok-train.ensures.train plan w m ∙ ap (value_of w.trains) c.engine_of.ensures in
-    refused_right plan (Received c.args.message.now) w c.in-Err.code c.refused-in-Err.result c.refused-in-Err.ensures
+    refused_right plan (Received c.args.message.now) w c.in-Err.code c.refused-in-Err.result c.refused-in-Err.ensures.outcome
     (receive_refused plan c.args.message.now w c.in-Some.train.now found c.in_ok-train-2.field-0 c.in-Err.code c.in_ok-train-2.ensures c.in-Err.is)
 
 -- what was read is the world's, so the outcome is the step's
