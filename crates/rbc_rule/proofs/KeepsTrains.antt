@@ -27,6 +27,8 @@ use Rattle.rbc_rule.specs.Effect.{forget, unknown_stamp, is_too_high, raised, pl
 use Rattle.rbc_rule.proofs.KeepsLists.{IsPart, part-same, part-all, part-distinct, part-before, part-behind, value_of-found}
 use Rattle.rbc_rule.proofs.KeepsSlots.{stamps_in, SlotsStay, stay-without, stay-put, good_slots, told-given}
 use Rattle.rbc_rule.proofs.KeepsPlaces.{place_on}
+use Rattle.rbc_rule.specs.Codes.{code_of}
+use Rattle.rbc_rule.specs.declared.refuse.Refusal.TheVariants.{StampTooHigh}
 
 -- ---- ascending numbers
 
@@ -301,7 +303,7 @@ module _ (plan : Plan) (stops : Stops) (limits : Limits) (engine : ℕ) where
   -- a train that is heard stays well-formed
   pub well_heard : (message : FromTrain) (train : TrainRec) → IsPlan plan → train.engine ≡ engine → IsWellFormedTrain plan stops limits train → WellIfOk plan stops limits engine (heard plan message train)
   well_heard message train track same well =
-      (elim (is_too_high (stamp_told message)) as (λ b. is_too_high (stamp_told message) ≡ b → WellIfOk plan stops limits engine (cond b (Err 15) (told_by plan message train))) [
+      (elim (is_too_high (stamp_told message)) as (λ b. is_too_high (stamp_told message) ≡ b → WellIfOk plan stops limits engine (cond b (Err (code_of StampTooHigh)) (told_by plan message train))) [
         | true ↦ λ is. tt
         | false ↦ λ is. well_told message train track same well is
       ]) refl

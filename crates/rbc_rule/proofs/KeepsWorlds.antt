@@ -28,6 +28,8 @@ use Rattle.rbc_rule.specs.Step.{settle_all}
 use Rattle.rbc_rule.specs.WellFormed.{IsGoodStop, AreGoodStops, AreGoodLimits, IsGoodTrain, IsWellFormed}
 use Rattle.rbc_rule.proofs.KeepsLists.{length-filter, All-with_value, length-with_value, All-value_of, map-replaced}
 use Rattle.rbc_rule.proofs.KeepsTrains.{well_later, well_new, well_forgotten, WellIfOk, well_heard}
+use Rattle.rbc_rule.specs.Codes.{code_of}
+use Rattle.rbc_rule.specs.declared.refuse.Refusal.TheVariants.{AlreadyEnrolled, TooManyTrains, StopsOutstanding, NumberUsed, BadArea, TooManyActive, NoSuchNumber}
 
 -- ---- maps whose values are changed each
 
@@ -136,9 +138,9 @@ module _ (plan : Plan) where
     enrol_ready : (engine train_length : ℕ) → Fits (Enrol engine train_length) → ReadyIfOk plan (effect plan (Enrol engine train_length) w)
     enrol_ready engine train_length fits =
         let then_world : List (ℕ × TrainRec) → World = λ trains. record w { trains = trains } in
-        elim (has w.trains engine) as (λ b. ReadyIfOk plan (then_do then_world (cond b (Err 8) (cond (leb 2000 (length w.trains)) (Err 9) (Ok (with_value engine (new_train engine train_length 0) w.trains)))))) [
+        elim (has w.trains engine) as (λ b. ReadyIfOk plan (then_do then_world (cond b (Err (code_of AlreadyEnrolled)) (cond (leb 2000 (length w.trains)) (Err (code_of TooManyTrains)) (Ok (with_value engine (new_train engine train_length 0) w.trains)))))) [
           | true ↦ tt
-          | false ↦ (elim (leb 2000 (length w.trains)) as (λ b. leb 2000 (length w.trains) ≡ b → ReadyIfOk plan (then_do then_world (cond b (Err 9) (Ok (with_value engine (new_train engine train_length 0) w.trains))))) [
+          | false ↦ (elim (leb 2000 (length w.trains)) as (λ b. leb 2000 (length w.trains) ≡ b → ReadyIfOk plan (then_do then_world (cond b (Err (code_of TooManyTrains)) (Ok (with_value engine (new_train engine train_length 0) w.trains))))) [
             | true ↦ λ is. tt
             | false ↦ λ is. ready_enrolled engine train_length fits.0 fits.1 (leb-false 2000 (length w.trains) is)
           ]) refl
@@ -153,7 +155,7 @@ module _ (plan : Plan) where
     withdraw_by : (engine : ℕ) (o : Option TrainRec) → ReadyIfOk plan (then_do (λ trains. record w { trains = trains }) (without_train engine w.trains o))
     withdraw_by engine None = tt
     withdraw_by engine (Some train) =
-        elim (eqb (length train.stops) 0) as (λ b. ReadyIfOk plan (then_do (λ trains. record w { trains = trains }) (cond b (Ok (without engine w.trains)) (Err 10)))) [
+        elim (eqb (length train.stops) 0) as (λ b. ReadyIfOk plan (then_do (λ trains. record w { trains = trains }) (cond b (Ok (without engine w.trains)) (Err (code_of StopsOutstanding))))) [
           | true ↦ ready_withdrawn engine
           | false ↦ tt
         ]
@@ -215,10 +217,10 @@ module _ (plan : Plan) where
         → (n.last < number → good ≡ true → length n.active < most → IsReady plan (then_world (with_next number value n)))
         → ReadyIfOk plan (then_do then_world (after_adding most good number value n))
     added_ready {V} most good number value n then_world f =
-        (elim (leb number n.last) as (λ b. leb number n.last ≡ b → ReadyIfOk plan (then_do then_world (cond b (Err 11) (cond good (cond (leb most (length n.active)) (Err 13) (Ok (with_next number value n))) (Err 12))))) [
+        (elim (leb number n.last) as (λ b. leb number n.last ≡ b → ReadyIfOk plan (then_do then_world (cond b (Err (code_of NumberUsed)) (cond good (cond (leb most (length n.active)) (Err (code_of TooManyActive)) (Ok (with_next number value n))) (Err (code_of BadArea)))))) [
           | true ↦ λ low. tt
-          | false ↦ λ above. (elim good as (λ c. good ≡ c → ReadyIfOk plan (then_do then_world (cond c (cond (leb most (length n.active)) (Err 13) (Ok (with_next number value n))) (Err 12)))) [
-            | true ↦ λ is. (elim (leb most (length n.active)) as (λ d. leb most (length n.active) ≡ d → ReadyIfOk plan (then_do then_world (cond d (Err 13) (Ok (with_next number value n))))) [
+          | false ↦ λ above. (elim good as (λ c. good ≡ c → ReadyIfOk plan (then_do then_world (cond c (cond (leb most (length n.active)) (Err (code_of TooManyActive)) (Ok (with_next number value n))) (Err (code_of BadArea))))) [
+            | true ↦ λ is. (elim (leb most (length n.active)) as (λ d. leb most (length n.active) ≡ d → ReadyIfOk plan (then_do then_world (cond d (Err (code_of TooManyActive)) (Ok (with_next number value n))))) [
               | true ↦ λ full. tt
               | false ↦ λ room. f (leb-false number n.last above) is (leb-false most (length n.active) room)
             ]) refl
@@ -257,7 +259,7 @@ module _ (plan : Plan) where
 
     removed_ready : {V : Type 0} (number : ℕ) (n : Numbered V) (then_world : Numbered V → World) → IsReady plan (then_world (with_less number n))
         → ReadyIfOk plan (then_do then_world (after_removing number n))
-    removed_ready number n then_world ready = elim (has n.active number) as (λ b. ReadyIfOk plan (then_do then_world (cond b (Ok (with_less number n)) (Err 14)))) [
+    removed_ready number n then_world ready = elim (has n.active number) as (λ b. ReadyIfOk plan (then_do then_world (cond b (Ok (with_less number n)) (Err (code_of NoSuchNumber))))) [
       | true ↦ ready
       | false ↦ tt
     ]

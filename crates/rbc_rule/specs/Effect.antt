@@ -1,6 +1,5 @@
 -- What an input does to the world before the trains are settled, or why it is refused (own rule). The least code that applies
--- refuses it: 7 unknown train, 8 already enrolled, 9 too many trains, 10 stops outstanding, 11 number used, 12 bad area or
--- bad restriction, 13 too many active, 14 no such number, 15 stamp too high, 16 nothing to acknowledge. A bad line brings its own.
+-- refuses it. A bad line brings its own.
 use Rattle.std.specs.Prelude.{ℕ, Bool, max, ◌==◌, nat_le, nat_lt, if◌then◌else◌, List, map, length, Option, Some, None, Result, Ok, Err}
 use Rattle.ertms_codec.specs.declared.from_train.Position.{Position}
 use Rattle.ertms_codec.specs.declared.from_train.FromTrain.{FromTrain}
@@ -25,6 +24,8 @@ use Rattle.rbc_settle.specs.Settling.{Stops, Limits}
 use Rattle.rbc_rule.specs.declared.input.Input.{Input}
 use Rattle.rbc_rule.specs.declared.input.Input.TheVariants.{Enrol, Withdraw, Stop, Release, Restrict, Lift, Received, Bad}
 use Rattle.rbc_rule.specs.World.{World}
+use Rattle.rbc_rule.specs.Codes.{code_of}
+use Rattle.rbc_rule.specs.declared.refuse.Refusal.TheVariants.{UnknownTrain, AlreadyEnrolled, TooManyTrains, StopsOutstanding, NumberUsed, BadArea, TooManyActive, NoSuchNumber, StampTooHigh, NothingToAcknowledge}
 
 -- what is made of an answer, if it is no refusal
 abbrev pub then_do : {A B : Type 0} → (A → B) → Result A ℕ → Result B ℕ
@@ -44,9 +45,9 @@ with_less number numbered = record numbered { active = without number numbered.a
 -- A number above the last one, something that is good for the track, and room for one more; or the refusal.
 abbrev pub after_adding : {V : Type 0} → ℕ → Bool → ℕ → V → Numbered V → Result (Numbered V) ℕ
 after_adding most is_good number value numbered =
-    if nat_le number numbered.last then Err 11
-    else (if is_good then (if nat_le most (length numbered.active) then Err 13 else Ok (with_next number value numbered))
-    else Err 12)
+    if nat_le number numbered.last then Err (code_of NumberUsed)
+    else (if is_good then (if nat_le most (length numbered.active) then Err (code_of TooManyActive) else Ok (with_next number value numbered))
+    else Err (code_of BadArea))
 
 abbrev pub stops_after : Plan → ℕ → List Segment → Stops → Result Stops ℕ
 stops_after plan number segments stops = after_adding 64 (is_good_area plan segments) number segments stops
@@ -57,7 +58,7 @@ limits_after plan number segment dirs speed front limits =
 
 -- a number that is active, or the refusal
 abbrev pub after_removing : {V : Type 0} → ℕ → Numbered V → Result (Numbered V) ℕ
-after_removing number numbered = if has numbered.active number then Ok (with_less number numbered) else Err 14
+after_removing number numbered = if has numbered.active number then Ok (with_less number numbered) else Err (code_of NoSuchNumber)
 
 -- a train no longer stops at once for a stop that is released
 abbrev pub forget : ℕ → TrainRec → TrainRec
@@ -87,7 +88,7 @@ placed plan position train = record train { place = place_of_report plan positio
 abbrev pub limits_acked : TrainRec → StampAck × Slots → Result TrainRec ℕ
 limits_acked train (stamp_ack.Freed, slots) = Ok (record train { limits = slots })
 limits_acked train (stamp_ack.Marked, slots) = Ok (record train { limits = slots })
-limits_acked train (stamp_ack.Nothing, slots) = Err 16
+limits_acked train (stamp_ack.Nothing, slots) = Err (code_of NothingToAcknowledge)
 
 abbrev pub stops_acked : ℕ → TrainRec → StampAck × Slots → Result TrainRec ℕ
 stops_acked acked train (stamp_ack.Freed, slots) = Ok (record train { stops = slots })
@@ -105,7 +106,7 @@ forced_too number forced = if has_number forced number then forced else with_num
 abbrev pub stop_acked : TrainRec → IdAck × Slots → Result TrainRec ℕ
 stop_acked train (id_ack.Marked, slots) = Ok (record train { stops = slots })
 stop_acked train (id_ack.Rejected number, slots) = Ok (record train { stops = slots; forced = forced_too number train.forced })
-stop_acked train (id_ack.Nothing, slots) = Err 16
+stop_acked train (id_ack.Nothing, slots) = Err (code_of NothingToAcknowledge)
 
 abbrev pub answered : ℕ → ℕ → TrainRec → Result TrainRec ℕ
 answered id answer train = stop_acked train (after_id_ack train.stops id answer)
@@ -128,28 +129,28 @@ engine_of (StopAck stamp engine id answer position) = engine
 
 -- a train after its message, or the refusal
 abbrev pub heard : Plan → FromTrain → TrainRec → Result TrainRec ℕ
-heard plan message train = if is_too_high (stamp_of message) then Err 15 else told_by plan message train
+heard plan message train = if is_too_high (stamp_of message) then Err (code_of StampTooHigh) else told_by plan message train
 
 -- ---- the trains
 
 -- a train is enrolled that is not yet, and for which there is room
 abbrev pub enrolled : ℕ → ℕ → List (ℕ × TrainRec) → Result (List (ℕ × TrainRec)) ℕ
 enrolled engine train_length trains =
-    if has trains engine then Err 8
-    else (if nat_le 2000 (length trains) then Err 9
+    if has trains engine then Err (code_of AlreadyEnrolled)
+    else (if nat_le 2000 (length trains) then Err (code_of TooManyTrains)
     else Ok (with_value engine (new_train engine train_length 0) trains))
 
 -- a train is withdrawn that is enrolled, and has no stop identifier that is held
 abbrev pub without_train : ℕ → List (ℕ × TrainRec) → Option TrainRec → Result (List (ℕ × TrainRec)) ℕ
-without_train engine trains None = Err 7
-without_train engine trains (Some train) = if length train.stops == 0 then Ok (without engine trains) else Err 10
+without_train engine trains None = Err (code_of UnknownTrain)
+without_train engine trains (Some train) = if length train.stops == 0 then Ok (without engine trains) else Err (code_of StopsOutstanding)
 
 abbrev pub withdrawn : ℕ → List (ℕ × TrainRec) → Result (List (ℕ × TrainRec)) ℕ
 withdrawn engine trains = without_train engine trains (value_of trains engine)
 
 -- a message comes from a train that is enrolled
 abbrev pub heard_from : Plan → FromTrain → Option TrainRec → Result TrainRec ℕ
-heard_from plan message None = Err 7
+heard_from plan message None = Err (code_of UnknownTrain)
 heard_from plan message (Some train) = heard plan message train
 
 abbrev pub received : Plan → FromTrain → List (ℕ × TrainRec) → Result (List (ℕ × TrainRec)) ℕ

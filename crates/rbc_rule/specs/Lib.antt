@@ -1,5 +1,6 @@
 pub mod Inputs
 pub mod World
+pub mod Codes
 pub mod Effect
 pub mod Step
 pub mod Records

@@ -5,12 +5,13 @@ ghost use Rattle.rbc_records.specs.Notes.{Extends};
 ghost use Rattle.rbc_rule.specs.Right.{IsRight, IsSilentIfRefused, IsFault};
 ghost use Rattle.rbc_rule.specs.Gathered.{AreSendable};
 
-use crate::change::{self, Restriction};
 use crate::everyone::{limits_changed, stops_changed};
+use crate::change::{self, Restriction};
 use crate::fetch::fetch;
 use crate::input::{Input, Segments};
 use crate::outcome::{Outcome, RuleFault};
 use crate::read;
+use crate::refuse::NotChanged;
 use rbc_records::{Key, Reader};
 use rbc_track::Track;
 use rbc_zones::{Limits, Stops};
@@ -36,9 +37,10 @@ pub(crate) fn stop<S: Reader>(
     fetch(store, Key::Stops)?;
     let none = Stops::new(alloc);
     let stops = read::stops(store)?.unwrap_or(&none);
-    match change::stops_after(alloc, track, number, segments, stops)? {
+    match change::stops_after(alloc, track, number, segments, stops) {
         Ok(stops) => stops_changed(alloc, track, number, stops, store),
-        Err(code) => Ok(Outcome::refused(alloc, code)),
+        Err(NotChanged::Refused(refusal)) => Ok(Outcome::refused(alloc, refusal)),
+        Err(NotChanged::OutOfMemory) => Err(RuleFault::OutOfMemory),
     }
 }
 
@@ -60,9 +62,10 @@ pub(crate) fn release<S: Reader>(
     fetch(store, Key::Stops)?;
     let none = Stops::new(alloc);
     let stops = read::stops(store)?.unwrap_or(&none);
-    match change::stops_without(alloc, number, stops)? {
+    match change::stops_without(alloc, number, stops) {
         Ok(stops) => stops_changed(alloc, track, number, stops, store),
-        Err(code) => Ok(Outcome::refused(alloc, code)),
+        Err(NotChanged::Refused(refusal)) => Ok(Outcome::refused(alloc, refusal)),
+        Err(NotChanged::OutOfMemory) => Err(RuleFault::OutOfMemory),
     }
 }
 
@@ -84,9 +87,10 @@ pub(crate) fn restrict<S: Reader>(
     fetch(store, Key::Limits)?;
     let none = Limits::new(alloc);
     let limits = read::limits(store)?.unwrap_or(&none);
-    match change::limits_after(alloc, track, new, limits)? {
+    match change::limits_after(alloc, track, new, limits) {
         Ok(limits) => limits_changed(alloc, track, new.number, limits, store),
-        Err(code) => Ok(Outcome::refused(alloc, code)),
+        Err(NotChanged::Refused(refusal)) => Ok(Outcome::refused(alloc, refusal)),
+        Err(NotChanged::OutOfMemory) => Err(RuleFault::OutOfMemory),
     }
 }
 
@@ -108,8 +112,9 @@ pub(crate) fn lift<S: Reader>(
     fetch(store, Key::Limits)?;
     let none = Limits::new(alloc);
     let limits = read::limits(store)?.unwrap_or(&none);
-    match change::limits_without(alloc, number, limits)? {
+    match change::limits_without(alloc, number, limits) {
         Ok(limits) => limits_changed(alloc, track, number, limits, store),
-        Err(code) => Ok(Outcome::refused(alloc, code)),
+        Err(NotChanged::Refused(refusal)) => Ok(Outcome::refused(alloc, refusal)),
+        Err(NotChanged::OutOfMemory) => Err(RuleFault::OutOfMemory),
     }
 }

@@ -1,15 +1,16 @@
 //! What a message from a train says to its record.
 
-ghost use Rattle.std.specs.Prelude.{◌≡◌, IfOk};
+ghost use Rattle.std.specs.Prelude.{◌≡◌, Ok, IfOk, IfErr};
+ghost use Rattle.rbc_rule.specs.Codes.{IsReason};
 ghost use Rattle.rbc_rule.specs.Effect.{is_too_high, raised, placed, acknowledged, answered, stamp_of, engine_of, heard};
 
-use crate::refuse;
+use crate::refuse::{NotChanged, Refusal};
 use ertms_codec::{FromTrain, Position};
 use rbc_ids::{IdAck, StampAck};
 use rbc_place::place_of;
 use rbc_settle::TrainRec;
 use rbc_track::Track;
-use std::alloc::{AllocError, Global};
+use std::alloc::Global;
 
 /// T_TRAIN of a message whose time is unknown.
 const UNKNOWN_STAMP: u32 = 4_294_967_295;
@@ -61,57 +62,60 @@ fn place(track: &Track, train: &mut TrainRec, position: &Position)
     train.place = place_of(track, position, train.length);
 }
 
-/// The train after it has acknowledged a message with a stamp, or the code that refuses that.
-fn acknowledged(train: TrainRec, acked: u32) -> Result<TrainRec, u8>
-    ensures { result ≡ acknowledged acked train }
+/// The train after it has acknowledged the message with a stamp, or why not.
+fn acknowledged(train: TrainRec, acked: u32) -> Result<TrainRec, NotChanged>
+    ensures ok { IfOk result (λ after. Ok after ≡ acknowledged acked train) }
+    ensures err { IfErr result (λ why. IsReason (acknowledged acked train) why) }
 {
     let mut train = train;
     match train.stops.ack_stamp(acked) {
         StampAck::Freed | StampAck::Marked => Ok(train),
         StampAck::Nothing => match train.limits.ack_stamp(acked) {
             StampAck::Freed | StampAck::Marked => Ok(train),
-            StampAck::Nothing => Err(refuse::NOTHING_TO_ACKNOWLEDGE),
+            StampAck::Nothing => Err(NotChanged::Refused(Refusal::NothingToAcknowledge)),
         },
     }
 }
 
-/// The train after it has answered a stop, or the code that refuses that.
-fn answered(train: TrainRec, id: u8, answer: u8) -> Result<Result<TrainRec, u8>, AllocError>
-    ensures { IfOk result (λ after. after ≡ answered id answer train) }
+/// The train after it has answered a stop, or why not.
+fn answered(train: TrainRec, id: u8, answer: u8) -> Result<TrainRec, NotChanged>
+    ensures ok { IfOk result (λ after. Ok after ≡ answered id answer train) }
+    ensures err { IfErr result (λ why. IsReason (answered id answer train) why) }
 {
     let mut train = train;
     match train.stops.ack_id(id, answer) {
-        IdAck::Marked => Ok(Ok(train)),
+        IdAck::Marked => Ok(train),
         IdAck::Rejected(number) => {
             if !train.forced.has(number) {
                 train.forced.add(number)?;
             }
-            Ok(Ok(train))
+            Ok(train)
         }
-        IdAck::Nothing => Ok(Err(refuse::NOTHING_TO_ACKNOWLEDGE)),
+        IdAck::Nothing => Err(NotChanged::Refused(Refusal::NothingToAcknowledge)),
     }
 }
 
-/// The train after its message, or the code that refuses it. The record that is handed in stays as it was.
+/// The train after its message, or why not. The record that is handed in stays as it was.
 pub(crate) fn heard(
     alloc: Global,
     track: &Track,
     message: &FromTrain,
     train: &TrainRec,
-) -> Result<Result<TrainRec, u8>, AllocError>
-    ensures { IfOk result (λ after. after ≡ heard track.now message.now train.now) }
+) -> Result<TrainRec, NotChanged>
+    ensures ok { IfOk result (λ after. Ok after ≡ heard track.now message.now train.now) }
+    ensures err { IfErr result (λ why. IsReason (heard track.now message.now train.now) why) }
 {
     if is_too_high(stamp_of(message)) {
-        return Ok(Err(refuse::STAMP_TOO_HIGH));
+        return Err(NotChanged::Refused(Refusal::StampTooHigh));
     }
     let mut train = train.copy(alloc)?;
     raise(&mut train, stamp_of(message));
     match message {
         FromTrain::Report { position, .. } => {
             place(track, &mut train, position);
-            Ok(Ok(train))
+            Ok(train)
         }
-        FromTrain::Ack { acked, .. } => Ok(acknowledged(train, *acked)),
+        FromTrain::Ack { acked, .. } => acknowledged(train, *acked),
         FromTrain::StopAck {
             id,
             answer,

@@ -19,6 +19,7 @@ mod trains;
 pub use input::{Input, Segments};
 pub use law::{says_law, step_law};
 pub use outcome::{Outcome, Reply, RuleFault, SentList};
+pub use refuse::Refusal;
 pub use rule::decide;
 
 #[cfg(test)]

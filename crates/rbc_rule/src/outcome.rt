@@ -2,8 +2,10 @@
 
 ghost use Rattle.std.specs.Prelude.{◌≡◌, ◌<◌, ◌^◌, [], ◌∷◌, ◌++◌, OnOk, OnErr, length, slice_get, Some};
 ghost use Rattle.rbc_rule.specs.declared.outcome.Reply.TheVariants.{Done, Refused};
+ghost use Rattle.rbc_rule.specs.Codes.{code_of};
 ghost use Rattle.rbc_rule.specs.Right.{IsSilentIfRefused};
 
+use crate::refuse::Refusal;
 use rbc_records::Writes;
 use rbc_settle::Sent;
 use std::alloc::{AllocError, AllocFailed, Global};
@@ -101,7 +103,15 @@ pub struct Outcome {
 
 impl Outcome {
     /// Of an input that is refused.
-    pub(crate) fn refused(alloc: Global, code: u8) -> Self
+    pub(crate) fn refused(alloc: Global, refusal: Refusal) -> Self
+        ensures outcome { result ≡ record { result = Refused (code_of refusal); writes = []; messages = [] } }
+        ensures silent { IsSilentIfRefused result.result result.writes result.messages }
+    {
+        Outcome::refused_with(alloc, refusal.code())
+    }
+
+    /// Of an input that is refused with a code.
+    pub(crate) fn refused_with(alloc: Global, code: u8) -> Self
         ensures outcome { result ≡ record { result = Refused code; writes = []; messages = [] } }
         ensures silent { IsSilentIfRefused result.result result.writes result.messages }
     {

@@ -1,34 +1,90 @@
-//! The codes that refuse an input. Those of a bad line, 1 to 6, come with it.
+//! Why an input is refused.
 
-/// The train is not enrolled.
-pub(crate) const UNKNOWN_TRAIN: u8 = 7;
+ghost use Rattle.std.specs.Prelude.{◌≡◌};
+ghost use Rattle.rbc_rule.specs.Codes.{code_of};
 
-/// The train is enrolled.
-pub(crate) const ALREADY_ENROLLED: u8 = 8;
+use std::alloc::AllocError;
 
-/// No more trains can be enrolled.
-pub(crate) const TOO_MANY_TRAINS: u8 = 9;
+/// Why an input is refused (own rule). The first six are about a line of a batch, and come with it. Where more than one applies, the
+/// one with the least code is answered.
+#[derive(Clone, Copy, Debug, PartialEq, Eq)]
+pub enum Refusal {
+    /// The line is no input, or one of its numbers is out of range.
+    BadLine,
+    /// The word behind `recv` does not spell bytes.
+    BadHex,
+    /// The length of the message is not the one that it states.
+    Length,
+    /// The message is none that a train sends here.
+    Message,
+    /// A packet of the message is none that is read here.
+    Packet,
+    /// A variable of the message is out of range.
+    Field,
+    /// The train is not enrolled.
+    UnknownTrain,
+    /// The train is already enrolled.
+    AlreadyEnrolled,
+    /// As many trains are enrolled as can be.
+    TooManyTrains,
+    /// The train holds a stop identifier.
+    StopsOutstanding,
+    /// The number is not above the last one.
+    NumberUsed,
+    /// The area of the stop, or the restriction, is not good for the track.
+    BadArea,
+    /// As many stops, or restrictions, are active as can be.
+    TooManyActive,
+    /// The number is not active.
+    NoSuchNumber,
+    /// The message's T_TRAIN leaves no room for later ones.
+    StampTooHigh,
+    /// Nothing waits for this acknowledgement.
+    NothingToAcknowledge,
+}
 
-/// The train holds a stop identifier.
-pub(crate) const STOPS_OUTSTANDING: u8 = 10;
+impl Refusal {
+    /// The code with which the input is answered, 1 to 16.
+    pub fn code(self) -> u8
+        ensures { result ≡ code_of self }
+    {
+        match self {
+            Refusal::BadLine => 1,
+            Refusal::BadHex => 2,
+            Refusal::Length => 3,
+            Refusal::Message => 4,
+            Refusal::Packet => 5,
+            Refusal::Field => 6,
+            Refusal::UnknownTrain => 7,
+            Refusal::AlreadyEnrolled => 8,
+            Refusal::TooManyTrains => 9,
+            Refusal::StopsOutstanding => 10,
+            Refusal::NumberUsed => 11,
+            Refusal::BadArea => 12,
+            Refusal::TooManyActive => 13,
+            Refusal::NoSuchNumber => 14,
+            Refusal::StampTooHigh => 15,
+            Refusal::NothingToAcknowledge => 16,
+        }
+    }
+}
 
-/// The number is not above the last one.
-pub(crate) const NUMBER_USED: u8 = 11;
+/// Why stops, restrictions or a train's record did not change.
+#[derive(Clone, Copy, Debug, PartialEq, Eq)]
+pub(crate) enum NotChanged {
+    /// The input is refused.
+    Refused(Refusal),
+    /// Memory was refused.
+    OutOfMemory,
+}
 
-/// The area is not good for the track.
-pub(crate) const BAD_AREA: u8 = 12;
+impl From<AllocError> for NotChanged {
+    ghost use Rattle.std.specs.Prelude.{◌≡◌};
+    ghost use Rattle.rbc_rule.specs.declared.refuse.NotChanged.TheVariants.{OutOfMemory};
 
-/// The restriction is not good for the track.
-pub(crate) const BAD_LIMIT: u8 = 12;
+    ghost from_gives = { λ _ why. why ≡ OutOfMemory };
 
-/// No more stops, or restrictions, can be active.
-pub(crate) const TOO_MANY_ACTIVE: u8 = 13;
-
-/// The number is not active.
-pub(crate) const NO_SUCH_NUMBER: u8 = 14;
-
-/// The message's stamp leaves no room for stamps above it.
-pub(crate) const STAMP_TOO_HIGH: u8 = 15;
-
-/// Nothing waits for this acknowledgement.
-pub(crate) const NOTHING_TO_ACKNOWLEDGE: u8 = 16;
+    fn from(_: AllocError) -> NotChanged {
+        NotChanged::OutOfMemory
+    }
+}

@@ -62,6 +62,6 @@ pub fn decide<S: Reader>(
         }
         Input::Lift { number } => commands::lift(alloc, track, *number, store),
         Input::Received(message) => trains::receive(alloc, track, message, store),
-        Input::Bad(code) => Ok(Outcome::refused(alloc, *code)),
+        Input::Bad(code) => Ok(Outcome::refused_with(alloc, *code)),
     }
 }

@@ -15,7 +15,8 @@ use crate::fetch::fetch;
 use crate::hear::{engine_of, heard};
 use crate::input::Input;
 use crate::outcome::{Outcome, RuleFault, SentList};
-use crate::{read, refuse};
+use crate::read;
+use crate::refuse::{NotChanged, Refusal};
 use ertms_codec::FromTrain;
 use rbc_records::{Key, Reader, Rec, Writes};
 use rbc_settle::{Numbers, TrainRec, settle};
@@ -77,10 +78,10 @@ fn enrolled<S: Reader>(
     let nobody = Numbers::new(alloc);
     let engines = read::roster(store)?.unwrap_or(&nobody);
     if engines.has(engine) {
-        return Ok(Outcome::refused(alloc, refuse::ALREADY_ENROLLED));
+        return Ok(Outcome::refused(alloc, Refusal::AlreadyEnrolled));
     }
     if engines.len() >= read::MAX_TRAINS {
-        return Ok(Outcome::refused(alloc, refuse::TOO_MANY_TRAINS));
+        return Ok(Outcome::refused(alloc, Refusal::TooManyTrains));
     }
     let no_stops = Stops::new(alloc);
     let no_limits = Limits::new(alloc);
@@ -152,10 +153,10 @@ fn withdrawn<S: Reader>(
     ensures fault { IfErr result (λ fault. IsFaultOf track.now fault (S.notes store.now)) }
 {
     let Some(train) = read::train(store, engine)? else {
-        return Ok(Outcome::refused(alloc, refuse::UNKNOWN_TRAIN));
+        return Ok(Outcome::refused(alloc, Refusal::UnknownTrain));
     };
     if train.stops.held() != 0 {
-        return Ok(Outcome::refused(alloc, refuse::STOPS_OUTSTANDING));
+        return Ok(Outcome::refused(alloc, Refusal::StopsOutstanding));
     }
     let nobody = Numbers::new(alloc);
     let engines = read::roster(store)?.unwrap_or(&nobody);
@@ -213,11 +214,12 @@ fn received<S: Reader>(
     ensures fault { IfErr result (λ fault. IsFaultOf track.now fault (S.notes store.now)) }
 {
     let Some(train) = read::train(store, engine_of(message))? else {
-        return Ok(Outcome::refused(alloc, refuse::UNKNOWN_TRAIN));
+        return Ok(Outcome::refused(alloc, Refusal::UnknownTrain));
     };
-    let train = match heard(alloc, track, message, train)? {
+    let train = match heard(alloc, track, message, train) {
         Ok(train) => train,
-        Err(code) => return Ok(Outcome::refused(alloc, code)),
+        Err(NotChanged::Refused(refusal)) => return Ok(Outcome::refused(alloc, refusal)),
+        Err(NotChanged::OutOfMemory) => return Err(RuleFault::OutOfMemory),
     };
     let no_stops = Stops::new(alloc);
     let no_limits = Limits::new(alloc);

@@ -16,4 +16,4 @@ returns c =
     let limit : c.in-Ok.limit ≡ value = c.in-Ok.ensures.limit in
     let after : c.add.new.self ≡ record { last = new.number; active = limits.active ++ (new.number, value) ∷ [] } =
     c.in_ok-add.ensures.ok ∙ (λ i. record { last = new.number; active = (copy i).active ++ (new.number, limit i) ∷ [] }) in
-    added 300 new.number (is_good_limit plan new.segment new.speed) value limits c.add.new.self c.last.ensures.sound above good few after
+    record { ok = added 300 new.number (is_good_limit plan new.segment new.speed) value limits c.add.new.self c.last.ensures.sound above good few after; err = tt }

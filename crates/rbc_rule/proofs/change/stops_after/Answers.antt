@@ -16,4 +16,4 @@ returns c =
     let area : c.in-Ok.area ≡ segments = c.in-Ok.ensures.area ∙ c.as_slice.ensures in
     let new : c.add.new.self ≡ record { last = number; active = stops.active ++ (number, segments) ∷ [] } =
     c.in_ok-add.ensures.ok ∙ (λ i. record { last = number; active = (copy i).active ++ (number, area i) ∷ [] }) in
-    added 64 number (is_good_area plan segments) segments stops c.add.new.self c.last.ensures.sound above good few new
+    record { ok = added 64 number (is_good_area plan segments) segments stops c.add.new.self c.last.ensures.sound above good few new; err = tt }
