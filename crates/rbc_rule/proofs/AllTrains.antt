@@ -33,6 +33,7 @@ use Rattle.rbc_rule.specs.Gathered.{forgotten, is_forced_by, is_same, settled_tr
 use Rattle.rbc_rule.proofs.WorldMaps.{keys-map, value_of-map}
 use Rattle.rbc_rule.proofs.WorldSettling.{settled_same, taken}
 use Rattle.rbc_rule.proofs.AllGathered.{written-append, changed, changes_stay, changes_at, changed_records, messages_at, messages_count, each_key}
+use Rattle.rbc_rule.specs.Bounds.{max_stops, max_limits}
 use Rattle.rbc_rule.specs.Codes.{code_of}
 use Rattle.rbc_rule.specs.declared.refuse.Refusal.TheVariants.{NumberUsed, BadArea, TooManyActive, NoSuchNumber}
 
@@ -231,7 +232,7 @@ module _ (plan : Plan) (w : World) (number : ℕ) (old : Stops) (old_is : old �
         let now = read_effect (stops_after plan number segments) old w.stops (Ok new) old_is new_is in
         stops_step plan (Stop number segments) w None well outcome new is
         (ap (then_do (λ stops. record w { stops = stops })) now ∙ ap (λ trains. Ok (record w { stops = new; trains = trains })) (none_forgotten w.trains))
-        (adding_above 64 _ number segments w.stops new now)
+        (adding_above max_stops _ number segments w.stops new now)
 
   pub release_refused : (code : ℕ) → Err code ≡ after_removing number old → effect plan (Release number) w ≡ Err code
   release_refused code is =
@@ -257,7 +258,7 @@ module _ (plan : Plan) (w : World) (number : ℕ) (old : Limits) (old_is : old �
         let now = read_effect (limits_after plan number segment dirs speed front) old w.limits (Ok new) old_is new_is in
         limits_step plan (Restrict number segment dirs speed front) w None well outcome new is
         (ap (then_do (λ limits. record w { limits = limits })) now ∙ ap (λ trains. Ok (record w { limits = new; trains = trains })) (none_forgotten w.trains))
-        (adding_above 300 _ number _ w.limits new now)
+        (adding_above max_limits _ number _ w.limits new now)
 
   pub lift_refused : (code : ℕ) → Err code ≡ after_removing number old → effect plan (Lift number) w ≡ Err code
   lift_refused code is = ap (then_do (λ limits. record w { limits = limits })) (read_effect (after_removing number) old w.limits (Err code) old_is is)

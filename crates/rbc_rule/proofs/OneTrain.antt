@@ -33,6 +33,7 @@ use Rattle.rbc_rule.specs.Right.{IsStep, messages_to}
 use Rattle.rbc_rule.specs.Gathered.{to_engine, enrolled_outcome, withdrawn_outcome, heard_outcome}
 use Rattle.rbc_rule.proofs.WorldMaps.{eqb_turned, keys-new, keys-old, keys-without, value_of-with_value, value_of-without, map-with_value, has_keys, length_keys, has_value}
 use Rattle.rbc_rule.proofs.WorldSettling.{map-done, sent-done, count-done, done-without, sent-with, count-with, trains_done, messages_to-engine, taken}
+use Rattle.rbc_rule.specs.Bounds.{max_trains}
 use Rattle.rbc_rule.specs.Codes.{code_of}
 use Rattle.rbc_rule.specs.declared.refuse.Refusal.TheVariants.{AlreadyEnrolled, TooManyTrains, StopsOutstanding, StampTooHigh}
 
@@ -96,7 +97,7 @@ module _ (plan : Plan) (w : World) (well : IsWellFormed plan w) where
 below : (most n : ℕ) → n < most → leb most n ≡ false
 below most n lt = grind (arith, nat_tests)
 
-enrol_is_step : (plan : Plan) (w : World) (engine train_length : ℕ) → IsWellFormed plan w → has w.trains engine ≡ false → leb 2000 (length w.trains) ≡ false → (outcome : Outcome)
+enrol_is_step : (plan : Plan) (w : World) (engine train_length : ℕ) → IsWellFormed plan w → has w.trains engine ≡ false → leb max_trains (length w.trains) ≡ false → (outcome : Outcome)
     → outcome ≡ enrolled_outcome plan w.stops w.limits engine train_length (keys w.trains) → IsStep plan (Enrol engine train_length) w outcome.result outcome.writes outcome.messages
 enrol_is_step plan w engine train_length well new room outcome is =
     let train = new_train engine train_length 0 in
@@ -117,17 +118,17 @@ module _ (plan : Plan) (w : World) (engine train_length : ℕ) (engines : List �
   how_many = ap length engines_are ∙ length_keys w.trains
 
   pub enrol_known : (found : Bool) → found ≡ has_number engines engine → found ≡ true → effect plan (Enrol engine train_length) w ≡ Err (code_of AlreadyEnrolled)
-  enrol_known found is there = λ i. then_do (λ trains. record w { trains = trains }) (cond (enrolled_already found true is there i) (Err (code_of AlreadyEnrolled)) (cond (leb 2000 (length w.trains)) (Err (code_of TooManyTrains)) (Ok (with_value engine (new_train engine train_length 0) w.trains))))
+  enrol_known found is there = λ i. then_do (λ trains. record w { trains = trains }) (cond (enrolled_already found true is there i) (Err (code_of AlreadyEnrolled)) (cond (leb max_trains (length w.trains)) (Err (code_of TooManyTrains)) (Ok (with_value engine (new_train engine train_length 0) w.trains))))
 
-  pub enrol_full : (found : Bool) → found ≡ has_number engines engine → found ≡ false → 2000 ≤ length engines → effect plan (Enrol engine train_length) w ≡ Err (code_of TooManyTrains)
+  pub enrol_full : (found : Bool) → found ≡ has_number engines engine → found ≡ false → max_trains ≤ length engines → effect plan (Enrol engine train_length) w ≡ Err (code_of TooManyTrains)
   enrol_full found is new full =
-      let many : leb 2000 (length w.trains) ≡ true = le-leb 2000 (length w.trains) (let count = how_many in omega (arith, count)) in
+      let many : leb max_trains (length w.trains) ≡ true = le-leb max_trains (length w.trains) (let count = how_many in omega (arith, count)) in
       λ i. then_do (λ trains. record w { trains = trains }) (cond (enrolled_already found false is new i) (Err (code_of AlreadyEnrolled)) (cond (many i) (Err (code_of TooManyTrains)) (Ok (with_value engine (new_train engine train_length 0) w.trains))))
 
   pub enrol_right : (stops : Stops) (limits : Limits) (outcome : Outcome) (found : Bool) → outcome ≡ enrolled_outcome plan stops limits engine train_length engines → stops ≡ w.stops → limits ≡ w.limits
-      → IsWellFormed plan w → found ≡ has_number engines engine → found ≡ false → length engines < 2000 → IsStep plan (Enrol engine train_length) w outcome.result outcome.writes outcome.messages
+      → IsWellFormed plan w → found ≡ has_number engines engine → found ≡ false → length engines < max_trains → IsStep plan (Enrol engine train_length) w outcome.result outcome.writes outcome.messages
   enrol_right stops limits outcome found is stops_are limits_are well found_is new few =
-      enrol_is_step plan w engine train_length well (enrolled_already found false found_is new) (below 2000 (length w.trains) (let count = how_many in omega (arith, count))) outcome
+      enrol_is_step plan w engine train_length well (enrolled_already found false found_is new) (below max_trains (length w.trains) (let count = how_many in omega (arith, count))) outcome
       (is ∙ (λ i. enrolled_outcome plan (stops_are i) (limits_are i) engine train_length (engines_are i)))
 
 -- ---- a train that leaves

@@ -24,6 +24,7 @@ use Rattle.rbc_settle.specs.Settling.{Stops, Limits}
 use Rattle.rbc_rule.specs.declared.input.Input.{Input}
 use Rattle.rbc_rule.specs.declared.input.Input.TheVariants.{Enrol, Withdraw, Stop, Release, Restrict, Lift, Received, Bad}
 use Rattle.rbc_rule.specs.World.{World}
+use Rattle.rbc_rule.specs.Bounds.{max_trains, max_stops, max_limits, max_stamp}
 use Rattle.rbc_rule.specs.Codes.{code_of}
 use Rattle.rbc_rule.specs.declared.refuse.Refusal.TheVariants.{UnknownTrain, AlreadyEnrolled, TooManyTrains, StopsOutstanding, NumberUsed, BadArea, TooManyActive, NoSuchNumber, StampTooHigh, NothingToAcknowledge}
 
@@ -50,11 +51,11 @@ after_adding most is_good number value numbered =
     else Err (code_of BadArea))
 
 abbrev pub stops_after : Plan → ℕ → List Segment → Stops → Result Stops ℕ
-stops_after plan number segments stops = after_adding 64 (is_good_area plan segments) number segments stops
+stops_after plan number segments stops = after_adding max_stops (is_good_area plan segments) number segments stops
 
 abbrev pub limits_after : Plan → ℕ → Segment → Dirs → ℕ → Bool → Limits → Result Limits ℕ
 limits_after plan number segment dirs speed front limits =
-    after_adding 300 (is_good_limit plan segment speed) number (record { segment = segment; dirs = dirs; speed = speed; front = front }) limits
+    after_adding max_limits (is_good_limit plan segment speed) number (record { segment = segment; dirs = dirs; speed = speed; front = front }) limits
 
 -- a number that is active, or the refusal
 abbrev pub after_removing : {V : Type 0} → ℕ → Numbered V → Result (Numbered V) ℕ
@@ -74,7 +75,7 @@ unknown_stamp = 4294967295
 
 -- T_TRAIN of a message from a train leaves room for stamps, or is unknown
 abbrev pub is_too_high : ℕ → Bool
-is_too_high stamp = if stamp == unknown_stamp then nat_lt 1 0 else nat_lt 4200000000 stamp
+is_too_high stamp = if stamp == unknown_stamp then nat_lt 1 0 else nat_lt max_stamp stamp
 
 -- the next message to a train is later than each that it sent
 abbrev pub raised : ℕ → TrainRec → TrainRec
@@ -137,7 +138,7 @@ heard plan message train = if is_too_high (stamp_of message) then Err (code_of S
 abbrev pub enrolled : ℕ → ℕ → List (ℕ × TrainRec) → Result (List (ℕ × TrainRec)) ℕ
 enrolled engine train_length trains =
     if has trains engine then Err (code_of AlreadyEnrolled)
-    else (if nat_le 2000 (length trains) then Err (code_of TooManyTrains)
+    else (if nat_le max_trains (length trains) then Err (code_of TooManyTrains)
     else Ok (with_value engine (new_train engine train_length 0) trains))
 
 -- a train is withdrawn that is enrolled, and has no stop identifier that is held

@@ -5,6 +5,7 @@ ghost use Rattle.rbc_track.specs.Plan.{Plan};
 ghost use Rattle.rbc_maps.specs.Maps.{value_of, keys};
 ghost use Rattle.rbc_records.specs.declared.record.Key.TheVariants as key;
 ghost use Rattle.rbc_records.specs.Notes.{knows, noted};
+ghost use Rattle.rbc_rule.specs.Bounds.{max_trains};
 ghost use Rattle.rbc_rule.specs.World.{World};
 ghost use Rattle.rbc_rule.specs.Right.{MayBe, IsFaultOf};
 ghost use Rattle.rbc_rule.specs.Gathered.{engines_in, or_none, or_nobody};
@@ -22,7 +23,7 @@ pub(crate) fn roster<S: Reader>(store: &S) -> Result<Option<&Numbers>, RuleFault
     requires { IsTrue (knows (S.notes store.now) key.Roster) }
     ensures noted { IfOk result (λ engines. or_nobody (option_copied engines) ≡ engines_in (noted (S.notes store.now) key.Roster)) }
     ensures engines { IfOk result (λ engines. (plan : Plan) (w : World) → MayBe plan (S.notes store.now) w → or_nobody (option_copied engines) ≡ keys w.trains) }
-    ensures few { IfOk result (λ engines. length (or_nobody (option_copied engines)) ≤ 2000) }
+    ensures few { IfOk result (λ engines. length (or_nobody (option_copied engines)) ≤ max_trains) }
     ensures fault { (plan : Plan) → IfErr result (λ fault. IsFaultOf plan fault (S.notes store.now)) }
 {
     match store.seen(Key::Roster) {

@@ -1,6 +1,7 @@
 use Rattle.std.proofs.Common.{inl, subst, ◌∙◌}
 use Rattle.std.proofs.lemmas.Result.{IfOk-weaker}
 use Rattle.rbc_settle.specs.Settling.{Limits}
+use Rattle.rbc_rule.specs.Bounds.{max_limits}
 use Rattle.rbc_rule.specs.Touching.{BeginsOrEnds}
 use Rattle.rbc_rule.proofs.Begun.{adding_begins}
 use Rattle.rbc_rule.specs.declared.input.Input.TheVariants.{Restrict}
@@ -19,7 +20,7 @@ pub limits_changed-requires-clause-changed : goal.limits_changed-requires-clause
 limits_changed-requires-clause-changed g c = λ w m.
     let old = c.unwrap_or-limits.result.now in
     let old_is = read_or c.in_ok-limits.field-0 c.unwrap_or-limits.result _ _ c.unwrap_or-limits.ensures c.new-none.ensures ∙ c.in_ok-limits.ensures.limits c.args.track.now w m in
-    let begun = adding_begins 300 _ c.args.new.now.number _ old c.in-Ok.limits c.in-Ok.ensures.ok in
+    let begun = adding_begins max_limits _ c.args.new.now.number _ old c.in-Ok.limits c.in-Ok.ensures.ok in
     subst (λ (limits : Limits). BeginsOrEnds c.args.new.now.number limits c.in-Ok.limits) old_is (inl (_, begun))
 
 -- what was read is the world's, so the outcome is the step's
