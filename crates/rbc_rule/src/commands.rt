@@ -5,7 +5,7 @@ ghost use Rattle.rbc_records.specs.Notes.{Extends};
 ghost use Rattle.rbc_rule.specs.Right.{IsRight, IsSilentIfRefused, IsFault};
 ghost use Rattle.rbc_rule.specs.Gathered.{AreSendable};
 
-use crate::everyone::{limits_changed, stops_changed};
+use crate::all_trains::{limits_changed, stops_changed};
 use crate::change::{self, Restriction};
 use crate::fetch::fetch;
 use crate::input::{Input, Segments};

@@ -1,20 +1,20 @@
 //! The rule: what an input does, decided on single records.
 #![tactic(auto)]
 
+mod all_trains;
 mod change;
 mod commands;
-mod everyone;
 mod fetch;
 mod hear;
 mod input;
 mod law;
+mod one_train;
 mod outcome;
 mod read;
 mod refuse;
 mod rule;
-mod settle_all;
+mod settle_trains;
 mod touch;
-mod trains;
 
 pub use input::{Input, Segments};
 pub use law::{says_law, step_law};

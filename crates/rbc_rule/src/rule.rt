@@ -9,7 +9,7 @@ ghost use Rattle.rbc_rule.specs.Gathered.{AreSendable};
 use crate::change::Restriction;
 use crate::input::Input;
 use crate::outcome::{Outcome, RuleFault};
-use crate::{commands, trains};
+use crate::{commands, one_train};
 use rbc_records::Reader;
 use rbc_track::Track;
 use std::alloc::Global;
@@ -38,8 +38,8 @@ pub fn decide<S: Reader>(
     ensures failed { OnOk result (S.failed store.new ≡ S.failed store.old) }
 {
     match input {
-        Input::Enrol { engine, length } => trains::enrol(alloc, track, *engine, *length, store),
-        Input::Withdraw { engine } => trains::withdraw(alloc, track, *engine, store),
+        Input::Enrol { engine, length } => one_train::enrol(alloc, track, *engine, *length, store),
+        Input::Withdraw { engine } => one_train::withdraw(alloc, track, *engine, store),
         Input::Stop { number, segments } => {
             commands::stop(alloc, track, *number, segments, store)
         }
@@ -61,7 +61,7 @@ pub fn decide<S: Reader>(
             commands::restrict(alloc, track, &new, store)
         }
         Input::Lift { number } => commands::lift(alloc, track, *number, store),
-        Input::Received(message) => trains::receive(alloc, track, message, store),
+        Input::Received(message) => one_train::receive(alloc, track, message, store),
         Input::Bad(code) => Ok(Outcome::refused_with(alloc, *code)),
     }
 }

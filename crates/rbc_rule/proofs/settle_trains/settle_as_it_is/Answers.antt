@@ -7,7 +7,7 @@ use Rattle.rbc_settle.specs.declared.upkeep.UpToDate.{UpToDate}
 use Rattle.rbc_settle.specs.Settling.{messages_of}
 use Rattle.rbc_rule.specs.Gathered.{to_engine}
 use Rattle.rbc_rule.proofs.Gathering.{sent_is, few_more}
-use Rattle.rbc_rule.proofs.settle_all.settle_as_it_is.Goals as goal
+use Rattle.rbc_rule.proofs.settle_trains.settle_as_it_is.Goals as goal
 
 pub returns-in-Some-clause-messages : goal.returns-in-Some-clause-messages
 returns-in-Some-clause-messages c =

@@ -1,7 +1,7 @@
 use Rattle.std.proofs.Common.{◌∙◌, sym, ap, option_copied, eq-eqb}
 use Rattle.rbc_rule.proofs.WorldReading.{read_or}
 use Rattle.rbc_rule.proofs.OneTrain.{withdraw_right}
-use Rattle.rbc_rule.proofs.trains.withdrawn.Goals as goal
+use Rattle.rbc_rule.proofs.one_train.withdrawn.Goals as goal
 
 -- what was read is the world's, so the outcome is the step's
 pub returns-clause-right : goal.returns-clause-right

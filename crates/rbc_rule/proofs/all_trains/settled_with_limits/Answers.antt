@@ -5,7 +5,7 @@ use Rattle.rbc_rule.proofs.WorldReading.{read_or}
 use Rattle.rbc_rule.proofs.Begun.{limit_changed}
 use Rattle.rbc_rule.proofs.AllTrains.{gathered_outcome}
 use Rattle.rbc_rule.specs.Gathered.{settled_outcome}
-use Rattle.rbc_rule.proofs.everyone.settled_with_limits.Goals as goal
+use Rattle.rbc_rule.proofs.all_trains.settled_with_limits.Goals as goal
 
 pub settle_trains-requires-clause-changed : goal.settle_trains-requires-clause-changed
 settle_trains-requires-clause-changed g c = λ w m.

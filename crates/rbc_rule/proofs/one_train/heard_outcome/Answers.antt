@@ -6,7 +6,7 @@ use Rattle.rbc_records.specs.declared.record.Rec.{Rec}
 use Rattle.rbc_records.specs.declared.record.Rec.TheVariants as rec
 use Rattle.rbc_rule.specs.Gathered.{to_engine}
 use Rattle.rbc_rule.proofs.Gathering.{sent_is, done_is}
-use Rattle.rbc_rule.proofs.trains.heard_outcome.Goals as goal
+use Rattle.rbc_rule.proofs.one_train.heard_outcome.Goals as goal
 
 pub returns-clause-outcome : goal.returns-clause-outcome
 returns-clause-outcome c =

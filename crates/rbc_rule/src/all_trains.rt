@@ -12,7 +12,7 @@ ghost use Rattle.rbc_rule.specs.Gathered.{AreSendable, AreTrainsKnown, settled_o
 use crate::fetch::{fetch, fetch_all_trains};
 use crate::outcome::{Outcome, RuleFault};
 use crate::read;
-use crate::settle_all::settle_trains;
+use crate::settle_trains::settle_trains;
 use crate::touch::Change;
 use rbc_records::{Key, Reader, Rec};
 use rbc_settle::Numbers;

@@ -7,7 +7,7 @@ use Rattle.rbc_rule.proofs.Begun.{stop_changed, stop_released}
 use Rattle.rbc_rule.proofs.AllTrains.{gathered_outcome}
 use Rattle.rbc_rule.specs.Gathered.{settled_outcome}
 use Rattle.rbc_rule.specs.Touching.{released_by}
-use Rattle.rbc_rule.proofs.everyone.settled_with_stops.Goals as goal
+use Rattle.rbc_rule.proofs.all_trains.settled_with_stops.Goals as goal
 
 pub settle_trains-requires-clause-changed : goal.settle_trains-requires-clause-changed
 settle_trains-requires-clause-changed g c = λ w m.

@@ -6,7 +6,7 @@ use Rattle.rbc_rule.specs.Codes.{code_of}
 use Rattle.rbc_rule.proofs.Worlds.{refused_right, refusal_is}
 use Rattle.rbc_rule.proofs.WorldReading.{read_or}
 use Rattle.rbc_rule.proofs.OneTrain.{receive_refused, receive_right}
-use Rattle.rbc_rule.proofs.trains.received.Goals as goal
+use Rattle.rbc_rule.proofs.one_train.received.Goals as goal
 
 pub returns-in-Err-Refused-clause-right : goal.returns-in-Err-Refused-clause-right
 returns-in-Err-Refused-clause-right g c = λ w m.

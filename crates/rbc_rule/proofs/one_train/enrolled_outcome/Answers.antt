@@ -10,7 +10,7 @@ use Rattle.rbc_records.specs.declared.record.Rec.TheVariants as rec
 use Rattle.rbc_rule.specs.Records.{engines_record}
 use Rattle.rbc_rule.specs.Gathered.{to_engine}
 use Rattle.rbc_rule.proofs.Gathering.{sent_is, done_is}
-use Rattle.rbc_rule.proofs.trains.enrolled_outcome.Goals as goal
+use Rattle.rbc_rule.proofs.one_train.enrolled_outcome.Goals as goal
 
 pub returns-clause-outcome : goal.returns-clause-outcome
 returns-clause-outcome c =

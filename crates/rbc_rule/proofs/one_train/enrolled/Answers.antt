@@ -6,7 +6,7 @@ use Rattle.rbc_rule.specs.declared.refuse.Refusal.TheVariants.{AlreadyEnrolled, 
 use Rattle.rbc_rule.proofs.Worlds.{refused_right}
 use Rattle.rbc_rule.proofs.WorldReading.{read_or}
 use Rattle.rbc_rule.proofs.OneTrain.{enrol_known, enrol_full, enrol_right}
-use Rattle.rbc_rule.proofs.trains.enrolled.Goals as goal
+use Rattle.rbc_rule.proofs.one_train.enrolled.Goals as goal
 
 pub returns-then-has-clause-right : goal.returns-then-has-clause-right
 returns-then-has-clause-right g c = λ w m.
