@@ -1,15 +1,15 @@
--- How many, how great and how long (own rule).
+-- The greatest numbers, lengths and stamps (own rule).
 use Rattle.std.specs.Prelude.{ℕ}
 
--- so many trains can be enrolled
+-- the greatest number of enrolled trains
 abbrev pub max_trains : ℕ
 max_trains = 2000
 
--- so many stops can be active
+-- the greatest number of active stops
 abbrev pub max_stops : ℕ
 max_stops = 64
 
--- so many restrictions can be active
+-- the greatest number of active restrictions
 abbrev pub max_limits : ℕ
 max_limits = 300
 

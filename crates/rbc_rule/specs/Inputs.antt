@@ -1,4 +1,4 @@
--- Which inputs a batch can have (own rule).
+-- The inputs that a batch can have (own rule).
 use Rattle.std.specs.Prelude.{◌≤◌, length}
 use Rattle.rbc_rule.specs.Bounds.{max_engine, max_train_length, max_bad_code}
 use Rattle.rbc_rule.specs.declared.input.Input.{Input}

@@ -1,4 +1,4 @@
-//! What changes for all trains.
+//! Settles all trains after the stops or the restrictions have changed.
 
 ghost use Rattle.std.specs.Prelude.{◌≡◌, ◌+◌, ◌<◌, ◌^◌, IsTrue, IfOk, IfErr, OnOk, Some, None};
 ghost use Rattle.rbc_records.specs.declared.record.Key.TheVariants as key;
@@ -20,7 +20,7 @@ use rbc_track::Track;
 use rbc_zones::{Limits, Stops};
 use std::alloc::Global;
 
-/// Settles all trains after a stop began or ended.
+/// Reads the other records and settles all trains after a stop has begun or ended.
 pub(crate) fn stops_changed<S: Reader>(
     alloc: Global,
     track: &Track,
@@ -42,7 +42,7 @@ pub(crate) fn stops_changed<S: Reader>(
     settled_with_stops(alloc, track, number, stops, store)
 }
 
-/// Settles all trains after a stop began or ended, by what was read.
+/// Settles all trains after a stop has begun or ended, by the records that were read.
 fn settled_with_stops<S: Reader>(
     alloc: Global,
     track: &Track,
@@ -68,7 +68,7 @@ fn settled_with_stops<S: Reader>(
     Ok(Outcome::done(gathered.writes, gathered.messages))
 }
 
-/// Settles all trains after a restriction began or ended.
+/// Reads the other records and settles all trains after a restriction has begun or ended.
 pub(crate) fn limits_changed<S: Reader>(
     alloc: Global,
     track: &Track,
@@ -90,7 +90,7 @@ pub(crate) fn limits_changed<S: Reader>(
     settled_with_limits(alloc, track, number, limits, store)
 }
 
-/// Settles all trains after a restriction began or ended, by what was read.
+/// Settles all trains after a restriction has begun or ended, by the records that were read.
 fn settled_with_limits<S: Reader>(
     alloc: Global,
     track: &Track,

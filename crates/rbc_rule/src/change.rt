@@ -1,4 +1,4 @@
-//! Stops and restrictions that begin and end.
+//! The stops and the restrictions after one begins or ends.
 
 ghost use Rattle.std.specs.Prelude.{◌≡◌, ◌≤◌, length, Ok, IfOk, IfErr};
 ghost use Rattle.rbc_rule.specs.Codes.{IsReason};
@@ -10,13 +10,13 @@ use rbc_track::Track;
 use rbc_zones::{Area, Dirs, Limit, Limits, Segment, Stops};
 use std::alloc::Global;
 
-/// So many stops can be active.
+/// The greatest number of active stops (own rule).
 const MAX_STOPS: usize = 64;
 
-/// So many restrictions can be active.
+/// The greatest number of active restrictions (own rule).
 const MAX_LIMITS: usize = 300;
 
-/// The stops with one more, or why not.
+/// Returns the stops with one more, or why there cannot be one more.
 pub(crate) fn stops_after(
     alloc: Global,
     track: &Track,
@@ -55,7 +55,7 @@ pub(crate) fn stops_without(alloc: Global, number: u32, stops: &Stops) -> Result
     Ok(after)
 }
 
-/// A restriction as the signaller gives it.
+/// A temporary speed restriction as the signaller gives it: the speed in km/h; `front` is Q_FRONT.
 #[derive(Clone, Copy, Debug)]
 pub(crate) struct Restriction {
     pub(crate) number: u32,
@@ -65,7 +65,7 @@ pub(crate) struct Restriction {
     pub(crate) front: bool,
 }
 
-/// The restrictions with one more, or why not.
+/// Returns the restrictions with one more, or why there cannot be one more.
 pub(crate) fn limits_after(
     alloc: Global,
     track: &Track,
@@ -89,7 +89,7 @@ pub(crate) fn limits_after(
     Ok(after)
 }
 
-/// The restrictions with one less, or why not.
+/// Returns the restrictions without one, or why it cannot be taken out.
 pub(crate) fn limits_without(
     alloc: Global,
     number: u32,

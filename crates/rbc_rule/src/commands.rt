@@ -17,7 +17,7 @@ use rbc_track::Track;
 use rbc_zones::{Limits, Stops};
 use std::alloc::Global;
 
-/// Closes an area.
+/// Decides that the signaller closes an area.
 pub(crate) fn stop<S: Reader>(
     alloc: Global,
     track: &Track,
@@ -44,7 +44,7 @@ pub(crate) fn stop<S: Reader>(
     }
 }
 
-/// Opens an area again.
+/// Decides that the signaller opens an area again.
 pub(crate) fn release<S: Reader>(
     alloc: Global,
     track: &Track,
@@ -69,7 +69,7 @@ pub(crate) fn release<S: Reader>(
     }
 }
 
-/// Restricts the speed.
+/// Decides that the signaller restricts the speed on a segment.
 pub(crate) fn restrict<S: Reader>(
     alloc: Global,
     track: &Track,
@@ -94,7 +94,7 @@ pub(crate) fn restrict<S: Reader>(
     }
 }
 
-/// Lifts a restriction.
+/// Decides that the signaller lifts a restriction.
 pub(crate) fn lift<S: Reader>(
     alloc: Global,
     track: &Track,

@@ -1,4 +1,4 @@
-//! The rule: what an input does, decided on single records.
+//! The rules: decides what an input does by reading single records.
 #![tactic(auto)]
 
 mod all_trains;

@@ -1,4 +1,4 @@
-//! Inputs of one train.
+//! Decides inputs that are about one train.
 
 ghost use Rattle.std.specs.Prelude.{◌≡◌, ◌+◌, ◌≤◌, ◌<◌, ◌^◌, IsTrue, IfOk, IfErr, OnOk, length, false};
 ghost use Rattle.rbc_records.specs.declared.record.Key.TheVariants as key;
@@ -24,7 +24,7 @@ use rbc_track::Track;
 use rbc_zones::{Limits, Stops};
 use std::alloc::{AllocError, Global};
 
-/// The record of a list of engines: an empty one has none.
+/// Returns the record of a list of engines, or `None` for an empty list.
 fn engines_record(engines: Numbers) -> Option<Rec>
     ensures { result ≡ engines_record engines }
 {
@@ -35,7 +35,7 @@ fn engines_record(engines: Numbers) -> Option<Rec>
     }
 }
 
-/// Enrols a train.
+/// Reads the records and decides the enrolment of a train.
 pub(crate) fn enrol<S: Reader>(
     alloc: Global,
     track: &Track,
@@ -58,7 +58,7 @@ pub(crate) fn enrol<S: Reader>(
     enrolled(alloc, track, engine, train_length, store)
 }
 
-/// Enrols a train, by what was read.
+/// Decides the enrolment of a train by the records that were read.
 fn enrolled<S: Reader>(
     alloc: Global,
     track: &Track,
@@ -92,7 +92,7 @@ fn enrolled<S: Reader>(
     Ok(outcome)
 }
 
-/// The outcome for a new train, beside the engines that are enrolled.
+/// Makes the outcome for a new train, beside the engines that are enrolled.
 fn enrolled_outcome(
     alloc: Global,
     track: &Track,
@@ -118,7 +118,7 @@ fn enrolled_outcome(
     Ok(Outcome::done(writes, SentList::from_vec(sent)))
 }
 
-/// Withdraws a train.
+/// Reads the records and decides the withdrawal of a train.
 pub(crate) fn withdraw<S: Reader>(
     alloc: Global,
     track: &Track,
@@ -138,7 +138,7 @@ pub(crate) fn withdraw<S: Reader>(
     withdrawn(alloc, track, engine, store)
 }
 
-/// Withdraws a train, by what was read.
+/// Decides the withdrawal of a train by the records that were read.
 fn withdrawn<S: Reader>(
     alloc: Global,
     track: &Track,
@@ -164,7 +164,7 @@ fn withdrawn<S: Reader>(
     Ok(outcome)
 }
 
-/// The outcome for a train that leaves.
+/// Makes the outcome for a train that leaves.
 fn withdrawn_outcome(alloc: Global, engine: u32, engines: &Numbers) -> Result<Outcome, AllocError>
     ensures outcome { IfOk result (λ outcome. outcome ≡ withdrawn_outcome engine engines.now) }
     ensures refused { IfOk result (λ outcome. IsSilentIfRefused outcome.result outcome.writes outcome.messages) }
@@ -177,7 +177,7 @@ fn withdrawn_outcome(alloc: Global, engine: u32, engines: &Numbers) -> Result<Ou
     Ok(Outcome::done(writes, SentList::new(alloc)))
 }
 
-/// Takes a message from a train.
+/// Reads the records and decides a message from a train.
 pub(crate) fn receive<S: Reader>(
     alloc: Global,
     track: &Track,
@@ -198,7 +198,7 @@ pub(crate) fn receive<S: Reader>(
     received(alloc, track, message, store)
 }
 
-/// Takes a message from a train, by what was read.
+/// Decides a message from a train by the records that were read.
 fn received<S: Reader>(
     alloc: Global,
     track: &Track,
@@ -229,7 +229,7 @@ fn received<S: Reader>(
     Ok(outcome)
 }
 
-/// The outcome for a train after its message.
+/// Makes the outcome for a train after its message.
 fn heard_outcome(
     alloc: Global,
     track: &Track,

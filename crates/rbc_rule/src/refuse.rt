@@ -1,50 +1,50 @@
-//! Why an input is refused.
+//! Why an input is refused, and with which code.
 
 ghost use Rattle.std.specs.Prelude.{◌≡◌};
 ghost use Rattle.rbc_rule.specs.Codes.{code_of};
 
 use std::alloc::AllocError;
 
-/// Why an input is refused (own rule). The first six are about a line of a batch, and come with it. Where more than one applies, the
-/// one with the least code is answered.
+/// Why an input is refused (own rule). If several reasons apply, the one with the least code is given. The first six are about the line
+/// or the message, and are found before the input is decided.
 #[derive(Clone, Copy, Debug, PartialEq, Eq)]
 pub enum Refusal {
-    /// The line is no input, or one of its numbers is out of range.
+    /// The line is not an input.
     BadLine,
-    /// The word behind `recv` does not spell bytes.
+    /// The message is not written as hexadecimal digits of whole bytes.
     BadHex,
-    /// The length of the message is not the one that it states.
+    /// The message has a wrong length.
     Length,
-    /// The message is none that a train sends here.
+    /// The message is not of a type that is read here.
     Message,
-    /// A packet of the message is none that is read here.
+    /// A packet is missing, wrong for the message, or of a wrong length.
     Packet,
-    /// A variable of the message is out of range.
+    /// A variable of the message has a spare value.
     Field,
     /// The train is not enrolled.
     UnknownTrain,
     /// The train is already enrolled.
     AlreadyEnrolled,
-    /// As many trains are enrolled as can be.
+    /// 2,000 trains are enrolled.
     TooManyTrains,
-    /// The train holds a stop identifier.
+    /// The train still holds the identifier of a stop.
     StopsOutstanding,
-    /// The number is not above the last one.
+    /// The number of the stop, or of the restriction, is not above the last one.
     NumberUsed,
     /// The area of the stop, or the restriction, is not good for the track.
     BadArea,
-    /// As many stops, or restrictions, are active as can be.
+    /// 64 stops, or 300 restrictions, are active.
     TooManyActive,
-    /// The number is not active.
+    /// No stop, or restriction, with this number is active.
     NoSuchNumber,
-    /// The message's T_TRAIN leaves no room for later ones.
+    /// T_TRAIN of the message is above 4,200,000,000.
     StampTooHigh,
-    /// Nothing waits for this acknowledgement.
+    /// There is nothing to acknowledge.
     NothingToAcknowledge,
 }
 
 impl Refusal {
-    /// The code with which the input is answered, 1 to 16.
+    /// Returns the code, 1 to 16, in the order of the variants.
     pub fn code(self) -> u8
         ensures { result ≡ code_of self }
     {
@@ -69,7 +69,7 @@ impl Refusal {
     }
 }
 
-/// Why stops, restrictions or a train's record did not change.
+/// Why the stops, the restrictions or a train's record cannot change.
 #[derive(Clone, Copy, Debug, PartialEq, Eq)]
 pub(crate) enum NotChanged {
     /// The input is refused.

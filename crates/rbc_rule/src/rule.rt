@@ -1,4 +1,4 @@
-//! Deciding one input on single records.
+//! Decides one input by reading single records.
 
 ghost use Rattle.std.specs.Prelude.{◌≡◌, ◌+◌, ◌<◌, ◌^◌, IfOk, IfErr, OnOk};
 ghost use Rattle.rbc_records.specs.Notes.{Extends};
@@ -14,14 +14,14 @@ use rbc_records::Reader;
 use rbc_track::Track;
 use std::alloc::Global;
 
-/// Decides an input on a track, by the records that it reads: the answer, the records to be written, and the messages to be sent
-/// (own rule). The outcome is that of the step of each well-formed world that has what was read. It writes nothing, and
-/// what was known to the reader stays as it was.
+/// Decides an input on a track by the records that it reads (own rule): the answer, the records to write and the messages to send.
+/// The outcome is that of a step of each well-formed world that has the records that were read. An input that is refused writes
+/// nothing and sends nothing, whatever was read. Nothing is written to the store, and records that were read before stay as they were.
 ///
 /// # Errors
 ///
-/// `OutOfMemory` where memory was refused; `Torn` only where no well-formed world has what was read; `Reader` only where the
-/// reader failed in this call.
+/// `OutOfMemory` for lack of memory; `Torn` only if no well-formed world has the records that were read; `Reader` only if the reader
+/// failed in this call. Then nothing was decided.
 pub fn decide<S: Reader>(
     alloc: Global,
     track: &Track,

@@ -1,4 +1,4 @@
-//! Settling the trains that are enrolled.
+//! Settles the trains that a change touches.
 
 ghost use Rattle.std.specs.Prelude.{◌≡◌, ℕ, ◌+◌, ◌*◌, ◌≤◌, true, ◌∷◌, ◌++◌, [], IsTrue, IfOk, IfErr, OnOk, length, Some, None};
 ghost use Rattle.std.specs.List.{flat_map, All};
@@ -22,15 +22,14 @@ use rbc_track::Track;
 use rbc_zones::{Limits, Stops};
 use std::alloc::{AllocError, Global};
 
-/// What settling some trains writes and sends.
+/// The records that settling trains writes, and the messages that it sends.
 #[derive(Debug, Drop)]
 pub(crate) struct Gathered {
     pub(crate) writes: Writes,
     pub(crate) messages: SentList,
 }
 
-/// Settles a train, and gathers its write, if it changes, and its messages. A released stop is taken out of those that it stops at
-/// once for.
+/// Settles a train, and collects its messages, and its record if that changes. The train no longer stops at once for a released stop.
 fn settle_one(
     alloc: Global,
     track: &Track,
@@ -54,7 +53,7 @@ fn settle_one(
     }
 }
 
-/// The same of a train that stops at once for the stop that is released.
+/// Does the same for a train that stops at once for the released stop.
 fn settle_released(
     alloc: Global,
     track: &Track,
@@ -77,7 +76,7 @@ fn settle_released(
     gather(gathered, train.engine, &sent, after)
 }
 
-/// The same of a train that does not.
+/// Does the same for any other train.
 fn settle_as_it_is(
     alloc: Global,
     track: &Track,
@@ -98,7 +97,7 @@ fn settle_as_it_is(
     }
 }
 
-/// Gathers the write of a train under its engine number, and its messages.
+/// Collects the record of a train, under its engine number, and its messages.
 fn gather(
     gathered: &mut Gathered,
     engine: u32,
@@ -117,7 +116,7 @@ fn gather(
         .set(Key::Train(engine), Some(Rec::Train(train)))
 }
 
-/// Settles the train of an engine that is enrolled, if the change touches it.
+/// Settles the train of an enrolled engine, if the change touches it.
 fn settle_engine<S: Reader>(
     alloc: Global,
     track: &Track,
@@ -155,7 +154,7 @@ fn settle_engine<S: Reader>(
     Ok(())
 }
 
-/// Settles the trains of the engines that are enrolled, one after another, after a change of the stops or the restrictions.
+/// Settles the trains of the enrolled engines one after another, after a change of the stops or the restrictions.
 pub(crate) fn settle_trains<S: Reader>(
     alloc: Global,
     track: &Track,
