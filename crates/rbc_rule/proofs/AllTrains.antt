@@ -33,6 +33,9 @@ use Rattle.rbc_rule.specs.Gathered.{forgotten, is_forced_by, is_same, settled_tr
 use Rattle.rbc_rule.proofs.WorldMaps.{keys-map, value_of-map}
 use Rattle.rbc_rule.proofs.WorldSettling.{settled_same, taken}
 use Rattle.rbc_rule.proofs.AllGathered.{written-append, changed, changes_stay, changes_at, changed_records, messages_at, messages_count, each_key}
+use Rattle.rbc_rule.specs.Bounds.{max_stops, max_limits}
+use Rattle.rbc_rule.specs.Codes.{code_of}
+use Rattle.rbc_rule.specs.declared.refuse.Refusal.TheVariants.{NumberUsed, BadArea, TooManyActive, NoSuchNumber}
 
 -- ---- a train that stays as it is
 
@@ -190,7 +193,7 @@ module _ {V : Type 0} where
   adding_above most is_good number value old new is =
       subst IsAboveNone is (by (leb number old.last) is_good (leb most (length old.active)) refl)
     where
-      by : (a b c : Bool) → leb number old.last ≡ a → IsAboveNone (cond a (Err 11) (cond b (cond c (Err 13) (Ok (with_next number value old))) (Err 12)))
+      by : (a b c : Bool) → leb number old.last ≡ a → IsAboveNone (cond a (Err (code_of NumberUsed)) (cond b (cond c (Err (code_of TooManyActive)) (Ok (with_next number value old))) (Err (code_of BadArea))))
       by true b c e = tt
       by false true true e = tt
       by false true false e = above_last old.last number e
@@ -208,67 +211,65 @@ module _ {V : Type 0} where
   removing_above number old new numbered is =
       subst IsAboveNone is (by (has old.active number) refl)
     where
-      by : (b : Bool) → has old.active number ≡ b → IsAboveNone (cond b (Ok (with_less number old)) (Err 14))
+      by : (b : Bool) → has old.active number ≡ b → IsAboveNone (cond b (Ok (with_less number old)) (Err (code_of NoSuchNumber)))
       by true e = one_or_more old.last (some_above number 1 old.last old.active numbered.ascending numbered.within e)
       by false e = tt
 
 -- ---- the four inputs, by what was read
 
 -- what was read is the world's
-read_effect : {A : Type 0} (f : A → Result A ℕ) (old now : A) (after result : Result A ℕ) → old ≡ now → after ≡ f old → after ≡ result → f now ≡ result
-read_effect f old now after result old_is after_is is = sym (after_is ∙ ap f old_is) ∙ is
+read_effect : {A : Type 0} (f : A → Result A ℕ) (old now : A) (result : Result A ℕ) → old ≡ now → result ≡ f old → f now ≡ result
+read_effect f old now result old_is is = sym (is ∙ ap f old_is)
 
-module _ (plan : Plan) (w : World) (number : ℕ) (old : Stops) (old_is : old ≡ w.stops) (after : Result Stops ℕ) where
-  module _ (segments : List Segment) (after_is : after ≡ stops_after plan number segments old) where
-    pub stop_refused : (code : ℕ) → after ≡ Err code → effect plan (Stop number segments) w ≡ Err code
-    stop_refused code e = ap (then_do (λ stops. record w { stops = stops })) (read_effect (stops_after plan number segments) old w.stops after (Err code) old_is after_is e)
+module _ (plan : Plan) (w : World) (number : ℕ) (old : Stops) (old_is : old ≡ w.stops) where
+  module _ (segments : List Segment) where
+    pub stop_refused : (code : ℕ) → Err code ≡ stops_after plan number segments old → effect plan (Stop number segments) w ≡ Err code
+    stop_refused code is = ap (then_do (λ stops. record w { stops = stops })) (read_effect (stops_after plan number segments) old w.stops (Err code) old_is is)
 
-    pub stop_right : (new : Stops) (outcome : Outcome) → after ≡ Ok new → outcome ≡ settled_outcome plan new w.limits None w.trains key.Stops (rec.Stops new) → IsWellFormed plan w
+    pub stop_right : (new : Stops) (outcome : Outcome) → Ok new ≡ stops_after plan number segments old → outcome ≡ settled_outcome plan new w.limits None w.trains key.Stops (rec.Stops new) → IsWellFormed plan w
         → IsStep plan (Stop number segments) w outcome.result outcome.writes outcome.messages
-    stop_right new outcome e is well =
-        let now = read_effect (stops_after plan number segments) old w.stops after (Ok new) old_is after_is e in
+    stop_right new outcome new_is is well =
+        let now = read_effect (stops_after plan number segments) old w.stops (Ok new) old_is new_is in
         stops_step plan (Stop number segments) w None well outcome new is
         (ap (then_do (λ stops. record w { stops = stops })) now ∙ ap (λ trains. Ok (record w { stops = new; trains = trains })) (none_forgotten w.trains))
-        (adding_above 64 _ number segments w.stops new now)
+        (adding_above max_stops _ number segments w.stops new now)
 
-  module _ (after_is : after ≡ after_removing number old) where
-    pub release_refused : (code : ℕ) → after ≡ Err code → effect plan (Release number) w ≡ Err code
-    release_refused code e =
-        ap (then_do (λ stops. record w { stops = stops; trains = forget_all number w.trains })) (read_effect (after_removing number) old w.stops after (Err code) old_is after_is e)
+  pub release_refused : (code : ℕ) → Err code ≡ after_removing number old → effect plan (Release number) w ≡ Err code
+  release_refused code is =
+      ap (then_do (λ stops. record w { stops = stops; trains = forget_all number w.trains })) (read_effect (after_removing number) old w.stops (Err code) old_is is)
 
-    pub release_right : (new : Stops) (outcome : Outcome) → after ≡ Ok new → outcome ≡ settled_outcome plan new w.limits (Some number) w.trains key.Stops (rec.Stops new) → IsWellFormed plan w
-        → IsStep plan (Release number) w outcome.result outcome.writes outcome.messages
-    release_right new outcome e is well =
-        let now = read_effect (after_removing number) old w.stops after (Ok new) old_is after_is e in
-        stops_step plan (Release number) w (Some number) well outcome new is
-        (ap (then_do (λ stops. record w { stops = stops; trains = forget_all number w.trains })) now)
-        (removing_above number w.stops new well.stops.numbered now)
+  pub release_right : (new : Stops) (outcome : Outcome) → Ok new ≡ after_removing number old → outcome ≡ settled_outcome plan new w.limits (Some number) w.trains key.Stops (rec.Stops new) → IsWellFormed plan w
+      → IsStep plan (Release number) w outcome.result outcome.writes outcome.messages
+  release_right new outcome new_is is well =
+      let now = read_effect (after_removing number) old w.stops (Ok new) old_is new_is in
+      stops_step plan (Release number) w (Some number) well outcome new is
+      (ap (then_do (λ stops. record w { stops = stops; trains = forget_all number w.trains })) now)
+      (removing_above number w.stops new well.stops.numbered now)
 
-module _ (plan : Plan) (w : World) (number : ℕ) (old : Limits) (old_is : old ≡ w.limits) (after : Result Limits ℕ) where
-  module _ (segment : Segment) (dirs : Dirs) (speed : ℕ) (front : Bool) (after_is : after ≡ limits_after plan number segment dirs speed front old) where
-    pub restrict_refused : (code : ℕ) → after ≡ Err code → effect plan (Restrict number segment dirs speed front) w ≡ Err code
-    restrict_refused code e =
-        ap (then_do (λ limits. record w { limits = limits })) (read_effect (limits_after plan number segment dirs speed front) old w.limits after (Err code) old_is after_is e)
+module _ (plan : Plan) (w : World) (number : ℕ) (old : Limits) (old_is : old ≡ w.limits) where
+  module _ (segment : Segment) (dirs : Dirs) (speed : ℕ) (front : Bool) where
+    pub restrict_refused : (code : ℕ) → Err code ≡ limits_after plan number segment dirs speed front old → effect plan (Restrict number segment dirs speed front) w ≡ Err code
+    restrict_refused code is =
+        ap (then_do (λ limits. record w { limits = limits })) (read_effect (limits_after plan number segment dirs speed front) old w.limits (Err code) old_is is)
 
-    pub restrict_right : (new : Limits) (outcome : Outcome) → after ≡ Ok new → outcome ≡ settled_outcome plan w.stops new None w.trains key.Limits (rec.Limits new) → IsWellFormed plan w
+    pub restrict_right : (new : Limits) (outcome : Outcome) → Ok new ≡ limits_after plan number segment dirs speed front old → outcome ≡ settled_outcome plan w.stops new None w.trains key.Limits (rec.Limits new) → IsWellFormed plan w
         → IsStep plan (Restrict number segment dirs speed front) w outcome.result outcome.writes outcome.messages
-    restrict_right new outcome e is well =
-        let now = read_effect (limits_after plan number segment dirs speed front) old w.limits after (Ok new) old_is after_is e in
+    restrict_right new outcome new_is is well =
+        let now = read_effect (limits_after plan number segment dirs speed front) old w.limits (Ok new) old_is new_is in
         limits_step plan (Restrict number segment dirs speed front) w None well outcome new is
         (ap (then_do (λ limits. record w { limits = limits })) now ∙ ap (λ trains. Ok (record w { limits = new; trains = trains })) (none_forgotten w.trains))
-        (adding_above 300 _ number _ w.limits new now)
+        (adding_above max_limits _ number _ w.limits new now)
 
-  module _ (after_is : after ≡ after_removing number old) where
-    pub lift_refused : (code : ℕ) → after ≡ Err code → effect plan (Lift number) w ≡ Err code
-    lift_refused code e = ap (then_do (λ limits. record w { limits = limits })) (read_effect (after_removing number) old w.limits after (Err code) old_is after_is e)
+  pub lift_refused : (code : ℕ) → Err code ≡ after_removing number old → effect plan (Lift number) w ≡ Err code
+  lift_refused code is = ap (then_do (λ limits. record w { limits = limits })) (read_effect (after_removing number) old w.limits (Err code) old_is is)
 
-    pub lift_right : (new : Limits) (outcome : Outcome) → after ≡ Ok new → outcome ≡ settled_outcome plan w.stops new None w.trains key.Limits (rec.Limits new) → IsWellFormed plan w
-        → IsStep plan (Lift number) w outcome.result outcome.writes outcome.messages
-    lift_right new outcome e is well =
-        let now = read_effect (after_removing number) old w.limits after (Ok new) old_is after_is e in
-        limits_step plan (Lift number) w None well outcome new is
-        (ap (then_do (λ limits. record w { limits = limits })) now ∙ ap (λ trains. Ok (record w { limits = new; trains = trains })) (none_forgotten w.trains))
-        (removing_above number w.limits new well.limits.numbered now)
+  pub lift_right : (new : Limits) (outcome : Outcome) → Ok new ≡ after_removing number old → outcome ≡ settled_outcome plan w.stops new None w.trains key.Limits (rec.Limits new) → IsWellFormed plan w
+      → IsStep plan (Lift number) w outcome.result outcome.writes outcome.messages
+  lift_right new outcome new_is is well =
+      let now = read_effect (after_removing number) old w.limits (Ok new) old_is new_is in
+      limits_step plan (Lift number) w None well outcome new is
+      (ap (then_do (λ limits. record w { limits = limits })) now ∙ ap (λ trains. Ok (record w { limits = new; trains = trains })) (none_forgotten w.trains))
+      (removing_above number w.limits new well.limits.numbered now)
 
 -- ---- what was gathered, by engines
 

@@ -13,6 +13,8 @@ use Rattle.rbc_rule.specs.World.{World}
 use Rattle.rbc_rule.specs.Effect.{with_next, with_less, after_adding, after_removing}
 use Rattle.rbc_rule.specs.Touching.{HasBegun, HasChanged, BeginsOrEnds, released_by, released_from}
 use Rattle.rbc_rule.proofs.WorldMaps.{value_of-with_value, value_of-without}
+use Rattle.rbc_rule.specs.Codes.{code_of}
+use Rattle.rbc_rule.specs.declared.refuse.Refusal.TheVariants.{NumberUsed, BadArea, TooManyActive, NoSuchNumber}
 
 -- ---- what an adding and a removing give
 
@@ -27,11 +29,11 @@ module _ {V : Type 0} where
   IsBegun number value old (Ok new) = HasBegun number value old new
   IsBegun number value old (Err code) = Unit
 
-  pub adding_begins : (most : ℕ) (is_good : Bool) (number : ℕ) (value : V) (old new : Numbered V) → after_adding most is_good number value old ≡ Ok new → HasBegun number value old new
+  pub adding_begins : (most : ℕ) (is_good : Bool) (number : ℕ) (value : V) (old new : Numbered V) → Ok new ≡ after_adding most is_good number value old → HasBegun number value old new
   unfolding IsBegun
-  adding_begins most is_good number value old new is = subst (IsBegun number value old) is (by (leb number old.last) is_good (leb most (length old.active)) refl)
+  adding_begins most is_good number value old new is = subst (IsBegun number value old) (sym is) (by (leb number old.last) is_good (leb most (length old.active)) refl)
     where
-      by : (a b c : Bool) → leb number old.last ≡ a → IsBegun number value old (cond a (Err 11) (cond b (cond c (Err 13) (Ok (with_next number value old))) (Err 12)))
+      by : (a b c : Bool) → leb number old.last ≡ a → IsBegun number value old (cond a (Err (code_of NumberUsed)) (cond b (cond c (Err (code_of TooManyActive)) (Ok (with_next number value old))) (Err (code_of BadArea))))
       by true b c e = tt
       by false true true e = tt
       by false true false e = record { above = above_last old.last number e; next = refl }
@@ -41,10 +43,10 @@ module _ {V : Type 0} where
   IsEnded number old (Ok new) = new ≡ with_less number old
   IsEnded number old (Err code) = Unit
 
-  pub removing_ends : (number : ℕ) (old new : Numbered V) → after_removing number old ≡ Ok new → new ≡ with_less number old
+  pub removing_ends : (number : ℕ) (old new : Numbered V) → Ok new ≡ after_removing number old → new ≡ with_less number old
   unfolding IsEnded
   removing_ends number old new is =
-      subst (IsEnded number old) is (elim (has old.active number) as (λ b. IsEnded number old (cond b (Ok (with_less number old)) (Err 14))) [ true ↦ refl | false ↦ tt ])
+      subst (IsEnded number old) (sym is) (elim (has old.active number) as (λ b. IsEnded number old (cond b (Ok (with_less number old)) (Err (code_of NoSuchNumber)))) [ true ↦ refl | false ↦ tt ])
 
   -- ---- what is active under the number from then on
 

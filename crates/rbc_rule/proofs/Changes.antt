@@ -8,6 +8,8 @@ use Rattle.rbc_maps.specs.Maps.{has, value_of, with_value, without, keys}
 use Rattle.rbc_maps.specs.Numbered.{Numbered, AreNumbered}
 use Rattle.rbc_settle.proofs.Judging.{value_is_none, gone_where_none}
 use Rattle.rbc_rule.specs.Effect.{with_next, with_less, after_adding, after_removing}
+use Rattle.rbc_rule.specs.Codes.{code_of}
+use Rattle.rbc_rule.specs.declared.refuse.Refusal.TheVariants.{NumberUsed, BadArea, TooManyActive, NoSuchNumber}
 
 swapped : (a b : Bool) → a ≡ not b → b ≡ not a
 swapped true true e = cc
@@ -35,9 +37,9 @@ module _ {V : Type 0} where
 
   allowed : (most number : ℕ) (good : Bool) (value : V) (old : Numbered V) → leb number old.last ≡ false → good ≡ true → leb most (length old.active) ≡ false → after_adding most good number value old ≡ Ok (with_next number value old)
   allowed most number good value old above is_good few =
-      ap (λ used. if used then Err 11 else (if good then (if leb most (length old.active) then Err 13 else Ok (with_next number value old)) else Err 12)) above
-      ∙ ap (λ fine. if fine then (if leb most (length old.active) then Err 13 else Ok (with_next number value old)) else Err 12) is_good
-      ∙ ap (λ full. if full then Err 13 else Ok (with_next number value old)) few
+      ap (λ used. if used then Err (code_of NumberUsed) else (if good then (if leb most (length old.active) then Err (code_of TooManyActive) else Ok (with_next number value old)) else Err (code_of BadArea))) above
+      ∙ ap (λ fine. if fine then (if leb most (length old.active) then Err (code_of TooManyActive) else Ok (with_next number value old)) else Err (code_of BadArea)) is_good
+      ∙ ap (λ full. if full then Err (code_of TooManyActive) else Ok (with_next number value old)) few
 
   -- what was added where nothing refuses it
   pub added : (most number : ℕ) (good : Bool) (value : V) (old new : Numbered V) → AreNumbered old → old.last < number → good ≡ true → length old.active < most → new ≡ record { last = number; active = old.active ++ (number, value) ∷ [] } → Ok new ≡ after_adding most good number value old
@@ -51,11 +53,11 @@ module _ {V : Type 0} where
     there = swapped gone (has old.active number) (gone_where_none gone found is ∙ ap is_none same ∙ value_is_none old.active number)
 
     -- what is not there is not taken out
-    pub not_there : gone ≡ true → Err 14 ≡ after_removing number old
-    not_there e = sym (ap (λ b. if b then Ok (with_less number old) else Err 14) (there ∙ ap not e))
+    pub not_there : gone ≡ true → Err (code_of NoSuchNumber) ≡ after_removing number old
+    not_there e = sym (ap (λ b. if b then Ok (with_less number old) else Err (code_of NoSuchNumber)) (there ∙ ap not e))
 
     -- what is there is
     pub removed : (new : Numbered V) → gone ≡ false → new ≡ record { last = old.last; active = without number old.active } → Ok new ≡ after_removing number old
     removed new e after =
         let to : Numbered V → Result (Numbered V) ℕ = λ n. Ok n in
-        ap to after ∙ sym (ap (λ b. if b then Ok (with_less number old) else Err 14) (there ∙ ap not e))
+        ap to after ∙ sym (ap (λ b. if b then Ok (with_less number old) else Err (code_of NoSuchNumber)) (there ∙ ap not e))

@@ -27,6 +27,9 @@ use Rattle.rbc_rule.specs.Effect.{forget, unknown_stamp, is_too_high, raised, pl
 use Rattle.rbc_rule.proofs.KeepsLists.{IsPart, part-same, part-all, part-distinct, part-before, part-behind, value_of-found}
 use Rattle.rbc_rule.proofs.KeepsSlots.{stamps_in, SlotsStay, stay-without, stay-put, good_slots, told-given}
 use Rattle.rbc_rule.proofs.KeepsPlaces.{place_on}
+use Rattle.rbc_rule.specs.Bounds.{max_engine, max_train_length, max_stamp}
+use Rattle.rbc_rule.specs.Codes.{code_of}
+use Rattle.rbc_rule.specs.declared.refuse.Refusal.TheVariants.{StampTooHigh}
 
 -- ---- ascending numbers
 
@@ -93,7 +96,7 @@ well_later plan stops later_stops limits later_limits train later_s later_l well
 
 module _ (plan : Plan) (stops : Stops) (limits : Limits) where
   -- a train that is enrolled
-  pub well_new : (engine train_length : ℕ) → engine ≤ 16777215 → (1 ≤ train_length) × (train_length ≤ 40000) → IsWellFormedTrain plan stops limits (new_train engine train_length 0)
+  pub well_new : (engine train_length : ℕ) → engine ≤ max_engine → (1 ≤ train_length) × (train_length ≤ max_train_length) → IsWellFormedTrain plan stops limits (new_train engine train_length 0)
   well_new engine train_length small lengths = record {
     engine = small;
     length = lengths;
@@ -203,7 +206,7 @@ module _ (plan : Plan) (stops : Stops) (limits : Limits) where
       stamps_distinct = well.stamps_distinct;
     }
 
-    well_stamp : (stamp : ℕ) → stamp ≤ 4200000000 → IsWellFormedTrain plan stops limits (record train { stamp = max train.stamp stamp })
+    well_stamp : (stamp : ℕ) → stamp ≤ max_stamp → IsWellFormedTrain plan stops limits (record train { stamp = max train.stamp stamp })
     well_stamp stamp low = record {
       engine = well.engine;
       length = well.length;
@@ -220,9 +223,9 @@ module _ (plan : Plan) (stops : Stops) (limits : Limits) where
 
     pub well_raised : (stamp : ℕ) → is_too_high stamp ≡ false → IsWellFormedTrain plan stops limits (raised stamp train)
     well_raised stamp low =
-        (elim (eqb stamp unknown_stamp) as (λ b. cond b (ltb 1 0) (ltb 4200000000 stamp) ≡ false → IsWellFormedTrain plan stops limits (cond b train (record train { stamp = max train.stamp stamp }))) [
+        (elim (eqb stamp unknown_stamp) as (λ b. cond b (ltb 1 0) (ltb max_stamp stamp) ≡ false → IsWellFormedTrain plan stops limits (cond b train (record train { stamp = max train.stamp stamp }))) [
           | true ↦ λ e. well
-          | false ↦ λ e. well_stamp stamp (ltb-false 4200000000 stamp e)
+          | false ↦ λ e. well_stamp stamp (ltb-false max_stamp stamp e)
         ]) low
 
 -- ---- a message from a train
@@ -301,7 +304,7 @@ module _ (plan : Plan) (stops : Stops) (limits : Limits) (engine : ℕ) where
   -- a train that is heard stays well-formed
   pub well_heard : (message : FromTrain) (train : TrainRec) → IsPlan plan → train.engine ≡ engine → IsWellFormedTrain plan stops limits train → WellIfOk plan stops limits engine (heard plan message train)
   well_heard message train track same well =
-      (elim (is_too_high (stamp_told message)) as (λ b. is_too_high (stamp_told message) ≡ b → WellIfOk plan stops limits engine (cond b (Err 15) (told_by plan message train))) [
+      (elim (is_too_high (stamp_told message)) as (λ b. is_too_high (stamp_told message) ≡ b → WellIfOk plan stops limits engine (cond b (Err (code_of StampTooHigh)) (told_by plan message train))) [
         | true ↦ λ is. tt
         | false ↦ λ is. well_told message train track same well is
       ]) refl

@@ -28,6 +28,9 @@ use Rattle.rbc_rule.specs.Step.{settle_all}
 use Rattle.rbc_rule.specs.WellFormed.{IsGoodStop, AreGoodStops, AreGoodLimits, IsGoodTrain, IsWellFormed}
 use Rattle.rbc_rule.proofs.KeepsLists.{length-filter, All-with_value, length-with_value, All-value_of, map-replaced}
 use Rattle.rbc_rule.proofs.KeepsTrains.{well_later, well_new, well_forgotten, WellIfOk, well_heard}
+use Rattle.rbc_rule.specs.Bounds.{max_trains, max_stops, max_limits, max_engine, max_train_length}
+use Rattle.rbc_rule.specs.Codes.{code_of}
+use Rattle.rbc_rule.specs.declared.refuse.Refusal.TheVariants.{AlreadyEnrolled, TooManyTrains, StopsOutstanding, NumberUsed, BadArea, TooManyActive, NoSuchNumber}
 
 -- ---- maps whose values are changed each
 
@@ -70,7 +73,7 @@ pub record IsReady (plan : Plan) (w : World) : Type 0 where
   pub stops : AreGoodStops plan w.stops
   pub limits : AreGoodLimits plan w.limits
   pub ascending : IsMap w.trains
-  pub few : length w.trains ≤ 2000
+  pub few : length w.trains ≤ max_trains
   pub trains : All (IsKept plan w.stops w.limits) w.trains
 
 abbrev pub ReadyIfOk : Plan → Result World ℕ → Type 0
@@ -105,7 +108,7 @@ module _ (plan : Plan) where
     stops = ready.stops;
     limits = ready.limits;
     ascending = subst (λ (ks : List ℕ). rises_from 0 ks ≡ true) (sym (keys-each (settled plan w.stops w.limits) w.trains)) ready.ascending;
-    few = subst (λ (n : ℕ). n ≤ 2000) (sym (length-each (settled plan w.stops w.limits) w.trains)) ready.few;
+    few = subst (λ (n : ℕ). n ≤ max_trains) (sym (length-each (settled plan w.stops w.limits) w.trains)) ready.few;
     trains = All-map (IsGoodTrain plan w.stops w.limits) (λ (train : ℕ × TrainRec). (train.0, settled plan w.stops w.limits train.1)) w.trains
         (All-weaker (IsKept plan w.stops w.limits) (λ (train : ℕ × TrainRec). IsGoodTrain plan w.stops w.limits (train.0, settled plan w.stops w.limits train.1))
         (good_settled keeps w.stops w.limits ready.stops.numbered ready.limits.numbered) w.trains ready.trains);
@@ -120,12 +123,12 @@ module _ (plan : Plan) where
         All-weaker (IsGoodTrain plan w.stops w.limits) (IsKept plan stops limits)
         (λ train good. record { engine = good.engine; well_formed = well_later plan w.stops stops w.limits limits train.1 later_s later_l good.well_formed }) w.trains well.trains
 
-    ready_trains : (trains : List (ℕ × TrainRec)) → IsMap trains → length trains ≤ 2000 → All (IsKept plan w.stops w.limits) trains → IsReady plan (record w { trains = trains })
+    ready_trains : (trains : List (ℕ × TrainRec)) → IsMap trains → length trains ≤ max_trains → All (IsKept plan w.stops w.limits) trains → IsReady plan (record w { trains = trains })
     ready_trains trains ascending few all = record { stops = well.stops; limits = well.limits; ascending = ascending; few = few; trains = all }
 
     -- ---- one train
 
-    ready_enrolled : (engine train_length : ℕ) → engine ≤ 16777215 → (1 ≤ train_length) × (train_length ≤ 40000) → length w.trains < 2000
+    ready_enrolled : (engine train_length : ℕ) → engine ≤ max_engine → (1 ≤ train_length) × (train_length ≤ max_train_length) → length w.trains < max_trains
         → IsReady plan (record w { trains = with_value engine (new_train engine train_length 0) w.trains })
     ready_enrolled engine train_length small lengths room =
         let train = new_train engine train_length 0 in
@@ -136,11 +139,11 @@ module _ (plan : Plan) where
     enrol_ready : (engine train_length : ℕ) → Fits (Enrol engine train_length) → ReadyIfOk plan (effect plan (Enrol engine train_length) w)
     enrol_ready engine train_length fits =
         let then_world : List (ℕ × TrainRec) → World = λ trains. record w { trains = trains } in
-        elim (has w.trains engine) as (λ b. ReadyIfOk plan (then_do then_world (cond b (Err 8) (cond (leb 2000 (length w.trains)) (Err 9) (Ok (with_value engine (new_train engine train_length 0) w.trains)))))) [
+        elim (has w.trains engine) as (λ b. ReadyIfOk plan (then_do then_world (cond b (Err (code_of AlreadyEnrolled)) (cond (leb max_trains (length w.trains)) (Err (code_of TooManyTrains)) (Ok (with_value engine (new_train engine train_length 0) w.trains)))))) [
           | true ↦ tt
-          | false ↦ (elim (leb 2000 (length w.trains)) as (λ b. leb 2000 (length w.trains) ≡ b → ReadyIfOk plan (then_do then_world (cond b (Err 9) (Ok (with_value engine (new_train engine train_length 0) w.trains))))) [
+          | false ↦ (elim (leb max_trains (length w.trains)) as (λ b. leb max_trains (length w.trains) ≡ b → ReadyIfOk plan (then_do then_world (cond b (Err (code_of TooManyTrains)) (Ok (with_value engine (new_train engine train_length 0) w.trains))))) [
             | true ↦ λ is. tt
-            | false ↦ λ is. ready_enrolled engine train_length fits.0 fits.1 (leb-false 2000 (length w.trains) is)
+            | false ↦ λ is. ready_enrolled engine train_length fits.0 fits.1 (leb-false max_trains (length w.trains) is)
           ]) refl
         ]
 
@@ -153,7 +156,7 @@ module _ (plan : Plan) where
     withdraw_by : (engine : ℕ) (o : Option TrainRec) → ReadyIfOk plan (then_do (λ trains. record w { trains = trains }) (without_train engine w.trains o))
     withdraw_by engine None = tt
     withdraw_by engine (Some train) =
-        elim (eqb (length train.stops) 0) as (λ b. ReadyIfOk plan (then_do (λ trains. record w { trains = trains }) (cond b (Ok (without engine w.trains)) (Err 10)))) [
+        elim (eqb (length train.stops) 0) as (λ b. ReadyIfOk plan (then_do (λ trains. record w { trains = trains }) (cond b (Ok (without engine w.trains)) (Err (code_of StopsOutstanding))))) [
           | true ↦ ready_withdrawn engine
           | false ↦ tt
         ]
@@ -165,7 +168,7 @@ module _ (plan : Plan) where
         let was = All-value_of (IsKept plan w.stops w.limits) engine old w.trains kept found in
         let as_many : length (with_value engine new w.trains) ≡ length w.trains = sym (length-keys (with_value engine new w.trains)) ∙ ap length same_keys ∙ length-keys w.trains in
         ready_trains (with_value engine new w.trains) (subst (λ (ks : List ℕ). rises_from 0 ks ≡ true) (sym same_keys) well.ascending)
-        (subst (λ (n : ℕ). n ≤ 2000) (sym as_many) well.few)
+        (subst (λ (n : ℕ). n ≤ max_trains) (sym as_many) well.few)
         (All-with_value (IsKept plan w.stops w.limits) engine new w.trains (record { engine = good.0 ∙ was.engine; well_formed = good.1 }) kept)
 
     heard_as : (engine : ℕ) (old : TrainRec) (r : Result TrainRec ℕ) → value_of w.trains engine ≡ Some old → WellIfOk plan w.stops w.limits old.engine r
@@ -182,7 +185,7 @@ module _ (plan : Plan) where
 
     -- ---- stops and restrictions
 
-    ready_stop : (number : ℕ) (segments : List Segment) → 1 ≤ length segments → w.stops.last < number → is_good_area plan segments ≡ true → length w.stops.active < 64
+    ready_stop : (number : ℕ) (segments : List Segment) → 1 ≤ length segments → w.stops.last < number → is_good_area plan segments ≡ true → length w.stops.active < max_stops
         → IsReady plan (record w { stops = with_next number segments w.stops })
     ready_stop number segments some above good room = record {
       stops = record {
@@ -196,7 +199,7 @@ module _ (plan : Plan) where
       trains = kept_later (with_next number segments w.stops) w.limits (omega (arith, above)) (omega arith);
     }
 
-    ready_limit : (number : ℕ) (limit : Limit) → w.limits.last < number → is_good_limit plan limit.segment limit.speed ≡ true → length w.limits.active < 300
+    ready_limit : (number : ℕ) (limit : Limit) → w.limits.last < number → is_good_limit plan limit.segment limit.speed ≡ true → length w.limits.active < max_limits
         → IsReady plan (record w { limits = with_next number limit w.limits })
     ready_limit number limit above good room = record {
       stops = well.stops;
@@ -215,10 +218,10 @@ module _ (plan : Plan) where
         → (n.last < number → good ≡ true → length n.active < most → IsReady plan (then_world (with_next number value n)))
         → ReadyIfOk plan (then_do then_world (after_adding most good number value n))
     added_ready {V} most good number value n then_world f =
-        (elim (leb number n.last) as (λ b. leb number n.last ≡ b → ReadyIfOk plan (then_do then_world (cond b (Err 11) (cond good (cond (leb most (length n.active)) (Err 13) (Ok (with_next number value n))) (Err 12))))) [
+        (elim (leb number n.last) as (λ b. leb number n.last ≡ b → ReadyIfOk plan (then_do then_world (cond b (Err (code_of NumberUsed)) (cond good (cond (leb most (length n.active)) (Err (code_of TooManyActive)) (Ok (with_next number value n))) (Err (code_of BadArea)))))) [
           | true ↦ λ low. tt
-          | false ↦ λ above. (elim good as (λ c. good ≡ c → ReadyIfOk plan (then_do then_world (cond c (cond (leb most (length n.active)) (Err 13) (Ok (with_next number value n))) (Err 12)))) [
-            | true ↦ λ is. (elim (leb most (length n.active)) as (λ d. leb most (length n.active) ≡ d → ReadyIfOk plan (then_do then_world (cond d (Err 13) (Ok (with_next number value n))))) [
+          | false ↦ λ above. (elim good as (λ c. good ≡ c → ReadyIfOk plan (then_do then_world (cond c (cond (leb most (length n.active)) (Err (code_of TooManyActive)) (Ok (with_next number value n))) (Err (code_of BadArea))))) [
+            | true ↦ λ is. (elim (leb most (length n.active)) as (λ d. leb most (length n.active) ≡ d → ReadyIfOk plan (then_do then_world (cond d (Err (code_of TooManyActive)) (Ok (with_next number value n))))) [
               | true ↦ λ full. tt
               | false ↦ λ room. f (leb-false number n.last above) is (leb-false most (length n.active) room)
             ]) refl
@@ -235,7 +238,7 @@ module _ (plan : Plan) where
       };
       limits = well.limits;
       ascending = subst (λ (ks : List ℕ). rises_from 0 ks ≡ true) (sym (keys-each (forget number) w.trains)) well.ascending;
-      few = subst (λ (n : ℕ). n ≤ 2000) (sym (length-each (forget number) w.trains)) well.few;
+      few = subst (λ (n : ℕ). n ≤ max_trains) (sym (length-each (forget number) w.trains)) well.few;
       trains = All-map (IsKept plan (with_less number w.stops) w.limits) (λ (train : ℕ × TrainRec). (train.0, forget number train.1)) w.trains
           (All-weaker (IsKept plan (with_less number w.stops) w.limits) (λ (train : ℕ × TrainRec). IsKept plan (with_less number w.stops) w.limits (train.0, forget number train.1))
           (λ train was. record { engine = was.engine; well_formed = well_forgotten plan (with_less number w.stops) w.limits train.1 was.well_formed number })
@@ -257,7 +260,7 @@ module _ (plan : Plan) where
 
     removed_ready : {V : Type 0} (number : ℕ) (n : Numbered V) (then_world : Numbered V → World) → IsReady plan (then_world (with_less number n))
         → ReadyIfOk plan (then_do then_world (after_removing number n))
-    removed_ready number n then_world ready = elim (has n.active number) as (λ b. ReadyIfOk plan (then_do then_world (cond b (Ok (with_less number n)) (Err 14)))) [
+    removed_ready number n then_world ready = elim (has n.active number) as (λ b. ReadyIfOk plan (then_do then_world (cond b (Ok (with_less number n)) (Err (code_of NoSuchNumber))))) [
       | true ↦ ready
       | false ↦ tt
     ]
@@ -268,12 +271,12 @@ module _ (plan : Plan) where
     effect_ready (Enrol engine train_length) track fits = enrol_ready engine train_length fits
     effect_ready (Withdraw engine) track fits = withdraw_by engine (value_of w.trains engine)
     effect_ready (Stop number segments) track fits =
-        added_ready 64 (is_good_area plan segments) number segments w.stops (λ stops. record w { stops = stops }) (ready_stop number segments fits)
+        added_ready max_stops (is_good_area plan segments) number segments w.stops (λ stops. record w { stops = stops }) (ready_stop number segments fits)
     effect_ready (Release number) track fits =
         removed_ready number w.stops (λ stops. record w { stops = stops; trains = forget_all number w.trains }) (ready_release number)
     effect_ready (Restrict number segment dirs speed front) track fits =
         let limit : Limit = record { segment = segment; dirs = dirs; speed = speed; front = front } in
-        added_ready 300 (is_good_limit plan segment speed) number limit w.limits (λ limits. record w { limits = limits }) (ready_limit number limit)
+        added_ready max_limits (is_good_limit plan segment speed) number limit w.limits (λ limits. record w { limits = limits }) (ready_limit number limit)
     effect_ready (Lift number) track fits = removed_ready number w.limits (λ limits. record w { limits = limits }) (ready_lift number)
     effect_ready (Received message) track fits = heard_by message track (value_of w.trains (engine_of message)) refl
     effect_ready (Bad code) track fits = tt

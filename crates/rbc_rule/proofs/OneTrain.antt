@@ -33,6 +33,9 @@ use Rattle.rbc_rule.specs.Right.{IsStep, messages_to}
 use Rattle.rbc_rule.specs.Gathered.{to_engine, enrolled_outcome, withdrawn_outcome, heard_outcome}
 use Rattle.rbc_rule.proofs.WorldMaps.{eqb_turned, keys-new, keys-old, keys-without, value_of-with_value, value_of-without, map-with_value, has_keys, length_keys, has_value}
 use Rattle.rbc_rule.proofs.WorldSettling.{map-done, sent-done, count-done, done-without, sent-with, count-with, trains_done, messages_to-engine, taken}
+use Rattle.rbc_rule.specs.Bounds.{max_trains}
+use Rattle.rbc_rule.specs.Codes.{code_of}
+use Rattle.rbc_rule.specs.declared.refuse.Refusal.TheVariants.{AlreadyEnrolled, TooManyTrains, StopsOutstanding, StampTooHigh}
 
 -- ---- records
 
@@ -94,14 +97,14 @@ module _ (plan : Plan) (w : World) (well : IsWellFormed plan w) where
 below : (most n : ℕ) → n < most → leb most n ≡ false
 below most n lt = grind (arith, nat_tests)
 
-enrol_is_step : (plan : Plan) (w : World) (engine train_length : ℕ) → IsWellFormed plan w → has w.trains engine ≡ false → leb 2000 (length w.trains) ≡ false → (outcome : Outcome)
+enrol_is_step : (plan : Plan) (w : World) (engine train_length : ℕ) → IsWellFormed plan w → has w.trains engine ≡ false → leb max_trains (length w.trains) ≡ false → (outcome : Outcome)
     → outcome ≡ enrolled_outcome plan w.stops w.limits engine train_length (keys w.trains) → IsStep plan (Enrol engine train_length) w outcome.result outcome.writes outcome.messages
 enrol_is_step plan w engine train_length well new room outcome is =
     let train = new_train engine train_length 0 in
     let P : Outcome → Type 0 = λ o. IsStep plan (Enrol engine train_length) w o.result o.writes o.messages in
     subst P (sym is)
     (taken plan (Enrol engine train_length) w (record w { trains = with_value engine train w.trains }) _ _ _
-    (λ i. then_do (λ trains. record w { trains = trains }) (cond (new i) (Err 8) (cond (room i) (Err 9) (Ok (with_value engine train w.trains)))))
+    (λ i. then_do (λ trains. record w { trains = trains }) (cond (new i) (Err (code_of AlreadyEnrolled)) (cond (room i) (Err (code_of TooManyTrains)) (Ok (with_value engine train w.trains)))))
     (λ k. enrolled_records w engine (settled plan w.stops w.limits train) new k ∙ ap (λ trains. record_of (record w { trains = trains }) k) (sym (settled_with plan w well engine train)))
     (ap Done (count_with plan w well engine train))
     (sent_with plan w well engine train))
@@ -114,18 +117,18 @@ module _ (plan : Plan) (w : World) (engine train_length : ℕ) (engines : List �
   how_many : length engines ≡ length w.trains
   how_many = ap length engines_are ∙ length_keys w.trains
 
-  pub enrol_known : (found : Bool) → found ≡ has_number engines engine → found ≡ true → effect plan (Enrol engine train_length) w ≡ Err 8
-  enrol_known found is there = λ i. then_do (λ trains. record w { trains = trains }) (cond (enrolled_already found true is there i) (Err 8) (cond (leb 2000 (length w.trains)) (Err 9) (Ok (with_value engine (new_train engine train_length 0) w.trains))))
+  pub enrol_known : (found : Bool) → found ≡ has_number engines engine → found ≡ true → effect plan (Enrol engine train_length) w ≡ Err (code_of AlreadyEnrolled)
+  enrol_known found is there = λ i. then_do (λ trains. record w { trains = trains }) (cond (enrolled_already found true is there i) (Err (code_of AlreadyEnrolled)) (cond (leb max_trains (length w.trains)) (Err (code_of TooManyTrains)) (Ok (with_value engine (new_train engine train_length 0) w.trains))))
 
-  pub enrol_full : (found : Bool) → found ≡ has_number engines engine → found ≡ false → 2000 ≤ length engines → effect plan (Enrol engine train_length) w ≡ Err 9
+  pub enrol_full : (found : Bool) → found ≡ has_number engines engine → found ≡ false → max_trains ≤ length engines → effect plan (Enrol engine train_length) w ≡ Err (code_of TooManyTrains)
   enrol_full found is new full =
-      let many : leb 2000 (length w.trains) ≡ true = le-leb 2000 (length w.trains) (let count = how_many in omega (arith, count)) in
-      λ i. then_do (λ trains. record w { trains = trains }) (cond (enrolled_already found false is new i) (Err 8) (cond (many i) (Err 9) (Ok (with_value engine (new_train engine train_length 0) w.trains))))
+      let many : leb max_trains (length w.trains) ≡ true = le-leb max_trains (length w.trains) (let count = how_many in omega (arith, count)) in
+      λ i. then_do (λ trains. record w { trains = trains }) (cond (enrolled_already found false is new i) (Err (code_of AlreadyEnrolled)) (cond (many i) (Err (code_of TooManyTrains)) (Ok (with_value engine (new_train engine train_length 0) w.trains))))
 
   pub enrol_right : (stops : Stops) (limits : Limits) (outcome : Outcome) (found : Bool) → outcome ≡ enrolled_outcome plan stops limits engine train_length engines → stops ≡ w.stops → limits ≡ w.limits
-      → IsWellFormed plan w → found ≡ has_number engines engine → found ≡ false → length engines < 2000 → IsStep plan (Enrol engine train_length) w outcome.result outcome.writes outcome.messages
+      → IsWellFormed plan w → found ≡ has_number engines engine → found ≡ false → length engines < max_trains → IsStep plan (Enrol engine train_length) w outcome.result outcome.writes outcome.messages
   enrol_right stops limits outcome found is stops_are limits_are well found_is new few =
-      enrol_is_step plan w engine train_length well (enrolled_already found false found_is new) (below 2000 (length w.trains) (let count = how_many in omega (arith, count))) outcome
+      enrol_is_step plan w engine train_length well (enrolled_already found false found_is new) (below max_trains (length w.trains) (let count = how_many in omega (arith, count))) outcome
       (is ∙ (λ i. enrolled_outcome plan (stops_are i) (limits_are i) engine train_length (engines_are i)))
 
 -- ---- a train that leaves
@@ -134,7 +137,7 @@ module _ (plan : Plan) (w : World) (engine : ℕ) (train : TrainRec) (found : So
   withdraw_effect : eqb (length train.stops) 0 ≡ true → effect plan (Withdraw engine) w ≡ Ok (record w { trains = without engine w.trains })
   withdraw_effect free =
       (λ i. then_do (λ trains. record w { trains = trains }) (without_train engine w.trains (sym found i)))
-      ∙ (λ i. then_do (λ trains. record w { trains = trains }) (cond (free i) (Ok (without engine w.trains)) (Err 10)))
+      ∙ (λ i. then_do (λ trains. record w { trains = trains }) (cond (free i) (Ok (without engine w.trains)) (Err (code_of StopsOutstanding))))
 
   pub withdraw_right : (engines : List ℕ) (outcome : Outcome) → outcome ≡ withdrawn_outcome engine engines → engines ≡ keys w.trains
       → IsWellFormed plan w → eqb (length train.stops) 0 ≡ true → IsStep plan (Withdraw engine) w outcome.result outcome.writes outcome.messages
@@ -190,7 +193,7 @@ told_engine plan (StopAck stamp engine id answer position) train =
     subst (λ e. KeepsEngine e (answered id answer (placed plan position (raised stamp train)))) (raised_engine stamp train)
     (stop_acked_engine (placed plan position (raised stamp train)) (after_id_ack (raised stamp train).stops id answer))
 
-either_engine : (engine : ℕ) (b : Bool) (after : Result TrainRec ℕ) → KeepsEngine engine after → KeepsEngine engine (cond b (Err 15) after)
+either_engine : (engine : ℕ) (b : Bool) (after : Result TrainRec ℕ) → KeepsEngine engine after → KeepsEngine engine (cond b (Err (code_of StampTooHigh)) after)
 unfolding KeepsEngine
 either_engine engine true after h = tt
 either_engine engine false after h = h
@@ -223,9 +226,9 @@ engine_found plan w engine train well found =
     (has_engine w.trains engine (recursion_from_All P w.trains (All-weaker (IsGoodTrain plan w.stops w.limits) P own w.trains well.trains)))
 
 module _ (plan : Plan) (message : FromTrain) (w : World) (old : TrainRec) (found : Some old ≡ value_of w.trains (engine_of message)) where
-  pub receive_refused : (after : Result TrainRec ℕ) (code : ℕ) → after ≡ heard plan message old → after ≡ Err code → effect plan (Received message) w ≡ Err code
-  receive_refused after code after_is after_code =
-      let is : heard plan message old ≡ Err code = sym after_is ∙ after_code in
+  pub receive_refused : (code : ℕ) → Err code ≡ heard plan message old → effect plan (Received message) w ≡ Err code
+  receive_refused code code_is =
+      let is : heard plan message old ≡ Err code = sym code_is in
       (λ i. then_do (λ trains. record w { trains = trains }) (then_do (λ train. with_value (engine_of message) train w.trains) (heard_from plan message (sym found i))))
       ∙ (λ i. then_do (λ trains. record w { trains = trains }) (then_do (λ train. with_value (engine_of message) train w.trains) (is i)))
 
@@ -234,11 +237,11 @@ module _ (plan : Plan) (message : FromTrain) (w : World) (old : TrainRec) (found
       (λ i. then_do (λ trains. record w { trains = trains }) (then_do (λ other. with_value (engine_of message) other w.trains) (heard_from plan message (sym found i))))
       ∙ (λ i. then_do (λ trains. record w { trains = trains }) (then_do (λ other. with_value (engine_of message) other w.trains) (is i)))
 
-  pub receive_right : (stops : Stops) (limits : Limits) (after : Result TrainRec ℕ) (train : TrainRec) (outcome : Outcome) → after ≡ heard plan message old → after ≡ Ok train
+  pub receive_right : (stops : Stops) (limits : Limits) (train : TrainRec) (outcome : Outcome) → Ok train ≡ heard plan message old
       → outcome ≡ heard_outcome plan stops limits (engine_of message) train → stops ≡ w.stops → limits ≡ w.limits
       → IsWellFormed plan w → IsStep plan (Received message) w outcome.result outcome.writes outcome.messages
-  receive_right stops limits after train outcome after_is after_train is stops_are limits_are well =
-      let heard_is : heard plan message old ≡ Ok train = sym after_is ∙ after_train in
+  receive_right stops limits train outcome train_is is stops_are limits_are well =
+      let heard_is : heard plan message old ≡ Ok train = sym train_is in
       let engine = engine_of message in
       let there = has_value w.trains engine old (sym found) in
       let same : train.engine ≡ engine = heard_engine plan message old train heard_is ∙ engine_found plan w engine old well found in

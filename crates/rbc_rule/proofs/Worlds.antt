@@ -6,6 +6,10 @@ use Rattle.rbc_records.specs.Notes.{Notes, Extends}
 use Rattle.rbc_rule.specs.declared.input.Input.{Input}
 use Rattle.rbc_rule.specs.declared.outcome.Outcome.{Outcome}
 use Rattle.rbc_rule.specs.declared.outcome.Reply.TheVariants.{Refused}
+use Rattle.rbc_rule.specs.declared.refuse.Refusal.{Refusal}
+use Rattle.rbc_rule.specs.declared.refuse.NotChanged.{NotChanged}
+use Rattle.rbc_rule.specs.declared.refuse.NotChanged.TheVariants as not_changed
+use Rattle.rbc_rule.specs.Codes.{code_of, IsReason}
 use Rattle.rbc_rule.specs.World.{World}
 use Rattle.rbc_rule.specs.Effect.{effect}
 use Rattle.rbc_rule.specs.Step.{after}
@@ -36,6 +40,10 @@ pub refused_right : (plan : Plan) (input : Input) (w : World) (code : ℕ) (outc
 refused_right plan input w code outcome is e =
     let P : Outcome → Type 0 = λ o. IsStep plan input w o.result o.writes o.messages in
     subst P (sym is) (refused_is_step plan input w code e)
+
+-- what a refusal says of the definition
+pub refusal_is : {A : Type 0} (given : Result A ℕ) (why : NotChanged) (refusal : Refusal) → why ≡ not_changed.Refused refusal → IsReason given why → Err (code_of refusal) ≡ given
+refusal_is given why refusal is reason = subst (IsReason given) is reason
 
 -- ---- faults
 

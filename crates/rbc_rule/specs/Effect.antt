@@ -1,6 +1,5 @@
--- What an input does to the world before the trains are settled, or why it is refused (own rule). The least code that applies
--- refuses it: 7 unknown train, 8 already enrolled, 9 too many trains, 10 stops outstanding, 11 number used, 12 bad area or
--- bad restriction, 13 too many active, 14 no such number, 15 stamp too high, 16 nothing to acknowledge. A bad line brings its own.
+-- What an input does to the world before the trains are settled, or the code that refuses it (own rule). If several codes apply, the
+-- least one refuses it. A bad line comes with its code.
 use Rattle.std.specs.Prelude.{ℕ, Bool, max, ◌==◌, nat_le, nat_lt, if◌then◌else◌, List, map, length, Option, Some, None, Result, Ok, Err}
 use Rattle.ertms_codec.specs.declared.from_train.Position.{Position}
 use Rattle.ertms_codec.specs.declared.from_train.FromTrain.{FromTrain}
@@ -25,39 +24,42 @@ use Rattle.rbc_settle.specs.Settling.{Stops, Limits}
 use Rattle.rbc_rule.specs.declared.input.Input.{Input}
 use Rattle.rbc_rule.specs.declared.input.Input.TheVariants.{Enrol, Withdraw, Stop, Release, Restrict, Lift, Received, Bad}
 use Rattle.rbc_rule.specs.World.{World}
+use Rattle.rbc_rule.specs.Bounds.{max_trains, max_stops, max_limits, max_stamp}
+use Rattle.rbc_rule.specs.Codes.{code_of}
+use Rattle.rbc_rule.specs.declared.refuse.Refusal.TheVariants.{UnknownTrain, AlreadyEnrolled, TooManyTrains, StopsOutstanding, NumberUsed, BadArea, TooManyActive, NoSuchNumber, StampTooHigh, NothingToAcknowledge}
 
--- what is made of an answer, if it is no refusal
+-- a function of a result, unless that is a refusal
 abbrev pub then_do : {A B : Type 0} → (A → B) → Result A ℕ → Result B ℕ
 then_do f (Ok answer) = Ok (f answer)
 then_do f (Err code) = Err code
 
 -- ---- the stops and the restrictions
 
--- one more is active, under a new number
+-- with one more that is active, under a new number
 abbrev pub with_next : {V : Type 0} → ℕ → V → Numbered V → Numbered V
 with_next number value numbered = record { last = number; active = with_value number value numbered.active }
 
--- one less
+-- without the one under a number
 abbrev pub with_less : {V : Type 0} → ℕ → Numbered V → Numbered V
 with_less number numbered = record numbered { active = without number numbered.active }
 
--- A number above the last one, something that is good for the track, and room for one more; or the refusal.
+-- One can be added if its number is above the last one, it is good for the track, and there is room for one more.
 abbrev pub after_adding : {V : Type 0} → ℕ → Bool → ℕ → V → Numbered V → Result (Numbered V) ℕ
 after_adding most is_good number value numbered =
-    if nat_le number numbered.last then Err 11
-    else (if is_good then (if nat_le most (length numbered.active) then Err 13 else Ok (with_next number value numbered))
-    else Err 12)
+    if nat_le number numbered.last then Err (code_of NumberUsed)
+    else (if is_good then (if nat_le most (length numbered.active) then Err (code_of TooManyActive) else Ok (with_next number value numbered))
+    else Err (code_of BadArea))
 
 abbrev pub stops_after : Plan → ℕ → List Segment → Stops → Result Stops ℕ
-stops_after plan number segments stops = after_adding 64 (is_good_area plan segments) number segments stops
+stops_after plan number segments stops = after_adding max_stops (is_good_area plan segments) number segments stops
 
 abbrev pub limits_after : Plan → ℕ → Segment → Dirs → ℕ → Bool → Limits → Result Limits ℕ
 limits_after plan number segment dirs speed front limits =
-    after_adding 300 (is_good_limit plan segment speed) number (record { segment = segment; dirs = dirs; speed = speed; front = front }) limits
+    after_adding max_limits (is_good_limit plan segment speed) number (record { segment = segment; dirs = dirs; speed = speed; front = front }) limits
 
--- a number that is active, or the refusal
+-- one can be removed if its number is active
 abbrev pub after_removing : {V : Type 0} → ℕ → Numbered V → Result (Numbered V) ℕ
-after_removing number numbered = if has numbered.active number then Ok (with_less number numbered) else Err 14
+after_removing number numbered = if has numbered.active number then Ok (with_less number numbered) else Err (code_of NoSuchNumber)
 
 -- a train no longer stops at once for a stop that is released
 abbrev pub forget : ℕ → TrainRec → TrainRec
@@ -71,23 +73,23 @@ forget_all number trains = map (λ train. (train.0, forget number train.1)) trai
 abbrev pub unknown_stamp : ℕ
 unknown_stamp = 4294967295
 
--- T_TRAIN of a message from a train leaves room for stamps, or is unknown
+-- T_TRAIN of a message from a train is too high if it leaves no room for later stamps, unless it is unknown
 abbrev pub is_too_high : ℕ → Bool
-is_too_high stamp = if stamp == unknown_stamp then nat_lt 1 0 else nat_lt 4200000000 stamp
+is_too_high stamp = if stamp == unknown_stamp then nat_lt 1 0 else nat_lt max_stamp stamp
 
--- the next message to a train is later than each that it sent
+-- a train's stamp rises to T_TRAIN of its message, unless that is unknown
 abbrev pub raised : ℕ → TrainRec → TrainRec
 raised stamp train = if stamp == unknown_stamp then train else record train { stamp = max train.stamp stamp }
 
--- where it says that it is
+-- a train's place is where it reports that it is
 abbrev pub placed : Plan → Position → TrainRec → TrainRec
 placed plan position train = record train { place = place_of_report plan position train.length }
 
--- A message to the train is acknowledged by its stamp. It is looked for among the stops, and then among the restrictions.
+-- A train acknowledges a message by its stamp, which is looked up among its stops first, and then among its restrictions.
 abbrev pub limits_acked : TrainRec → StampAck × Slots → Result TrainRec ℕ
 limits_acked train (stamp_ack.Freed, slots) = Ok (record train { limits = slots })
 limits_acked train (stamp_ack.Marked, slots) = Ok (record train { limits = slots })
-limits_acked train (stamp_ack.Nothing, slots) = Err 16
+limits_acked train (stamp_ack.Nothing, slots) = Err (code_of NothingToAcknowledge)
 
 abbrev pub stops_acked : ℕ → TrainRec → StampAck × Slots → Result TrainRec ℕ
 stops_acked acked train (stamp_ack.Freed, slots) = Ok (record train { stops = slots })
@@ -97,7 +99,7 @@ stops_acked acked train (stamp_ack.Nothing, slots) = limits_acked train (after_s
 abbrev pub acknowledged : ℕ → TrainRec → Result TrainRec ℕ
 acknowledged acked train = stops_acked acked train (after_stamp_ack train.stops acked)
 
--- a number that a train stops at once for
+-- a train stops at once for one more stop
 abbrev pub forced_too : ℕ → List ℕ → List ℕ
 forced_too number forced = if has_number forced number then forced else with_number number forced
 
@@ -105,12 +107,12 @@ forced_too number forced = if has_number forced number then forced else with_num
 abbrev pub stop_acked : TrainRec → IdAck × Slots → Result TrainRec ℕ
 stop_acked train (id_ack.Marked, slots) = Ok (record train { stops = slots })
 stop_acked train (id_ack.Rejected number, slots) = Ok (record train { stops = slots; forced = forced_too number train.forced })
-stop_acked train (id_ack.Nothing, slots) = Err 16
+stop_acked train (id_ack.Nothing, slots) = Err (code_of NothingToAcknowledge)
 
 abbrev pub answered : ℕ → ℕ → TrainRec → Result TrainRec ℕ
 answered id answer train = stop_acked train (after_id_ack train.stops id answer)
 
--- what a message says to the train's record, whatever its stamp
+-- the train after its message, whatever the stamp
 abbrev pub told_by : Plan → FromTrain → TrainRec → Result TrainRec ℕ
 told_by plan (Report stamp engine position) train = Ok (placed plan position (raised stamp train))
 told_by plan (Ack stamp engine acked) train = acknowledged acked (raised stamp train)
@@ -126,30 +128,30 @@ engine_of (Report stamp engine position) = engine
 engine_of (Ack stamp engine acked) = engine
 engine_of (StopAck stamp engine id answer position) = engine
 
--- a train after its message, or the refusal
+-- the train after its message, unless the stamp is too high
 abbrev pub heard : Plan → FromTrain → TrainRec → Result TrainRec ℕ
-heard plan message train = if is_too_high (stamp_of message) then Err 15 else told_by plan message train
+heard plan message train = if is_too_high (stamp_of message) then Err (code_of StampTooHigh) else told_by plan message train
 
 -- ---- the trains
 
--- a train is enrolled that is not yet, and for which there is room
+-- a train can be enrolled if it is not enrolled yet and there is room for it
 abbrev pub enrolled : ℕ → ℕ → List (ℕ × TrainRec) → Result (List (ℕ × TrainRec)) ℕ
 enrolled engine train_length trains =
-    if has trains engine then Err 8
-    else (if nat_le 2000 (length trains) then Err 9
+    if has trains engine then Err (code_of AlreadyEnrolled)
+    else (if nat_le max_trains (length trains) then Err (code_of TooManyTrains)
     else Ok (with_value engine (new_train engine train_length 0) trains))
 
--- a train is withdrawn that is enrolled, and has no stop identifier that is held
+-- a train can be withdrawn if it is enrolled and holds no stop identifier
 abbrev pub without_train : ℕ → List (ℕ × TrainRec) → Option TrainRec → Result (List (ℕ × TrainRec)) ℕ
-without_train engine trains None = Err 7
-without_train engine trains (Some train) = if length train.stops == 0 then Ok (without engine trains) else Err 10
+without_train engine trains None = Err (code_of UnknownTrain)
+without_train engine trains (Some train) = if length train.stops == 0 then Ok (without engine trains) else Err (code_of StopsOutstanding)
 
 abbrev pub withdrawn : ℕ → List (ℕ × TrainRec) → Result (List (ℕ × TrainRec)) ℕ
 withdrawn engine trains = without_train engine trains (value_of trains engine)
 
--- a message comes from a train that is enrolled
+-- only a train that is enrolled can send a message
 abbrev pub heard_from : Plan → FromTrain → Option TrainRec → Result TrainRec ℕ
-heard_from plan message None = Err 7
+heard_from plan message None = Err (code_of UnknownTrain)
 heard_from plan message (Some train) = heard plan message train
 
 abbrev pub received : Plan → FromTrain → List (ℕ × TrainRec) → Result (List (ℕ × TrainRec)) ℕ

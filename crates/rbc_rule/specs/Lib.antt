@@ -1,5 +1,7 @@
 pub mod Inputs
 pub mod World
+pub mod Codes
+pub mod Bounds
 pub mod Effect
 pub mod Step
 pub mod Records

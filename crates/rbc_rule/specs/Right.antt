@@ -11,6 +11,7 @@ use Rattle.rbc_records.specs.Notes.{Notes}
 use Rattle.rbc_records.specs.Writes.{written}
 use Rattle.rbc_rule.specs.declared.input.Input.{Input}
 use Rattle.rbc_rule.specs.declared.outcome.Reply.{Reply}
+use Rattle.rbc_rule.specs.declared.outcome.Reply.TheVariants.{Done, Refused}
 use Rattle.rbc_rule.specs.declared.outcome.RuleFault.{RuleFault}
 use Rattle.rbc_rule.specs.declared.outcome.RuleFault.TheVariants as fault
 use Rattle.rbc_rule.specs.World.{World}
@@ -37,6 +38,11 @@ pub record MayBe (plan : Plan) (notes : Notes) (w : World) : Type 0 where
 -- an outcome is right for notes where it is the step's in each such world
 abbrev pub IsRight : Plan → Input → Notes → Reply → List (Key × Option Rec) → List Sent → Type 0
 IsRight plan input notes reply writes messages = (w : World) → MayBe plan notes w → IsStep plan input w reply writes messages
+
+-- an input that is refused writes nothing and sends nothing, whatever was read
+abbrev pub IsSilentIfRefused : Reply → List (Key × Option Rec) → List Sent → Type 0
+IsSilentIfRefused (Done sent) writes messages = Unit
+IsSilentIfRefused (Refused code) writes messages = (writes ≡ []) × (messages ≡ [])
 
 -- no well-formed world has what was read
 abbrev pub IsTorn : Plan → Notes → Type 0

@@ -1,5 +1,5 @@
--- Which trains a command touches (own rule): every train is settled before it, so that a stop or a restriction that begins can only be
--- told itself, and one that ends can only be revoked.
+-- Which trains a command touches (own rule). Every train was settled before it, so a stop or a restriction that begins can only be told
+-- itself, and one that ends can only be revoked.
 use Rattle.std.specs.Prelude.{◌≡◌, ◌⊎◌, ℕ, ◌<◌, Bool, true, false, nat_lt, ◌&&◌, ◌||◌, if◌then◌else◌, List, length, Option, Some, None, is_some}
 use Rattle.rbc_track.specs.Plan.{Plan}
 use Rattle.rbc_maps.specs.Maps.{has}
@@ -22,22 +22,22 @@ is_concern concern.None = false
 is_concern concern.Now = true
 is_concern (concern.Before edge) = true
 
--- a stop that begins concerns a train that has an identifier for it
+-- a stop that begins concerns a train that has a free identifier
 abbrev pub is_stop_for : TrainRec → ℕ × List Segment → Bool
 is_stop_for train stop = nat_lt (length train.stops) 15 && is_concern (concern_to train stop)
 
--- so does a restriction
+-- a restriction that begins concerns a train that has a free identifier
 abbrev pub is_limit_for : ℕ → TrainRec → Limit → Bool
 is_limit_for horizon train limit = nat_lt (length train.limits) 255 && is_some (limit_told_to horizon train.place limit)
 
--- a train is told a stop, or stops at once for it
+-- a train has been told of a stop, or stops at once for it
 abbrev pub has_stop : TrainRec → ℕ → Bool
 has_stop train number = is_told train.stops number || has_number train.forced number
 
 abbrev pub has_limit : TrainRec → ℕ → Bool
 has_limit train number = is_told train.limits number
 
--- A change touches a train: a stop or a restriction begins that is something to it, or one ends that it has.
+-- A change touches a train if a stop or a restriction begins that concerns it, or one ends that it has.
 abbrev pub touches : Plan → Change → TrainRec → Bool
 touches plan (change.Stop number None) train = has_stop train number
 touches plan (change.Stop number (Some area)) train = is_stop_for train (number, area.now)
@@ -51,7 +51,7 @@ pub record HasBegun {V : Type 0} (number : ℕ) (value : V) (old new : Numbered 
   pub above : old.last < number
   pub next : new ≡ with_next number value old
 
--- so the stops and the restrictions were others before
+-- the stops and the restrictions, before and after a change
 abbrev pub HasChanged : Change → World → Stops → Limits → Type 0
 HasChanged (change.Stop number None) w stops limits = (stops ≡ with_less number w.stops) × (limits ≡ w.limits)
 HasChanged (change.Stop number (Some area)) w stops limits = HasBegun number area.now w.stops stops × (limits ≡ w.limits)

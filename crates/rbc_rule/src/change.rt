@@ -1,62 +1,61 @@
-//! Stops and restrictions that begin and end.
+//! The stops and the restrictions after one begins or ends.
 
-ghost use Rattle.std.specs.Prelude.{◌≡◌, ◌≤◌, length, IfOk};
+ghost use Rattle.std.specs.Prelude.{◌≡◌, ◌≤◌, length, Ok, IfOk, IfErr};
+ghost use Rattle.rbc_rule.specs.Codes.{IsReason};
 ghost use Rattle.rbc_rule.specs.Effect.{stops_after, limits_after, after_removing};
 
 use crate::input::Segments;
-use crate::refuse;
+use crate::refuse::{NotChanged, Refusal};
 use rbc_track::Track;
 use rbc_zones::{Area, Dirs, Limit, Limits, Segment, Stops};
-use std::alloc::{AllocError, Global};
+use std::alloc::Global;
 
-/// So many stops can be active.
+/// The greatest number of active stops (own rule).
 const MAX_STOPS: usize = 64;
 
-/// So many restrictions can be active.
+/// The greatest number of active restrictions (own rule).
 const MAX_LIMITS: usize = 300;
 
-/// The stops with one more, or the code that refuses it.
+/// Returns the stops with one more, or why there cannot be one more.
 pub(crate) fn stops_after(
     alloc: Global,
     track: &Track,
     number: u32,
     segments: &Segments,
     stops: &Stops,
-) -> Result<Result<Stops, u8>, AllocError>
+) -> Result<Stops, NotChanged>
     requires { 1 ≤ length segments.now }
-    ensures { IfOk result (λ after. after ≡ stops_after track.now number segments.now stops.now) }
+    ensures ok { IfOk result (λ after. Ok after ≡ stops_after track.now number segments.now stops.now) }
+    ensures err { IfErr result (λ why. IsReason (stops_after track.now number segments.now stops.now) why) }
 {
     if number <= stops.last() {
-        return Ok(Err(refuse::NUMBER_USED));
+        return Err(NotChanged::Refused(Refusal::NumberUsed));
     }
     let Ok(area) = Area::new(track, segments.as_slice()) else {
-        return Ok(Err(refuse::BAD_AREA));
+        return Err(NotChanged::Refused(Refusal::BadArea));
     };
     if stops.count() >= MAX_STOPS {
-        return Ok(Err(refuse::TOO_MANY_ACTIVE));
+        return Err(NotChanged::Refused(Refusal::TooManyActive));
     }
     let mut after = stops.copy(alloc)?;
     after.add(number, area)?;
-    Ok(Ok(after))
+    Ok(after)
 }
 
-/// The stops with one less, or the code that refuses it.
-pub(crate) fn stops_without(
-    alloc: Global,
-    number: u32,
-    stops: &Stops,
-) -> Result<Result<Stops, u8>, AllocError>
-    ensures { IfOk result (λ after. after ≡ after_removing number stops.now) }
+/// Returns the stops without one, or why it cannot be taken out.
+pub(crate) fn stops_without(alloc: Global, number: u32, stops: &Stops) -> Result<Stops, NotChanged>
+    ensures ok { IfOk result (λ after. Ok after ≡ after_removing number stops.now) }
+    ensures err { IfErr result (λ why. IsReason (after_removing number stops.now) why) }
 {
     if stops.get(number).is_none() {
-        return Ok(Err(refuse::NO_SUCH_NUMBER));
+        return Err(NotChanged::Refused(Refusal::NoSuchNumber));
     }
     let mut after = stops.copy(alloc)?;
     let _ = after.remove(number);
-    Ok(Ok(after))
+    Ok(after)
 }
 
-/// A restriction as the signaller gives it.
+/// A temporary speed restriction as the signaller gives it: the speed in km/h; `front` is Q_FRONT.
 #[derive(Clone, Copy, Debug)]
 pub(crate) struct Restriction {
     pub(crate) number: u32,
@@ -66,41 +65,43 @@ pub(crate) struct Restriction {
     pub(crate) front: bool,
 }
 
-/// The restrictions with one more, or the code that refuses it.
+/// Returns the restrictions with one more, or why there cannot be one more.
 pub(crate) fn limits_after(
     alloc: Global,
     track: &Track,
     new: &Restriction,
     limits: &Limits,
-) -> Result<Result<Limits, u8>, AllocError>
-    ensures { IfOk result (λ after. after ≡ limits_after track.now new.now.number new.now.segment new.now.dirs new.now.speed new.now.front limits.now) }
+) -> Result<Limits, NotChanged>
+    ensures ok { IfOk result (λ after. Ok after ≡ limits_after track.now new.now.number new.now.segment new.now.dirs new.now.speed new.now.front limits.now) }
+    ensures err { IfErr result (λ why. IsReason (limits_after track.now new.now.number new.now.segment new.now.dirs new.now.speed new.now.front limits.now) why) }
 {
     if new.number <= limits.last() {
-        return Ok(Err(refuse::NUMBER_USED));
+        return Err(NotChanged::Refused(Refusal::NumberUsed));
     }
     let Ok(limit) = Limit::new(track, new.segment, new.dirs, new.speed, new.front) else {
-        return Ok(Err(refuse::BAD_LIMIT));
+        return Err(NotChanged::Refused(Refusal::BadArea));
     };
     if limits.count() >= MAX_LIMITS {
-        return Ok(Err(refuse::TOO_MANY_ACTIVE));
+        return Err(NotChanged::Refused(Refusal::TooManyActive));
     }
     let mut after = limits.copy(alloc)?;
     after.add(new.number, limit)?;
-    Ok(Ok(after))
+    Ok(after)
 }
 
-/// The restrictions with one less, or the code that refuses it.
+/// Returns the restrictions without one, or why it cannot be taken out.
 pub(crate) fn limits_without(
     alloc: Global,
     number: u32,
     limits: &Limits,
-) -> Result<Result<Limits, u8>, AllocError>
-    ensures { IfOk result (λ after. after ≡ after_removing number limits.now) }
+) -> Result<Limits, NotChanged>
+    ensures ok { IfOk result (λ after. Ok after ≡ after_removing number limits.now) }
+    ensures err { IfErr result (λ why. IsReason (after_removing number limits.now) why) }
 {
     if limits.get(number).is_none() {
-        return Ok(Err(refuse::NO_SUCH_NUMBER));
+        return Err(NotChanged::Refused(Refusal::NoSuchNumber));
     }
     let mut after = limits.copy(alloc)?;
     let _ = after.remove(number);
-    Ok(Ok(after))
+    Ok(after)
 }

@@ -2,21 +2,22 @@
 
 ghost use Rattle.std.specs.Prelude.{◌≡◌, ◌+◌, ◌≤◌, ◌<◌, ◌^◌, IfOk, IfErr, OnOk, length};
 ghost use Rattle.rbc_records.specs.Notes.{Extends};
-ghost use Rattle.rbc_rule.specs.Right.{IsRight, IsFault};
+ghost use Rattle.rbc_rule.specs.Right.{IsRight, IsSilentIfRefused, IsFault};
 ghost use Rattle.rbc_rule.specs.Gathered.{AreSendable};
 
+use crate::all_trains::{limits_changed, stops_changed};
 use crate::change::{self, Restriction};
-use crate::everyone::{limits_changed, stops_changed};
 use crate::fetch::fetch;
 use crate::input::{Input, Segments};
 use crate::outcome::{Outcome, RuleFault};
 use crate::read;
+use crate::refuse::NotChanged;
 use rbc_records::{Key, Reader};
 use rbc_track::Track;
 use rbc_zones::{Limits, Stops};
 use std::alloc::Global;
 
-/// Closes an area.
+/// Decides that the signaller closes an area.
 pub(crate) fn stop<S: Reader>(
     alloc: Global,
     track: &Track,
@@ -27,6 +28,7 @@ pub(crate) fn stop<S: Reader>(
     requires room { S.failed store.old + 1 < 2 ^ 64 }
     requires some { 1 ≤ length segments.now }
     ensures right { IfOk result (λ outcome. IsRight track.now (Input.Stop number segments.now) (S.notes store.new) outcome.result outcome.writes outcome.messages) }
+    ensures refused { IfOk result (λ outcome. IsSilentIfRefused outcome.result outcome.writes outcome.messages) }
     ensures fit { IfOk result (λ outcome. AreSendable outcome.messages) }
     ensures extends { Extends (S.notes store.old) (S.notes store.new) }
     ensures fault { IfErr result (λ fault. IsFault track.now fault (S.notes store.new) (S.failed store.old) (S.failed store.new)) }
@@ -35,13 +37,14 @@ pub(crate) fn stop<S: Reader>(
     fetch(store, Key::Stops)?;
     let none = Stops::new(alloc);
     let stops = read::stops(store)?.unwrap_or(&none);
-    match change::stops_after(alloc, track, number, segments, stops)? {
+    match change::stops_after(alloc, track, number, segments, stops) {
         Ok(stops) => stops_changed(alloc, track, number, stops, store),
-        Err(code) => Ok(Outcome::refused(alloc, code)),
+        Err(NotChanged::Refused(refusal)) => Ok(Outcome::refused(alloc, refusal)),
+        Err(NotChanged::OutOfMemory) => Err(RuleFault::OutOfMemory),
     }
 }
 
-/// Opens an area again.
+/// Decides that the signaller opens an area again.
 pub(crate) fn release<S: Reader>(
     alloc: Global,
     track: &Track,
@@ -50,6 +53,7 @@ pub(crate) fn release<S: Reader>(
 ) -> Result<Outcome, RuleFault>
     requires { S.failed store.old + 1 < 2 ^ 64 }
     ensures right { IfOk result (λ outcome. IsRight track.now (Input.Release number) (S.notes store.new) outcome.result outcome.writes outcome.messages) }
+    ensures refused { IfOk result (λ outcome. IsSilentIfRefused outcome.result outcome.writes outcome.messages) }
     ensures fit { IfOk result (λ outcome. AreSendable outcome.messages) }
     ensures extends { Extends (S.notes store.old) (S.notes store.new) }
     ensures fault { IfErr result (λ fault. IsFault track.now fault (S.notes store.new) (S.failed store.old) (S.failed store.new)) }
@@ -58,13 +62,14 @@ pub(crate) fn release<S: Reader>(
     fetch(store, Key::Stops)?;
     let none = Stops::new(alloc);
     let stops = read::stops(store)?.unwrap_or(&none);
-    match change::stops_without(alloc, number, stops)? {
+    match change::stops_without(alloc, number, stops) {
         Ok(stops) => stops_changed(alloc, track, number, stops, store),
-        Err(code) => Ok(Outcome::refused(alloc, code)),
+        Err(NotChanged::Refused(refusal)) => Ok(Outcome::refused(alloc, refusal)),
+        Err(NotChanged::OutOfMemory) => Err(RuleFault::OutOfMemory),
     }
 }
 
-/// Restricts the speed.
+/// Decides that the signaller restricts the speed on a segment.
 pub(crate) fn restrict<S: Reader>(
     alloc: Global,
     track: &Track,
@@ -73,6 +78,7 @@ pub(crate) fn restrict<S: Reader>(
 ) -> Result<Outcome, RuleFault>
     requires { S.failed store.old + 1 < 2 ^ 64 }
     ensures right { IfOk result (λ outcome. IsRight track.now (Input.Restrict new.now.number new.now.segment new.now.dirs new.now.speed new.now.front) (S.notes store.new) outcome.result outcome.writes outcome.messages) }
+    ensures refused { IfOk result (λ outcome. IsSilentIfRefused outcome.result outcome.writes outcome.messages) }
     ensures fit { IfOk result (λ outcome. AreSendable outcome.messages) }
     ensures extends { Extends (S.notes store.old) (S.notes store.new) }
     ensures fault { IfErr result (λ fault. IsFault track.now fault (S.notes store.new) (S.failed store.old) (S.failed store.new)) }
@@ -81,13 +87,14 @@ pub(crate) fn restrict<S: Reader>(
     fetch(store, Key::Limits)?;
     let none = Limits::new(alloc);
     let limits = read::limits(store)?.unwrap_or(&none);
-    match change::limits_after(alloc, track, new, limits)? {
+    match change::limits_after(alloc, track, new, limits) {
         Ok(limits) => limits_changed(alloc, track, new.number, limits, store),
-        Err(code) => Ok(Outcome::refused(alloc, code)),
+        Err(NotChanged::Refused(refusal)) => Ok(Outcome::refused(alloc, refusal)),
+        Err(NotChanged::OutOfMemory) => Err(RuleFault::OutOfMemory),
     }
 }
 
-/// Lifts a restriction.
+/// Decides that the signaller lifts a restriction.
 pub(crate) fn lift<S: Reader>(
     alloc: Global,
     track: &Track,
@@ -96,6 +103,7 @@ pub(crate) fn lift<S: Reader>(
 ) -> Result<Outcome, RuleFault>
     requires { S.failed store.old + 1 < 2 ^ 64 }
     ensures right { IfOk result (λ outcome. IsRight track.now (Input.Lift number) (S.notes store.new) outcome.result outcome.writes outcome.messages) }
+    ensures refused { IfOk result (λ outcome. IsSilentIfRefused outcome.result outcome.writes outcome.messages) }
     ensures fit { IfOk result (λ outcome. AreSendable outcome.messages) }
     ensures extends { Extends (S.notes store.old) (S.notes store.new) }
     ensures fault { IfErr result (λ fault. IsFault track.now fault (S.notes store.new) (S.failed store.old) (S.failed store.new)) }
@@ -104,8 +112,9 @@ pub(crate) fn lift<S: Reader>(
     fetch(store, Key::Limits)?;
     let none = Limits::new(alloc);
     let limits = read::limits(store)?.unwrap_or(&none);
-    match change::limits_without(alloc, number, limits)? {
+    match change::limits_without(alloc, number, limits) {
         Ok(limits) => limits_changed(alloc, track, number, limits, store),
-        Err(code) => Ok(Outcome::refused(alloc, code)),
+        Err(NotChanged::Refused(refusal)) => Ok(Outcome::refused(alloc, refusal)),
+        Err(NotChanged::OutOfMemory) => Err(RuleFault::OutOfMemory),
     }
 }

@@ -1,4 +1,4 @@
-//! Reading records.
+//! Fetches records from the reader.
 
 ghost use Rattle.std.specs.Prelude.{◌≡◌, ℕ, ◌+◌, ◌<◌, ◌^◌, IsTrue, IfErr, OnOk};
 ghost use Rattle.std.specs.List.{All};
@@ -14,7 +14,7 @@ use rbc_records::{Key, ReadFault, Reader};
 use rbc_settle::Numbers;
 use std::alloc::Global;
 
-/// Reads one record.
+/// Fetches one record.
 pub(crate) fn fetch<S: Reader>(store: &mut S, key: Key) -> Result<(), RuleFault>
     requires { S.failed store.old + 1 < 2 ^ 64 }
     ensures learns { OnOk result (Learns (S.notes store.old) key (S.notes store.new)) }
@@ -29,7 +29,7 @@ pub(crate) fn fetch<S: Reader>(store: &mut S, key: Key) -> Result<(), RuleFault>
     }
 }
 
-/// Reads the train of each of some engines.
+/// Fetches the train of each of these engines.
 pub(crate) fn fetch_trains<S: Reader>(store: &mut S, engines: &Numbers) -> Result<(), RuleFault>
     requires { S.failed store.old + 1 < 2 ^ 64 }
     ensures known { OnOk result (All (λ engine. IsTrue (knows (S.notes store.new) (key.Train engine))) engines.now) }
@@ -43,7 +43,7 @@ pub(crate) fn fetch_trains<S: Reader>(store: &mut S, engines: &Numbers) -> Resul
     Ok(())
 }
 
-/// Reads the roster, and the train of each engine in it.
+/// Fetches the roster and the train of each engine in it.
 pub(crate) fn fetch_all_trains<S: Reader>(alloc: Global, store: &mut S) -> Result<(), RuleFault>
     requires { S.failed store.old + 1 < 2 ^ 64 }
     ensures known { OnOk result (AreTrainsKnown (S.notes store.new)) }

@@ -1,23 +1,24 @@
-//! What a message from a train says to its record.
+//! Takes a message from a train into the train's record.
 
-ghost use Rattle.std.specs.Prelude.{◌≡◌, IfOk};
+ghost use Rattle.std.specs.Prelude.{◌≡◌, Ok, IfOk, IfErr};
+ghost use Rattle.rbc_rule.specs.Codes.{IsReason};
 ghost use Rattle.rbc_rule.specs.Effect.{is_too_high, raised, placed, acknowledged, answered, stamp_of, engine_of, heard};
 
-use crate::refuse;
+use crate::refuse::{NotChanged, Refusal};
 use ertms_codec::{FromTrain, Position};
 use rbc_ids::{IdAck, StampAck};
 use rbc_place::place_of;
 use rbc_settle::TrainRec;
 use rbc_track::Track;
-use std::alloc::{AllocError, Global};
+use std::alloc::Global;
 
-/// T_TRAIN of a message whose time is unknown.
+/// T_TRAIN of a message whose time is unknown (SUBSET-026, chapter 7).
 const UNKNOWN_STAMP: u32 = 4_294_967_295;
 
-/// The greatest T_TRAIN of a message from a train.
+/// The greatest T_TRAIN of a message from a train, in units of 10 ms (own rule).
 const MAX_STAMP: u32 = 4_200_000_000;
 
-/// The engine that a message names.
+/// Returns the engine number in a message.
 pub(crate) fn engine_of(message: &FromTrain) -> u32
     ensures { result ≡ engine_of message.now }
 {
@@ -28,6 +29,7 @@ pub(crate) fn engine_of(message: &FromTrain) -> u32
     }
 }
 
+/// Returns T_TRAIN of a message.
 fn stamp_of(message: &FromTrain) -> u32
     ensures { result ≡ stamp_of message.now }
 {
@@ -38,14 +40,14 @@ fn stamp_of(message: &FromTrain) -> u32
     }
 }
 
-/// Whether a stamp leaves no room for stamps above it. An unknown one does not count.
+/// Whether T_TRAIN leaves no room for later messages. An unknown one does not count.
 fn is_too_high(stamp: u32) -> bool
     ensures { result ≡ is_too_high stamp }
 {
     stamp != UNKNOWN_STAMP && stamp > MAX_STAMP
 }
 
-/// Raises the train's stamp to that of its message, where that is known.
+/// Raises the train's stamp to T_TRAIN of its message, if that is known.
 fn raise(train: &mut TrainRec, stamp: u32)
     ensures { train.new ≡ raised stamp train.old }
 {
@@ -54,64 +56,67 @@ fn raise(train: &mut TrainRec, stamp: u32)
     }
 }
 
-/// Takes over where the train says that it is.
+/// Takes over the position that the train reports.
 fn place(track: &Track, train: &mut TrainRec, position: &Position)
     ensures { train.new ≡ placed track.now position.now train.old }
 {
     train.place = place_of(track, position, train.length);
 }
 
-/// The train after it has acknowledged a message with a stamp, or the code that refuses that.
-fn acknowledged(train: TrainRec, acked: u32) -> Result<TrainRec, u8>
-    ensures { result ≡ acknowledged acked train }
+/// Returns the train after it has acknowledged the message with this stamp, or why it cannot.
+fn acknowledged(train: TrainRec, acked: u32) -> Result<TrainRec, NotChanged>
+    ensures ok { IfOk result (λ after. Ok after ≡ acknowledged acked train) }
+    ensures err { IfErr result (λ why. IsReason (acknowledged acked train) why) }
 {
     let mut train = train;
     match train.stops.ack_stamp(acked) {
         StampAck::Freed | StampAck::Marked => Ok(train),
         StampAck::Nothing => match train.limits.ack_stamp(acked) {
             StampAck::Freed | StampAck::Marked => Ok(train),
-            StampAck::Nothing => Err(refuse::NOTHING_TO_ACKNOWLEDGE),
+            StampAck::Nothing => Err(NotChanged::Refused(Refusal::NothingToAcknowledge)),
         },
     }
 }
 
-/// The train after it has answered a stop, or the code that refuses that.
-fn answered(train: TrainRec, id: u8, answer: u8) -> Result<Result<TrainRec, u8>, AllocError>
-    ensures { IfOk result (λ after. after ≡ answered id answer train) }
+/// Returns the train after it has answered the stop with this identifier, or why it cannot. `answer` is Q_EMERGENCYSTOP.
+fn answered(train: TrainRec, id: u8, answer: u8) -> Result<TrainRec, NotChanged>
+    ensures ok { IfOk result (λ after. Ok after ≡ answered id answer train) }
+    ensures err { IfErr result (λ why. IsReason (answered id answer train) why) }
 {
     let mut train = train;
     match train.stops.ack_id(id, answer) {
-        IdAck::Marked => Ok(Ok(train)),
+        IdAck::Marked => Ok(train),
         IdAck::Rejected(number) => {
             if !train.forced.has(number) {
                 train.forced.add(number)?;
             }
-            Ok(Ok(train))
+            Ok(train)
         }
-        IdAck::Nothing => Ok(Err(refuse::NOTHING_TO_ACKNOWLEDGE)),
+        IdAck::Nothing => Err(NotChanged::Refused(Refusal::NothingToAcknowledge)),
     }
 }
 
-/// The train after its message, or the code that refuses it. The record that is handed in stays as it was.
+/// Returns the train after its message, or why the message is refused. The given record stays as it was.
 pub(crate) fn heard(
     alloc: Global,
     track: &Track,
     message: &FromTrain,
     train: &TrainRec,
-) -> Result<Result<TrainRec, u8>, AllocError>
-    ensures { IfOk result (λ after. after ≡ heard track.now message.now train.now) }
+) -> Result<TrainRec, NotChanged>
+    ensures ok { IfOk result (λ after. Ok after ≡ heard track.now message.now train.now) }
+    ensures err { IfErr result (λ why. IsReason (heard track.now message.now train.now) why) }
 {
     if is_too_high(stamp_of(message)) {
-        return Ok(Err(refuse::STAMP_TOO_HIGH));
+        return Err(NotChanged::Refused(Refusal::StampTooHigh));
     }
     let mut train = train.copy(alloc)?;
     raise(&mut train, stamp_of(message));
     match message {
         FromTrain::Report { position, .. } => {
             place(track, &mut train, position);
-            Ok(Ok(train))
+            Ok(train)
         }
-        FromTrain::Ack { acked, .. } => Ok(acknowledged(train, *acked)),
+        FromTrain::Ack { acked, .. } => acknowledged(train, *acked),
         FromTrain::StopAck {
             id,
             answer,

@@ -14,10 +14,10 @@ const MAX_ENGINE: u32 = 16_777_215;
 /// The greatest length of a train, in units of 10 cm.
 const MAX_LENGTH: u32 = 40_000;
 
-/// The greatest code of a bad line.
+/// The greatest code of a bad line (own rule).
 const MAX_BAD: u8 = 6;
 
-/// The segments of a stop, in the order in which they were given. In contracts a list.
+/// The segments of a stop, in the order in which they were given. Contracts see a list.
 #[derive(Debug, Drop)]
 pub struct Segments {
     all: Vec<Segment>,
@@ -33,7 +33,7 @@ impl Model for Segments {
 }
 
 impl Segments {
-    /// No segments. It takes no memory.
+    /// Makes an empty list. It takes no memory.
     pub fn new(alloc: Global) -> Self
         ensures { result ≡ [] }
     {
@@ -42,7 +42,7 @@ impl Segments {
         }
     }
 
-    /// Adds a segment at the end. A refusal for want of memory changes nothing.
+    /// Adds a segment at the end. Fails only for lack of memory, and then changes nothing.
     pub fn push(&mut self, segment: Segment) -> Result<(), AllocError>
         ensures ok { OnOk result (self.new ≡ self.old ++ segment ∷ []) }
         ensures err { OnErr result (self.new ≡ self.old) }
@@ -51,7 +51,7 @@ impl Segments {
         Ok(())
     }
 
-    /// The segments, in the order in which they were given.
+    /// Returns the segments in the order in which they were given.
     pub fn as_slice(&self) -> &[Segment]
         ensures { result.now ≡ self.now }
     {
@@ -62,27 +62,26 @@ impl Segments {
 /// An input: an enrolment, a command of the signaller, or a message from a train.
 #[derive(Debug, Drop)]
 pub enum Input {
-    /// A train reports to the radio block centre: its engine number, at most 16,777,215, and its length,
-    /// 1 to 40,000 units of 10 cm.
+    /// A train is enrolled: its engine number, at most 16,777,215, and its length, 1 to 40,000 units of 10 cm.
     Enrol {
         engine: u32,
         length: u32,
     },
-    /// A train leaves it.
+    /// A train is withdrawn.
     Withdraw {
         engine: u32,
     },
-    /// The signaller closes an area of 1 to 8 segments at once, under a number that rises from stop to stop.
+    /// The signaller closes an area of 1 to 8 segments at once. The number has to be above that of each earlier stop.
     Stop {
         number: u32,
         segments: Segments,
     },
-    /// The signaller opens it again.
+    /// The signaller opens the area of a stop again.
     Release {
         number: u32,
     },
-    /// The signaller restricts the speed on a segment, to so many km/h, for trains that face so, under a number that rises
-    /// from restriction to restriction; `front` is Q_FRONT, true where the train's length does not delay its end.
+    /// The signaller restricts the speed on a segment, in km/h, for trains that face these directions. The number has to be above
+    /// that of each earlier restriction. `front` is Q_FRONT: true if the restriction ends as soon as the train's front has left it.
     Restrict {
         number: u32,
         segment: Segment,
@@ -94,14 +93,14 @@ pub enum Input {
     Lift {
         number: u32,
     },
-    /// A train sent a message.
+    /// A message from a train.
     Received(FromTrain),
-    /// A line that spells no input, with the code that refuses it, 1 to 6.
+    /// A line that is no input, with its refusal code, 1 to 6 (`Refusal::code`).
     Bad(u8),
 }
 
 impl Input {
-    /// Whether the numbers are in the ranges that a batch allows, and a stop has a segment. It takes no memory.
+    /// Whether each number is in the range stated above and a stop has at least one segment. It takes no memory.
     pub fn fits(&self) -> bool
         ensures { IsTrue result ↔ Fits self.now }
     {

@@ -1,8 +1,11 @@
-//! What is decided on an input.
+//! The outcome of an input.
 
 ghost use Rattle.std.specs.Prelude.{◌≡◌, ◌<◌, ◌^◌, [], ◌∷◌, ◌++◌, OnOk, OnErr, length, slice_get, Some};
 ghost use Rattle.rbc_rule.specs.declared.outcome.Reply.TheVariants.{Done, Refused};
+ghost use Rattle.rbc_rule.specs.Codes.{code_of};
+ghost use Rattle.rbc_rule.specs.Right.{IsSilentIfRefused};
 
+use crate::refuse::Refusal;
 use rbc_records::Writes;
 use rbc_settle::Sent;
 use std::alloc::{AllocError, AllocFailed, Global};
@@ -11,13 +14,13 @@ use std::marker::Model;
 /// The answer to one input.
 #[derive(Clone, Copy, Debug, PartialEq, Eq)]
 pub enum Reply {
-    /// It was accepted, and so many messages were sent to all trains.
+    /// It was accepted; this many messages were sent, to all trains together.
     Done(u32),
-    /// It was refused with this code, and changed nothing.
+    /// It was refused with this code (`Refusal::code`), and changed nothing.
     Refused(u8),
 }
 
-/// Messages that are sent, in their order. In contracts a list.
+/// Messages to trains, in the order in which they are sent. Contracts see a list.
 #[derive(Debug, Drop)]
 pub struct SentList {
     all: Vec<Sent>,
@@ -33,7 +36,7 @@ impl Model for SentList {
 }
 
 impl SentList {
-    /// No messages. It takes no memory.
+    /// Makes an empty list. It takes no memory.
     pub fn new(alloc: Global) -> Self
         ensures { result ≡ [] }
     {
@@ -42,14 +45,14 @@ impl SentList {
         }
     }
 
-    /// These messages. It takes no memory.
+    /// Makes a list of these messages. It takes no memory.
     pub(crate) fn from_vec(all: Vec<Sent>) -> Self
         ensures { result ≡ all.items }
     {
         SentList { all }
     }
 
-    /// Adds a message at the end. A refusal for want of memory changes nothing.
+    /// Adds a message at the end. Fails only for lack of memory, and then changes nothing.
     pub fn add(&mut self, sent: Sent) -> Result<(), AllocError>
         ensures ok { OnOk result (self.new ≡ self.old ++ sent ∷ []) }
         ensures err { OnErr result (self.new ≡ self.old) }
@@ -58,7 +61,7 @@ impl SentList {
         Ok(())
     }
 
-    /// Adds messages at the end. A refusal for want of memory changes nothing.
+    /// Adds messages at the end. Fails only for lack of memory, and then changes nothing.
     pub(crate) fn add_all(&mut self, sent: &[Sent]) -> Result<(), AllocError>
         ensures ok { OnOk result (self.new ≡ self.old ++ sent.now) }
         ensures err { OnErr result (self.new ≡ self.old) }
@@ -67,14 +70,14 @@ impl SentList {
         Ok(())
     }
 
-    /// How many messages there are.
+    /// Returns the number of messages.
     pub fn len(&self) -> usize
         ensures { result ≡ length self.now }
     {
         self.all.len()
     }
 
-    /// The message at an index below `len`, from 0.
+    /// Returns the message at an index below `len`; the first has index 0.
     pub fn at(&self, index: usize) -> &Sent
         requires { index < length self.now }
         ensures { slice_get self.now index ≡ Some result.now }
@@ -82,7 +85,7 @@ impl SentList {
         &self.all[index]
     }
 
-    /// The messages as a vector. It takes no memory.
+    /// Returns the messages as a vector. It takes no memory.
     pub fn into_vec(self) -> Vec<Sent>
         ensures { result.items ≡ self }
     {
@@ -90,7 +93,7 @@ impl SentList {
     }
 }
 
-/// The answer to an input, the records that it writes, and the messages that it sends.
+/// The answer to an input, the records that it writes and the messages that it sends.
 #[derive(Debug, Drop)]
 pub struct Outcome {
     pub result: Reply,
@@ -99,9 +102,18 @@ pub struct Outcome {
 }
 
 impl Outcome {
-    /// Of an input that is refused.
-    pub(crate) fn refused(alloc: Global, code: u8) -> Self
-        ensures { result ≡ record { result = Refused code; writes = []; messages = [] } }
+    /// Makes the outcome of an input that is refused: nothing is written or sent.
+    pub(crate) fn refused(alloc: Global, refusal: Refusal) -> Self
+        ensures outcome { result ≡ record { result = Refused (code_of refusal); writes = []; messages = [] } }
+        ensures silent { IsSilentIfRefused result.result result.writes result.messages }
+    {
+        Outcome::refused_with(alloc, refusal.code())
+    }
+
+    /// Makes the outcome of an input that is refused with a code.
+    pub(crate) fn refused_with(alloc: Global, code: u8) -> Self
+        ensures outcome { result ≡ record { result = Refused code; writes = []; messages = [] } }
+        ensures silent { IsSilentIfRefused result.result result.writes result.messages }
     {
         Outcome {
             result: Reply::Refused(code),
@@ -110,10 +122,11 @@ impl Outcome {
         }
     }
 
-    /// Of an input that is accepted.
+    /// Makes the outcome of an input that is accepted.
     pub(crate) fn done(writes: Writes, messages: SentList) -> Self
         requires { length messages < 2 ^ 32 }
-        ensures { result ≡ record { result = Done (length messages); writes = writes; messages = messages } }
+        ensures outcome { result ≡ record { result = Done (length messages); writes = writes; messages = messages } }
+        ensures silent { IsSilentIfRefused result.result result.writes result.messages }
     {
         Outcome {
             result: Reply::Done(messages.len() as u32),
@@ -123,12 +136,12 @@ impl Outcome {
     }
 }
 
-/// Why an input was not decided.
+/// Why an input could not be decided.
 #[derive(Clone, Copy, Debug, PartialEq, Eq)]
 pub enum RuleFault {
     /// Memory was refused.
     OutOfMemory,
-    /// What was read stands in no well-formed world.
+    /// No well-formed world has the records that were read.
     Torn,
     /// The reader failed.
     Reader,

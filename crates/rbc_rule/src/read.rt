@@ -1,10 +1,11 @@
-//! What records that were read say of the world.
+//! Looks up records that were read.
 
 ghost use Rattle.std.specs.Prelude.{◌≡◌, ℕ, ◌≤◌, IsTrue, IfOk, IfErr, IfSome, option_copied, length};
 ghost use Rattle.rbc_track.specs.Plan.{Plan};
 ghost use Rattle.rbc_maps.specs.Maps.{value_of, keys};
 ghost use Rattle.rbc_records.specs.declared.record.Key.TheVariants as key;
 ghost use Rattle.rbc_records.specs.Notes.{knows, noted};
+ghost use Rattle.rbc_rule.specs.Bounds.{max_trains};
 ghost use Rattle.rbc_rule.specs.World.{World};
 ghost use Rattle.rbc_rule.specs.Right.{MayBe};
 ghost use Rattle.rbc_rule.specs.Faults.{IsFaultOf};
@@ -15,15 +16,15 @@ use rbc_records::{Key, Reader, Rec};
 use rbc_settle::{Numbers, TrainRec};
 use rbc_zones::{Limits, Stops};
 
-/// So many trains can be enrolled.
+/// The greatest number of enrolled trains (own rule).
 pub(crate) const MAX_TRAINS: usize = 2_000;
 
-/// The engines that are enrolled, none where there is no list.
+/// Returns the engines that are enrolled, or `None` if there is no roster.
 pub(crate) fn roster<S: Reader>(store: &S) -> Result<Option<&Numbers>, RuleFault>
     requires { IsTrue (knows (S.notes store.now) key.Roster) }
     ensures noted { IfOk result (λ engines. or_nobody (option_copied engines) ≡ engines_in (noted (S.notes store.now) key.Roster)) }
     ensures engines { IfOk result (λ engines. (plan : Plan) (w : World) → MayBe plan (S.notes store.now) w → or_nobody (option_copied engines) ≡ keys w.trains) }
-    ensures few { IfOk result (λ engines. length (or_nobody (option_copied engines)) ≤ 2000) }
+    ensures few { IfOk result (λ engines. length (or_nobody (option_copied engines)) ≤ max_trains) }
     ensures fault { (plan : Plan) → IfErr result (λ fault. IsFaultOf plan fault (S.notes store.now)) }
 {
     match store.seen(Key::Roster) {
@@ -33,7 +34,7 @@ pub(crate) fn roster<S: Reader>(store: &S) -> Result<Option<&Numbers>, RuleFault
     }
 }
 
-/// The train with an engine number, if it is enrolled.
+/// Returns the train with this engine number, if it is enrolled.
 pub(crate) fn train<S: Reader>(store: &S, engine: u32) -> Result<Option<&TrainRec>, RuleFault>
     requires { IsTrue (knows (S.notes store.now) (key.Train engine)) }
     ensures train { IfOk result (λ train. (plan : Plan) (w : World) → MayBe plan (S.notes store.now) w → option_copied train ≡ value_of w.trains engine) }
@@ -46,7 +47,7 @@ pub(crate) fn train<S: Reader>(store: &S, engine: u32) -> Result<Option<&TrainRe
     }
 }
 
-/// The stops, if there ever was one.
+/// Returns the stops, if there ever was one.
 pub(crate) fn stops<S: Reader>(store: &S) -> Result<Option<&Stops>, RuleFault>
     requires { IsTrue (knows (S.notes store.now) key.Stops) }
     ensures stops { IfOk result (λ stops. (plan : Plan) (w : World) → MayBe plan (S.notes store.now) w → or_none (option_copied stops) ≡ w.stops) }
@@ -59,7 +60,7 @@ pub(crate) fn stops<S: Reader>(store: &S) -> Result<Option<&Stops>, RuleFault>
     }
 }
 
-/// The restrictions, if there ever was one.
+/// Returns the restrictions, if there ever was one.
 pub(crate) fn limits<S: Reader>(store: &S) -> Result<Option<&Limits>, RuleFault>
     requires { IsTrue (knows (S.notes store.now) key.Limits) }
     ensures limits { IfOk result (λ limits. (plan : Plan) (w : World) → MayBe plan (S.notes store.now) w → or_none (option_copied limits) ≡ w.limits) }

@@ -1,27 +1,27 @@
-//! Deciding one input on single records.
+//! Decides one input by reading single records.
 
 ghost use Rattle.std.specs.Prelude.{◌≡◌, ◌+◌, ◌<◌, ◌^◌, IfOk, IfErr, OnOk};
 ghost use Rattle.rbc_records.specs.Notes.{Extends};
 ghost use Rattle.rbc_rule.specs.Inputs.{Fits};
-ghost use Rattle.rbc_rule.specs.Right.{IsRight, IsFault};
+ghost use Rattle.rbc_rule.specs.Right.{IsRight, IsSilentIfRefused, IsFault};
 ghost use Rattle.rbc_rule.specs.Gathered.{AreSendable};
 
 use crate::change::Restriction;
 use crate::input::Input;
 use crate::outcome::{Outcome, RuleFault};
-use crate::{commands, trains};
+use crate::{commands, one_train};
 use rbc_records::Reader;
 use rbc_track::Track;
 use std::alloc::Global;
 
-/// Decides an input on a track, by the records that it reads: the answer, the records to be written, and the messages to be sent
-/// (own rule). The outcome is that of the step of each well-formed world that has what was read. It writes nothing, and
-/// what was known to the reader stays as it was.
+/// Decides an input on a track by the records that it reads (own rule): the answer, the records to write and the messages to send.
+/// The outcome is that of a step of each well-formed world that has the records that were read. An input that is refused writes
+/// nothing and sends nothing, whatever was read. Nothing is written to the store, and records that were read before stay as they were.
 ///
 /// # Errors
 ///
-/// `OutOfMemory` where memory was refused; `Torn` only where no well-formed world has what was read; `Reader` only where the
-/// reader failed in this call.
+/// `OutOfMemory` for lack of memory; `Torn` only if no well-formed world has the records that were read; `Reader` only if the reader
+/// failed in this call. Then nothing was decided.
 pub fn decide<S: Reader>(
     alloc: Global,
     track: &Track,
@@ -31,14 +31,15 @@ pub fn decide<S: Reader>(
     requires room { S.failed store.old + 1 < 2 ^ 64 }
     requires fits { Fits input.now }
     ensures right { IfOk result (λ outcome. IsRight track.now (input.now) (S.notes store.new) outcome.result outcome.writes outcome.messages) }
+    ensures refused { IfOk result (λ outcome. IsSilentIfRefused outcome.result outcome.writes outcome.messages) }
     ensures fit { IfOk result (λ outcome. AreSendable outcome.messages) }
     ensures extends { Extends (S.notes store.old) (S.notes store.new) }
     ensures fault { IfErr result (λ fault. IsFault track.now fault (S.notes store.new) (S.failed store.old) (S.failed store.new)) }
     ensures failed { OnOk result (S.failed store.new ≡ S.failed store.old) }
 {
     match input {
-        Input::Enrol { engine, length } => trains::enrol(alloc, track, *engine, *length, store),
-        Input::Withdraw { engine } => trains::withdraw(alloc, track, *engine, store),
+        Input::Enrol { engine, length } => one_train::enrol(alloc, track, *engine, *length, store),
+        Input::Withdraw { engine } => one_train::withdraw(alloc, track, *engine, store),
         Input::Stop { number, segments } => {
             commands::stop(alloc, track, *number, segments, store)
         }
@@ -60,7 +61,7 @@ pub fn decide<S: Reader>(
             commands::restrict(alloc, track, &new, store)
         }
         Input::Lift { number } => commands::lift(alloc, track, *number, store),
-        Input::Received(message) => trains::receive(alloc, track, message, store),
-        Input::Bad(code) => Ok(Outcome::refused(alloc, *code)),
+        Input::Received(message) => one_train::receive(alloc, track, message, store),
+        Input::Bad(code) => Ok(Outcome::refused_with(alloc, *code)),
     }
 }

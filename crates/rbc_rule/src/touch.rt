@@ -1,4 +1,4 @@
-//! Which trains a command touches.
+//! Tells which trains a command touches.
 
 ghost use Rattle.std.specs.Prelude.{◌≡◌};
 ghost use Rattle.rbc_rule.specs.Touching.{is_stop_for, is_limit_for, has_stop, has_limit, touches, released_by};
@@ -7,21 +7,21 @@ use rbc_settle::TrainRec;
 use rbc_track::Track;
 use rbc_zones::{Area, Concern, Limit, concern, limit_concerns};
 
-/// A stop or a restriction that begins, with what is active under its number from now on, or that ends.
+/// The stop or the restriction that begins or ends, by its number: `Some` if it begins, `None` if it ends.
 #[derive(Clone, Copy, Debug)]
 pub(crate) enum Change<'a> {
     Stop(u32, Option<&'a Area>),
     Limit(u32, Option<&'a Limit>),
 }
 
-/// So many stop identifiers has a train.
+/// The number of stop identifiers of a train.
 const STOP_IDENTIFIERS: usize = 15;
 
-/// So many restriction identifiers has a train.
+/// The number of restriction identifiers of a train.
 const LIMIT_IDENTIFIERS: usize = 255;
 
 impl Change<'_> {
-    /// Whether a train that was settled before it may have something to be told.
+    /// Whether there may be something to tell a train that was settled before the change.
     pub(crate) fn touches(self, track: &Track, train: &TrainRec) -> bool
         ensures { result ≡ touches track.now self.entry train.now }
     {
@@ -33,7 +33,7 @@ impl Change<'_> {
         }
     }
 
-    /// The stop that ends, if one does.
+    /// Returns the number of the stop that ends, if one does.
     pub(crate) fn released(self) -> Option<u32>
         ensures { result ≡ released_by self.entry }
     {
@@ -44,7 +44,7 @@ impl Change<'_> {
     }
 }
 
-/// Whether a stop that begins concerns a train that has an identifier for it.
+/// Whether a stop that begins concerns a train that has a free identifier.
 fn is_stop_for(train: &TrainRec, number: u32, area: &Area) -> bool
     ensures { result ≡ is_stop_for train.now (number, area.now) }
 {
@@ -52,7 +52,7 @@ fn is_stop_for(train: &TrainRec, number: u32, area: &Area) -> bool
         && concern(area, train.forced.has(number), train.place.as_ref()) != Concern::None
 }
 
-/// Whether a restriction that begins concerns a train that has an identifier for it.
+/// Whether a restriction that begins concerns a train that has a free identifier.
 fn is_limit_for(horizon: u32, train: &TrainRec, limit: &Limit) -> bool
     ensures { result ≡ is_limit_for horizon train.now limit.now }
 {
@@ -64,14 +64,14 @@ fn is_limit_for(horizon: u32, train: &TrainRec, limit: &Limit) -> bool
     }
 }
 
-/// Whether a train is told a stop, or stops at once for it.
+/// Whether a train has been told of a stop, or stops at once for it.
 fn has_stop(train: &TrainRec, number: u32) -> bool
     ensures { result ≡ has_stop train.now number }
 {
     train.stops.of_number(number).is_some() || train.forced.has(number)
 }
 
-/// Whether a train is told a restriction.
+/// Whether a train has been told of a restriction.
 fn has_limit(train: &TrainRec, number: u32) -> bool
     ensures { result ≡ has_limit train.now number }
 {

@@ -1,10 +1,11 @@
-use Rattle.std.proofs.Common.{inr, sym, subst, ◌∙◌}
+use Rattle.std.proofs.Common.{inr, subst, ◌∙◌}
 use Rattle.std.proofs.lemmas.Result.{IfOk-weaker}
 use Rattle.rbc_settle.specs.Settling.{Limits}
 use Rattle.rbc_rule.specs.Touching.{BeginsOrEnds}
 use Rattle.rbc_rule.proofs.Begun.{removing_ends}
 use Rattle.rbc_rule.specs.declared.input.Input.TheVariants.{Lift}
-use Rattle.rbc_rule.proofs.Worlds.{may_have_been, refused_right, fault_handed_on}
+use Rattle.rbc_rule.specs.Codes.{code_of}
+use Rattle.rbc_rule.proofs.Worlds.{may_have_been, refused_right, refusal_is, fault_handed_on}
 use Rattle.rbc_rule.proofs.WorldReading.{read_or}
 use Rattle.rbc_rule.proofs.AllTrains.{lift_refused, lift_right}
 use Rattle.rbc_rule.proofs.commands.lift.Goals as goal
@@ -18,7 +19,7 @@ pub limits_changed-requires-clause-changed : goal.limits_changed-requires-clause
 limits_changed-requires-clause-changed g c = λ w m.
     let old = c.unwrap_or-limits.result.now in
     let old_is = read_or c.in_ok-limits.field-0 c.unwrap_or-limits.result _ _ c.unwrap_or-limits.ensures c.new-none.ensures ∙ c.in_ok-limits.ensures.limits c.args.track.now w m in
-    let ended = removing_ends c.args.number old c.in-Ok.limits (sym c.in_ok-limits-2.ensures ∙ c.in-Ok.is) in
+    let ended = removing_ends c.args.number old c.in-Ok.limits c.in-Ok.ensures.ok in
     subst (λ (limits : Limits). BeginsOrEnds c.args.number limits c.in-Ok.limits) old_is (inr ended)
 
 -- what was read is the world's, so the outcome is the step's
@@ -29,12 +30,12 @@ returns-in-Ok-clause-right g c =
     (λ outcome is w m.
     let before = may_have_been c.limits_changed.ensures.extends m in
     let old_is = read_or c.in_ok-limits.field-0 c.unwrap_or-limits.result _ _ c.unwrap_or-limits.ensures c.new-none.ensures ∙ c.in_ok-limits.ensures.limits c.args.track.now w before in
-    lift_right c.args.track.now w c.args.number old old_is c.in_ok-limits-2.field-0 c.in_ok-limits-2.ensures c.in-Ok.limits outcome c.in-Ok.is (is w m) m.well_formed)
+    lift_right c.args.track.now w c.args.number old old_is c.in-Ok.limits outcome c.in-Ok.ensures.ok (is w m) m.well_formed)
     c.limits_changed.ensures.outcome
 
-pub returns-clause-right : goal.returns-clause-right
-returns-clause-right g c = λ w m.
+pub returns-in-Err-Refused-clause-right : goal.returns-in-Err-Refused-clause-right
+returns-in-Err-Refused-clause-right g c = λ w m.
     let old = c.unwrap_or-limits.result.now in
     let old_is = read_or c.in_ok-limits.field-0 c.unwrap_or-limits.result _ _ c.unwrap_or-limits.ensures c.new-none.ensures ∙ c.in_ok-limits.ensures.limits c.args.track.now w m in
-    refused_right c.args.track.now (Lift c.args.number) w c.in-Err.code c.refused.result c.refused.ensures
-    (lift_refused c.args.track.now w c.args.number old old_is c.in_ok-limits-2.field-0 c.in_ok-limits-2.ensures c.in-Err.code c.in-Err.is)
+    refused_right c.args.track.now (Lift c.args.number) w (code_of c.in-Err-Refused.refusal) c.refused.result c.refused.ensures.outcome
+    (lift_refused c.args.track.now w c.args.number old old_is (code_of c.in-Err-Refused.refusal) (refusal_is _ c.in-Err-Refused.field-0 c.in-Err-Refused.refusal c.in-Err-Refused.field-0-is c.in-Err-Refused.ensures.err))

@@ -1,13 +1,15 @@
-use Rattle.std.proofs.Common.{inl, sym, ap, subst, ◌∙◌}
+use Rattle.std.proofs.Common.{inl, ap, subst, ◌∙◌}
 use Rattle.std.proofs.lemmas.Result.{IfOk-weaker}
 use Rattle.rbc_records.specs.declared.record.Key.TheVariants as key
 use Rattle.rbc_records.specs.declared.record.Rec.TheVariants as rec
 use Rattle.rbc_settle.specs.Settling.{Stops}
+use Rattle.rbc_rule.specs.Bounds.{max_stops}
 use Rattle.rbc_rule.specs.Touching.{BeginsOrEnds}
 use Rattle.rbc_rule.specs.Gathered.{settled_outcome}
 use Rattle.rbc_rule.proofs.Begun.{adding_begins, released_begun}
 use Rattle.rbc_rule.specs.declared.input.Input.TheVariants.{Stop}
-use Rattle.rbc_rule.proofs.Worlds.{may_have_been, refused_right, fault_handed_on}
+use Rattle.rbc_rule.specs.Codes.{code_of}
+use Rattle.rbc_rule.proofs.Worlds.{may_have_been, refused_right, refusal_is, fault_handed_on}
 use Rattle.rbc_rule.proofs.WorldReading.{read_or}
 use Rattle.rbc_rule.proofs.AllTrains.{stop_refused, stop_right}
 use Rattle.rbc_rule.proofs.commands.stop.Goals as goal
@@ -21,7 +23,7 @@ pub stops_changed-requires-clause-changed : goal.stops_changed-requires-clause-c
 stops_changed-requires-clause-changed g c = λ w m.
     let old = c.unwrap_or-stops.result.now in
     let old_is = read_or c.in_ok-stops.field-0 c.unwrap_or-stops.result _ _ c.unwrap_or-stops.ensures c.new-none.ensures ∙ c.in_ok-stops.ensures.stops c.args.track.now w m in
-    let begun = adding_begins 64 _ c.args.number c.args.segments.now old c.in-Ok.stops (sym c.in_ok-stops-2.ensures ∙ c.in-Ok.is) in
+    let begun = adding_begins max_stops _ c.args.number c.args.segments.now old c.in-Ok.stops c.in-Ok.ensures.ok in
     subst (λ (stops : Stops). BeginsOrEnds c.args.number stops c.in-Ok.stops) old_is (inl (c.args.segments.now, begun))
 
 -- what was read is the world's, so the outcome is the step's
@@ -32,14 +34,14 @@ returns-in-Ok-clause-right g c =
     (λ outcome is w m.
     let before = may_have_been c.stops_changed.ensures.extends m in
     let old_is = read_or c.in_ok-stops.field-0 c.unwrap_or-stops.result _ _ c.unwrap_or-stops.ensures c.new-none.ensures ∙ c.in_ok-stops.ensures.stops c.args.track.now w before in
-    let begun = adding_begins 64 _ c.args.number c.args.segments.now old c.in-Ok.stops (sym c.in_ok-stops-2.ensures ∙ c.in-Ok.is) in
+    let begun = adding_begins max_stops _ c.args.number c.args.segments.now old c.in-Ok.stops c.in-Ok.ensures.ok in
     let outcome_is = is w m ∙ ap (λ released. settled_outcome c.args.track.now c.in-Ok.stops w.limits released w.trains key.Stops (rec.Stops c.in-Ok.stops)) (released_begun c.args.number c.args.segments.now old c.in-Ok.stops begun) in
-    stop_right c.args.track.now w c.args.number old old_is c.in_ok-stops-2.field-0 c.args.segments.now c.in_ok-stops-2.ensures c.in-Ok.stops outcome c.in-Ok.is outcome_is m.well_formed)
+    stop_right c.args.track.now w c.args.number old old_is c.args.segments.now c.in-Ok.stops outcome c.in-Ok.ensures.ok outcome_is m.well_formed)
     c.stops_changed.ensures.outcome
 
-pub returns-clause-right : goal.returns-clause-right
-returns-clause-right g c = λ w m.
+pub returns-in-Err-Refused-clause-right : goal.returns-in-Err-Refused-clause-right
+returns-in-Err-Refused-clause-right g c = λ w m.
     let old = c.unwrap_or-stops.result.now in
     let old_is = read_or c.in_ok-stops.field-0 c.unwrap_or-stops.result _ _ c.unwrap_or-stops.ensures c.new-none.ensures ∙ c.in_ok-stops.ensures.stops c.args.track.now w m in
-    refused_right c.args.track.now (Stop c.args.number c.args.segments.now) w c.in-Err.code c.refused.result c.refused.ensures
-    (stop_refused c.args.track.now w c.args.number old old_is c.in_ok-stops-2.field-0 c.args.segments.now c.in_ok-stops-2.ensures c.in-Err.code c.in-Err.is)
+    refused_right c.args.track.now (Stop c.args.number c.args.segments.now) w (code_of c.in-Err-Refused.refusal) c.refused.result c.refused.ensures.outcome
+    (stop_refused c.args.track.now w c.args.number old old_is c.args.segments.now (code_of c.in-Err-Refused.refusal) (refusal_is _ c.in-Err-Refused.field-0 c.in-Err-Refused.refusal c.in-Err-Refused.field-0-is c.in-Err-Refused.ensures.err))

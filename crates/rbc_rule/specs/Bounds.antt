@@ -1,0 +1,30 @@
+-- The greatest numbers, lengths and stamps (own rule).
+use Rattle.std.specs.Prelude.{ℕ}
+
+-- the greatest number of enrolled trains
+abbrev pub max_trains : ℕ
+max_trains = 2000
+
+-- the greatest number of active stops
+abbrev pub max_stops : ℕ
+max_stops = 64
+
+-- the greatest number of active restrictions
+abbrev pub max_limits : ℕ
+max_limits = 300
+
+-- the greatest engine number: NID_ENGINE has 24 bits
+abbrev pub max_engine : ℕ
+max_engine = 16777215
+
+-- the greatest length of a train, in units of 10 cm
+abbrev pub max_train_length : ℕ
+max_train_length = 40000
+
+-- the greatest code of a bad line
+abbrev pub max_bad_code : ℕ
+max_bad_code = 6
+
+-- the greatest T_TRAIN of a message from a train, in units of 10 ms
+abbrev pub max_stamp : ℕ
+max_stamp = 4200000000
