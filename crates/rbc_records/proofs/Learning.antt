@@ -2,12 +2,12 @@
 use Rattle.std.proofs.Common.{◌≡◌, refl, sym, ap, ◌∙◌, List, [], ◌∷◌, ◌++◌, Option, Some, None, is_some, Bool, true, false, ◌||◌, cond, arith}
 use Rattle.std.proofs.lemmas.Bool.Decides.{nat_tests}
 use Rattle.std.specs.Map.{lookup}
-use Rattle.rbc_records.proofs.Keys.{eq_is}
+use Rattle.rbc_records.proofs.Keys.{eq_is, same_key_sym}
 use Rattle.rbc_records.specs.declared.record.Key.{Key}
 use Rattle.rbc_records.specs.declared.record.Key.TheVariants as key
 use Rattle.rbc_records.specs.declared.record.Rec.{Rec}
 use Rattle.rbc_records.specs.contracts.record.KeyPartialEq.TheImpl.{eq-value}
-use Rattle.rbc_records.specs.Notes.{Part, Learns, note_in, is_noted, same_key}
+use Rattle.rbc_records.specs.Notes.{Part, Learns, IsNotedOnce, note_in, is_noted, same_key}
 
 same_key_self : (k : Key) → same_key k k ≡ true
 same_key_self key.Roster = refl
@@ -73,3 +73,21 @@ nothing (Some x) h = cc
 
 pub not_found : (notes : List (Key × Option Rec)) (k : Key) → is_noted notes k ≡ false → lookup (eq-value.it k) notes ≡ None
 not_found notes k h = nothing (lookup (eq-value.it k) notes) (found_is_noted notes k ∙ h)
+
+-- a key that is not noted is another one than that of each note
+neither : (b c : Bool) → (b || c) ≡ false → (b ≡ false) × (c ≡ false)
+neither true c h = cc
+neither false c h = (refl, h)
+
+not_noted_more : (notes : List (Key × Option Rec)) (k other : Key) (rec : Option Rec) → is_noted notes k ≡ false → same_key k other ≡ false → is_noted (notes ++ (other, rec) ∷ []) k ≡ false
+not_noted_more [] k other rec absent differ = ap (λ b. b || false) differ
+not_noted_more (note ∷ notes) k other rec absent differ =
+    let parts = neither (same_key k note.0) (is_noted notes k) absent in
+    ap (λ b. b || is_noted (notes ++ (other, rec) ∷ []) k) parts.0 ∙ not_noted_more notes k other rec parts.1 differ
+
+-- with a new key at their end each key of the notes stands once still
+pub once_more : (notes : List (Key × Option Rec)) (k : Key) (rec : Option Rec) → IsNotedOnce notes → is_noted notes k ≡ false → IsNotedOnce (notes ++ (k, rec) ∷ [])
+once_more [] k rec once absent = (refl, tt)
+once_more (note ∷ notes) k rec once absent =
+    let parts = neither (same_key k note.0) (is_noted notes k) absent in
+    (not_noted_more notes note.0 k rec once.0 (same_key_sym note.0 k ∙ parts.0), once_more notes k rec once.1 parts.1)

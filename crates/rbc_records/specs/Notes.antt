@@ -1,4 +1,4 @@
--- What is known of records that were read one at a time (own rule).
+-- What is known when records are read one at a time (own rule).
 use Rattle.std.specs.Prelude.{◌≡◌, ℕ, ◌+◌, Bool, true, false, List, [], ◌∷◌, Option, Some, None, Result, Ok, Err, ◌==◌, if◌then◌else◌, IsTrue}
 use Rattle.std.specs.List.{list_any}
 use Rattle.rbc_records.specs.declared.record.Key.{Key}
@@ -7,7 +7,7 @@ use Rattle.rbc_records.specs.declared.record.Rec.{Rec}
 use Rattle.rbc_records.specs.declared.reader.ReadFault.{ReadFault}
 use Rattle.rbc_records.specs.declared.reader.ReadFault.TheVariants as fault
 
--- whether two keys are one
+-- whether two keys are the same
 abbrev pub same_key : Key → Key → Bool
 same_key key.Roster key.Roster = true
 same_key (key.Train a) (key.Train b) = a == b
@@ -15,44 +15,51 @@ same_key key.Stops key.Stops = true
 same_key key.Limits key.Limits = true
 same_key _ _ = false
 
--- all records, of which each key is known; or what was read under some keys, a record or that there is none
+-- either all records, so that every key is known; or what was read under some keys, a record or that there is none
 pub data Notes : Type 0 where
   Whole : List (Key × Rec) → Notes
   Part : List (Key × Option Rec) → Notes
 
--- the record that stands first under a key
+-- the first record under a key
 abbrev pub record_in : List (Key × Rec) → Key → Option Rec
 record_in [] k = None
 record_in (entry ∷ entries) k = if same_key k entry.0 then Some entry.1 else record_in entries k
 
--- what was read first under a key
+-- the first note under a key
 abbrev pub note_in : List (Key × Option Rec) → Key → Option Rec
 note_in [] k = None
 note_in (note ∷ notes) k = if same_key k note.0 then note.1 else note_in notes k
 
--- whether a key was read
+-- whether there is a note under a key
 abbrev pub is_noted : List (Key × Option Rec) → Key → Bool
 is_noted notes k = list_any (λ note. same_key k note.0) notes
 
+-- each key is noted once: no later note has the key of an earlier one
+abbrev pub IsNotedOnce : List (Key × Option Rec) → Type 0
+IsNotedOnce [] = Unit
+IsNotedOnce (note ∷ notes) = (is_noted notes note.0 ≡ false) × IsNotedOnce notes
+
+-- whether it is known what stands under a key
 abbrev pub knows : Notes → Key → Bool
 knows (Whole entries) k = true
 knows (Part notes) k = is_noted notes k
 
+-- what is known under a key: a record, or that there is none
 abbrev pub noted : Notes → Key → Option Rec
 noted (Whole entries) k = record_in entries k
 noted (Part notes) k = note_in notes k
 
--- what was known stays known, and stays the same
+-- what was known is still known, and is the same
 pub record Extends (old new : Notes) : Type 0 where
   pub stays_known : (k : Key) → IsTrue (knows old k) → IsTrue (knows new k)
   pub stays_noted : (k : Key) → IsTrue (knows old k) → noted new k ≡ noted old k
 
--- and a key has become known
+-- and this key has become known
 pub record Learns (old : Notes) (k : Key) (new : Notes) : Type 0 where
   pub known : IsTrue (knows new k)
   pub extends : Extends old new
 
--- how many reads have failed after a read that ended so
+-- the number of failed reads after a read with this result
 abbrev pub failures_after : Result (Unit {0}) ReadFault → ℕ → ℕ
 failures_after (Ok done) failures = failures
 failures_after (Err fault.OutOfMemory) failures = failures

@@ -1,4 +1,4 @@
-//! Single records of all that is known, a reader of them, notes of what was read, a plain store, and writes.
+//! The single records in which everything known is kept: how they are read, noted, stored and written.
 #![tactic(auto)]
 
 mod notes;

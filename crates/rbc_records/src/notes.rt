@@ -1,15 +1,15 @@
 //! Notes of what was read.
 
 ghost use Rattle.std.specs.Prelude.{◌≡◌, ◌<◌, [], ◌∷◌, ◌++◌, false, length, is_some, IfSome, OnOk, OnErr, Some, slice_get, option_copied};
-ghost use Rattle.rbc_records.specs.Notes.{Part, Learns, note_in, is_noted};
+ghost use Rattle.rbc_records.specs.Notes.{Part, Learns, IsNotedOnce, note_in, is_noted};
 
 use crate::record::{Key, Rec};
 use indexmap::IndexMap;
 use std::alloc::{AllocError, Global};
 use std::marker::Model;
 
-/// What was read under some keys: a record, or that there is none; in the order of the first reading. In contracts a list
-/// of pairs.
+/// Notes of what was read under some keys: a record, or that there is none. They stand in the order of reading, and no
+/// key stands twice. In contracts a list of pairs.
 #[derive(Debug, Drop)]
 pub struct Notes {
     all: IndexMap<Key, Option<Rec>>,
@@ -23,10 +23,15 @@ impl Model for Notes {
     ghost Value = { List (Key × Option Rec) };
 
     ghost view = { λ notes. notes.all.entries };
+
+    ghost use Rattle.rbc_records.specs.Notes.{IsNotedOnce};
+
+    // Each key stands once.
+    ghost invariant = { λ notes. IsNotedOnce notes.all.entries };
 }
 
 impl Notes {
-    /// Nothing was read. It takes no memory.
+    /// Makes empty notes. It allocates nothing.
     pub fn new(alloc: Global) -> Self
         ensures { result ≡ [] }
     {
@@ -35,7 +40,8 @@ impl Notes {
         }
     }
 
-    /// Notes what was read under a key that is not noted, behind the others. A refusal for want of memory changes nothing.
+    /// Adds a note behind the others: what was read under a key that is not noted yet. Fails only for lack of memory, and
+    /// then changes nothing.
     pub fn add(&mut self, key: Key, rec: Option<Rec>) -> Result<(), AllocError>
         requires { is_noted self.old key ≡ false }
         ensures ok { OnOk result (self.new ≡ self.old ++ (key, rec) ∷ []) }
@@ -46,7 +52,7 @@ impl Notes {
         Ok(())
     }
 
-    /// What was read under a key, where it is noted: a record, or that there is none.
+    /// What was read under a key: a record, or that there is none. `None` if the key is not noted.
     pub fn get(&self, key: Key) -> Option<Option<&Rec>>
         ensures known { is_some result ≡ is_noted self.now key }
         ensures noted { IfSome result (λ rec. option_copied rec ≡ note_in self.now key) }
@@ -55,18 +61,20 @@ impl Notes {
         Some(rec.as_ref())
     }
 
-    /// How many keys are noted.
+    /// The number of notes.
     pub fn len(&self) -> usize
-        ensures { result ≡ length self.now }
+        ensures len { result ≡ length self.now }
+        ensures once { IsNotedOnce self.now }
     {
         self.all.len()
     }
 
-    /// The key at an index below `len`, from 0, and what was read under it.
+    /// The note at an index, which counts from 0 and is below `len`: its key, and what was read under it.
     pub fn at(&self, index: usize) -> (Key, Option<&Rec>)
         requires { index < length self.now }
         ensures at { slice_get self.now index ≡ Some (result.0, option_copied result.1) }
         ensures noted { option_copied result.1 ≡ note_in self.now result.0 }
+        ensures once { IsNotedOnce self.now }
     {
         let (key, rec) = self.all.get_index(index).unwrap();
         (*key, rec.as_ref())

@@ -6,14 +6,14 @@ use rbc_settle::{Numbers, TrainRec};
 use rbc_zones::{Limits, Stops};
 use std::alloc::{AllocError, Global};
 
-/// What a record is kept under.
+/// The key under which a record is kept.
 #[derive(Clone, Copy, Debug, PartialEq, Eq, Hash)]
 pub enum Key {
-    /// The engines that are enrolled.
+    /// The list of enrolled engines.
     Roster,
     /// The train with this engine number (NID_ENGINE).
     Train(u32),
-    /// The stops.
+    /// The emergency stops.
     Stops,
     /// The temporary speed restrictions.
     Limits,
@@ -22,18 +22,18 @@ pub enum Key {
 /// A record.
 #[derive(Debug, Drop)]
 pub enum Rec {
-    /// Engine numbers, ascending.
+    /// The numbers of the enrolled engines, ascending.
     Engines(Numbers),
     /// What is known of one train.
     Train(TrainRec),
-    /// The stops that are active, and the last number of a stop.
+    /// The active emergency stops, and the last number given to a stop.
     Stops(Stops),
-    /// The restrictions that are active, and the last number of a restriction.
+    /// The active temporary speed restrictions, and the last number given to a restriction.
     Limits(Limits),
 }
 
 impl Rec {
-    /// The same once more.
+    /// Copies the record; fails only for lack of memory.
     pub fn copy(&self, alloc: Global) -> Result<Self, AllocError>
         ensures { IfOk result (λ copy. copy ≡ self.now) }
     {

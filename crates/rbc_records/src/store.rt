@@ -1,4 +1,4 @@
-//! A store that knows all keys.
+//! A store of all records.
 
 ghost use Rattle.std.specs.Prelude.{◌≡◌, ℕ, ◌+◌, ◌<◌, ◌≤◌, [], OnOk, OnErr, IfErr, IsOk, option_copied};
 ghost use Rattle.indexmap.specs.IndexMap.{spare};
@@ -13,7 +13,7 @@ use indexmap::IndexMap;
 use std::alloc::Global;
 use std::marker::Model;
 
-/// All records under their keys. In contracts a list of pairs, in which the first one of a key counts.
+/// All records by their keys. In contracts a list of pairs, of which the first with a key counts.
 #[derive(Debug, Drop)]
 pub struct PlainStore {
     records: IndexMap<Key, Rec>,
@@ -30,7 +30,7 @@ impl Model for PlainStore {
 }
 
 impl PlainStore {
-    /// No records. It takes no memory.
+    /// Makes an empty store. It allocates nothing.
     pub fn new(alloc: Global) -> Self
         ensures { result ≡ [] }
     {
@@ -39,7 +39,7 @@ impl PlainStore {
         }
     }
 
-    /// The record under a key.
+    /// The record under a key, or `None` if there is none.
     pub fn get(&self, key: Key) -> Option<&Rec>
         ensures { option_copied result ≡ record_in self.now key }
     {
@@ -54,7 +54,7 @@ impl Reader for PlainStore {
 
     ghost failed = { λ _. 0 };
 
-    /// All keys are known: it changes nothing, and never fails.
+    /// Does nothing, and never fails: in a store every key is known.
     fn fetch(&mut self, _key: Key) -> Result<(), ReadFault>
         ensures succeeds { IsOk result }
         ensures same { self.new ≡ self.old }
@@ -71,7 +71,7 @@ impl Reader for PlainStore {
     }
 }
 
-/// Takes one write over, where there is room for a record.
+/// Does one write. There has to be room for one more record.
 fn write_one(records: &mut IndexMap<Key, Rec>, key: Key, rec: Option<Rec>)
     requires { 0 < spare records.old }
     ensures records { (k : Key) → record_in records.new.entries k ≡ write_over (key, rec) (record_in records.old.entries) k }
@@ -87,7 +87,8 @@ fn write_one(records: &mut IndexMap<Key, Rec>, key: Key, rec: Option<Rec>)
     }
 }
 
-/// Takes the writes over, one after another. A refusal is for want of memory, changes nothing and hands the writes back.
+/// Does the writes, one after another. Fails only for lack of memory: the store is then unchanged, and the error hands the
+/// writes back.
 pub fn apply(store: &mut PlainStore, writes: Writes) -> Result<(), Writes>
     ensures ok { OnOk result ((k : Key) → record_in store.new k ≡ written writes (record_in store.old) k) }
     ensures err { OnErr result (store.new ≡ store.old) }

@@ -1,4 +1,4 @@
-//! Writes of records.
+//! Writes to be done to a store.
 
 ghost use Rattle.std.specs.Prelude.{◌≡◌, ◌<◌, [], ◌∷◌, ◌++◌, length, OnOk, OnErr, Some, slice_get, option_copied};
 
@@ -6,8 +6,8 @@ use crate::record::{Key, Rec};
 use std::alloc::{AllocError, Global};
 use std::marker::Model;
 
-/// Writes in turn, each of a new record under a key or of a removal: the last one for a key counts. In contracts a list
-/// of pairs.
+/// Writes in order. Each puts a new record under a key, or removes the record there; the last write to a key counts. In
+/// contracts a list of pairs.
 #[derive(Debug, Drop)]
 pub struct Writes {
     pub(crate) all: Vec<(Key, Option<Rec>)>,
@@ -24,7 +24,7 @@ impl Model for Writes {
 }
 
 impl Writes {
-    /// No writes. It takes no memory.
+    /// Makes an empty list of writes. It allocates nothing.
     pub fn new(alloc: Global) -> Self
         ensures { result ≡ [] }
     {
@@ -33,7 +33,8 @@ impl Writes {
         }
     }
 
-    /// Adds a write of a new record, or of a removal. A refusal for want of memory changes nothing.
+    /// Adds a write behind the others: of a new record, or of a removal. Fails only for lack of memory, and then changes
+    /// nothing.
     pub fn set(&mut self, key: Key, rec: Option<Rec>) -> Result<(), AllocError>
         ensures ok { OnOk result (self.new ≡ self.old ++ (key, rec) ∷ []) }
         ensures err { OnErr result (self.new ≡ self.old) }
@@ -42,14 +43,14 @@ impl Writes {
         Ok(())
     }
 
-    /// How many writes there are.
+    /// The number of writes.
     pub fn len(&self) -> usize
         ensures { result ≡ length self.now }
     {
         self.all.len()
     }
 
-    /// The write at an index below `len`, from 0.
+    /// The write at an index, which counts from 0 and is below `len`: its key, and its record, or `None` for a removal.
     pub fn at(&self, index: usize) -> (Key, Option<&Rec>)
         requires { index < length self.now }
         ensures { slice_get self.now index ≡ Some (result.0, option_copied result.1) }

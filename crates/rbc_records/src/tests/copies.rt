@@ -1,71 +1,78 @@
-//! Copies of records.
+//! A copy of a record equals the record.
 
-use crate::Rec;
 use crate::tests::setting::{
-    SEGMENT, assert_engines, engines, limits, limits_in, stops, stops_in, train, train_in,
+    assert_engines, engines, engines_in, full_train, limits, limits_in, segment, stops, stops_in,
+    train_in,
 };
 use rbc_ids::{Kind, Slot};
-use rbc_zones::{Area, Dirs, Limit};
 use std::test::Fail;
 
+/// Sixteen numbers: one more than a train has identifiers for stops.
+const NUMBERS: [u32; 16] = [1, 2, 3, 5, 7, 8, 9, 10, 11, 12, 13, 14, 15, 16, 17, 19_999];
+
 #[test]
-fn engines_are_copied(rt: HostRuntime) -> Result<(), Fail> {
-    let copy = engines(rt.alloc(), &[16_777_215, 7, 0])?.copy(rt.alloc())?;
-    assert_engines(&rt, Some(&copy), &[0, 7, 16_777_215]);
-    let none = engines(rt.alloc(), &[])?.copy(rt.alloc())?;
-    assert_engines(&rt, Some(&none), &[]);
+fn a_copy_has_the_same_engines(rt: HostRuntime) -> Result<(), Fail> {
+    let rec = engines(rt.alloc(), &NUMBERS)?;
+    let copy = rec.copy(rt.alloc())?;
+    let engines = engines_in(Some(&rec)).expect(&rt, "engines");
+    let copied = engines_in(Some(&copy)).expect(&rt, "engines");
+    assert_eq!(rt; copied.as_slice(), engines.as_slice());
+    assert_engines(&rt, Some(&copy), &NUMBERS);
     Ok(())
 }
 
 #[test]
-fn a_train_is_copied(rt: HostRuntime) -> Result<(), Fail> {
-    let rec = train(rt.alloc(), 7, 1_000)?;
+fn a_copy_of_a_train_holds_the_same_identifiers(rt: HostRuntime) -> Result<(), Fail> {
+    let rec = full_train(rt.alloc())?;
     let copy = rec.copy(rt.alloc())?;
     let train = train_in(Some(&rec)).expect(&rt, "a train");
     let copied = train_in(Some(&copy)).expect(&rt, "a train");
     assert_eq!(rt;
         (copied.engine, copied.length, copied.stamp),
-        (7, 2_000, 1_000)
+        (train.engine, train.length, train.stamp)
     );
-    assert_eq!(rt; copied.place, None);
-    assert_eq!(rt; copied.forced.len(), 0);
+    assert_eq!(rt; copied.place, train.place);
+    assert_eq!(rt; copied.forced.as_slice(), train.forced.as_slice());
     assert_eq!(rt; copied.stops.slots(), train.stops.slots());
+    assert_eq!(rt; copied.limits.slots(), train.limits.slots());
     assert_eq!(rt;
-        copied.stops.slot(0),
+        (copied.forced.len(), copied.stops.held(), copied.limits.held()),
+        (2, 15, 255)
+    );
+    assert_eq!(rt;
+        copied.stops.slot(14),
         Some(Slot::Used {
-            number: 4,
-            stamp: 1_000,
+            number: 15,
+            stamp: 15,
             kind: Kind::Conditional,
             acked: false,
         })
     );
-    assert_eq!(rt; (copied.stops.held(), copied.limits.held()), (1, 0));
     Ok(())
 }
 
 #[test]
-fn stops_are_copied(rt: HostRuntime) -> Result<(), Fail> {
-    let rec = stops(&rt, rt.alloc(), 3)?;
+fn a_copy_has_the_same_stops(rt: HostRuntime) -> Result<(), Fail> {
+    let rec = stops(&rt, rt.alloc(), &NUMBERS)?;
     let copy = rec.copy(rt.alloc())?;
     let stops = stops_in(Some(&rec)).expect(&rt, "stops");
     let copied = stops_in(Some(&copy)).expect(&rt, "stops");
-    assert_eq!(rt; (copied.last(), copied.count()), (3, 1));
     assert_eq!(rt; copied.active(), stops.active());
-    let area: Area = copied.get(3).copied().expect(&rt, "stop 3");
-    assert_eq!(rt; area.segments(), [SEGMENT].as_slice());
+    assert_eq!(rt; (copied.last(), copied.count()), (19_999, 16));
+    let area = copied.get(17).copied().expect(&rt, "stop 17");
+    assert_eq!(rt; area.segments(), [segment(17)].as_slice());
     Ok(())
 }
 
 #[test]
-fn limits_are_copied(rt: HostRuntime) -> Result<(), Fail> {
-    let rec = limits(&rt, rt.alloc(), 5)?;
+fn a_copy_has_the_same_restrictions(rt: HostRuntime) -> Result<(), Fail> {
+    let rec = limits(&rt, rt.alloc(), &NUMBERS)?;
     let copy = rec.copy(rt.alloc())?;
     let limits = limits_in(Some(&rec)).expect(&rt, "restrictions");
     let copied = limits_in(Some(&copy)).expect(&rt, "restrictions");
-    assert_eq!(rt; (copied.last(), copied.count()), (5, 1));
     assert_eq!(rt; copied.active(), limits.active());
-    let limit: Limit = copied.get(5).copied().expect(&rt, "restriction 5");
-    assert_eq!(rt; limit.segment(), SEGMENT);
-    assert_eq!(rt; (limit.dirs(), limit.speed()), (Dirs::Up, 40));
+    assert_eq!(rt; (copied.last(), copied.count()), (19_999, 16));
+    let limit = copied.get(17).copied().expect(&rt, "restriction 17");
+    assert_eq!(rt; (limit.segment(), limit.speed()), (segment(17), 40));
     Ok(())
 }

@@ -1,4 +1,4 @@
-//! Records that are made by hand, and what is in a record.
+//! Records made by hand, and what a record holds.
 
 use crate::Rec;
 use rbc_ids::{IdTable, Kind};
@@ -15,30 +15,37 @@ const TRACK: &str = "horizon = 100000
 length = 300000
 ";
 
-/// From 1 km to 2 km of line 0.
-pub const SEGMENT: Segment = Segment {
-    line: 0,
-    from: 10_000,
-    to: 20_000,
-};
+/// Ends at 2 km of line 0, and begins at a place in units of 10 cm, at most 20,000.
+pub(super) fn segment(from: u32) -> Segment {
+    Segment {
+        line: 0,
+        from,
+        to: 20_000,
+    }
+}
 
 fn track(alloc: Global) -> Result<Track, Fail> {
     Ok(track_from_toml(alloc, TRACK)?)
 }
 
-/// Engine numbers, none twice.
-pub(super) fn engines(alloc: Global, all: &[u32]) -> Result<Rec, Fail> {
-    let mut engines = Numbers::new(alloc);
+/// Numbers, none twice.
+fn numbers(alloc: Global, all: &[u32]) -> Result<Numbers, Fail> {
+    let mut numbers = Numbers::new(alloc);
     for n in all {
-        if engines.has(*n) {
-            return Err(Fail::new("an engine twice"));
+        if numbers.has(*n) {
+            return Err(Fail::new("a number twice"));
         }
-        engines.add(*n)?;
+        numbers.add(*n)?;
     }
-    Ok(Rec::Engines(engines))
+    Ok(numbers)
 }
 
-/// Holds an identifier for a number that is not told.
+/// Engine numbers, none twice.
+pub(super) fn engines(alloc: Global, all: &[u32]) -> Result<Rec, Fail> {
+    Ok(Rec::Engines(numbers(alloc, all)?))
+}
+
+/// Holds the least free identifier for a number that is not told.
 fn issue<const N: usize>(
     table: &mut IdTable<N>,
     number: u32,
@@ -60,24 +67,44 @@ pub(super) fn train(alloc: Global, engine: u32, stamp: u32) -> Result<Rec, Fail>
     Ok(Rec::Train(train))
 }
 
-/// One stop, of a segment.
-pub(super) fn stops(rt: &impl Abort, alloc: Global, number: u32) -> Result<Rec, Fail> {
-    let area = Area::new(&track(alloc)?, &[SEGMENT]).expect(rt, "a good area");
+/// A train of 200 m that holds each identifier: 0 to 14 for the stops 1 to 15, and 0 to 254 for the restrictions 1 to 255,
+/// each told under a stamp that is the number. It rejected the stops 3 and 9.
+pub(super) fn full_train(alloc: Global) -> Result<Rec, Fail> {
+    let mut train = TrainRec::new(alloc, 16_777_215, 2_000, 1_000);
+    for number in 1..=15 {
+        let _ = issue(&mut train.stops, number, number, Kind::Conditional)?;
+    }
+    for number in 1..=255 {
+        let _ = issue(&mut train.limits, number, number, Kind::Restriction)?;
+    }
+    train.forced = numbers(alloc, &[9, 3])?;
+    Ok(Rec::Train(train))
+}
+
+/// Stops under ascending numbers, below 20,000. Each is of one segment, which begins at its number.
+pub(super) fn stops(rt: &impl Abort, alloc: Global, numbers: &[u32]) -> Result<Rec, Fail> {
+    let track = track(alloc)?;
     let mut stops = Stops::new(alloc);
-    assert!(rt; stops.last() < number);
-    stops.add(number, area)?;
+    for number in numbers {
+        let area = Area::new(&track, &[segment(*number)]).expect(rt, "a good area");
+        assert!(rt; stops.last() < *number);
+        stops.add(*number, area)?;
+    }
     Ok(Rec::Stops(stops))
 }
 
-/// One restriction of a segment, to 40 km/h.
-pub(super) fn limits(rt: &impl Abort, alloc: Global, number: u32) -> Result<Rec, Fail> {
-    let limit = Limit::new(&track(alloc)?, SEGMENT, Dirs::Up, 40, true).expect(
-        rt,
-        "a good restriction",
-    );
+/// Restrictions to 40 km/h under ascending numbers, below 20,000. Each is of a segment that begins at its number.
+pub(super) fn limits(rt: &impl Abort, alloc: Global, numbers: &[u32]) -> Result<Rec, Fail> {
+    let track = track(alloc)?;
     let mut limits = Limits::new(alloc);
-    assert!(rt; limits.last() < number);
-    limits.add(number, limit)?;
+    for number in numbers {
+        let limit = Limit::new(&track, segment(*number), Dirs::Up, 40, true).expect(
+            rt,
+            "a good restriction",
+        );
+        assert!(rt; limits.last() < *number);
+        limits.add(*number, limit)?;
+    }
     Ok(Rec::Limits(limits))
 }
 

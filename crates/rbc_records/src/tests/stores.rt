@@ -1,4 +1,4 @@
-//! A store that takes writes over.
+//! Writes done to a store.
 
 ghost use Rattle.std.specs.Prelude.{◌+◌, ◌<◌, ◌^◌};
 
@@ -19,7 +19,7 @@ const KEYS: [Key; 5] = [
     Key::Limits,
 ];
 
-/// Takes one write over.
+/// Does one write.
 fn write(
     rt: &impl Abort,
     alloc: Global,
@@ -37,9 +37,9 @@ fn write(
 fn full(rt: &impl Abort, alloc: Global) -> Result<PlainStore, Fail> {
     let mut writes = Writes::new(alloc);
     writes.set(Key::Train(1), Some(train(alloc, 1, 10)?))?;
-    writes.set(Key::Stops, Some(stops(rt, alloc, 8)?))?;
+    writes.set(Key::Stops, Some(stops(rt, alloc, &[8])?))?;
     writes.set(Key::Train(2), Some(train(alloc, 2, 20)?))?;
-    writes.set(Key::Limits, Some(limits(rt, alloc, 9)?))?;
+    writes.set(Key::Limits, Some(limits(rt, alloc, &[9])?))?;
     writes.set(Key::Roster, Some(engines(alloc, &[1, 2])?))?;
     let mut store = PlainStore::new(alloc);
     assert!(rt; apply(&mut store, writes).is_ok());
