@@ -12,6 +12,3 @@ pub use reader::{ReadFault, Reader};
 pub use record::{Key, Rec};
 pub use store::{PlainStore, apply};
 pub use writes::Writes;
-
-#[cfg(test)]
-mod tests;

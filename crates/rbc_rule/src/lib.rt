@@ -23,6 +23,3 @@ pub use outcome::{Outcome, Reply, RuleFault, SentList};
 pub use refuse::Refusal;
 pub use rule::decide;
 pub use witnesses::{says_law_witnesses, step_law_witnesses, told_law_witnesses};
-
-#[cfg(test)]
-mod tests;

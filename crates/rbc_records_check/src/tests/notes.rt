@@ -1,7 +1,8 @@
 //! Notes of what was read.
 
+use super::same;
 use crate::tests::setting::{assert_engines, engines, train, train_in};
-use crate::{Key, Notes, Rec};
+use rbc_records::{Key, Notes, Rec};
 use std::alloc::Global;
 use std::process::Abort;
 use std::test::Fail;
@@ -51,14 +52,14 @@ fn under(notes: &Notes, key: Key) -> Option<bool> {
 #[test]
 fn notes_stand_in_the_order_of_reading(rt: HostRuntime) -> Result<(), Fail> {
     let notes = noted(&rt, rt.alloc())?;
-    assert_eq!(rt; notes.len(), READ.len());
+    same(&rt, notes.len(), READ.len());
     for (index, (key, there)) in READ.iter().enumerate() {
-        assert_eq!(rt; at(&notes, index), Some((*key, *there)), "{index}");
-        assert_eq!(rt; under(&notes, *key), Some(*there), "{key:?}");
+        same(&rt, at(&notes, index), Some((*key, *there)));
+        same(&rt, under(&notes, *key), Some(*there));
     }
-    assert_eq!(rt; at(&notes, READ.len()), None);
-    assert_eq!(rt; under(&notes, Key::Stops), None);
-    assert_eq!(rt; under(&notes, Key::Train(8)), None);
+    same(&rt, at(&notes, READ.len()), None);
+    same(&rt, under(&notes, Key::Stops), None);
+    same(&rt, under(&notes, Key::Train(8)), None);
     Ok(())
 }
 
@@ -69,20 +70,20 @@ fn each_note_is_what_was_read(rt: HostRuntime) -> Result<(), Fail> {
     assert_engines(&rt, engines, &[7, 9]);
     let train = notes.get(Key::Train(7)).expect(&rt, "train 7");
     let train = train_in(train).expect(&rt, "a train");
-    assert_eq!(rt; (train.engine, train.stamp), (7, 20));
+    same(&rt, (train.engine, train.stamp), (7, 20));
     assert!(rt; notes.len() == 4);
     assert_engines(&rt, notes.at(1).1, &[7, 9]);
     let train = train_in(notes.at(2).1).expect(&rt, "a train");
-    assert_eq!(rt; (train.engine, train.stamp), (7, 20));
+    same(&rt, (train.engine, train.stamp), (7, 20));
     Ok(())
 }
 
 #[test]
 fn nothing_is_noted_at_first(rt: HostRuntime) -> Result<(), Fail> {
     let notes = Notes::new(rt.alloc());
-    assert_eq!(rt; notes.len(), 0);
+    same(&rt, notes.len(), 0);
     for (key, _) in READ {
-        assert_eq!(rt; under(&notes, key), None, "{key:?}");
+        same(&rt, under(&notes, key), None);
     }
     Ok(())
 }

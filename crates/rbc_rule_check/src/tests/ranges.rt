@@ -1,8 +1,9 @@
 //! Inputs at the ends of their ranges, and the lists that inputs and outcomes have.
 
+use super::same;
 use crate::tests::setting::{UP, head, stop, to_seven};
-use crate::{Input, Segments, SentList};
 use ertms_codec::{FromTrain, ToTrain};
+use rbc_rule::{Input, Segments, SentList};
 use rbc_zones::{Dirs, Segment};
 use std::alloc::Global;
 use std::test::Fail;
@@ -60,7 +61,7 @@ fn inputs_fit_up_to_the_ends_of_their_ranges(rt: HostRuntime) -> Result<(), Fail
         (Input::Bad(7), false),
     ];
     for (input, wanted) in &cases {
-        assert_eq!(rt; input.fits(), *wanted, "{input:?}");
+        same(&rt, input.fits(), *wanted);
     }
     Ok(())
 }
@@ -72,9 +73,9 @@ fn lists_keep_their_order(rt: HostRuntime) -> Result<(), Fail> {
     let other = Segment { from: 0, ..SEGMENT };
     segments.push(SEGMENT)?;
     segments.push(other)?;
-    assert_eq!(rt; segments.as_slice(), [SEGMENT, other].as_slice());
+    same(&rt, segments.as_slice(), [SEGMENT, other].as_slice());
     let mut sent = SentList::new(rt.alloc());
-    assert_eq!(rt; sent.len(), 0);
+    same(&rt, sent.len(), 0);
     let first = to_seven(ToTrain::Stop {
         head: head(1, false, 5),
         id: 0,
@@ -86,7 +87,7 @@ fn lists_keep_their_order(rt: HostRuntime) -> Result<(), Fail> {
     sent.add(first)?;
     sent.add(second)?;
     assert!(rt; sent.len() == 2);
-    assert_eq!(rt; (*sent.at(0), *sent.at(1)), (first, second));
-    assert_eq!(rt; sent.into_vec().as_slice(), [first, second].as_slice());
+    same(&rt, (*sent.at(0), *sent.at(1)), (first, second));
+    same(&rt, sent.into_vec().as_slice(), [first, second].as_slice());
     Ok(())
 }

@@ -1,5 +1,6 @@
 //! A copy of a record equals the record.
 
+use super::same;
 use crate::tests::setting::{
     assert_engines, engines, engines_in, full_train, limits, limits_in, segment, stops, stops_in,
     train_in,
@@ -16,7 +17,7 @@ fn a_copy_has_the_same_engines(rt: HostRuntime) -> Result<(), Fail> {
     let copy = rec.copy(rt.alloc())?;
     let engines = engines_in(Some(&rec)).expect(&rt, "engines");
     let copied = engines_in(Some(&copy)).expect(&rt, "engines");
-    assert_eq!(rt; copied.as_slice(), engines.as_slice());
+    same(&rt, copied.as_slice(), engines.as_slice());
     assert_engines(&rt, Some(&copy), &NUMBERS);
     Ok(())
 }
@@ -27,26 +28,33 @@ fn a_copy_of_a_train_holds_the_same_identifiers(rt: HostRuntime) -> Result<(), F
     let copy = rec.copy(rt.alloc())?;
     let train = train_in(Some(&rec)).expect(&rt, "a train");
     let copied = train_in(Some(&copy)).expect(&rt, "a train");
-    assert_eq!(rt;
+    same(
+        &rt,
         (copied.engine, copied.length, copied.stamp),
-        (train.engine, train.length, train.stamp)
+        (train.engine, train.length, train.stamp),
     );
-    assert_eq!(rt; copied.place, train.place);
-    assert_eq!(rt; copied.forced.as_slice(), train.forced.as_slice());
-    assert_eq!(rt; copied.stops.slots(), train.stops.slots());
-    assert_eq!(rt; copied.limits.slots(), train.limits.slots());
-    assert_eq!(rt;
-        (copied.forced.len(), copied.stops.held(), copied.limits.held()),
-        (2, 15, 255)
+    same(&rt, copied.place, train.place);
+    same(&rt, copied.forced.as_slice(), train.forced.as_slice());
+    same(&rt, copied.stops.slots(), train.stops.slots());
+    same(&rt, copied.limits.slots(), train.limits.slots());
+    same(
+        &rt,
+        (
+            copied.forced.len(),
+            copied.stops.held(),
+            copied.limits.held(),
+        ),
+        (2, 15, 255),
     );
-    assert_eq!(rt;
+    same(
+        &rt,
         copied.stops.slot(14),
         Some(Slot::Used {
             number: 15,
             stamp: 15,
             kind: Kind::Conditional,
             acked: false,
-        })
+        }),
     );
     Ok(())
 }
@@ -57,10 +65,10 @@ fn a_copy_has_the_same_stops(rt: HostRuntime) -> Result<(), Fail> {
     let copy = rec.copy(rt.alloc())?;
     let stops = stops_in(Some(&rec)).expect(&rt, "stops");
     let copied = stops_in(Some(&copy)).expect(&rt, "stops");
-    assert_eq!(rt; copied.active(), stops.active());
-    assert_eq!(rt; (copied.last(), copied.count()), (19_999, 16));
+    same(&rt, copied.active(), stops.active());
+    same(&rt, (copied.last(), copied.count()), (19_999, 16));
     let area = copied.get(17).copied().expect(&rt, "stop 17");
-    assert_eq!(rt; area.segments(), [segment(17)].as_slice());
+    same(&rt, area.segments(), [segment(17)].as_slice());
     Ok(())
 }
 
@@ -70,9 +78,9 @@ fn a_copy_has_the_same_restrictions(rt: HostRuntime) -> Result<(), Fail> {
     let copy = rec.copy(rt.alloc())?;
     let limits = limits_in(Some(&rec)).expect(&rt, "restrictions");
     let copied = limits_in(Some(&copy)).expect(&rt, "restrictions");
-    assert_eq!(rt; copied.active(), limits.active());
-    assert_eq!(rt; (copied.last(), copied.count()), (19_999, 16));
+    same(&rt, copied.active(), limits.active());
+    same(&rt, (copied.last(), copied.count()), (19_999, 16));
     let limit = copied.get(17).copied().expect(&rt, "restriction 17");
-    assert_eq!(rt; (limit.segment(), limit.speed()), (segment(17), 40));
+    same(&rt, (limit.segment(), limit.speed()), (segment(17), 40));
     Ok(())
 }

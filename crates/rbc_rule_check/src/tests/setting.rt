@@ -1,8 +1,9 @@
 //! A track, and what happens on it.
 
-use crate::{Input, Reply, Segments, decide};
+use super::same;
 use ertms_codec::{Head, Position, ToTrain};
 use rbc_records::{Key, PlainStore, Rec, Writes, apply};
+use rbc_rule::{Input, Reply, Segments, decide};
 use rbc_settle::Sent;
 use rbc_track::{Track, track_from_toml};
 use rbc_zones::Segment;
@@ -99,18 +100,18 @@ pub(crate) fn play(
     assert!(rt; input.fits());
     let outcome = decide(alloc, &track(alloc)?, input, store)?;
     let written = keys_of(alloc, &outcome.writes)?;
-    assert_eq!(rt; written.as_slice(), keys, "{input:?}");
+    same(rt, written.as_slice(), keys);
     assert!(rt; apply(store, outcome.writes).is_ok());
     let messages = outcome.messages.into_vec();
     match told {
         None => {
-            assert_eq!(rt; outcome.result, Reply::Done(0), "{input:?}");
+            same(rt, outcome.result, Reply::Done(0));
             assert!(rt; messages.is_empty(), "{input:?}");
         }
         Some(message) => {
             let sent = [to_seven(message)];
-            assert_eq!(rt; outcome.result, Reply::Done(1), "{input:?}");
-            assert_eq!(rt; messages.as_slice(), sent.as_slice(), "{input:?}");
+            same(rt, outcome.result, Reply::Done(1));
+            same(rt, messages.as_slice(), sent.as_slice());
         }
     }
     Ok(())
@@ -137,11 +138,7 @@ pub(crate) fn refuse(
 ) -> Result<(), Fail> {
     assert!(rt; input.fits());
     let outcome = decide(alloc, &track(alloc)?, input, store)?;
-    assert_eq!(rt; outcome.result, Reply::Refused(code), "{input:?}");
-    assert_eq!(rt;
-        (outcome.writes.len(), outcome.messages.len()),
-        (0, 0),
-        "{input:?}"
-    );
+    same(rt, outcome.result, Reply::Refused(code));
+    same(rt, (outcome.writes.len(), outcome.messages.len()), (0, 0));
     Ok(())
 }

@@ -2,9 +2,10 @@
 
 ghost use Rattle.std.specs.Prelude.{◌≡◌};
 
+use super::same;
 use crate::tests::setting::{enrol, enrolled, play, stop, track, write};
-use crate::{Input, Reply, RuleFault, decide};
 use rbc_records::{Key, Notes, PlainStore, ReadFault, Reader, Rec};
+use rbc_rule::{Input, Reply, RuleFault, decide};
 use rbc_settle::Numbers;
 use std::alloc::Global;
 use std::process::Abort;
@@ -74,11 +75,7 @@ fn reader_of(alloc: Global, store: &PlainStore, left: usize) -> Recorder<'_>
 /// Asserts that just so many of the keys are known, the first ones.
 fn assert_known(rt: &impl Abort, notes: &Notes, keys: &[Key], count: usize) {
     for (index, key) in keys.iter().enumerate() {
-        assert_eq!(rt;
-            notes.get(*key).is_some(),
-            index < count,
-            "{key:?}, {count} known"
-        );
+        same(rt, notes.get(*key).is_some(), index < count);
     }
 }
 
@@ -105,13 +102,13 @@ fn fails_at_each_read(rt: HostRuntime) -> Result<(), Fail> {
         match decide(alloc, &track, &input, &mut reader) {
             Ok(outcome) => {
                 assert!(rt; left >= READ.len());
-                assert_eq!(rt; outcome.result, Reply::Done(2));
-                assert_eq!(rt; reader.failures(), 0);
+                same(&rt, outcome.result, Reply::Done(2));
+                same(&rt, reader.failures(), 0);
             }
             Err(fault) => {
                 assert!(rt; left < READ.len());
-                assert_eq!(rt; fault, RuleFault::Reader);
-                assert_eq!(rt; reader.failures(), 1);
+                same(&rt, fault, RuleFault::Reader);
+                same(&rt, reader.failures(), 1);
             }
         }
         assert_known(&rt, &reader.notes, &READ, left);
@@ -130,9 +127,9 @@ fn assert_returns(
     let mut reader = reader_of(alloc, store, 10);
     match decide(alloc, &track(alloc)?, input, &mut reader) {
         Ok(_) => {}
-        Err(fault) => assert_eq!(rt; fault, RuleFault::Torn, "{input:?}"),
+        Err(fault) => same(rt, fault, RuleFault::Torn),
     }
-    assert_eq!(rt; reader.failures(), 0);
+    same(rt, reader.failures(), 0);
     Ok(())
 }
 

@@ -1,7 +1,8 @@
 //! Records made by hand, and what a record holds.
 
-use crate::Rec;
+use super::same;
 use rbc_ids::{IdTable, Kind};
+use rbc_records::Rec;
 use rbc_settle::{Numbers, TrainRec};
 use rbc_track::{Track, track_from_toml};
 use rbc_zones::{Area, Dirs, Limit, Limits, Segment, Stops};
@@ -148,8 +149,8 @@ fn at(numbers: &Numbers, index: usize) -> Option<u32> {
 /// Asserts that a record is these engine numbers.
 pub(super) fn assert_engines(rt: &impl Abort, rec: Option<&Rec>, wanted: &[u32]) {
     let engines = engines_in(rec).expect(rt, "engines");
-    assert_eq!(rt; engines.len(), wanted.len());
+    same(rt, engines.len(), wanted.len());
     for (index, n) in wanted.iter().enumerate() {
-        assert_eq!(rt; at(engines, index), Some(*n));
+        same(rt, at(engines, index), Some(*n));
     }
 }

@@ -1,9 +1,10 @@
 //! Inputs in turn over a plain store, by the operating rules.
 
-use crate::Input;
+use super::same;
 use crate::tests::setting::{UP, enrol, enrolled, head, play, refuse, stop};
 use ertms_codec::{FromTrain, Position, ToTrain};
 use rbc_records::{Key, PlainStore, Rec};
+use rbc_rule::Input;
 use rbc_settle::TrainRec;
 use rbc_zones::{Dirs, Segment};
 use std::alloc::Global;
@@ -134,9 +135,9 @@ fn assert_seven(
     held: (usize, usize),
 ) {
     let train = seven(store).expect(rt, "train 7");
-    assert_eq!(rt; (train.stamp, train.place.is_some()), (stamp, placed));
-    assert_eq!(rt; train.forced.len(), forced);
-    assert_eq!(rt; (train.stops.held(), train.limits.held()), held);
+    same(rt, (train.stamp, train.place.is_some()), (stamp, placed));
+    same(rt, train.forced.len(), forced);
+    same(rt, (train.stops.held(), train.limits.held()), held);
 }
 
 /// A store at which train 7 is enrolled.

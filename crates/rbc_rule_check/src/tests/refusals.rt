@@ -3,10 +3,11 @@
 //! `Refused`; so where memory is ample, each passes by the right outcomes alone. `bench/refusals.sh` refuses one allocation
 //! after another.
 
+use super::same;
 use crate::tests::setting::{UP, enrol, head, stop, to_seven, track};
-use crate::{Input, Outcome, Reply, RuleFault, decide};
 use ertms_codec::{FromTrain, ToTrain};
 use rbc_records::{Key, PlainStore, Writes, apply};
+use rbc_rule::{Input, Outcome, Reply, RuleFault, decide};
 use rbc_settle::Sent;
 use rbc_track::Track;
 use rbc_zones::{Dirs, Segment};
@@ -57,21 +58,21 @@ struct Right<'a> {
 
 /// Asserts that an outcome is right.
 fn assert_right(rt: &impl Abort, outcome: &Outcome, right: &Right<'_>) {
-    assert_eq!(rt; outcome.result, right.reply);
+    same(rt, outcome.result, right.reply);
     assert_keys(rt, &outcome.writes, right.keys);
-    assert_eq!(rt; outcome.messages.len(), right.sent.len());
+    same(rt, outcome.messages.len(), right.sent.len());
     for index in 0..outcome.messages.len() {
         let sent = *outcome.messages.at(index);
-        assert_eq!(rt; Some(sent), right.sent.get(index).copied());
+        same(rt, Some(sent), right.sent.get(index).copied());
     }
 }
 
 /// Asserts that these are the keys of the writes.
 fn assert_keys(rt: &impl Abort, writes: &Writes, keys: &[Key]) {
-    assert_eq!(rt; writes.len(), keys.len());
+    same(rt, writes.len(), keys.len());
     for index in 0..writes.len() {
         let (key, _) = writes.at(index);
-        assert_eq!(rt; Some(key), keys.get(index).copied());
+        same(rt, Some(key), keys.get(index).copied());
     }
 }
 
@@ -98,7 +99,7 @@ impl Play {
         let outcome = match decide(self.alloc, &self.track, input, &mut self.store) {
             Ok(outcome) => outcome,
             Err(fault) => {
-                assert_eq!(rt; fault, RuleFault::OutOfMemory, "{input:?}");
+                same(rt, fault, RuleFault::OutOfMemory);
                 if self.call == Call::Apply {
                     return Err(Fail::from(fault));
                 }

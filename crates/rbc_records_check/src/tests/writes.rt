@@ -1,25 +1,26 @@
 //! Writes before they are taken over.
 
+use super::same;
 use crate::tests::setting::{assert_engines, engines};
-use crate::{Key, Writes};
+use rbc_records::{Key, Writes};
 use std::test::Fail;
 
 #[test]
 fn writes_stand_in_turn(rt: HostRuntime) -> Result<(), Fail> {
     let mut writes = Writes::new(rt.alloc());
-    assert_eq!(rt; writes.len(), 0);
+    same(&rt, writes.len(), 0);
     writes.set(Key::Roster, Some(engines(rt.alloc(), &[7])?))?;
     writes.set(Key::Train(9), None)?;
     writes.set(Key::Roster, Some(engines(rt.alloc(), &[7, 9])?))?;
-    assert_eq!(rt; writes.len(), 3);
+    same(&rt, writes.len(), 3);
     let (first, rec) = writes.at(0);
-    assert_eq!(rt; first, Key::Roster);
+    same(&rt, first, Key::Roster);
     assert_engines(&rt, rec, &[7]);
     let (second, rec) = writes.at(1);
-    assert_eq!(rt; second, Key::Train(9));
+    same(&rt, second, Key::Train(9));
     assert!(rt; rec.is_none());
     let (third, rec) = writes.at(2);
-    assert_eq!(rt; third, Key::Roster);
+    same(&rt, third, Key::Roster);
     assert_engines(&rt, rec, &[7, 9]);
     Ok(())
 }

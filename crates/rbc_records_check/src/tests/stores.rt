@@ -2,10 +2,11 @@
 
 ghost use Rattle.std.specs.Prelude.{◌+◌, ◌<◌, ◌^◌};
 
+use super::same;
 use crate::tests::setting::{
     assert_engines, engines, limits, limits_in, stops, stops_in, train, train_in,
 };
-use crate::{Key, PlainStore, Reader, Rec, Writes, apply};
+use rbc_records::{Key, PlainStore, Reader, Rec, Writes, apply};
 use std::alloc::Global;
 use std::process::Abort;
 use std::test::Fail;
@@ -65,10 +66,10 @@ fn last_limit(store: &PlainStore) -> Option<u32> {
 /// Asserts what is in the full store apart from its first train.
 fn assert_others(rt: &impl Abort, store: &PlainStore) {
     assert_engines(rt, store.get(Key::Roster), &[1, 2]);
-    assert_eq!(rt; stamp(store, 2), Some((2, 20)));
-    assert_eq!(rt; stamp(store, 3), None);
-    assert_eq!(rt; last_stop(store), Some(8));
-    assert_eq!(rt; last_limit(store), Some(9));
+    same(rt, stamp(store, 2), Some((2, 20)));
+    same(rt, stamp(store, 3), None);
+    same(rt, last_stop(store), Some(8));
+    same(rt, last_limit(store), Some(9));
 }
 
 /// Reads a record, and says whether there is one.
@@ -94,15 +95,15 @@ fn an_empty_store_has_nothing(rt: HostRuntime) -> Result<(), Fail> {
 #[test]
 fn a_write_changes_its_key_alone(rt: HostRuntime) -> Result<(), Fail> {
     let mut store = full(&rt, rt.alloc())?;
-    assert_eq!(rt; stamp(&store, 1), Some((1, 10)));
+    same(&rt, stamp(&store, 1), Some((1, 10)));
     assert_others(&rt, &store);
     write(&rt, rt.alloc(), &mut store, Key::Train(1), None)?;
     write(&rt, rt.alloc(), &mut store, Key::Train(1), None)?;
-    assert_eq!(rt; stamp(&store, 1), None);
+    same(&rt, stamp(&store, 1), None);
     assert_others(&rt, &store);
     let rec = train(rt.alloc(), 1, 11)?;
     write(&rt, rt.alloc(), &mut store, Key::Train(1), Some(rec))?;
-    assert_eq!(rt; stamp(&store, 1), Some((1, 11)));
+    same(&rt, stamp(&store, 1), Some((1, 11)));
     assert_others(&rt, &store);
     Ok(())
 }
@@ -119,8 +120,8 @@ fn the_last_write_for_a_key_counts(rt: HostRuntime) -> Result<(), Fail> {
     let mut store = PlainStore::new(rt.alloc());
     assert!(rt; apply(&mut store, writes).is_ok());
     assert_engines(&rt, store.get(Key::Roster), &[2, 3]);
-    assert_eq!(rt; stamp(&store, 1), None);
-    assert_eq!(rt; stamp(&store, 2), Some((2, 20)));
+    same(&rt, stamp(&store, 1), None);
+    same(&rt, stamp(&store, 2), Some((2, 20)));
     Ok(())
 }
 
@@ -130,10 +131,10 @@ fn a_read_never_fails_and_changes_nothing(rt: HostRuntime) -> Result<(), Fail> {
     for key in KEYS {
         assert!(rt; store.fetch(key).is_ok(), "{key:?}");
     }
-    assert_eq!(rt; store.failures(), 0);
+    same(&rt, store.failures(), 0);
     assert_engines(&rt, store.seen(Key::Roster), &[1, 2]);
     assert!(rt; store.seen(Key::Train(3)).is_none());
-    assert_eq!(rt; stamp(&store, 1), Some((1, 10)));
+    same(&rt, stamp(&store, 1), Some((1, 10)));
     assert_others(&rt, &store);
     Ok(())
 }

@@ -1,5 +1,0 @@
-mod copies;
-mod notes;
-mod setting;
-mod stores;
-mod writes;

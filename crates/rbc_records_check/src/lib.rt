@@ -1,0 +1,5 @@
+//! Tests that hold single records, notes and writes against values from outside.
+#![tactic(auto)]
+
+#[cfg(test)]
+mod tests;

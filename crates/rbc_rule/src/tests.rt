@@ -1,5 +1,0 @@
-mod playing;
-mod ranges;
-mod reading;
-mod refusals;
-mod setting;
