@@ -16,10 +16,10 @@ SHOWN = 10  # so many wrong ends are printed of each call
 
 # each call with the crate and the name of its test
 TESTS = {
-    "decide": ("rbc_rule", "decides_or_refuses"),
-    "apply": ("rbc_rule", "applies_or_hands_back"),
-    "parse_batch": ("rbc_batch", "parses_or_gives_no_inputs"),
-    "process": ("rbc_batch", "processes_or_writes_nothing"),
+    "decide": ("rbc_rule_check", "decides_or_refuses"),
+    "apply": ("rbc_rule_check", "applies_or_hands_back"),
+    "parse_batch": ("rbc_batch_check", "parses_or_gives_no_inputs"),
+    "process": ("rbc_batch_check", "processes_or_writes_nothing"),
 }
 
 # the first line on standard error of a test that ended right: its call was refused memory, or what it does beside it was

@@ -14,6 +14,3 @@ pub use batch::{ProcessError, process};
 pub use law::told_law;
 pub use parse::parse_batch;
 pub use write::write_text;
-
-#[cfg(test)]
-mod tests;

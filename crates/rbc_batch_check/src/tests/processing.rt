@@ -1,6 +1,7 @@
 //! Batches from a reader to a writer.
 
-use crate::{ProcessError, process};
+use super::same;
+use rbc_batch::{ProcessError, process};
 use rbc_track::{Track, track_from_toml};
 use std::io;
 use std::io::{ErrorKind, Read, Write};
@@ -89,7 +90,7 @@ fn answers_worked_batches(rt: HostRuntime) -> Result<(), Fail> {
     ];
     for (batch, text) in rows {
         let written = output(&rt, batch.as_bytes())?;
-        assert_eq!(rt; written.as_slice(), text.as_bytes(), "{batch}");
+        same(&rt, written.as_slice(), text.as_bytes());
     }
     Ok(())
 }
@@ -97,16 +98,24 @@ fn answers_worked_batches(rt: HostRuntime) -> Result<(), Fail> {
 #[test]
 fn tells_stops_as_long_as_there_are_identifiers(rt: HostRuntime) -> Result<(), Fail> {
     let nine = output(&rt, stops(&rt, 9)?.as_bytes())?;
-    assert_eq!(rt; last_line(&nine), b"7 10 1002800000025FFFFFF0".as_slice());
+    same(
+        &rt,
+        last_line(&nine),
+        b"7 10 1002800000025FFFFFF0".as_slice(),
+    );
     let sixteen = output(&rt, stops(&rt, 16)?.as_bytes())?;
     let mut lines = sixteen.split(|b| *b == b'\n');
-    assert_eq!(rt; lines.next(), Some(b"1 ok 0".as_slice()));
+    same(&rt, lines.next(), Some(b"1 ok 0".as_slice()));
     for input in 2..=16u32 {
         let line = format!(in rt.alloc(); "{input} ok 1")?;
-        assert_eq!(rt; lines.next(), Some(line.as_bytes()));
+        same(&rt, lines.next(), Some(line.as_bytes()));
     }
-    assert_eq!(rt; lines.next(), Some(b"17 ok 0".as_slice()));
-    assert_eq!(rt; sixteen.iter().filter(|b| **b == b'\n').count(), 17 + 15);
+    same(&rt, lines.next(), Some(b"17 ok 0".as_slice()));
+    same(
+        &rt,
+        sixteen.iter().filter(|b| **b == b'\n').count(),
+        17 + 15,
+    );
     Ok(())
 }
 
@@ -119,14 +128,14 @@ fn refuses_what_is_too_many(rt: HostRuntime) -> Result<(), Fail> {
     writeln!(batch, "enrol 1 2000")?;
     let written = output(&rt, batch.as_bytes())?;
     let mut lines = written.split(|b| *b == b'\n').skip(1_999);
-    assert_eq!(rt; lines.next(), Some(b"2000 ok 0".as_slice()));
-    assert_eq!(rt; lines.next(), Some(b"2001 refused 9".as_slice()));
-    assert_eq!(rt; lines.next(), Some(b"2002 refused 8".as_slice()));
+    same(&rt, lines.next(), Some(b"2000 ok 0".as_slice()));
+    same(&rt, lines.next(), Some(b"2001 refused 9".as_slice()));
+    same(&rt, lines.next(), Some(b"2002 refused 8".as_slice()));
     let written = output(&rt, stops(&rt, 66)?.as_bytes())?;
     let mut lines = written.split(|b| *b == b'\n').skip(64);
-    assert_eq!(rt; lines.next(), Some(b"65 ok 0".as_slice()));
-    assert_eq!(rt; lines.next(), Some(b"66 refused 13".as_slice()));
-    assert_eq!(rt; lines.next(), Some(b"67 refused 13".as_slice()));
+    same(&rt, lines.next(), Some(b"65 ok 0".as_slice()));
+    same(&rt, lines.next(), Some(b"66 refused 13".as_slice()));
+    same(&rt, lines.next(), Some(b"67 refused 13".as_slice()));
     Ok(())
 }
 
@@ -139,10 +148,10 @@ fn refuses_one_restriction_too_many(rt: HostRuntime) -> Result<(), Fail> {
     writeln!(batch, "lift 7\nrestrict 301 0:0-10 up 40 1")?;
     let written = output(&rt, batch.as_bytes())?;
     let mut lines = written.split(|b| *b == b'\n').skip(299);
-    assert_eq!(rt; lines.next(), Some(b"300 ok 0".as_slice()));
-    assert_eq!(rt; lines.next(), Some(b"301 refused 13".as_slice()));
-    assert_eq!(rt; lines.next(), Some(b"302 ok 0".as_slice()));
-    assert_eq!(rt; lines.next(), Some(b"303 ok 0".as_slice()));
+    same(&rt, lines.next(), Some(b"300 ok 0".as_slice()));
+    same(&rt, lines.next(), Some(b"301 refused 13".as_slice()));
+    same(&rt, lines.next(), Some(b"302 ok 0".as_slice()));
+    same(&rt, lines.next(), Some(b"303 ok 0".as_slice()));
     Ok(())
 }
 
@@ -182,11 +191,11 @@ fn fails_where_the_reader_fails(rt: HostRuntime) -> Result<(), Fail> {
             let result = process(&rt, &track(&rt)?, &mut reader, &mut written);
             let calls = reader.calls;
             if kind == ErrorKind::Other && fails_at <= calls {
-                assert_eq!(rt; result, Err(ProcessError::Read));
-                assert_eq!(rt; written.len(), 0);
+                same(&rt, result, Err(ProcessError::Read));
+                same(&rt, written.len(), 0);
             } else {
-                assert_eq!(rt; result, Ok(()));
-                assert_eq!(rt; written.as_slice(), whole.as_slice());
+                same(&rt, result, Ok(()));
+                same(&rt, written.as_slice(), whole.as_slice());
             }
         }
     }
@@ -222,13 +231,13 @@ fn gives_up_on_endless_interruptions(rt: HostRuntime) -> Result<(), Fail> {
     let mut reader = Interrupted { calls: 0 };
     let mut written = Vec::new(rt.alloc());
     let result = process(&rt, &track(&rt)?, &mut reader, &mut written);
-    assert_eq!(rt; result, Err(ProcessError::Read));
-    assert_eq!(rt; (reader.calls, written.len()), (20_000_000, 0));
+    same(&rt, result, Err(ProcessError::Read));
+    same(&rt, (reader.calls, written.len()), (20_000_000, 0));
     let mut text = b"enrol 7 2000".as_slice();
     let mut writer = Interrupted { calls: 0 };
     let result = process(&rt, &track(&rt)?, &mut text, &mut writer);
-    assert_eq!(rt; result, Err(ProcessError::Write { sent: 0 }));
-    assert_eq!(rt; writer.calls, 1_000);
+    same(&rt, result, Err(ProcessError::Write { sent: 0 }));
+    same(&rt, writer.calls, 1_000);
     Ok(())
 }
 
@@ -284,11 +293,11 @@ fn counts_what_is_out_where_the_writer_fails(rt: HostRuntime) -> Result<(), Fail
             let result = process(&rt, &track(&rt)?, &mut reader, &mut writer);
             if room < whole.len() {
                 let sent = room as u64;
-                assert_eq!(rt; result, Err(ProcessError::Write { sent }));
-                assert_eq!(rt; writer.taken.as_slice(), &whole[..room]);
+                same(&rt, result, Err(ProcessError::Write { sent }));
+                same(&rt, writer.taken.as_slice(), &whole[..room]);
             } else {
-                assert_eq!(rt; result, Ok(()));
-                assert_eq!(rt; writer.taken.as_slice(), whole.as_slice());
+                same(&rt, result, Ok(()));
+                same(&rt, writer.taken.as_slice(), whole.as_slice());
             }
         }
     }
@@ -301,10 +310,10 @@ fn takes_the_longest_batch_and_none_longer(rt: HostRuntime) -> Result<(), Fail> 
     let mut reader = longer.as_slice();
     let mut written = Vec::new(rt.alloc());
     let result = process(&rt, &track(&rt)?, &mut reader, &mut written);
-    assert_eq!(rt; result, Err(ProcessError::TooLong));
-    assert_eq!(rt; written.len(), 0);
-    assert_eq!(rt; longer.len(), 16_777_217);
+    same(&rt, result, Err(ProcessError::TooLong));
+    same(&rt, written.len(), 0);
+    same(&rt, longer.len(), 16_777_217);
     let written = output(&rt, &longer[1..])?;
-    assert_eq!(rt; written.as_slice(), b"1 refused 1\n".as_slice());
+    same(&rt, written.as_slice(), b"1 refused 1\n".as_slice());
     Ok(())
 }

@@ -1,6 +1,7 @@
 //! Batches worked by hand, with what they lead to.
 
 use super::processing::output_on;
+use super::same;
 use std::process::Abort;
 use std::test::Fail;
 
@@ -64,7 +65,7 @@ fn assert_output<R: Abort + AllocGlobal>(
         writeln!(lines, "{line}")?;
     }
     let written = output_on(rt, TRACK, text.as_bytes())?;
-    assert_eq!(rt; written.as_slice(), lines.as_bytes(), "{text}");
+    same(rt, written.as_slice(), lines.as_bytes());
     Ok(())
 }
 
@@ -283,9 +284,10 @@ fn tells_a_stop_that_waited_once_an_identifier_is_free(rt: HostRuntime) -> Resul
     assert!(rt; written.starts_with(wanted.as_bytes()));
     let last = b"\n7 18 1202800000043FFFFFE0\n7 19 1002800000FA5FFFFFE0\n".as_slice();
     assert!(rt; written.ends_with(last));
-    assert_eq!(rt;
+    same(
+        &rt,
         written.iter().filter(|byte| **byte == b'\n').count(),
-        19 + 17
+        19 + 17,
     );
     Ok(())
 }

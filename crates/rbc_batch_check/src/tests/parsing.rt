@@ -1,7 +1,8 @@
 //! The inputs of batches, line by line. The bytes of messages, and what they spell, are given from outside.
 
-use crate::parse_batch;
+use super::same;
 use ertms_codec::{FromTrain, Position};
+use rbc_batch::parse_batch;
 use rbc_rule::Input;
 use rbc_zones::{Dirs, Segment};
 use std::process::Abort;
@@ -77,9 +78,9 @@ fn assert_inputs<R: Abort + AllocGlobal>(
     want: &[Line<'_>],
 ) -> Result<(), Fail> {
     let inputs = parse_batch(rt, text.as_bytes())?;
-    assert_eq!(rt; inputs.len(), want.len(), "{text:?}");
+    same(rt, inputs.len(), want.len());
     for (input, line) in inputs.iter().zip(want) {
-        assert_eq!(rt; line_of(input), *line, "{text:?}");
+        same(rt, line_of(input), *line);
     }
     Ok(())
 }

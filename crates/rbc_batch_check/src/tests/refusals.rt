@@ -3,8 +3,9 @@
 //! `Refused`; so where memory is ample, each passes by the right answers alone. `bench/refusals.sh` refuses one allocation
 //! after another.
 
-use crate::{ProcessError, parse_batch, process};
+use super::same;
 use ertms_codec::{FromTrain, Position};
+use rbc_batch::{ProcessError, parse_batch, process};
 use rbc_rule::Input;
 use rbc_track::{Track, track_from_toml};
 use rbc_zones::{Dirs, Segment};
@@ -156,12 +157,12 @@ fn process_once<R: Abort + AllocGlobal>(
     let mut reader = batch.as_bytes();
     match process(rt, track, &mut reader, written) {
         Ok(()) => {
-            assert_eq!(rt; written.as_slice(), output.as_bytes(), "{batch}");
+            same(rt, written.as_slice(), output.as_bytes());
             false
         }
         Err(fault) => {
-            assert_eq!(rt; fault, ProcessError::Memory, "{batch}");
-            assert_eq!(rt; written.len(), 0, "{batch}");
+            same(rt, fault, ProcessError::Memory);
+            same(rt, written.len(), 0);
             true
         }
     }
@@ -299,9 +300,9 @@ fn full_lines(alloc: Global) -> Result<Vec<Line>, Fail> {
 fn parse_once<R: Abort + AllocGlobal>(rt: &R, batch: &str, lines: &[Line]) -> bool {
     match parse_batch(rt, batch.as_bytes()) {
         Ok(inputs) => {
-            assert_eq!(rt; inputs.len(), lines.len(), "{batch}");
+            same(rt, inputs.len(), lines.len());
             for (input, line) in inputs.iter().zip(lines) {
-                assert_eq!(rt; line_of(input), *line, "{batch}");
+                same(rt, line_of(input), *line);
             }
             false
         }

@@ -1,4 +1,0 @@
-mod parsing;
-mod processing;
-mod refusals;
-mod rows;
