@@ -1,5 +1,5 @@
 -- A message says one thing at most.
-use Rattle.std.proofs.Common.{◌≡◌, ℕ, ◌+◌, ◌*◌, Some, sym, ap, ◌∙◌, subst, arith}
+use Rattle.std.proofs.Common.{◌≡◌, ℕ, ◌+◌, ◌*◌, sym, ap, ◌∙◌, subst, arith}
 use Rattle.std.proofs.lemmas.Option.{same_Some}
 use Rattle.ertms_codec.specs.declared.to_train.ToTrain.TheVariants as message
 use Rattle.rbc_track.specs.Plan.{Plan}

@@ -1,5 +1,5 @@
 -- After each step every train is up to date.
-use Rattle.std.proofs.Common.{◌≡◌, ℕ, List, [], ap, subst}
+use Rattle.std.proofs.Common.{◌≡◌, List, [], ap, subst}
 use Rattle.std.specs.List.{fold}
 use Rattle.std.proofs.lemmas.List.Elements.{All-weaker}
 use Rattle.rbc_track.specs.Plan.{Plan}

@@ -1,5 +1,5 @@
 -- Worked cases of the laws, on one track. Places and lengths are in units of 10 cm, speeds in km/h.
-use Rattle.std.specs.Prelude.{ℕ, Bool, true, false, List, [], ◌∷◌, Option, Some, None, pos}
+use Rattle.std.specs.Prelude.{ℕ, Bool, true, false, List, [], ◌∷◌, Option, Some, pos}
 use Rattle.ertms_codec.specs.declared.to_train.Head.{Head}
 use Rattle.ertms_codec.specs.declared.to_train.ToTrain.{ToTrain}
 use Rattle.ertms_codec.specs.declared.to_train.ToTrain.TheVariants as message
@@ -14,9 +14,9 @@ use Rattle.rbc_zones.specs.declared.segment.Segment.{Segment}
 use Rattle.rbc_zones.specs.declared.limit.Dirs.TheVariants as dirs
 use Rattle.rbc_zones.specs.Limits.{Limit}
 use Rattle.rbc_settle.specs.declared.train.TrainRec.{TrainRec}
-use Rattle.rbc_settle.specs.Settling.{Stops, Limits, last_stamp}
+use Rattle.rbc_settle.specs.Settling.{Stops, Limits}
 use Rattle.rbc_rule.specs.declared.input.Input.{Input}
-use Rattle.rbc_rule.specs.declared.input.Input.TheVariants.{Enrol, Stop, Release, Restrict}
+use Rattle.rbc_rule.specs.declared.input.Input.TheVariants.{Enrol, Stop, Restrict}
 use Rattle.rbc_rule.specs.World.{World}
 use Rattle.rbc_rule.specs.Effect.{effect}
 use Rattle.rbc_rule.specs.Saying.{Spot}

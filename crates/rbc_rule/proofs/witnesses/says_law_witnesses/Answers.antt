@@ -1,10 +1,8 @@
-use Rattle.std.proofs.Common.{◌≡◌, ℕ, ◌+◌, ◌*◌, ◌/◌, ◌^◌, ◌<◌, ◌≤◌, Bool, false, List, [], ◌∷◌, Some, refl, ap, arith}
-use Rattle.rbc_track.specs.declared.group.Way.{Way}
+use Rattle.std.proofs.Common.{◌≡◌, ◌+◌, ◌*◌, ◌/◌, ◌^◌, ◌<◌, ◌≤◌, false, [], ◌∷◌, refl, ap, arith}
 use Rattle.rbc_track.specs.declared.group.Way.TheVariants.{Up, Down}
-use Rattle.rbc_maps.specs.Numbered.{none_numbered}
 use Rattle.rbc_zones.proofs.ToldStops.{told_rightly}
-use Rattle.rbc_rule.specs.Saying.{Said, Spot, Stretch, StopsAtOnce, StopsBefore, Restricts, RevokesStop}
-use Rattle.rbc_rule.specs.Witnesses.{track_a, facing_up, facing_down, on_line_0, limit_80, stop_before, head_at, spot_at, told_as_0, train_7}
+use Rattle.rbc_rule.specs.Saying.{Spot, Stretch, StopsAtOnce, StopsBefore, Restricts, RevokesStop}
+use Rattle.rbc_rule.specs.Witnesses.{track_a, facing_up, facing_down, on_line_0, limit_80, stop_before, spot_at}
 use Rattle.rbc_rule.proofs.OneSaid.{says_one_thing}
 use Rattle.rbc_rule.proofs.WitnessSays.{right_stop, stop_seen, limit_seen, not_spare, has_way, revokes_right, differ, tens, group_5, counted_from_5, before_20000}
 use Rattle.rbc_rule.proofs.witnesses.says_law_witnesses.Goals as goal

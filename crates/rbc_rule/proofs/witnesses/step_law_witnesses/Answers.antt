@@ -1,4 +1,4 @@
-use Rattle.std.proofs.Common.{◌≡◌, ℕ, ◌<◌, ◌≤◌, Bool, true, false, List, [], ◌∷◌, Option, Some, None, refl, sym, subst, arith, IsTrue}
+use Rattle.std.proofs.Common.{◌≡◌, ℕ, ◌<◌, ◌≤◌, true, false, List, [], ◌∷◌, Some, refl, sym, subst, arith, IsTrue}
 use Rattle.std.proofs.lemmas.List.Elements.{All-nil, All-head}
 use Rattle.std.proofs.lemmas.Option.{same_Some}
 use Rattle.rbc_maps.specs.Numbered.{none_numbered}
@@ -8,7 +8,6 @@ use Rattle.rbc_ids.specs.declared.slot.Kind.TheVariants.{Conditional}
 use Rattle.rbc_place.specs.Placing.{Place}
 use Rattle.rbc_zones.specs.Limits.{Limit, is_good_limit}
 use Rattle.rbc_settle.specs.declared.action.Action.{Action}
-use Rattle.rbc_settle.specs.Settling.{Stops, Limits}
 use Rattle.rbc_settle.specs.WellFormed.{IsGiven, has_kind, is_stop_kind, is_limit_kind, IsPlaceOn, IsWellFormedTrain}
 use Rattle.rbc_rule.specs.WellFormed.{IsGoodStop, AreGoodStops, AreGoodLimits, IsGoodTrain}
 use Rattle.rbc_rule.specs.Witnesses.{track_a, facing_up, on_line_0, train_7, stop_1, told_as_0}

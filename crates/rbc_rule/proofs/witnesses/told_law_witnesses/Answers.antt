@@ -1,4 +1,4 @@
-use Rattle.std.proofs.Common.{◌≡◌, ◌⊎◌, ℕ, Bool, true, false, ◌≤◌, List, [], ◌∷◌, Option, Some, None, inl, inr, refl, arith}
+use Rattle.std.proofs.Common.{◌≡◌, ◌⊎◌, ℕ, true, false, ◌≤◌, [], ◌∷◌, Some, None, inl, inr, refl, arith}
 use Rattle.std.proofs.lemmas.List.Elements.{All-nil, All-head}
 use Rattle.rbc_maps.specs.Numbered.{none_numbered}
 use Rattle.rbc_ids.specs.declared.slot.Slot.{Slot}
