@@ -9,8 +9,9 @@ use Rattle.rbc_zones.specs.declared.segment.Segment.{Segment}
 use Rattle.rbc_zones.specs.declared.limit.Dirs.{Dirs}
 use Rattle.rbc_rule.specs.declared.input.Input.{Input}
 use Rattle.rbc_rule.specs.declared.input.Input.TheVariants.{Enrol, Withdraw, Stop, Release, Restrict, Lift, Received, Bad}
+use Rattle.rbc_rule.specs.Codes.{code_of}
 use Rattle.rbc_rule.specs.Inputs.{Fits}
-use Rattle.rbc_batch.specs.BatchText.{decimal_of, segment_of, onto_all, segments_of, enrolment_from, enrolment_of, withdrawal_from, withdrawal_of, number_of, stop_from, stop_of, release_of, lift_of, dirs_of, front_of, restriction_from, restriction_of, command_of, code_of, AreHeard}
+use Rattle.rbc_batch.specs.BatchText.{decimal_of, segment_of, onto_all, segments_of, enrolment_from, enrolment_of, withdrawal_from, withdrawal_of, number_of, stop_from, stop_of, release_of, lift_of, dirs_of, front_of, restriction_from, restriction_of, command_of, refusal_of, AreHeard}
 
 -- a bad line has a code
 pub bad_fits : Fits (Bad 1)
@@ -102,7 +103,7 @@ command_or_bad_fits word arguments found input e same = rw same (rw e (or_bad (c
 
 -- ---- messages
 
-code_fits : (fault : DecodeError) → Fits (Bad (code_of fault))
+code_fits : (fault : DecodeError) → Fits (Bad (code_of (refusal_of fault)))
 code_fits Length = (omega arith, omega arith)
 code_fits Message = (omega arith, omega arith)
 code_fits Packet = (omega arith, omega arith)

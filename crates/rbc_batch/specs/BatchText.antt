@@ -12,6 +12,10 @@ use Rattle.ertms_codec.specs.RefusalsFromTrain.{Refuses}
 use Rattle.rbc_zones.specs.declared.segment.Segment.{Segment}
 use Rattle.rbc_zones.specs.declared.limit.Dirs.{Dirs}
 use Rattle.rbc_zones.specs.declared.limit.Dirs.TheVariants.{Up, Down, Both}
+use Rattle.rbc_settle.specs.Trains.{max_engine, max_train_length}
+use Rattle.rbc_rule.specs.declared.refuse.Refusal.{Refusal}
+use Rattle.rbc_rule.specs.declared.refuse.Refusal.TheVariants as refusal
+use Rattle.rbc_rule.specs.Codes.{code_of}
 use Rattle.rbc_rule.specs.declared.input.Input.{Input}
 use Rattle.rbc_rule.specs.declared.input.Input.TheVariants.{Enrol, Withdraw, Stop, Release, Restrict, Lift, Received, Bad}
 
@@ -78,14 +82,6 @@ onto_all (Some segment) None = None
 abbrev pub segments_of : List (List ℕ) → Option (List Segment)
 segments_of [] = Some []
 segments_of (word ∷ words) = onto_all (segment_of word) (segments_of words)
-
--- the greatest engine number: NID_ENGINE has 24 bits
-abbrev pub max_engine : ℕ
-max_engine = 16777215
-
--- the greatest length of a train, in units of 10 cm
-abbrev pub max_train_length : ℕ
-max_train_length = 40000
 
 -- an enrolment, where the engine number is in its range, and the length from 1 unit on too
 abbrev pub enrolment_from : Option ℕ → Option ℕ → Option Input
@@ -176,10 +172,10 @@ pub data Line : Type 0 where
   Spelled : Input → Line
   Heard : List ℕ → Line
 
--- the bytes that hexadecimal digits spell, or a bad line with code 2
+-- the bytes that hexadecimal digits spell, or a bad line, refused for its digits
 abbrev pub line_of_hex : Result (List ℕ) FromHexError → Line
 line_of_hex (Ok bytes) = Heard bytes
-line_of_hex (Err fault) = Spelled (Bad 2)
+line_of_hex (Err fault) = Spelled (Bad (code_of refusal.BadHex))
 
 -- a word that may be hexadecimal text: it is not empty, and has no carriage return (13)
 abbrev pub is_hex_word : List ℕ → Bool
@@ -210,21 +206,21 @@ line_of_words (word ∷ arguments) =
     if bytes_eq word (codes "recv") then message_of arguments
     else option_map Spelled (command_of word arguments)
 
--- what a line spells; where it spells nothing, it is bad, with code 1
+-- what a line spells; where it spells nothing, it is a bad line
 abbrev pub line_of : List ℕ → Line
-line_of line = unwrap_or (line_of_words (words_of line)) (Spelled (Bad 1))
+line_of line = unwrap_or (line_of_words (words_of line)) (Spelled (Bad (code_of refusal.BadLine)))
 
--- the code of bytes that are no message
-abbrev pub code_of : DecodeError → ℕ
-code_of Length = 3
-code_of Message = 4
-code_of Packet = 5
-code_of Field = 6
+-- why bytes that are no message are refused
+abbrev pub refusal_of : DecodeError → Refusal
+refusal_of Length = refusal.Length
+refusal_of Message = refusal.Message
+refusal_of Packet = refusal.Packet
+refusal_of Field = refusal.Field
 
 -- the input of bytes: the message that they spell, or a bad line with the code of the first step that fails
 abbrev pub AreHeard : List ℕ → Input → Type 0
 AreHeard bytes (Received message) = Spells bytes message
-AreHeard bytes (Bad code) = (fault : DecodeError) × Refuses bytes fault × (code ≡ code_of fault)
+AreHeard bytes (Bad code) = (fault : DecodeError) × Refuses bytes fault × (code ≡ code_of (refusal_of fault))
 AreHeard bytes (Enrol engine train_length) = ⊥
 AreHeard bytes (Withdraw engine) = ⊥
 AreHeard bytes (Stop number segments) = ⊥

@@ -6,13 +6,13 @@ ghost use Rattle.hex.specs.Hex.{decode_of};
 ghost use Rattle.rbc_rule.specs.declared.input.Input.TheVariants.{Bad};
 ghost use Rattle.std.specs.Option.{unwrap_or};
 ghost use Rattle.rbc_rule.specs.Inputs.{Fits};
-ghost use Rattle.rbc_batch.specs.BatchText.{Spelled, lines_of, decimal_of, segment_from, segment_of, segments_of, enrolment_from, enrolment_of, withdrawal_from, withdrawal_of, number_of, stop_from, stop_of, dirs_of, front_of, restriction_from, restriction_of, command_of, code_of, is_hex_word, line_of_hex, message_of, line_of, words_of, AreHeard, IsInput, AreInputs, AreInputsOf};
+ghost use Rattle.rbc_batch.specs.BatchText.{Spelled, lines_of, decimal_of, segment_from, segment_of, segments_of, enrolment_from, enrolment_of, withdrawal_from, withdrawal_of, number_of, stop_from, stop_of, dirs_of, front_of, restriction_from, restriction_of, command_of, refusal_of, is_hex_word, line_of_hex, message_of, line_of, words_of, AreHeard, IsInput, AreInputs, AreInputsOf};
 ghost use Rattle.rbc_batch.specs.Pieces.{pieces_behind, text_behind};
 
 use ertms_codec::{DecodeError, read_from_train};
 use hex::FromHexError;
 use memchr::memchr;
-use rbc_rule::{Input, Segments};
+use rbc_rule::{Input, Refusal, Segments};
 use rbc_zones::{Dirs, Segment};
 use std::alloc::{AllocError, Global};
 
@@ -21,12 +21,6 @@ const MAX_ENGINE: u32 = 16_777_215;
 
 /// The greatest length of a train, in units of 10 cm.
 const MAX_LENGTH: u32 = 40_000;
-
-/// The refusal code of a line that is no input.
-const BAD_LINE: u8 = 1;
-
-/// The refusal code of a message that is not whole bytes in hexadecimal digits.
-const BAD_HEX: u8 = 2;
 
 /// The place of the first such byte.
 fn find_byte(text: &[u8], byte: u8) -> Option<usize>
@@ -298,15 +292,22 @@ fn command(alloc: Global, word: &[u8], arguments: &[u8]) -> Result<Option<Input>
     }
 }
 
-/// The refusal code of bytes that are no message: 3 to 6, by what is wrong with them.
-fn code_of(fault: DecodeError) -> u8
-    ensures { result ≡ code_of fault }
+/// The input of a line that spells none.
+fn bad_line() -> Input
+    ensures { result ≡ Bad 1 }
+{
+    Input::Bad(Refusal::BadLine.code())
+}
+
+/// Why bytes that are no message are refused.
+fn refusal_of(fault: DecodeError) -> Refusal
+    ensures { result ≡ refusal_of fault }
 {
     match fault {
-        DecodeError::Length => 3,
-        DecodeError::Message => 4,
-        DecodeError::Packet => 5,
-        DecodeError::Field => 6,
+        DecodeError::Length => Refusal::Length,
+        DecodeError::Message => Refusal::Message,
+        DecodeError::Packet => Refusal::Packet,
+        DecodeError::Field => Refusal::Field,
     }
 }
 
@@ -316,7 +317,7 @@ fn heard(bytes: &[u8]) -> Input
 {
     match read_from_train(bytes) {
         Ok(message) => Input::Received(message),
-        Err(fault) => Input::Bad(code_of(fault)),
+        Err(fault) => Input::Bad(refusal_of(fault).code()),
     }
 }
 
@@ -341,7 +342,7 @@ fn message_from(alloc: Global, word: &[u8]) -> Result<Input, AllocError>
     match hex::decode(alloc, word) {
         Ok(bytes) => Ok(heard(&bytes)),
         Err(FromHexError::OutOfMemory) => Err(AllocError),
-        Err(_) => Ok(Input::Bad(BAD_HEX)),
+        Err(_) => Ok(Input::Bad(Refusal::BadHex.code())),
     }
 }
 
@@ -353,7 +354,7 @@ fn message(alloc: Global, arguments: &[u8]) -> Result<Input, AllocError>
     if behind.is_none() && is_hex_word(word) {
         message_from(alloc, word)
     } else {
-        Ok(Input::Bad(BAD_LINE))
+        Ok(bad_line())
     }
 }
 
@@ -364,11 +365,11 @@ fn input(alloc: Global, line: &[u8]) -> Result<Input, AllocError>
 {
     let (word, behind) = cut(line, b' ');
     match behind {
-        None => Ok(Input::Bad(BAD_LINE)),
+        None => Ok(bad_line()),
         Some(arguments) if word == b"recv".as_slice() => message(alloc, arguments),
         Some(arguments) => {
             let found = command(alloc, word, arguments)?;
-            Ok(found.unwrap_or(Input::Bad(BAD_LINE)))
+            Ok(found.unwrap_or(bad_line()))
         }
     }
 }
