@@ -1,10 +1,9 @@
 -- What the words ask for.
-use Rattle.std.specs.Prelude.{◌≡◌, ◌≢◌, ◌⊎◌, ℕ, Bool, List, Option, Some, None, Result, MatchResult, IsErrAnd, is_none, if◌then◌else◌, true, codes}
+use Rattle.std.specs.Prelude.{◌≡◌, List, [], Option, Some, None, Result, MatchResult, if◌then◌else◌, true, codes}
 use Rattle.std.specs.Str.{bytes_eq}
-use Rattle.clap.specs.Lexer.{strip_byte}
 use Rattle.clap.specs.Simple.{App, Shape, new_app, new_rule, on_top, subcommand_of, with_rule, with_subcommand}
 use Rattle.clap.specs.Walk.{Row, Text, first_of}
-use Rattle.rbc_dispatch.specs.Ending.{status_of}
+use Rattle.clap.specs.Words.{fault_of}
 use Rattle.rbc_dispatch.specs.declared.ending.Ending.{Ending}
 use Rattle.rbc_dispatch.specs.declared.ending.Ending.TheVariants.{Fault}
 use Rattle.rbc_dispatch.specs.declared.fault.Fault.TheVariants.{OutOfMemory}
@@ -41,32 +40,33 @@ abbrev pub word_after : Text → Text → Finding → Option Text
 word_after name id None = None
 word_after name id (Some p) = if bytes_eq p.0 name then first_of id p.1 else None
 
--- one of the tasks was found, with its word
-abbrev pub HasTask : Finding → Type 0
-HasTask found = (word_after (codes "run") (codes "track") found ≢ None) ⊎ (word_after (codes "decode") (codes "HEX") found ≢ None)
+-- words without a fault that ask for the batch, on the track in the file of this name
+abbrev pub AsksToRun : Text → List Text → Type 0
+AsksToRun file words = (fault_of command_line words ≡ []) × (word_after (codes "run") (codes "track") (finding_in words) ≡ Some file)
+
+-- words without a fault that ask for the text of the message that this word stands for
+abbrev pub AsksToDecode : Text → List Text → Type 0
+AsksToDecode word words = (fault_of command_line words ≡ []) × (word_after (codes "decode") (codes "HEX") (finding_in words) ≡ Some word)
 
 -- the task is what was found
 abbrev pub IsFound : Finding → Task → Type 0
 IsFound found (Run track) = word_after (codes "run") (codes "track") found ≡ Some track.now
 IsFound found (Decode hex) = word_after (codes "decode") (codes "HEX") found ≡ Some hex.now
 
--- the batch, on the track in the file of this name
+-- no word was found for either task
+abbrev pub IsNoTask : Finding → Type 0
+IsNoTask found = (word_after (codes "run") (codes "track") found ≡ None) × (word_after (codes "decode") (codes "HEX") found ≡ None)
+
+-- the task is the batch, on the track in the file of this name
 abbrev pub IsRunOn : Text → Task → Type 0
 IsRunOn file (Run track) = track.now ≡ file
 IsRunOn file (Decode hex) = ⊥
 
+-- the task is the text of the message that this word stands for
 abbrev pub IsDecode : Text → Task → Type 0
 IsDecode word (Run track) = ⊥
 IsDecode word (Decode hex) = hex.now ≡ word
 
--- the word does not begin with a hyphen
-abbrev pub is_plain : Text → Bool
-is_plain word = is_none (strip_byte 45 word)
-
 -- the words are taken for a task, unless memory runs out
 abbrev pub IsTakenFor : (Task → Type 0) → Result Task Ending → Type 0
 IsTakenFor P r = MatchResult r P IsWantOfMemory
-
--- the words end the program with this status, unless memory runs out
-abbrev pub EndsWith : ℕ → Result Task Ending → Type 0
-EndsWith status r = IsErrAnd r (λ ending. IsWantOfMemory ending ⊎ (status_of ending ≡ status))

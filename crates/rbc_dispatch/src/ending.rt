@@ -7,7 +7,7 @@ use std::io::Write;
 use std::process::ExitCode;
 
 /// Why the program ends with its task not done.
-#[derive(Debug, Drop)]
+#[derive(Drop)]
 pub enum Ending {
     /// The words ask for help, or are no words of the program's.
     Words(clap::Error),

@@ -1,11 +1,11 @@
 //! The program, over any streams.
-ghost use Rattle.std.specs.Prelude.{◌≡◌, ◌≢◌, ◌≤◌, ℕ, List, [], ◌∷◌, true, IfErr, OnErr, OnOk, map, codes, string_bytes};
+ghost use Rattle.std.specs.Prelude.{◌≡◌, ◌≢◌, ◌≤◌, ℕ, List, [], IfErr, OnOk, map, string_bytes};
 ghost use Rattle.std.specs.Process.{exit_status};
 ghost use Rattle.clap.specs.Words.{fault_of};
 ghost use Rattle.rbc_dispatch.specs.Decoding.{Decodes, IsUntouched};
 ghost use Rattle.rbc_dispatch.specs.Ending.{AtTask, status_of};
 ghost use Rattle.rbc_dispatch.specs.Running.{IsUnread, Keeps, Runs, RunsOn};
-ghost use Rattle.rbc_dispatch.specs.Words.{command_line, is_plain};
+ghost use Rattle.rbc_dispatch.specs.Words.{AsksToDecode, AsksToRun, command_line};
 
 use crate::decode::decode;
 use crate::ending::Ending;
@@ -62,18 +62,14 @@ where
     R: AllocGlobal + Files,
     I: Read,
     O: Write,
-    ensures run { (file : List ℕ) → map string_bytes words.now ≡ codes "run" ∷ codes "--track" ∷ file ∷ []
-        → is_plain file ≡ true
+    ensures run { (file : List ℕ) → AsksToRun file (map string_bytes words.now)
         → AtTask (Runs (I.remaining input.old) (I.remaining input.new)
         (O.contents output.old) (O.contents output.new)) result }
-    ensures keeps { (file : List ℕ) → map string_bytes words.now ≡ codes "run" ∷ codes "--track" ∷ file ∷ []
-        → is_plain file ≡ true
+    ensures keeps { (file : List ℕ) → AsksToRun file (map string_bytes words.now)
         → AtTask (λ r. Keeps r input.old input.new output.old output.new) result }
-    ensures decode { (word : List ℕ) → map string_bytes words.now ≡ codes "decode" ∷ word ∷ []
-        → is_plain word ≡ true
+    ensures decode { (word : List ℕ) → AsksToDecode word (map string_bytes words.now)
         → AtTask (Decodes word (O.contents output.old) (O.contents output.new)) result }
-    ensures unread { (word : List ℕ) → map string_bytes words.now ≡ codes "decode" ∷ word ∷ []
-        → is_plain word ≡ true
+    ensures unread { (word : List ℕ) → AsksToDecode word (map string_bytes words.now)
         → (input.new ≡ input.old) × AtTask (λ r. IsUntouched r output.old output.new) result }
     ensures only { OnOk result (fault_of command_line (map string_bytes words.now) ≡ []) }
     ensures refused { fault_of command_line (map string_bytes words.now) ≢ []
@@ -110,7 +106,12 @@ fn track_text<R: AllocGlobal + Files>(rt: &R, file: &str) -> Result<String, Faul
 }
 
 /// Does a batch on the track that a text is. The track is known before anything of the batch is read.
-fn run_on<R, I, O>(rt: &R, text: &str, input: &mut I, output: &mut O) -> Result<(), Fault>
+pub(crate) fn run_on<R, I, O>(
+    rt: &R,
+    text: &str,
+    input: &mut I,
+    output: &mut O,
+) -> Result<(), Fault>
 where
     R: AllocGlobal,
     I: Read,

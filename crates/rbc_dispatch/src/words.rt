@@ -1,9 +1,9 @@
 //! The words that the program takes.
-ghost use Rattle.std.specs.Prelude.{◌≡◌, ◌⊎◌, ℕ, List, [], ◌∷◌, true, false, IfErr, IfOk, OnOk, map, option_map, codes, string_bytes};
+ghost use Rattle.std.specs.Prelude.{◌≡◌, ◌⊎◌, ℕ, List, [], false, IfErr, IfNone, IfOk, IfSome, OnOk, map, option_map, string_bytes};
 ghost use Rattle.clap.specs.Words.{app_of, fault_of, shape_of, subcommand_rows_of};
 ghost use Rattle.clap.specs.declared.builder.command.Command.TheViews.{out-Command as fields_of};
-ghost use Rattle.rbc_dispatch.specs.Ending.{status_of};
-ghost use Rattle.rbc_dispatch.specs.Words.{EndsWith, HasTask, IsDecode, IsFound, IsRunOn, IsTakenFor, IsWantOfMemory, command_line, decode_shape, finding_in, is_plain, run_shape, word_after};
+ghost use Rattle.rbc_dispatch.specs.Ending.{status_of, status_of_kind};
+ghost use Rattle.rbc_dispatch.specs.Words.{AsksToDecode, AsksToRun, IsDecode, IsFound, IsNoTask, IsRunOn, IsTakenFor, IsWantOfMemory, command_line, decode_shape, finding_in, run_shape, word_after};
 
 use crate::arguments::Nameless;
 use crate::ending::Ending;
@@ -14,7 +14,7 @@ use std::env::Env;
 use std::{env, io};
 
 /// What the words ask the program to do.
-#[derive(Clone, Copy, Debug, PartialEq, Eq)]
+#[derive(Clone, Copy)]
 pub enum Task<'a> {
     /// `dispatch run --track FILE`: do the batch on standard input, on the track in the file of this
     /// name.
@@ -71,51 +71,47 @@ pub fn read<R: Env + AllocGlobal>(rt: &R) -> Result<Vec<String>, Ending>
         Err(error) if error.kind() == io::ErrorKind::OutOfMemory => {
             Err(Ending::from(AllocError))
         }
-        Err(_) => Err(not_text(rt.alloc())?),
+        Err(_) => {
+            let message = "invalid UTF-8 was detected in one or more arguments";
+            Err(refuse(rt.alloc(), ErrorKind::InvalidValue, message)?)
+        }
     }
 }
 
-// What the program answers to a word that is not UTF-8.
-fn not_text(alloc: Global) -> Result<Ending, AllocError>
-    ensures { IfOk result (λ ending. status_of ending ≡ 2) }
+// What the program says of words that it refuses itself.
+fn refuse(alloc: Global, kind: ErrorKind, message: &str) -> Result<Ending, AllocError>
+    ensures { IfOk result (λ ending. status_of ending ≡ status_of_kind kind) }
 {
-    let message = "invalid UTF-8 was detected in one or more arguments";
-    let error = command(alloc)?.error(ErrorKind::InvalidValue, message)?;
-    Ok(Ending::Words(error))
+    Ok(Ending::Words(command(alloc)?.error(kind, message)?))
 }
 
 /// The task that the words after the program's name ask for. The error is help, where they ask for
 /// that, what is wrong with them, or want of memory.
 pub fn parse<'a>(alloc: Global, words: &'a [String]) -> Result<Task<'a>, Ending>
-    ensures run { (file : List ℕ) → map string_bytes words.now ≡ codes "run" ∷ codes "--track" ∷ file ∷ []
-        → is_plain file ≡ true → IsTakenFor (IsRunOn file) result }
-    ensures no_track { map string_bytes words.now ≡ codes "run" ∷ [] → EndsWith 2 result }
-    ensures no_file { map string_bytes words.now ≡ codes "run" ∷ codes "--track" ∷ [] → EndsWith 2 result }
-    ensures decode { (word : List ℕ) → map string_bytes words.now ≡ codes "decode" ∷ word ∷ []
-        → is_plain word ≡ true → IsTakenFor (IsDecode word) result }
-    ensures none { words.now ≡ [] → EndsWith 2 result }
-    ensures no_word { map string_bytes words.now ≡ codes "decode" ∷ [] → EndsWith 2 result }
-    ensures two_words { (a b : List ℕ) → map string_bytes words.now ≡ codes "decode" ∷ a ∷ b ∷ []
-        → is_plain a ≡ true → is_plain b ≡ true → EndsWith 2 result }
-    ensures help { map string_bytes words.now ≡ codes "--help" ∷ [] → EndsWith 0 result }
+    ensures run { (file : List ℕ) → AsksToRun file (map string_bytes words.now)
+        → IsTakenFor (IsRunOn file) result }
+    ensures decode { (word : List ℕ) → AsksToDecode word (map string_bytes words.now)
+        → IsTakenFor (IsDecode word) result }
     ensures only { OnOk result (fault_of command_line (map string_bytes words.now) ≡ []) }
     ensures task { IfOk result (IsFound (finding_in (map string_bytes words.now))) }
 {
     let matches = command(alloc)?.try_get_matches_from(words)?;
-    Ok(task_of(&matches))
+    match task_of(&matches) {
+        Some(task) => Ok(task),
+        // Not met: clap asks for a subcommand, and each subcommand for its word.
+        None => Err(refuse(alloc, ErrorKind::MissingSubcommand, "no task was named")?),
+    }
 }
 
 // The task that the words named, by what was found in them.
-fn task_of<'a>(matches: &ArgMatches<'a>) -> Task<'a>
-    requires { HasTask (subcommand_rows_of matches.now) }
-    ensures { IsFound (subcommand_rows_of matches.now) result }
+fn task_of<'a>(matches: &ArgMatches<'a>) -> Option<Task<'a>>
+    ensures found { IfSome result (IsFound (subcommand_rows_of matches.now)) }
+    ensures none { IfNone result (IsNoTask (subcommand_rows_of matches.now)) }
 {
-    match word_after(matches, "decode", "HEX") {
-        Some(word) => Task::Decode(word),
-        None => Task::Run {
-            track: word_after(matches, "run", "track").unwrap(),
-        },
+    if let Some(track) = word_after(matches, "run", "track") {
+        return Some(Task::Run { track });
     }
+    Some(Task::Decode(word_after(matches, "decode", "HEX")?))
 }
 
 // The word that an argument was given after the subcommand of this name, if that one was named.
