@@ -10,4 +10,3 @@ pub mod Posts
 pub mod Runs
 pub mod Sends
 pub mod Stands
-pub mod Tells

@@ -27,17 +27,17 @@ is_colon byte = byte == 58
 abbrev pub is_dash : ℕ → Bool
 is_dash byte = byte == 45
 
--- pieces without an empty one at the end
+-- pieces without the last one, where that is empty
 abbrev pub without_empty_end : List (List ℕ) → List (List ℕ)
 without_empty_end [] = []
 without_empty_end ([] ∷ []) = []
 without_empty_end (piece ∷ pieces) = piece ∷ without_empty_end pieces
 
--- each line ends with a line feed, which the last one may lack; the empty text has no line
+-- the lines of a text: each ends with a line feed, which the last one may lack, and the empty text has no line
 abbrev pub lines_of : List ℕ → List (List ℕ)
 lines_of text = without_empty_end (slice_split is_line_feed text)
 
--- words stand between single spaces
+-- the words of a line: between two of them stands one space
 abbrev pub words_of : List ℕ → List (List ℕ)
 words_of line = slice_split is_space line
 
@@ -52,21 +52,23 @@ value_of digits = fold (λ value digit. 10 * value + (digit - 48)) 0 digits
 abbrev pub is_decimal : List ℕ → Bool
 is_decimal word = nat_le 1 (length word) && (nat_le (length word) 10 && list_all is_digit word)
 
--- a decimal has 1 to 10 digits, leading zeros allowed, and is at most 4294967295
+-- a decimal has 1 to 10 digits, of which the first may be zeros, and is at most 4294967295
 abbrev pub decimal_of : List ℕ → Option ℕ
 decimal_of word = if is_decimal word && nat_le (value_of word) 4294967295 then Some (value_of word) else None
 
+-- a segment, where all its numbers are there
 abbrev pub segment_from : Option ℕ → Option ℕ → Option ℕ → Option Segment
 segment_from (Some line) (Some from) (Some to) = Some (record { line = line; from = from; to = to })
 segment_from None from to = None
 segment_from (Some line) None to = None
 segment_from (Some line) (Some from) None = None
 
--- LINE:FROM-TO, three decimals
+-- `LINE:FROM-TO`, three decimals
 abbrev pub segment_of : List ℕ → Option Segment
 segment_of word = let places = after_first is_colon word in
     segment_from (decimal_of (before_first is_colon word)) (decimal_of (before_first is_dash places)) (decimal_of (after_first is_dash places))
 
+-- a segment before others, where all are there
 abbrev pub onto_all : Option Segment → Option (List Segment) → Option (List Segment)
 onto_all (Some segment) (Some segments) = Some (segment ∷ segments)
 onto_all None segments = None
@@ -77,9 +79,17 @@ abbrev pub segments_of : List (List ℕ) → Option (List Segment)
 segments_of [] = Some []
 segments_of (word ∷ words) = onto_all (segment_of word) (segments_of words)
 
--- an engine number is at most 16777215, a train's length 1 to 40000 units
+-- the greatest engine number: NID_ENGINE has 24 bits
+abbrev pub max_engine : ℕ
+max_engine = 16777215
+
+-- the greatest length of a train, in units of 10 cm
+abbrev pub max_train_length : ℕ
+max_train_length = 40000
+
+-- an enrolment, where the engine number is in its range, and the length from 1 unit on too
 abbrev pub enrolment_from : Option ℕ → Option ℕ → Option Input
-enrolment_from (Some engine) (Some length) = if nat_le engine 16777215 && (nat_le 1 length && nat_le length 40000) then Some (Enrol engine length) else None
+enrolment_from (Some engine) (Some length) = if nat_le engine max_engine && (nat_le 1 length && nat_le length max_train_length) then Some (Enrol engine length) else None
 enrolment_from None length = None
 enrolment_from (Some engine) None = None
 
@@ -90,6 +100,7 @@ enrolment_of [] = None
 enrolment_of (engine ∷ []) = None
 enrolment_of (engine ∷ length ∷ word ∷ words) = None
 
+-- a stop, where its number and all its segments are there
 abbrev pub stop_from : Option ℕ → Option (List Segment) → Option Input
 stop_from (Some number) (Some segments) = Some (Stop number segments)
 stop_from None segments = None
@@ -101,9 +112,9 @@ stop_of (number ∷ segment ∷ segments) = stop_from (decimal_of number) (segme
 stop_of [] = None
 stop_of (number ∷ []) = None
 
--- an engine number by itself
+-- a withdrawal, where the engine number is in its range
 abbrev pub withdrawal_from : Option ℕ → Option Input
-withdrawal_from (Some engine) = if nat_le engine 16777215 then Some (Withdraw engine) else None
+withdrawal_from (Some engine) = if nat_le engine max_engine then Some (Withdraw engine) else None
 withdrawal_from None = None
 
 -- `withdraw ENGINE`
@@ -118,10 +129,11 @@ number_of (number ∷ []) = decimal_of number
 number_of [] = None
 number_of (number ∷ word ∷ words) = None
 
--- `release NUMBER` and `lift NUMBER`
+-- `release NUMBER`
 abbrev pub release_of : List (List ℕ) → Option Input
 release_of words = option_map Release (number_of words)
 
+-- `lift NUMBER`
 abbrev pub lift_of : List (List ℕ) → Option Input
 lift_of words = option_map Lift (number_of words)
 
@@ -140,6 +152,7 @@ front_of word =
     else (if bytes_eq word (codes "1") then Some true
     else None)
 
+-- a restriction, where all its values are there
 abbrev pub restriction_from : Option ℕ → Option Segment → Option Dirs → Option ℕ → Option Bool → Option Input
 restriction_from (Some number) (Some segment) (Some dirs) (Some speed) (Some front) = Some (Restrict number segment dirs speed front)
 restriction_from None segment dirs speed front = None
@@ -158,17 +171,17 @@ restriction_of (number ∷ segment ∷ dirs ∷ []) = None
 restriction_of (number ∷ segment ∷ dirs ∷ speed ∷ []) = None
 restriction_of (number ∷ segment ∷ dirs ∷ speed ∷ front ∷ word ∷ words) = None
 
--- what a line spells: an input, or the bytes that a train sent
+-- what a line spells: an input, or bytes that a train sent
 pub data Line : Type 0 where
   Spelled : Input → Line
   Heard : List ℕ → Line
 
--- the bytes that hexadecimal digits spell, or else a bad line with code 2
+-- the bytes that hexadecimal digits spell, or a bad line with code 2
 abbrev pub line_of_hex : Result (List ℕ) FromHexError → Line
 line_of_hex (Ok bytes) = Heard bytes
 line_of_hex (Err fault) = Spelled (Bad 2)
 
--- a word of hexadecimal digits: none is empty, and a carriage return is in none
+-- a word that may be hexadecimal text: it is not empty, and has no carriage return (13)
 abbrev pub is_hex_word : List ℕ → Bool
 is_hex_word [] = false
 is_hex_word (digit ∷ digits) = list_all (λ byte. if byte == 13 then false else true) (digit ∷ digits)
@@ -179,7 +192,7 @@ message_of (word ∷ []) = if is_hex_word word then Some (line_of_hex (decode_of
 message_of [] = None
 message_of (word ∷ more ∷ words) = None
 
--- a command of the signaller by its first word
+-- a signaller's command by its first word
 abbrev pub command_of : List ℕ → List (List ℕ) → Option Input
 command_of word arguments =
     if bytes_eq word (codes "enrol") then enrolment_of arguments
@@ -190,24 +203,25 @@ command_of word arguments =
     else (if bytes_eq word (codes "lift") then lift_of arguments
     else None)))))
 
--- a line by its first word; any other line is bad, with code 1
+-- what a line spells by its first word, if anything
 abbrev pub line_of_words : List (List ℕ) → Option Line
 line_of_words [] = None
 line_of_words (word ∷ arguments) =
     if bytes_eq word (codes "recv") then message_of arguments
     else option_map Spelled (command_of word arguments)
 
+-- what a line spells; where it spells nothing, it is bad, with code 1
 abbrev pub line_of : List ℕ → Line
 line_of line = unwrap_or (line_of_words (words_of line)) (Spelled (Bad 1))
 
--- the code of bytes that no message spells
+-- the code of bytes that are no message
 abbrev pub code_of : DecodeError → ℕ
 code_of Length = 3
 code_of Message = 4
 code_of Packet = 5
 code_of Field = 6
 
--- bytes are an input: the message that they spell, or else a bad line with the code of the first step that fails
+-- the input of bytes: the message that they spell, or a bad line with the code of the first step that fails
 abbrev pub AreHeard : List ℕ → Input → Type 0
 AreHeard bytes (Received message) = Spells bytes message
 AreHeard bytes (Bad code) = (fault : DecodeError) × Refuses bytes fault × (code ≡ code_of fault)
@@ -218,12 +232,12 @@ AreHeard bytes (Release number) = ⊥
 AreHeard bytes (Restrict number segment dirs speed front) = ⊥
 AreHeard bytes (Lift number) = ⊥
 
--- what is spelled is an input
+-- the input of what a line spells
 abbrev pub IsInput : Line → Input → Type 0
 IsInput (Spelled spelled) input = input ≡ spelled
 IsInput (Heard bytes) input = AreHeard bytes input
 
--- each line is an input, the empty ones too
+-- one input for each line, in order, also for an empty one
 abbrev pub AreInputs : List (List ℕ) → List Input → Type 0
 AreInputs [] [] = Unit
 AreInputs (line ∷ lines) (input ∷ inputs) = IsInput (line_of line) input × AreInputs lines inputs

@@ -3,6 +3,5 @@ pub mod Pieces
 pub mod Serial
 pub mod Held
 pub mod OutputText
-pub mod Told
 pub mod Sendable
 pub mod Process

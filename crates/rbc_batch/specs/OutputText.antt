@@ -21,6 +21,7 @@ result_line (input, reply) = decimal input ++ codes " " ++ reply_text reply ++ c
 abbrev pub mail_line : ℕ → Mail → List ℕ
 mail_line engine mail = decimal engine ++ codes " " ++ decimal mail.input ++ codes " " ++ encode_upper (spelling_of mail.message) ++ codes "\n"
 
+-- a line for each mail of an engine
 abbrev pub outbox_lines : ℕ × List Mail → List ℕ
 outbox_lines (engine, mails) = flat_map (mail_line engine) mails
 

@@ -1,13 +1,14 @@
--- What stands behind a separator, cut at each further one.
+-- What stands behind the first separator of a text.
 use Rattle.std.specs.Prelude.{ℕ, ◌+◌, List, [], ◌==◌, length, Option, Some, None}
 use Rattle.std.specs.List.{slice_split}
 use denote.Ref.{Bor}
 
+-- what stands behind, cut at each further separator
 abbrev pub pieces_behind : ℕ → Option (Bor (List ℕ)) → List (List ℕ)
 pieces_behind separator None = []
 pieces_behind separator (Some text) = slice_split (λ byte. byte == separator) text.now
 
--- what stands behind a separator, and nothing where there is none
+-- what stands behind, or nothing where there is no separator
 abbrev pub text_behind : Option (Bor (List ℕ)) → List ℕ
 text_behind None = []
 text_behind (Some text) = text.now

@@ -10,6 +10,10 @@ use Rattle.rbc_batch.specs.BatchText.{AreInputsOf}
 use Rattle.rbc_batch.specs.Serial.{serial, new_desk}
 use Rattle.rbc_batch.specs.OutputText.{output_of}
 
+-- a batch has at most so many bytes
+abbrev pub max_batch : ℕ
+max_batch = 16777216
+
 -- the batch is all that the reader had left
 abbrev pub IsAllRead : Option (List ℕ) → Option (List ℕ) → List ℕ → Type 0
 IsAllRead old new batch = Consumes old new batch × IsAtEnd new
@@ -18,14 +22,15 @@ IsAllRead old new batch = Consumes old new batch × IsAtEnd new
 abbrev pub text_of : Plan → List Input → List ℕ
 text_of plan inputs = let desk = serial plan new_desk inputs in output_of desk.results desk.outboxes
 
--- inputs are those of all that the reader had left
+-- these are the inputs of all that the reader had left, which is no longer than a batch may be
 pub record AreRead (old new : Option (List ℕ)) (inputs : List Input) : Type 0 where
   pub batch : List ℕ
   pub all : IsAllRead old new batch
+  pub short : length batch ≤ max_batch
   pub lines : AreInputsOf batch inputs
 
--- At Ok the writer holds the output text of all that was read, and nothing else more; at a write fault
--- exactly the first bytes of it; at any other fault nothing.
+-- At Ok the output text of all that was read has been written, and nothing else; at a write fault exactly its first bytes;
+-- at any other fault nothing.
 abbrev pub Answers : {E : Type 0} → Plan → Option (List ℕ) → Option (List ℕ) → Option (List ℕ) → Option (List ℕ) → Result E ProcessError → Type 0
 Answers plan read_old read_new old new (Ok done) = (inputs : List Input) × AreRead read_old read_new inputs × Appends old new (text_of plan inputs)
 Answers plan read_old read_new old new (Err (fault.Write sent)) = (inputs : List Input) × AreRead read_old read_new inputs × (sent ≤ length (text_of plan inputs)) × Appends old new (take sent (text_of plan inputs))
@@ -33,7 +38,7 @@ Answers plan read_old read_new old new (Err fault.Read) = Keeps old new
 Answers plan read_old read_new old new (Err fault.TooLong) = Keeps old new
 Answers plan read_old read_new old new (Err fault.Memory) = Keeps old new
 
--- until there is something to write the writer is as it was
+-- where nothing is written the writer is as it was
 abbrev pub IsUntouched : {E W : Type 0} → Result E ProcessError → W → W → Type 0
 IsUntouched (Ok done) old new = ⊤
 IsUntouched (Err (fault.Write sent)) old new = ⊤
@@ -41,7 +46,7 @@ IsUntouched (Err fault.Read) old new = new ≡ old
 IsUntouched (Err fault.TooLong) old new = new ≡ old
 IsUntouched (Err fault.Memory) old new = new ≡ old
 
--- a fault that comes before anything is written
+-- a fault before anything is written
 abbrev pub IsBeforeWriting : ProcessError → Type 0
 IsBeforeWriting (fault.Write sent) = ⊥
 IsBeforeWriting fault.Read = ⊤

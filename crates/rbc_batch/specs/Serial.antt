@@ -1,4 +1,4 @@
--- Steps of a desk, and a run of them, one after another (own rule).
+-- The steps of a desk, one after another (own rule).
 use Rattle.std.specs.Prelude.{ℕ, ◌+◌, List, [], ◌∷◌, ◌++◌, map, length}
 use Rattle.std.specs.List.{fold}
 use Rattle.ertms_codec.specs.declared.to_train.ToTrain.{ToTrain}
@@ -16,9 +16,11 @@ pub record Desk : Type 0 where
   pub results : List Reply
   pub outboxes : List (ℕ × List Mail)
 
+-- a desk at which nothing has happened
 abbrev pub new_desk : Desk
 new_desk = record { world = new_world; results = []; outboxes = [] }
 
+-- a message, with the number of the input that caused it
 abbrev pub mail : ℕ → ToTrain → Mail
 mail input message = record { input = input; message = message }
 
@@ -27,6 +29,7 @@ abbrev pub post : ℕ → List (ℕ × List Mail) → ℕ × List ToTrain → Li
 post input outboxes (engine, []) = outboxes
 post input outboxes (engine, message ∷ messages) = with_value engine (value_or [] outboxes engine ++ map (mail input) (message ∷ messages)) outboxes
 
+-- the messages of a step to all engines join their outboxes
 abbrev pub post_all : ℕ → List (ℕ × List ToTrain) → List (ℕ × List Mail) → List (ℕ × List Mail)
 post_all input sent outboxes = fold (post input) outboxes sent
 
@@ -38,9 +41,10 @@ after desk s = record {
   outboxes = post_all (length desk.results + 1) s.sent desk.outboxes;
 }
 
+-- a desk takes an input
 abbrev pub step : Plan → Desk → Input → Desk
 step plan desk input = after desk (rule.step plan desk.world input)
 
--- the inputs one after another, on one track
+-- a desk takes the inputs one after another, on one track
 abbrev pub serial : Plan → Desk → List Input → Desk
 serial plan desk inputs = fold (step plan) desk inputs

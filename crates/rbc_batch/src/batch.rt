@@ -1,12 +1,12 @@
-//! A batch from a reader to a writer.
+//! Processing a batch, from a reader to a writer.
 
-ghost use Rattle.std.specs.Prelude.{◌≡◌, ◌<◌, ◌^◌, length, IfOk, IfErr, IfSome, IsErrOf};
+ghost use Rattle.std.specs.Prelude.{◌≡◌, ◌<◌, ◌≤◌, length, IfOk, IfErr, IfSome, IsErrOf};
 ghost use Rattle.std.specs.List.{All};
 ghost use Rattle.rbc_track.specs.Plan.{IsPlan};
 ghost use Rattle.rbc_rule.specs.Inputs.{Fits};
 ghost use Rattle.rbc_batch.specs.Held.{Holds};
 ghost use Rattle.rbc_batch.specs.Serial.{serial, new_desk};
-ghost use Rattle.rbc_batch.specs.Process.{Answers, IsUntouched};
+ghost use Rattle.rbc_batch.specs.Process.{Answers, IsUntouched, max_batch};
 
 use crate::desk::Desk;
 use crate::parse::parse_batch;
@@ -20,17 +20,17 @@ use std::error::Error;
 use std::fmt;
 use std::io::{Read, Write};
 
-/// Why a batch was not done.
+/// Why a batch was not processed.
 #[derive(Clone, Copy, Debug, PartialEq, Eq)]
 pub enum ProcessError {
-    /// The reader failed, or gave no end in 20,000,000 calls. Nothing was written.
+    /// The reader failed, or did not end within 20,000,000 calls. Nothing was written.
     Read,
     /// The batch has more than 16,777,216 bytes. Nothing was written.
     TooLong,
-    /// Memory was refused. Nothing was written.
+    /// There was not enough memory. Nothing was written.
     Memory,
-    /// The writer failed, took nothing, or was interrupted 1,000 times in all. Exactly the first `sent`
-    /// bytes of the output text are out.
+    /// The writer failed, took no bytes, or was interrupted 1,000 times in all. Exactly the first `sent` bytes of the
+    /// output text are out.
     Write { sent: u64 },
 }
 
@@ -63,21 +63,20 @@ impl From<AllocError> for ProcessError {
     }
 }
 
-/// What each track keeps: a step rests on it.
+/// Says in its contract what every track satisfies, because a step requires it.
 fn keeps(track: &Track)
     ensures { IsPlan track.now }
 {
     let _ = track.horizon();
 }
 
-/// The desk after all inputs, one after another, from a new desk on a track.
+/// Runs the inputs one after another on a track, from a new desk. Fails only for lack of memory.
 fn run_inputs(alloc: Global, track: &Track, inputs: &[Input]) -> Result<Desk, RuleFault>
     requires plan { IsPlan track.now }
     requires fit { All Fits inputs.now }
-    requires few { length inputs.now < 2 ^ 32 }
+    requires few { length inputs.now ≤ max_batch }
     ensures desk { IfOk result (λ desk. Holds track.now desk (serial track.now new_desk inputs.now)) }
     ensures memory { IfErr result (λ fault. fault ≡ RuleFault.OutOfMemory) }
-    ensures few { IfOk result (λ desk. length desk.results ≡ length inputs.now) }
 {
     let mut desk = Desk::new(alloc);
     for input in inputs {
@@ -92,19 +91,19 @@ impl From<RuleFault> for ProcessError {
 
     ghost from_gives = { λ _ e. e ≡ Memory };
 
-    /// A run of one input after another finds no records that do not stand together, and none that cannot be read.
+    /// A run from a new desk fails only for lack of memory: its records are consistent, and reading them never fails.
     fn from(_: RuleFault) -> ProcessError {
         ProcessError::Memory
     }
 }
 
-/// Reads a batch to its end, runs its lines one after another from a new desk on a track, and writes the output
-/// text. Nothing is written before the whole is computed.
+/// Reads a batch to its end, runs its lines one after another on a track, from a new desk, and writes the output text.
+/// Nothing is written before the whole output is known.
 ///
 /// # Errors
 ///
-/// As [`ProcessError`] has them. Where the reader tells its bytes, `TooLong` comes only where they are
-/// more than 16,777,216.
+/// See [`ProcessError`]. If the bytes that the reader has left are known, `TooLong` means that there were more than
+/// 16,777,216 of them.
 pub fn process<R: Read, W: Write>(
     rt: &impl AllocGlobal,
     track: &Track,
@@ -112,7 +111,7 @@ pub fn process<R: Read, W: Write>(
     writer: &mut W,
 ) -> Result<(), ProcessError>
     ensures answers { Answers track.now (R.remaining reader.old) (R.remaining reader.new) (W.contents writer.old) (W.contents writer.new) result }
-    ensures too_long { IsErrOf result ProcessError.TooLong → IfSome (R.remaining reader.old) (λ batch. 16777216 < length batch) }
+    ensures too_long { IsErrOf result ProcessError.TooLong → IfSome (R.remaining reader.old) (λ batch. max_batch < length batch) }
     ensures untouched { IsUntouched result writer.old writer.new }
 {
     let alloc = rt.alloc();

@@ -1,11 +1,11 @@
-//! The desk: the records of all that is known, and what was answered and sent.
+//! The desk: everything that is known, every answer given, and every message sent.
 
-ghost use Rattle.std.specs.Prelude.{◌≡◌, ◌+◌, ◌<◌, ◌^◌, ◌∷◌, ◌++◌, [], IfErr, OnOk, length};
+ghost use Rattle.std.specs.Prelude.{◌≡◌, ◌+◌, ◌<◌, IfErr, OnOk, length};
 ghost use Rattle.rbc_track.specs.Plan.{Plan, IsPlan};
 ghost use Rattle.rbc_rule.specs.Inputs.{Fits};
 ghost use Rattle.rbc_rule.specs.Gathered.{AreSendable};
 ghost use Rattle.rbc_batch.specs.Serial as serial;
-ghost use Rattle.rbc_batch.specs.Held.{Holds, AreOutboxes};
+ghost use Rattle.rbc_batch.specs.Held.{Holds, IsInOrder, max_results};
 
 use crate::outbox::{self, Outbox};
 use rbc_records::{PlainStore, apply};
@@ -14,12 +14,12 @@ use rbc_track::Track;
 use std::alloc::Global;
 use std::marker::Model;
 
-/// What the inputs so far have led to.
+/// The outcome of all inputs so far: the records, the results and the outboxes. It has at most 4,000,000,000 results.
 #[derive(Debug, Drop)]
 pub struct Desk {
     records: PlainStore,
     results: Vec<Reply>,
-    /// By engine number.
+    /// By engine number, ascending.
     outboxes: Vec<(u32, Outbox)>,
 }
 
@@ -29,13 +29,16 @@ impl Model for Desk {
     ghost Value = { held.Held };
 
     ghost view = { λ d. record { records = d.records; results = d.results.items; outboxes = d.outboxes.items } };
+
+    // The outboxes are in order, and the results not too many.
+    ghost invariant = { λ d. held.IsInOrder (record { records = d.records; results = d.results.items; outboxes = d.outboxes.items }) };
 }
 
 impl Desk {
-    /// A desk at which nothing has happened.
+    /// Makes a desk with no records, results or outboxes. It allocates nothing.
     pub fn new(alloc: Global) -> Self
         ensures new { (plan : Plan) → Holds plan result serial.new_desk }
-        ensures outboxes { AreOutboxes result.outboxes }
+        ensures in_order { IsInOrder result }
     {
         Desk {
             records: PlainStore::new(alloc),
@@ -46,28 +49,28 @@ impl Desk {
 
     /// The answers, in the order of the inputs.
     pub fn results(&self) -> &[Reply]
-        ensures { result.now ≡ self.now.results }
+        ensures results { result.now ≡ self.now.results }
+        ensures in_order { IsInOrder self.now }
     {
         self.results.as_slice()
     }
 
-    /// What was sent, by engine number.
+    /// The messages sent to each engine. The engine numbers ascend, and no outbox is empty.
     pub fn outboxes(&self) -> &[(u32, Outbox)]
-        ensures { result.now ≡ self.now.outboxes }
+        ensures outboxes { result.now ≡ self.now.outboxes }
+        ensures in_order { IsInOrder self.now }
     {
         self.outboxes.as_slice()
     }
 
-    /// Takes the next input, on a track. Of a desk that holds a serial run only memory can be wanting; after a fault
-    /// the desk is of no use any more.
+    /// Takes the next input, on a track. If the desk holds a serial run, this fails only for lack of memory. After an error
+    /// the desk is in order still, but the input may be done in part.
     pub fn step(&mut self, alloc: Global, track: &Track, input: &Input) -> Result<(), RuleFault>
         requires plan { IsPlan track.now }
         requires fits { Fits input.now }
-        requires outboxes { AreOutboxes self.old.outboxes }
-        requires room { length self.old.results + 1 < 2 ^ 32 }
+        requires room { length self.old.results < max_results }
         ensures step { OnOk result ((desk : serial.Desk) → Holds track.now self.old desk → Holds track.now self.new (serial.step track.now desk input.now)) }
         ensures memory { IfErr result (λ fault. (desk : serial.Desk) → Holds track.now self.old desk → fault ≡ RuleFault.OutOfMemory) }
-        ensures stay_outboxes { OnOk result (AreOutboxes self.new.outboxes) }
         ensures one_more { OnOk result (length self.new.results ≡ length self.old.results + 1) }
     {
         let outcome = decide(alloc, track, input, &mut self.records)?;

@@ -1,9 +1,8 @@
-//! From the text of a batch to the text of its results and messages.
+//! Runs a batch: reads its lines, takes each as an input, and writes the results and the messages sent.
 #![tactic(auto)]
 
 mod batch;
 mod desk;
-mod law;
 mod outbox;
 mod parse;
 mod read;
@@ -11,6 +10,5 @@ mod render;
 mod write;
 
 pub use batch::{ProcessError, process};
-pub use law::told_law;
 pub use parse::parse_batch;
 pub use write::write_text;

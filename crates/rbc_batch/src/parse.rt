@@ -1,4 +1,4 @@
-//! Reading the lines of a batch.
+//! Parsing the lines of a batch into inputs.
 
 ghost use Rattle.std.specs.Prelude.{◌≡◌, ◌+◌, ◌∷◌, ◌<◌, ◌≤◌, ◌^◌, [], ℕ, Bool, List, Option, Some, None, length, IfOk, IfSome, IfNone, ◌==◌, if◌then◌else◌, true, false};
 ghost use Rattle.std.specs.List.{position, slice_split, before_first, after_first, list_all, All};
@@ -22,20 +22,20 @@ const MAX_ENGINE: u32 = 16_777_215;
 /// The greatest length of a train, in units of 10 cm.
 const MAX_LENGTH: u32 = 40_000;
 
-/// The code of a line that spells no input.
+/// The refusal code of a line that is no input.
 const BAD_LINE: u8 = 1;
 
-/// The code of a message that is no hexadecimal text of whole bytes.
+/// The refusal code of a message that is not whole bytes in hexadecimal digits.
 const BAD_HEX: u8 = 2;
 
-/// Where the byte stands first.
+/// The place of the first such byte.
 fn find_byte(text: &[u8], byte: u8) -> Option<usize>
     ensures { result ≡ position (λ b. b == byte) text.now }
 {
     memchr(byte, text)
 }
 
-/// What stands before the first separator, and what stands behind it, if there is one.
+/// What stands before the first separator, and what stands behind it. Without a separator: the whole text, and `None`.
 fn cut(text: &[u8], separator: u8) -> (&[u8], Option<&[u8]>)
     ensures pieces { slice_split (λ b. b == separator) text.now ≡ result.0.now ∷ pieces_behind separator result.1 }
     ensures before { result.0.now ≡ before_first (λ b. b == separator) text.now }
@@ -62,7 +62,7 @@ fn first_line(text: &[u8]) -> (&[u8], &[u8])
     }
 }
 
-/// What stands before the first separator, and what stands behind it: nothing where there is none.
+/// What stands before the first separator, and what stands behind it. Without a separator: the whole text, and nothing.
 fn halves(text: &[u8], separator: u8) -> (&[u8], &[u8])
     ensures before { result.0.now ≡ before_first (λ b. b == separator) text.now }
     ensures behind { result.1.now ≡ after_first (λ b. b == separator) text.now }
@@ -74,7 +74,7 @@ fn halves(text: &[u8], separator: u8) -> (&[u8], &[u8])
     }
 }
 
-/// The number that a decimal spells: 1 to 10 digits, at most 4,294,967,295.
+/// The number that a word spells, if it is 1 to 10 decimal digits and at most 4,294,967,295.
 fn decimal(word: &[u8]) -> Option<u32>
     ensures { result ≡ decimal_of word.now }
 {
@@ -91,7 +91,7 @@ fn decimal(word: &[u8]) -> Option<u32>
     u32::try_from(value).ok()
 }
 
-/// The segment of three numbers, where there are three.
+/// The segment of a line, a first place and a last place, if all three are numbers.
 fn segment_from(line: Option<u32>, from: Option<u32>, to: Option<u32>) -> Option<Segment>
     ensures { result ≡ segment_from line from to }
 {
@@ -101,7 +101,7 @@ fn segment_from(line: Option<u32>, from: Option<u32>, to: Option<u32>) -> Option
     }
 }
 
-/// The segment that `LINE:FROM-TO` spells.
+/// The segment that a word spells as `LINE:FROM-TO`.
 fn segment(word: &[u8]) -> Option<Segment>
     ensures { result ≡ segment_of word.now }
 {
@@ -110,7 +110,7 @@ fn segment(word: &[u8]) -> Option<Segment>
     segment_from(decimal(line), decimal(from), decimal(to))
 }
 
-/// The segments that the words of a text spell, where each of them spells one.
+/// The segments that the words of a text spell, if every word is a segment. Fails only for lack of memory.
 fn segments(alloc: Global, text: &[u8]) -> Result<Option<Segments>, AllocError>
     ensures { IfOk result (λ found. found ≡ segments_of (words_of text.now)) }
 {
@@ -127,7 +127,7 @@ fn segments(alloc: Global, text: &[u8]) -> Result<Option<Segments>, AllocError>
     Ok(Some(segments))
 }
 
-/// The enrolment of an engine with a train of this length, where both are in their ranges.
+/// The enrolment of an engine with a train of this length in units of 10 cm, if both are in their ranges.
 fn enrolment_from(engine: Option<u32>, length: Option<u32>) -> Option<Input>
     ensures { result ≡ enrolment_from engine length }
 {
@@ -139,7 +139,7 @@ fn enrolment_from(engine: Option<u32>, length: Option<u32>) -> Option<Input>
     }
 }
 
-/// The input that `enrol` and these words spell.
+/// The input of the words behind `enrol`.
 fn enrolment(arguments: &[u8]) -> Option<Input>
     ensures { result ≡ enrolment_of (words_of arguments.now) }
 {
@@ -151,7 +151,7 @@ fn enrolment(arguments: &[u8]) -> Option<Input>
     }
 }
 
-/// The stop of an area under a number, where both are there.
+/// The emergency stop of these segments under this number, if both are there.
 fn stop_from(number: Option<u32>, segments: Option<Segments>) -> Option<Input>
     ensures { result ≡ stop_from number segments }
 {
@@ -161,7 +161,7 @@ fn stop_from(number: Option<u32>, segments: Option<Segments>) -> Option<Input>
     }
 }
 
-/// The input that `stop` and these words spell.
+/// The input of the words behind `stop`. Fails only for lack of memory.
 fn stop(alloc: Global, arguments: &[u8]) -> Result<Option<Input>, AllocError>
     ensures { IfOk result (λ found. found ≡ stop_of (words_of arguments.now)) }
 {
@@ -172,7 +172,7 @@ fn stop(alloc: Global, arguments: &[u8]) -> Result<Option<Input>, AllocError>
     }
 }
 
-/// The withdrawal of an engine, where its number is in its range.
+/// The withdrawal of an engine, if its number is in its range.
 fn withdrawal_from(engine: Option<u32>) -> Option<Input>
     ensures { result ≡ withdrawal_from engine }
 {
@@ -182,7 +182,7 @@ fn withdrawal_from(engine: Option<u32>) -> Option<Input>
     }
 }
 
-/// A number that stands by itself.
+/// The number that a single word spells.
 fn number(arguments: &[u8]) -> Option<u32>
     ensures { result ≡ number_of (words_of arguments.now) }
 {
@@ -193,7 +193,7 @@ fn number(arguments: &[u8]) -> Option<u32>
     }
 }
 
-/// The input that `withdraw` and these words spell.
+/// The input of the words behind `withdraw`.
 fn withdrawal(arguments: &[u8]) -> Option<Input>
     ensures { result ≡ withdrawal_of (words_of arguments.now) }
 {
@@ -204,7 +204,7 @@ fn withdrawal(arguments: &[u8]) -> Option<Input>
     }
 }
 
-/// The ways that a word names.
+/// The directions that a word names.
 fn dirs(word: &[u8]) -> Option<Dirs>
     ensures { result ≡ dirs_of word.now }
 {
@@ -219,7 +219,7 @@ fn dirs(word: &[u8]) -> Option<Dirs>
     }
 }
 
-/// The Q_FRONT that a word names.
+/// The Q_FRONT that a word names, `0` or `1`.
 fn front(word: &[u8]) -> Option<bool>
     ensures { result ≡ front_of word.now }
 {
@@ -232,7 +232,7 @@ fn front(word: &[u8]) -> Option<bool>
     }
 }
 
-/// The restriction of these, where all are there.
+/// The temporary speed restriction of these values, if all are there. The speed is in km/h.
 fn restriction_from(
     number: Option<u32>,
     segment: Option<Segment>,
@@ -256,7 +256,7 @@ fn restriction_from(
     }
 }
 
-/// The input that `restrict` and these words spell.
+/// The input of the words behind `restrict`.
 fn restriction(arguments: &[u8]) -> Option<Input>
     ensures { result ≡ restriction_of (words_of arguments.now) }
 {
@@ -277,7 +277,7 @@ fn restriction(arguments: &[u8]) -> Option<Input>
     }
 }
 
-/// The input that a command and the words behind it spell.
+/// The input of a signaller's command and the words behind it. Fails only for lack of memory.
 fn command(alloc: Global, word: &[u8], arguments: &[u8]) -> Result<Option<Input>, AllocError>
     ensures { IfOk result (λ found. found ≡ command_of word.now (words_of arguments.now)) }
 {
@@ -298,7 +298,7 @@ fn command(alloc: Global, word: &[u8], arguments: &[u8]) -> Result<Option<Input>
     }
 }
 
-/// The code of bytes that no message spells.
+/// The refusal code of bytes that are no message: 3 to 6, by what is wrong with them.
 fn code_of(fault: DecodeError) -> u8
     ensures { result ≡ code_of fault }
 {
@@ -310,7 +310,7 @@ fn code_of(fault: DecodeError) -> u8
     }
 }
 
-/// The message that bytes spell, or the code that refuses them.
+/// The input of bytes that a train sent: the message, or a refusal with its code.
 fn heard(bytes: &[u8]) -> Input
     ensures { AreHeard bytes.now result }
 {
@@ -320,21 +320,21 @@ fn heard(bytes: &[u8]) -> Input
     }
 }
 
-/// Whether no byte is a carriage return.
+/// Whether there is no carriage return in a word.
 fn has_no_return(word: &[u8]) -> bool
     ensures { result ≡ list_all (λ byte. if byte == 13 then false else true) word.now }
 {
     memchr(b'\r', word).is_none()
 }
 
-/// Whether a word is not empty, and has no carriage return.
+/// Whether a word may be hexadecimal text: it is not empty, and has no carriage return.
 fn is_hex_word(word: &[u8]) -> bool
     ensures { result ≡ is_hex_word word.now }
 {
     !word.is_empty() && has_no_return(word)
 }
 
-/// The message that hexadecimal digits spell, or the code that refuses them.
+/// The input of a message in hexadecimal digits. Fails only for lack of memory.
 fn message_from(alloc: Global, word: &[u8]) -> Result<Input, AllocError>
     ensures { IfOk result (λ input. IsInput (line_of_hex (decode_of word.now)) input) }
 {
@@ -345,7 +345,7 @@ fn message_from(alloc: Global, word: &[u8]) -> Result<Input, AllocError>
     }
 }
 
-/// The input that `recv` and these words spell.
+/// The input of the words behind `recv`. Fails only for lack of memory.
 fn message(alloc: Global, arguments: &[u8]) -> Result<Input, AllocError>
     ensures { IfOk result (λ input. IsInput (unwrap_or (message_of (words_of arguments.now)) (Spelled (Bad 1))) input) }
 {
@@ -357,7 +357,7 @@ fn message(alloc: Global, arguments: &[u8]) -> Result<Input, AllocError>
     }
 }
 
-/// The input that a line spells, or the code that refuses it. Only memory can fail.
+/// The input of a line: what it spells, or a refusal with its code. Fails only for lack of memory.
 fn input(alloc: Global, line: &[u8]) -> Result<Input, AllocError>
     ensures spelled { IfOk result (λ input. IsInput (line_of line.now) input) }
     ensures fits { IfOk result (λ input. Fits input) }
@@ -373,7 +373,8 @@ fn input(alloc: Global, line: &[u8]) -> Result<Input, AllocError>
     }
 }
 
-/// The inputs of a batch, one for each line, the empty ones too. Only memory can fail.
+/// Parses a batch into its inputs, one for each line. An empty line is an input too, a refusal. Fails only for lack of
+/// memory.
 pub fn parse_batch(rt: &impl AllocGlobal, text: &[u8]) -> Result<Vec<Input>, AllocError>
     ensures inputs { IfOk result (λ inputs. AreInputsOf text.now inputs.items) }
     ensures fit { IfOk result (λ inputs. All Fits inputs.items) }

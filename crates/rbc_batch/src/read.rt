@@ -1,26 +1,26 @@
 //! Reading the whole of a batch.
 
 ghost use Rattle.std.specs.Prelude.{◌≡◌, ◌≤◌, ◌<◌, length, IfOk, IfErr, IsErrOf, IfSome};
-ghost use Rattle.rbc_batch.specs.Process.{IsAllRead, IsBeforeWriting};
+ghost use Rattle.rbc_batch.specs.Process.{IsAllRead, IsBeforeWriting, max_batch};
 
 use crate::batch::ProcessError;
 use std::alloc::Global;
 use std::io::{ErrorKind, Read};
 
-/// A batch has at most so many bytes.
+/// The greatest length of a batch, in bytes.
 const MAX_BYTES: usize = 16_777_216;
 
-/// So many calls of a reader are made, of which one has to give the end.
+/// The greatest number of calls of a reader. One of them has to give the end.
 const MAX_CALLS: u32 = 20_000_000;
 
-/// How many bytes are asked for at once.
+/// The number of bytes asked for in one call.
 const PIECE: usize = 65_536;
 
-/// All that the reader has left.
+/// Reads to the end of the reader, at most `MAX_BYTES`. An interrupted call is made again.
 pub fn read_batch<R: Read>(alloc: Global, reader: &mut R) -> Result<Vec<u8>, ProcessError>
     ensures read { IfOk result (λ batch. IsAllRead (R.remaining reader.old) (R.remaining reader.new) batch.items) }
-    ensures short { IfOk result (λ batch. length batch.items ≤ 16777216) }
-    ensures too_long { IsErrOf result ProcessError.TooLong → IfSome (R.remaining reader.old) (λ bytes. 16777216 < length bytes) }
+    ensures short { IfOk result (λ batch. length batch.items ≤ max_batch) }
+    ensures too_long { IsErrOf result ProcessError.TooLong → IfSome (R.remaining reader.old) (λ bytes. max_batch < length bytes) }
     ensures before { IfErr result (λ e. IsBeforeWriting e) }
 {
     let mut batch = Vec::new(alloc);

@@ -1,4 +1,4 @@
-//! The output text of a desk.
+//! Writing a desk as its output text.
 
 ghost use Rattle.std.specs.Prelude.{◌≡◌, ◌++◌, ◌*◌, ◌≤◌, ◌<◌, ◌^◌, length, OnOk, IfOk, map};
 ghost use Rattle.std.specs.Fmt.{decimal};
@@ -14,7 +14,7 @@ use itoa::Buffer;
 use rbc_rule::Reply;
 use std::alloc::{AllocError, Global};
 
-/// Appends a decimal.
+/// Appends a number in decimal, without leading zeros.
 fn push_decimal(text: &mut Vec<u8>, number: u32) -> Result<(), AllocError>
     ensures { OnOk result (text.new.items ≡ text.old.items ++ decimal number) }
 {
@@ -38,7 +38,7 @@ fn push_reply(text: &mut Vec<u8>, reply: Reply) -> Result<(), AllocError>
     }
 }
 
-/// Appends the line of a result.
+/// Appends the line of one result.
 fn push_result(text: &mut Vec<u8>, input: u32, reply: Reply) -> Result<(), AllocError>
     ensures { OnOk result (text.new.items ≡ text.old.items ++ result_line (input, reply)) }
 {
@@ -48,7 +48,7 @@ fn push_result(text: &mut Vec<u8>, input: u32, reply: Reply) -> Result<(), Alloc
     text.extend_from_slice(b"\n")
 }
 
-/// Appends bytes as hexadecimal digits, in upper case.
+/// Appends at most 32 bytes as hexadecimal digits, in upper case.
 fn push_hex(text: &mut Vec<u8>, bytes: &[u8]) -> Result<(), AllocError>
     requires { length bytes.now ≤ 32 }
     ensures { OnOk result (text.new.items ≡ text.old.items ++ encode_upper bytes.now) }
@@ -85,7 +85,7 @@ fn push_outbox(text: &mut Vec<u8>, engine: u32, outbox: &Outbox) -> Result<(), A
     Ok(())
 }
 
-/// Appends the lines of the results, which are numbered from 1.
+/// Appends the lines of all results, numbered from 1.
 fn push_results(text: &mut Vec<u8>, results: &[Reply]) -> Result<(), AllocError>
     requires { length results.now < 2 ^ 32 }
     ensures { OnOk result (text.new.items ≡ text.old.items ++ flat_map result_line (enumerate_from 1 results.now)) }
@@ -106,9 +106,8 @@ fn push_outboxes(text: &mut Vec<u8>, outboxes: &[(u32, Outbox)]) -> Result<(), A
     Ok(())
 }
 
-/// The output text of a desk.
+/// The output text of a desk: the results from 1 on, and then the messages by engine. Fails only for lack of memory.
 pub fn render(alloc: Global, desk: &Desk) -> Result<Vec<u8>, AllocError>
-    requires { length desk.now.results < 2 ^ 32 }
     ensures { IfOk result (λ text. text.items ≡ output_of desk.now.results desk.now.outboxes) }
 {
     let mut text = Vec::new(alloc);

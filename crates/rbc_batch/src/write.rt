@@ -5,11 +5,11 @@ ghost use Rattle.std.specs.Io.KnownBytes.{Appends};
 
 use std::io::{ErrorKind, Write};
 
-/// A writer may be interrupted fewer times than this.
+/// Writing fails once the writer has been interrupted this many times.
 const MAX_INTERRUPTIONS: u32 = 1_000;
 
-/// Writes a text. An error is the number of bytes that are out, exactly the first ones of the text: the
-/// writer failed, took nothing, or was interrupted too often.
+/// Writes the whole text. It fails if the writer fails, takes no bytes, or is interrupted `MAX_INTERRUPTIONS` times. The
+/// error is the number of bytes that are out: exactly that many, from the beginning of the text.
 pub fn write_text<W: Write>(writer: &mut W, text: &[u8]) -> Result<(), usize>
     ensures ok { OnOk result (Appends (W.contents writer.old) (W.contents writer.new) text.now) }
     ensures part { IfErr result (λ sent. (sent ≤ length text.now) × Appends (W.contents writer.old) (W.contents writer.new) (take sent text.now)) }

@@ -27,7 +27,8 @@ use Rattle.rbc_rule.specs.Effect.{forget, unknown_stamp, is_too_high, raised, pl
 use Rattle.rbc_rule.proofs.KeepsLists.{IsPart, part-same, part-all, part-distinct, part-before, part-behind, value_of-found}
 use Rattle.rbc_rule.proofs.KeepsSlots.{stamps_in, SlotsStay, stay-without, stay-put, good_slots, told-given}
 use Rattle.rbc_rule.proofs.KeepsPlaces.{place_on}
-use Rattle.rbc_rule.specs.Bounds.{max_engine, max_train_length, max_stamp}
+use Rattle.rbc_settle.specs.Trains.{max_engine, max_train_length}
+use Rattle.rbc_rule.specs.Bounds.{max_stamp}
 use Rattle.rbc_rule.specs.Codes.{code_of}
 use Rattle.rbc_rule.specs.declared.refuse.Refusal.TheVariants.{StampTooHigh}
 

@@ -28,7 +28,8 @@ use Rattle.rbc_rule.specs.Step.{settle_all}
 use Rattle.rbc_rule.specs.WellFormed.{IsGoodStop, AreGoodStops, AreGoodLimits, IsGoodTrain, IsWellFormed}
 use Rattle.rbc_rule.proofs.KeepsLists.{length-filter, All-with_value, length-with_value, All-value_of, map-replaced}
 use Rattle.rbc_rule.proofs.KeepsTrains.{well_later, well_new, well_forgotten, WellIfOk, well_heard}
-use Rattle.rbc_rule.specs.Bounds.{max_trains, max_stops, max_limits, max_engine, max_train_length}
+use Rattle.rbc_settle.specs.Trains.{max_engine, max_train_length}
+use Rattle.rbc_rule.specs.Bounds.{max_trains, max_stops, max_limits}
 use Rattle.rbc_rule.specs.Codes.{code_of}
 use Rattle.rbc_rule.specs.declared.refuse.Refusal.TheVariants.{AlreadyEnrolled, TooManyTrains, StopsOutstanding, NumberUsed, BadArea, TooManyActive, NoSuchNumber}
 

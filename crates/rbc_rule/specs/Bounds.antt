@@ -1,4 +1,4 @@
--- The greatest numbers, lengths and stamps (own rule).
+-- The greatest numbers and stamps (own rule).
 use Rattle.std.specs.Prelude.{ℕ}
 
 -- the greatest number of enrolled trains
@@ -12,14 +12,6 @@ max_stops = 64
 -- the greatest number of active restrictions
 abbrev pub max_limits : ℕ
 max_limits = 300
-
--- the greatest engine number: NID_ENGINE has 24 bits
-abbrev pub max_engine : ℕ
-max_engine = 16777215
-
--- the greatest length of a train, in units of 10 cm
-abbrev pub max_train_length : ℕ
-max_train_length = 40000
 
 -- the greatest code of a bad line
 abbrev pub max_bad_code : ℕ

@@ -1,6 +1,7 @@
 -- The inputs that a batch can have (own rule).
 use Rattle.std.specs.Prelude.{◌≤◌, length}
-use Rattle.rbc_rule.specs.Bounds.{max_engine, max_train_length, max_bad_code}
+use Rattle.rbc_settle.specs.Trains.{max_engine, max_train_length}
+use Rattle.rbc_rule.specs.Bounds.{max_bad_code}
 use Rattle.rbc_rule.specs.declared.input.Input.{Input}
 use Rattle.rbc_rule.specs.declared.input.Input.TheVariants.{Enrol, Withdraw, Stop, Release, Restrict, Lift, Received, Bad}
 

@@ -7,7 +7,7 @@ use Rattle.rbc_batch.proofs.batch.run_inputs.Goals as goal
 pub loop-input-init : goal.loop-input-init
 loop-input-init c =
     let new = c.new-desk.ensures.new c.args.track.now in
-    record { desk = new; outboxes = c.new-desk.ensures.outboxes; few = ap length new.results }
+    record { desk = new; few = ap length new.results }
 
 pub loop-input-preserved : goal.loop-input-preserved
 loop-input-preserved c =
@@ -20,6 +20,5 @@ loop-input-preserved c =
     fold_more (step plan) new_desk inputs i one c.loop-input-test.true ∙ ap (step plan (serial plan new_desk (take i inputs))) (sym c.input-item.is) in
     record {
       desk = subst (λ (desk : Desk). Holds plan c.step.new.self desk) (sym more) (c.in_ok-step.ensures.step (serial plan new_desk (take i inputs)) so_far.desk);
-      outboxes = c.in_ok-step.ensures.stay_outboxes;
       few = c.in_ok-step.ensures.one_more ∙ ap (λ n. n + 1) so_far.few;
     }

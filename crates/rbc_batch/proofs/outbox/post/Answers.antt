@@ -19,13 +19,13 @@ pub returns-in_ok-add-clause-posted : goal.returns-in_ok-add-clause-posted
 returns-in_ok-add-clause-posted c =
     let is : c.index_for-at.result ≡ index_for c.args.engine c.args.outboxes.now.items = c.index_for-at.ensures ∙ ap (index_for c.args.engine) c.deref.ensures.value in
     let within : c.index_for-at.result < length c.args.outboxes.now.items = subst (λ xs. c.index_for-at.result < length xs) c.deref.ensures.value (omega arith) in
-    posted_there c.args.engine c.args.mail c.args.outboxes.now.items c.index_for-at.result is c.index.result.now c.index_mut.result.now c.add.new.self within c.index.ensures c.if-index-engine.true c.index_mut.ensures.value c.in_ok-add.ensures
+    posted_there c.args.engine c.args.mail c.args.outboxes.now.items c.index_for-at.result is c.index.result.now c.index_mut.result.now c.add.new.self within c.index.ensures c.if-index-engine.true c.index_mut.ensures.value c.in_ok-add.ensures.ok
 
 pub returns-in_ok-add-clause-outboxes : goal.returns-in_ok-add-clause-outboxes
 returns-in_ok-add-clause-outboxes c =
     let is : c.index_for-at.result ≡ index_for c.args.engine c.args.outboxes.now.items = c.index_for-at.ensures ∙ ap (index_for c.args.engine) c.deref.ensures.value in
     let within : c.index_for-at.result < length c.args.outboxes.now.items = subst (λ xs. c.index_for-at.result < length xs) c.deref.ensures.value (omega arith) in
-    let posted = posted_there c.args.engine c.args.mail c.args.outboxes.now.items c.index_for-at.result is c.index.result.now c.index_mut.result.now c.add.new.self within c.index.ensures c.if-index-engine.true c.index_mut.ensures.value c.in_ok-add.ensures in
+    let posted = posted_there c.args.engine c.args.mail c.args.outboxes.now.items c.index_for-at.result is c.index.result.now c.index_mut.result.now c.add.new.self within c.index.ensures c.if-index-engine.true c.index_mut.ensures.value c.in_ok-add.ensures.ok in
     subst AreOutboxes (sym posted) (outboxes_with c.args.engine _ c.args.outboxes.now.items (longer (value_or [] c.args.outboxes.now.items c.args.engine) c.args.mail) c.requires.outboxes)
 
 pub returns-in_ok-insert-clause-posted : goal.returns-in_ok-insert-clause-posted
