@@ -2,15 +2,16 @@
 """Checks README.md and docs/ against the crates. It reads files only.
 
     python3 .ci/documents.py            prints each fault on a line, and one line of summary; status 1 where there is a fault
-    python3 .ci/documents.py --count    also tells how long the part of docs/MODEL.md is that has to be believed, and lists the
-                                        definitions that public contracts and laws reach
+    python3 .ci/documents.py --count    also lists the definitions of each class of docs/MODEL.md, with the number of their lines
+    python3 .ci/documents.py --write    first puts into docs/MODEL.md how many lines have to be believed
 
 What is checked:
 - each path, module, file and link that a document names is there, and so is each name in backticks: a function, a type, a
   constant or a field of src/, a definition or a field of specs/ and proofs/, or a word of documents_words.py;
 - `name` of CRATE, `TYPE::name`, `CRATE::name`, names in a table's row of a crate, and names before (CRATE, FILE) or (CRATE, FILE.rt) are where that says;
-- docs/MODEL.md names each definition that a public contract or a law reaches, in the part where it belongs, each specs file,
-  and each module of the kit that is not of everyday use;
+- docs/MODEL.md names each definition that a public contract or a law reaches, in the part and the section where its class
+  belongs (documents_reach.py), each specs file, and each word of the kit that is not of everyday use; and it says how many
+  lines have to be believed;
 - the table of docs/ARCHITECTURE.md says what crates.txt says, and an output in README.md is that of its file;
 - no file cites a paper, or a demand by its number.
 """
@@ -21,6 +22,7 @@ from pathlib import Path
 sys.path.insert(0, str(Path(__file__).resolve().parent))
 sys.dont_write_bytecode = True
 
+import documents_model as model
 import documents_reach as reach
 import documents_words as words
 
@@ -30,7 +32,6 @@ CITATION = re.compile(
     r"|\brow \d{1,2}\b|\b(?:scope|theorems|requests|formats)\.md\b"
 )
 CITED_IN = {".rt", ".antt", ".md", ".edit", ".txt", ".toml", ".sh", ".py", ""}
-PARTS = {"To be believed": "believed", "Laws: proved, need not be believed": "law", "Of the code alone": "code"}
 NAME = re.compile(r"(?<!\w)[A-Za-z_][A-Za-z0-9_']*")
 CRATE = r"(?:ertms|rbc)_[a-z]+"
 FILE = re.compile(r"(?<![\w/.-])((?:[\w.-]+/)*[\w.-]+\.(?:md|rt|antt|sh|py|toml|batch|expected|edit|tsv|txt|c)|"
@@ -113,7 +114,7 @@ def path_faults(root, document, text):
 # ---- names
 
 def known_names(world):
-    names = set(words.KNOWN) | set(world.crates) | {name for _, name in world.kit_words()}
+    names = set(words.KNOWN) | set(world.crates) | {name for _, name in world.kit}
     for crate in world.crates.values():
         names |= crate.rust_names | crate.antt_names | {path.stem for path in crate.edits}
     return names
@@ -155,54 +156,6 @@ def owned_faults(world, text):
         for name in re.findall(r"`(\w+)`", match.group(1)):
             if not world.is_in(match.group(2), match.group(3), name):
                 yield match.start(), f"names `{name}` ({match.group(2)}, {match.group(3)}), where it is not"
-
-
-# ---- the model
-
-def model_rows(text):
-    """Of each row of a table of docs/MODEL.md: its place, its part, the names in it, and where they stand."""
-    part, place = None, 0
-    for line in text.split("\n"):
-        if line.startswith("## "):
-            part = PARTS.get(line[3:].strip())
-        cells = [cell.strip() for cell in line.split("|")]
-        if part and len(cells) >= 5 and cells[2] not in {"file", "---", ""}:
-            yield place, part, re.findall(r"`([^`]+)`", cells[1]), cells[2]
-        place += len(line) + 1
-
-
-def model_faults(world, text):
-    for crate in world.misread():
-        yield None, f"cannot be checked: not all clauses of {crate} were read"
-    said, kit, seen = {}, set(), set()
-    for place, part, names, where in model_rows(text):
-        if where.startswith("Rattle."):
-            kit |= {(where, name) for name in names}
-            for name in names:
-                if (where, name) not in world.kit_words():
-                    yield place, f"names `{name}` ({where}), which nothing reaches"
-            continue
-        crate, _, file = where.partition(", ")
-        seen.add((crate, file))
-        for name in names:
-            key = (crate, file, name)
-            if not world.is_in(crate, file, name):
-                yield place, f"names `{name}` ({where}), where it is not"
-            elif key in said:
-                yield place, f"names `{name}` ({where}) twice"
-            else:
-                said[key] = part
-                if world.part_of(*key) != part:
-                    yield place, f"has `{name}` ({where}) in the part '{part}', and it belongs to '{world.part_of(*key)}'"
-    for (crate, file, name), part in sorted(world.needed.items()):
-        if (crate, file, name) not in said:
-            yield None, f"misses `{name}` ({crate}, {file}), of the part '{part}'"
-    for crate, file in sorted(world.specs()):
-        if (crate, file) not in seen:
-            yield None, f"misses the file {file} of {crate}"
-    for module, name in sorted(world.kit_words()):
-        if module not in words.EVERYDAY and (module, name) not in kit:
-            yield None, f"misses `{name}` ({module}), a word of the kit"
 
 
 # ---- tables and outputs
@@ -252,7 +205,7 @@ def faults(root, world):
         text = without_blocks(whole)
         found = [*path_faults(root, document, text), *name_faults(world, known, text), *owned_faults(world, text), *output_faults(root, whole)]
         if document.name == "MODEL.md":
-            found += model_faults(world, whole)
+            found += model.faults(world, whole)
         if document.name == "ARCHITECTURE.md":
             found += table_faults(root, whole)
         for place, fault in found:
@@ -261,26 +214,14 @@ def faults(root, world):
         yield path, path.read_text(), place, fault
 
 
-def count(world):
-    """What has to be believed, by file, with its lines."""
-    total = {}
-    for (crate, file), found in sorted(world.by_file().items()):
-        for part in ("believed", "law"):
-            names = [(name, lines) for name, at, lines in found if at == part]
-            if names:
-                lines = sum(lines for _, lines in names)
-                total[part] = total.get(part, 0) + lines
-                print(f"{part:8} {crate}, {file}: {lines} lines: {', '.join(name for name, _ in names)}")
-    for part, lines in total.items():
-        print(f"{part}: {lines} lines without imports, blanks and comments")
-
-
 def main():
     root = ROOT
     ENDS.update(ends_of(root))
     world = reach.World(root)
+    if "--write" in sys.argv[1:]:
+        model.write(world, root / "docs" / "MODEL.md")
     if "--count" in sys.argv[1:]:
-        count(world)
+        model.count(world)
     broken = 0
     for document, text, place, fault in faults(root, world):
         broken += 1

@@ -1,296 +1,38 @@
-"""What public contracts and laws reach: the definitions of specs/ that a reader of a contract has to read.
+"""To which class a definition of specs/ belongs, by the contracts that are said with it.
 
-A contract is public where a crate's lib.rt gives its function away, or the type that its method is of. Of a program with a
-specs/ of its own each contract counts, since a program gives nothing away. From the words of a contract the way goes by the imports (`ghost use` in src/, `use` in
-specs/) to definitions, from the words of a definition to further ones, and from a type of src/ to the types of its fields, or
+- believed: the contracts of the calls that the program makes (`is_called`). They are the rules, or formats (`is_rule`).
+- law: laws, and none of those contracts.
+- boundary: contracts of functions that some crate gives away, and neither of those. They are proved to compose into the contracts of
+  the program's calls.
+- code: private contracts and proofs alone.
+
+A crate gives a function away where its lib.rt names it, or the type that its method is of. Of a program with a specs/ of its own each
+contract counts, since a program gives nothing away. From the words of a contract the way goes by the imports (`ghost use` in src/,
+`use` in specs/) to definitions, from the words of a definition to further ones, and from a type of src/ to the types of its fields, or
 to its value in contracts where it has one. How private fields make that value, and what a type keeps, is of the code: a caller
 sees it only through contracts. What the witnesses of laws reach is apart: worked cases, of which nothing has to be named.
 """
 import re
 
-TOKEN = re.compile(r"[A-Za-z_][A-Za-z0-9_']*(?:\.[A-Za-z0-9_][A-Za-z0-9_']*)*")
-RUST_NOISE = re.compile(r'//[^\n]*|b?"(?:\\.|[^"\\])*"|b?\'(?:\\.[^\']*|[^\\\'\n])\'', re.S)
-ANTT_NOISE = re.compile(r'--[^\n]*|"(?:\\.|[^"\\])*"', re.S)
+from documents_source import TOKEN, Crate
+
+# the program, the crates that it calls, and the one function of another crate that it calls
+CALLED = {"rbc_dispatch", "rbc_batch", "ertms_codec"}
+CALLED_FUNCTIONS = {("rbc_track", "track_from_toml")}
+
+# where the rules stand; the rest of what has to be believed is formats
+RULES = {"rbc_place", "rbc_zones", "rbc_ids", "rbc_maps", "rbc_settle", "rbc_rule"}
+RULES_FILES = {("rbc_batch", "Serial"), ("rbc_batch", "outbox.rt")}
+
+CLASSES = ("believed", "law", "boundary")
 
 
-def blank(pattern, text):
-    """The text with comments and strings blanked, so that places stay."""
-    return pattern.sub(lambda m: re.sub(r"[^\n]", " ", m.group()), text)
+def is_called(crate, found):
+    return crate.name in CALLED or (crate.name, found.name) in CALLED_FUNCTIONS
 
 
-class Scope:
-    """The names that imports bring: to (module, name), and other names of modules."""
-
-    def __init__(self, outer=None):
-        self.names = dict(outer.names) if outer else {}
-        self.modules = dict(outer.modules) if outer else {}
-
-    def use(self, text):
-        """Takes an import: `A.B.{x, y as z}` or `A.B as z`."""
-        listed = re.match(r"\s*([\w.]+)\.\{(.*)\}\s*$", text, flags=re.S)
-        if listed:
-            for word in listed.group(2).split(","):
-                name, _, other = word.strip().partition(" as ")
-                for piece in [other or name, *re.findall(r"[A-Za-z_]\w*", other or name)]:
-                    self.names[piece] = (listed.group(1), name)
-            return
-        module, _, other = text.strip().partition(" as ")
-        self.modules[other.strip() or module.rsplit(".", 1)[-1]] = module
-
-
-# ---- specs
-
-class Definition:
-    def __init__(self, name, keyword, lines):
-        self.name, self.keyword, self.lines = name, keyword, lines
-        self.text = "\n".join(lines)
-        self.fields = set(re.findall(r"^  (?:pub )?(\w+) :", self.text, flags=re.M))
-
-    def length(self):
-        return sum(1 for line in self.lines if line.strip())
-
-
-class Spec:
-    """A file of specs/ or proofs/: its imports and its definitions."""
-    HEAD = re.compile(r"^(?:(?:abbrev|unfoldable|opaque) )?(?:pub )?(?:(record|data) )?([^\s:({]+)(?=[ :({])")
-
-    def __init__(self, path):
-        self.scope, self.definitions, self.makes = Scope(), {}, {}
-        text = blank(ANTT_NOISE, path.read_text())
-        current = None
-        for line in text.split("\n"):
-            if line.startswith("use "):
-                self.scope.use(line[4:])
-                current = None
-            elif self.begins(line):
-                match = self.HEAD.match(line)
-                current = Definition(match.group(2), match.group(1), [line])
-                self.definitions[current.name] = current
-            elif re.match(r"infix|pub mod|mod ", line):
-                current = None
-            elif current is not None:
-                current.lines.append(line)
-        for found in self.definitions.values():
-            found.__init__(found.name, found.keyword, found.lines)
-            self.makes[found.name] = found.name
-            for piece in re.findall(r"[A-Za-z_]\w*", found.name) if "◌" in found.name else []:
-                self.makes[piece] = found.name
-            for field in found.fields if found.keyword == "data" else []:
-                self.makes[field] = found.name
-
-    def begins(self, line):
-        return bool(re.match(r"(?:abbrev|unfoldable|opaque|pub(?! mod)|record|data) ", line) or re.match(r"[^\s:]+ : ", line))
-
-
-# ---- sources
-
-class Function:
-    def __init__(self, name, public, owner, trait, scope, module):
-        self.name, self.public, self.owner, self.trait = name, public, owner, trait
-        self.scope, self.module = scope, module
-        self.signature, self.clauses, self.is_law = "", [], False
-
-    def part(self):
-        """Of docs/MODEL.md: a law is a function that does nothing, and so are its witnesses."""
-        if not self.is_law:
-            return "believed"
-        return "witness" if self.name.endswith("_witnesses") else "law"
-
-
-class Type:
-    def __init__(self, name, module, text):
-        self.name, self.module, self.text = name, module, text
-        self.value = None  # in contracts: its text, and the scope of that
-        body = text.partition("{")[2]
-        self.members = set(re.findall(r"^\s*(?:pub(?:\([a-z]+\))? )?([a-z_]\w*):", body, flags=re.M))
-        self.members |= set(re.findall(r"^\s*([A-Z]\w*)\s*(?:[,({]|$)", body, flags=re.M))
-
-
-def closing(text, place):
-    """Behind the brace that closes the one at a place."""
-    depth = 0
-    for at in range(place, len(text)):
-        depth += {"{": 1, "}": -1}.get(text[at], 0)
-        if depth == 0:
-            return at + 1
-    raise ValueError("a brace is not closed")
-
-
-def statement_end(text, place):
-    """Behind the semicolon that ends what begins at a place."""
-    depth = 0
-    for at in range(place, len(text)):
-        depth += {"{": 1, "(": 1, "[": 1, "}": -1, ")": -1, "]": -1}.get(text[at], 0)
-        if text[at] == ";" and depth == 0:
-            return at + 1
-    return len(text)
-
-
-def head_end(text, place):
-    """The first brace or semicolon from a place on that stands in no parentheses, as that of `[u8; 32]` does."""
-    depth = 0
-    for at in range(place, len(text)):
-        depth += {"(": 1, "[": 1, ")": -1, "]": -1}.get(text[at], 0)
-        if text[at] in "{;" and depth == 0:
-            return at
-    return len(text)
-
-
-class Source:
-    """What stands in the files of a crate's src/."""
-    ITEM = re.compile(
-        r"(?P<attribute>#!?\[)|(?P<use>ghost use |(?:pub(?:\([a-z]+\))? )?use )|(?P<ghost>ghost )"
-        r"|(?P<block>(?:pub(?:\([a-z]+\))? )?(?:impl|trait)\b|(?:pub )?mod \w+ \{)|(?P<mod>(?:pub(?:\([a-z]+\))? )?mod \w+;)"
-        r"|(?P<function>(?:pub(?:\([a-z]+\))? )?(?:const )?fn (?=\w))|(?P<type>(?:pub(?:\([a-z]+\))? )?(?:struct|enum|type)\b)"
-        r"|(?P<const>(?:pub(?:\([a-z]+\))? )?(?:const|static) )"
-    )
-
-    def __init__(self, folder):
-        self.functions, self.types, self.names, self.given, self.ghosts = [], {}, set(), set(), []
-        self.in_file = {}
-        self.clauses_written = 0  # in the text, to be held against those that were read
-        for path in sorted(folder.rglob("*.rt")):
-            module = path.relative_to(folder).as_posix()
-            self.is_test = "tests" in module
-            self.module = module
-            self.in_file.setdefault(module, set())
-            text = blank(RUST_NOISE, path.read_text())
-            if not self.is_test:
-                shown = text.split("#[cfg(test)]\nmod tests {")[0]
-                self.clauses_written += len(re.findall(r"\b(?:requires|ensures)\b", shown))
-            self.walk(text, 0, len(text), Scope(), None, None, False)
-
-    def name(self, *names):
-        self.names.update(names)
-        self.in_file[self.module].update(names)
-
-    def walk(self, text, at, end, scope, owner, trait, public_trait):
-        while True:
-            match = self.ITEM.search(text, at, end)
-            if not match:
-                return
-            kind, start = match.lastgroup, match.start()
-            if kind == "attribute":
-                at = self.attribute(text, match)
-            elif kind in {"use", "mod", "const", "ghost"}:
-                at = match.end() if kind == "mod" else statement_end(text, match.end())
-                self.statement(kind, text[start:at - 1], scope, owner, trait)
-            elif kind == "function":
-                at = self.function(text, match, scope, owner, trait, public_trait)
-            elif kind == "type":
-                at = self.type(text, match)
-            else:
-                at = self.block(text, match, scope)
-
-    def attribute(self, text, match):
-        at, depth = match.end(), 1
-        while depth:
-            depth += {"[": 1, "]": -1}.get(text[at], 0)
-            at += 1
-        if "cfg(test)" in text[match.start():at]:
-            inner = re.compile(r"\s*mod \w+ \{").match(text, at)
-            return closing(text, inner.end() - 1) if inner else at
-        return at
-
-    def statement(self, kind, words, scope, owner, trait):
-        if kind == "use" and words.startswith("ghost"):
-            scope.use(words[len("ghost use "):])
-        elif kind == "use" and words.startswith("pub use ") and self.module == "lib.rt":
-            self.given.update(re.findall(r"\w+", words.rsplit("::", 1)[-1]))
-        elif kind == "mod":
-            self.name(words.rsplit(" ", 1)[-1])
-        elif kind == "const":
-            self.name(re.search(r"(?:const|static) (\w+)", words).group(1))
-        elif kind == "ghost":
-            name = re.match(r"ghost (\w+)", words)
-            if name and not self.is_test:
-                self.name(name.group(1))
-                self.ghosts.append((owner, trait, name.group(1), words, Scope(scope)))
-
-    def function(self, text, match, scope, owner, trait, public_trait):
-        name = re.compile(r"\w+").match(text, match.end()).group()
-        public = match.group().startswith("pub fn") or match.group().startswith("pub const fn") or public_trait
-        found = Function(name, public, owner, trait, scope, self.module)
-        self.name(name)
-        if public and owner is None and self.module == "lib.rt":
-            self.given.add(name)
-        at = match.end()
-        while True:
-            stop = head_end(text, at)
-            head = text[at:stop]
-            clause = re.search(r"\b(?:requires|ensures)(?:\s+(\w+))?\s*$", head)
-            found.signature += head[:clause.start()] if clause else head
-            if text[stop] == ";":
-                at = stop + 1
-                break
-            at = closing(text, stop)
-            inner = text[stop + 1:at - 1]
-            if not clause:
-                found.is_law = not inner.strip() and bool(found.clauses) and "->" not in found.signature
-                break
-            found.clauses.append(inner)
-            self.name(*(name for name in [clause.group(1)] if name))
-        self.name(*re.findall(r"(\w+): ", found.signature))
-        if not self.is_test:
-            self.functions.append(found)
-        return at
-
-    def type(self, text, match):
-        name = re.compile(r"\s*(\w+)").match(text, match.end()).group(1)
-        stop = head_end(text, match.end())
-        at = stop + 1 if text[stop] == ";" else closing(text, stop)
-        found = Type(name, self.module, text[match.start():at])
-        self.name(name, *found.members)
-        if self.module == "lib.rt" and found.text.startswith("pub "):
-            self.given.add(name)
-        if not self.is_test:
-            self.types[name] = found
-        return at
-
-    def block(self, text, match, scope):
-        brace = text.index("{", match.start())
-        head, stop = text[match.start():brace], closing(text, text.index("{", match.start()))
-        inner, owner, trait, public = Scope(scope), None, None, False
-        if "mod " in head:
-            inner = scope
-        elif re.match(r"(?:pub(?:\([a-z]+\))? )?trait\b", head):
-            owner = trait = re.search(r"trait (\w+)", head).group(1)
-            public = True
-            self.name(owner)
-        else:
-            head = re.sub(r"^impl\s*(<(?:[^<>]|<[^<>]*>)*>)?\s*", "", head)
-            of, _, subject = head.rpartition(" for ")
-            owner = re.match(r"&?\s*(?:\w+::)*(\w+)", (subject or head).strip()).group(1)
-            trait = re.match(r"(?:\w+::)*(\w+)", of.strip()).group(1) if of else None
-        at = brace + 1
-        # the imports of a block hold for all of it
-        for use in re.finditer(r"ghost use ([^;]*);", text[at:stop]):
-            if owner:
-                inner.use(use.group(1))
-        self.walk(text, at, stop - 1, inner, owner, trait, public)
-        return stop
-
-
-class Crate:
-    def __init__(self, folder):
-        self.name, self.folder = folder.name, folder
-        self.source = Source(folder / "src")
-        self.is_program = (folder / "src" / "main.rt").exists()
-        self.specs = {p.stem: Spec(p) for p in sorted((folder / "specs").glob("*.antt")) if p.stem != "Lib"}
-        self.edits = sorted((folder / "must-fail").glob("*.edit"))
-        self.rust_names = set(self.source.names)
-        self.antt_names = set()
-        proofs = [Spec(p) for p in sorted((folder / "proofs").rglob("*.antt"))]
-        for spec in [*self.specs.values(), *proofs]:
-            for found in spec.definitions.values():
-                self.antt_names |= {found.name, *found.fields, *re.findall(r"[A-Za-z_]\w*", found.name)}
-        self.antt_names |= {p.stem for p in (folder / "proofs").rglob("*.antt")} | set(self.specs)
-
-    def is_given(self, found):
-        """Whether a function is one that the crate gives away."""
-        if self.is_program:
-            return bool(self.specs)
-        return (found.public or found.trait is not None) and (found.owner or found.name) in self.source.given
+def is_rule(crate, file):
+    return crate in RULES or (crate, file) in RULES_FILES
 
 
 class World:
@@ -298,8 +40,8 @@ class World:
 
     def __init__(self, root):
         self.crates = {p.name: Crate(p) for p in sorted((root / "crates").iterdir()) if (p / "src").is_dir()}
-        self.reached = {part: self.closure(part) for part in ("believed", "law", "witness")}
-        self.needed = self.parts()
+        self.reached = {part: self.closure(part) for part in (*CLASSES, "witness")}
+        self.needed, self.kit = self.classes()
         self.witnessed = {node[1:] for node in self.reached["witness"]}
 
     # -- questions
@@ -327,34 +69,31 @@ class World:
             return name in crate.source.in_file.get(file, ())
         return file in crate.specs and name in crate.specs[file].makes
 
-    def parts(self):
-        """The part in which each reached definition and type has to stand."""
-        parts = {}
-        for part in ("law", "believed"):
+    def classes(self):
+        """The class of each reached definition and type, and of each word of the kit: the first one that reaches it. Types that
+        the kit declares in Rust are known by their names."""
+        needed, kit = {}, {}
+        for part in reversed(CLASSES):
             for kind, crate, file, name in self.reached[part]:
                 if kind in {"definition", "type"}:
-                    parts[(crate, file, name)] = part
-        return parts
+                    needed[(crate, file, name)] = part
+                elif kind == "kit" and ".declared." not in file:
+                    kit[(file, name)] = part
+        return needed, kit
 
-    def part_of(self, crate, file, name):
-        """The part in which a name has to stand, where it is named: cases of witnesses stand with the laws."""
+    def class_of(self, crate, file, name):
+        """The class of a name; cases of witnesses stand with the laws."""
         key = (crate, file, name)
         return self.needed.get(key) or ("law" if key in self.witnessed else "code")
 
-    def kit_words(self):
-        """Words of the kit that are reached; types that it declares in Rust are known by their names."""
-        return {(module, name) for part in ("believed", "law") for kind, _, module, name in self.reached[part]
-                if kind == "kit" and ".declared." not in module}
-
     def by_file(self):
-        """The reached definitions of each specs file, in its order: name, part, lines."""
+        """The definitions of each specs file, in its order: name, class, lines."""
         found = {}
         for crate in self.crates.values():
             for file, spec in crate.specs.items():
                 for name, definition in spec.definitions.items():
-                    part = self.needed.get((crate.name, file, name))
-                    if part:
-                        found.setdefault((crate.name, file), []).append((name, part, definition.length()))
+                    part = self.class_of(crate.name, file, name)
+                    found.setdefault((crate.name, file), []).append((name, part, definition.length()))
         return found
 
     # -- the way
@@ -371,13 +110,19 @@ class World:
     def roots(self, part):
         for crate in self.crates.values():
             for found in crate.source.functions:
-                if crate.is_given(found) and found.part() == part:
+                if crate.is_given(found) and self.is_root(part, crate, found):
                     for clause in found.clauses:
                         yield from self.words(crate, found.scope, clause)
                     yield from self.types_in(crate, found.signature)
-            for owner, trait, name, text, scope in crate.source.ghosts if part == "believed" else []:
+            for owner, trait, _, text, scope in crate.source.ghosts:
                 if trait != "Model" and (owner in crate.source.given or crate.is_program and crate.specs):
-                    yield from self.words(crate, scope, text)
+                    if part == "boundary" or part == "believed" and crate.name in CALLED:
+                        yield from self.words(crate, scope, text)
+
+    def is_root(self, part, crate, found):
+        if part in {"law", "witness"}:
+            return found.kind() == part
+        return found.kind() == "call" and (part == "boundary" or is_called(crate, found))
 
     def next(self, node):
         kind, crate, file, name = node
