@@ -1,5 +1,0 @@
-//! Tests that hold whole batches against values from outside, over readers and writers that fail and with memory that is refused.
-#![tactic(auto)]
-
-#[cfg(test)]
-mod tests;
