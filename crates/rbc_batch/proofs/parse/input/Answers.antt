@@ -4,4 +4,4 @@ use Rattle.rbc_batch.proofs.parse.input.Goals as goal
 
 pub returns-in_ok-found-in-Some-2-clause-fits : goal.returns-in_ok-found-in-Some-2-clause-fits
 returns-in_ok-found-in-Some-2-clause-fits c =
-    command_or_bad_fits c.cut.result.0.now (words_of c.in-Some-2.arguments.now) _ _ c.in_ok-found-in-Some-2.ensures c.unwrap_or.ensures
+    command_or_bad_fits c.cut.result.0.now (words_of c.in-Some-2.arguments.now) _ _ c.in_ok-found-in-Some-2.ensures (rw c.bad_line-in-Some-2.ensures at c.unwrap_or.ensures)
