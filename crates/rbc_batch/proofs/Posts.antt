@@ -2,7 +2,7 @@
 use Rattle.std.proofs.Common.{◌≡◌, ◌≢◌, ℕ, ◌+◌, ◌<◌, ◌≤◌, Bool, true, false, cond, eqb, ltb, leb, List, [], ◌∷◌, ◌++◌, length, get_or, slice_get, Some, drop, set, map, refl, sym, ap, ◌∙◌, subst, arith, inl, inr, append_assoc}
 use Rattle.std.specs.List.{fold, filter, insert, All}
 use Rattle.std.proofs.lemmas.Bool.{cases_lt, lt-ltb, le-ltb, eq-eqb, ne_eqb, eqb-true, and_parts, and_from, le-leb}
-use Rattle.std.proofs.lemmas.List.{append-nil, at_drop_more, get_or_default, set-get_or}
+use Rattle.std.proofs.lemmas.List.{append-nil, at_drop_more, get_or_default}
 use Rattle.std.proofs.lemmas.Option.{slice_get_within, get_or_from_slice_get}
 use Rattle.std.proofs.lemmas.List.Elements.{All-cons, All-head, All-tail}
 use Rattle.ertms_codec.specs.declared.to_train.ToTrain.{ToTrain}
@@ -211,7 +211,3 @@ module _ (engine : ℕ) (one : Mail) (boxes : List (ℕ × List Mail)) (at : ℕ
   posted_new mails added absent other =
       inserted engine mails boxes at is other
       ∙ ap (λ (ms : List Mail). with_value engine ms boxes) (added ∙ ap (λ (none : List Mail). none ++ one ∷ []) (sym (value_or-absent [] engine boxes absent)))
-
--- an outbox that is put back as it was changes nothing
-pub put_back : (boxes : List (ℕ × List Mail)) (at : ℕ) (m : ℕ × List Mail) (mails : List Mail) → m ≡ get_or boxes at m → mails ≡ m.1 → set boxes at (m.0, mails) ≡ boxes
-put_back boxes at m mails read same = ap (λ (ms : List Mail). set boxes at (m.0, ms)) same ∙ ap (λ (p : ℕ × List Mail). set boxes at p) read ∙ set-get_or boxes at m

@@ -5,7 +5,7 @@ ghost use Rattle.rbc_track.specs.Plan.{Plan, IsPlan};
 ghost use Rattle.rbc_rule.specs.Inputs.{Fits};
 ghost use Rattle.rbc_rule.specs.Gathered.{AreSendable};
 ghost use Rattle.rbc_batch.specs.Serial as serial;
-ghost use Rattle.rbc_batch.specs.Held.{Holds, IsInOrder, max_results};
+ghost use Rattle.rbc_batch.specs.Held.{Holds, IsInOrder};
 
 use crate::outbox::{self, Outbox};
 use rbc_records::{PlainStore, apply};
@@ -14,7 +14,10 @@ use rbc_track::Track;
 use std::alloc::Global;
 use std::marker::Model;
 
-/// The outcome of all inputs so far: the records, the results and the outboxes. It has at most 4,000,000,000 results.
+/// The greatest number of results of a desk.
+pub const MAX_RESULTS: usize = 4_000_000_000;
+
+/// The outcome of all inputs so far: the records, at most `MAX_RESULTS` results, and the outboxes.
 #[derive(Debug, Drop)]
 pub struct Desk {
     records: PlainStore,
@@ -63,12 +66,12 @@ impl Desk {
         self.outboxes.as_slice()
     }
 
-    /// Takes the next input, on a track. If the desk holds a serial run, this fails only for lack of memory. After an error
-    /// the desk is in order still, but the input may be done in part.
+    /// Takes the next input, on a track. There has to be room for one more result. If the desk holds a serial run, this
+    /// fails only for lack of memory. After an error the desk is in order still, but the input may be done in part.
     pub fn step(&mut self, alloc: Global, track: &Track, input: &Input) -> Result<(), RuleFault>
         requires plan { IsPlan track.now }
         requires fits { Fits input.now }
-        requires room { length self.old.results < max_results }
+        requires room { length self.old.results < MAX_RESULTS }
         ensures step { OnOk result ((desk : serial.Desk) → Holds track.now self.old desk → Holds track.now self.new (serial.step track.now desk input.now)) }
         ensures memory { IfErr result (λ fault. (desk : serial.Desk) → Holds track.now self.old desk → fault ≡ RuleFault.OutOfMemory) }
         ensures one_more { OnOk result (length self.new.results ≡ length self.old.results + 1) }
