@@ -5,17 +5,17 @@ FILES = {"crates/CRATE/specs/FILE.antt", "FILE.rt", "crates/CRATE/src/", "crates
 
 # of Rust
 RUST = """
-Abort Bool Bor Copy Display Env IndexMap List Option Vec allow always as bool collect copied data div_ceil entry env false for from get_index
+Abort Bool Bor Copy Debug Display Env PartialEq Sized assert_eq IndexMap List Option Vec allow always as bool collect copied data div_ceil entry env false for from get_index
 ghost i16 if impl inline into iter iterator let malloc map match max min mut not pub realloc ref self source string true type u32 u8
 unwrap_or unwrap use usize var vec while
 """
 
 # of antt, its tactics and the kit's std
 ANTT = """
-All Appends Next args pair signed CLAUSE CallerLemmas Consumes FitsSigned IfNone IfOk IfSome IsAtEnd IsErrAnd IsFirstByte IsTrue Keeps STEP YieldsList absurd ap arith
-at_drop_all at_drop_more bytes_eq c cc clap_on_literals cond drop elim ensures eq find find_from_yields_List flat_map fold from_ from_residual
-holes ids length-drop zero-add insert_entry-new infixr inl inr insert_entry into_iter_items it loop ne_eqb now of_z old omega on_ok_weaker opaque option_and_then option_copied
-option_map position_or_len proof proved record refl requires rules rw search shift simp slice_get slice_index subst suc take_all to_z tt
+All Appends Dec Next abbrev args pair signed CLAUSE CallerLemmas Consumes FitsSigned IfNone IfOk IfSome IsAtEnd IsErrAnd IsFirstByte IsTrue Keeps STEP YieldsList absurd ap arith
+at_drop_all at_drop_more bytes_eq c cc clap_on_literals cond drop elim ensures eq eqb find find_from_yields_List flat_map fold from_ from_residual
+holes ids length-drop zero-add insert_entry-new infixr inl inr insert_entry into_iter_items it loop ne_eqb no now of_z old omega on_ok_weaker opaque option_and_then option_copied
+option_map position_or_len proof proved record refl requires rules rw search shift simp slice_get slice_index subst suc sym take_all to_z tt
 unfolding w16 was weaker where with_items xs zip
 """
 
@@ -24,7 +24,7 @@ PORTED = "anyhow clap hex indexmap itoa memchr thiserror toml"
 
 # of rt, and of the folders and files that it knows
 TOOL = """
-python3 Prelude ci must-fail check doc fail fmt lemma must plant program proofs specs src test tests tidy tries try version rt allocations
+python3 Prelude ci must-fail check doc fail fmt lemma must plant program proofs specs src test tests tidy tries try version rt allocations rlib PID autogroup proc
 """
 
 # of batches, outputs, tracks, texts of messages and command lines
