@@ -39,11 +39,11 @@ module _ (plan : Plan) (lrbg dir scale : ℕ) where
   spots_are_one distance spot other a b =
       let one = counts_are_one spot.line other.line a.origin b.origin a.way b.way spot.unit other.unit a.counts b.counts in
       let in_unit : IsAhead b.way b.origin (distance * spot.unit) other.place =
-          subst (λ (unit : ℕ). IsAhead b.way b.origin (distance * unit) other.place) (sym one.units) b.ahead in
+      subst (λ (unit : ℕ). IsAhead b.way b.origin (distance * unit) other.place) (sym one.units) b.ahead in
       let from_origin : IsAhead b.way a.origin (distance * spot.unit) other.place =
-          subst (λ (origin : ℕ). IsAhead b.way origin (distance * spot.unit) other.place) (sym one.origins) in_unit in
+      subst (λ (origin : ℕ). IsAhead b.way origin (distance * spot.unit) other.place) (sym one.origins) in_unit in
       let same_way : IsAhead a.way a.origin (distance * spot.unit) other.place =
-          subst (λ (way : Way). IsAhead way a.origin (distance * spot.unit) other.place) (sym one.ways) from_origin in
+      subst (λ (way : Way). IsAhead way a.origin (distance * spot.unit) other.place) (sym one.ways) from_origin in
       let places : spot.place ≡ other.place = only_place a.way a.origin (distance * spot.unit) spot.place other.place a.ahead same_way in
       let lines = one.lines in
       let units = one.units in

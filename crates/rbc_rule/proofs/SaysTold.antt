@@ -187,7 +187,7 @@ module _ (plan : Plan) (track : IsPlan plan) (stops : Stops) (limits : Limits) (
       each (stop ∷ some) values good = (
         λ told tells id later same.
             let one = concern_said plan track train stop.1 (has_number train.forced stop.0) (good_area plan track stop.1 (All-head (IsGoodStop plan) stop some good).good) id stop.0 later same
-                train.place refl on told tells in
+            train.place refl on told tells in
             record { said = one.said; says = one.says; is_for = record { area = stop.1; active = values.0; concern = one.is } },
         each some values.1 (All-tail (IsGoodStop plan) stop some good),
       )

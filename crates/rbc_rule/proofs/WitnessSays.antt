@@ -68,9 +68,9 @@ module _ (plan : Plan) (stops : Stops) (limits : Limits) (train : TrainRec) (p :
       let unit_is : spot.unit ≡ unit = same_Some spot.unit unit (sym counts.in_units ∙ in_units) in
       let unit_for : 10 ^ right.scale ≡ unit = sym right.in_units ∙ unit_is in
       let its_way : IsAhead way counted.origin (distance * spot.unit) spot.place =
-          subst (λ (w : Way). IsAhead w counted.origin (distance * spot.unit) spot.place) way_is counted.ahead in
+      subst (λ (w : Way). IsAhead w counted.origin (distance * spot.unit) spot.place) way_is counted.ahead in
       let its_origin : IsAhead way group.at (distance * spot.unit) spot.place =
-          subst (λ (o : ℕ). IsAhead way o (distance * spot.unit) spot.place) origin_is its_way in
+      subst (λ (o : ℕ). IsAhead way o (distance * spot.unit) spot.place) origin_is its_way in
       let far = distance_to p.facing p.at edge in
       record {
         place = spot.place;

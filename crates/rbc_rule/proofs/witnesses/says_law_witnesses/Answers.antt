@@ -11,21 +11,21 @@ pub returns-clause-edge_at_20000 : goal.returns-clause-edge_at_20000
 returns-clause-edge_at_20000 c =
     let spot = spot_at 20000 in
     let one = right_stop facing_up (on_line_0 20000 21000) 1 0 10000 _ 20000 spot refl (counted_from_5 1 0 10000 Up spot refl refl refl refl)
-        (record { scale = 0; units = 10000; told = told_rightly 10000 (omega arith); on_line = refl; in_units = refl; ahead = refl }) in
+    (record { scale = 0; units = 10000; told = told_rightly 10000 (omega arith); on_line = refl; in_units = refl; ahead = refl }) in
     (refl, ((one, tt), tt))
 
 pub returns-clause-edge_at_50005 : goal.returns-clause-edge_at_50005
 returns-clause-edge_at_50005 c =
     let spot : Spot = record { line = 0; place = 50000; unit = 10 } in
     let one = right_stop facing_up (on_line_0 50005 60000) 1 1 4000 _ 50005 spot refl (counted_from_5 1 1 4000 Up spot refl refl refl refl)
-        (record { scale = 1; units = 4000; told = told_rightly 40005 (omega arith); on_line = refl; in_units = refl; ahead = refl }) in
+    (record { scale = 1; units = 4000; told = told_rightly 40005 (omega arith); on_line = refl; in_units = refl; ahead = refl }) in
     (refl, ((one, tt), tt))
 
 pub returns-clause-edge_at_3000 : goal.returns-clause-edge_at_3000
 returns-clause-edge_at_3000 c =
     let spot = spot_at 3000 in
     let one = right_stop facing_down (on_line_0 1000 3000) 0 0 7000 _ 3000 spot refl (counted_from_5 0 0 7000 Down spot refl refl refl refl)
-        (record { scale = 0; units = 7000; told = told_rightly 7000 (omega arith); on_line = refl; in_units = refl; ahead = refl }) in
+    (record { scale = 0; units = 7000; told = told_rightly 7000 (omega arith); on_line = refl; in_units = refl; ahead = refl }) in
     (refl, ((one, tt), tt))
 
 pub returns-clause-part_ahead : goal.returns-clause-part_ahead
@@ -149,6 +149,6 @@ returns-clause-sent_though_refused c h = cc
 pub returns-clause-other_place : goal.returns-clause-other_place
 returns-clause-other_place c h =
     let same : StopsBefore 0 (spot_at 20000) ≡ StopsBefore 0 (spot_at 20001) =
-        says_one_thing track_a (stop_before 1 0 10000) (StopsBefore 0 (spot_at 20000)) (StopsBefore 0 (spot_at 20001)) before_20000 h in
+    says_one_thing track_a (stop_before 1 0 10000) (StopsBefore 0 (spot_at 20000)) (StopsBefore 0 (spot_at 20001)) before_20000 h in
     let spots : spot_at 20000 ≡ spot_at 20001 = cc in
     differ 20000 20001 refl (ap (λ (s : Spot). s.place) spots)
