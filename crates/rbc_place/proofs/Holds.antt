@@ -1,5 +1,5 @@
 -- The interval of a place holds its train.
-use Rattle.std.proofs.Common.{◌≡◌, ◌↔◌, ℕ, ◌+◌, ◌-◌, ◌≤◌, min, max, Bool, true, false, ◌&&◌, if◌then◌else◌, nat_le, Option, Some, None, option_and_then, slice_index, IsTrue, arith, refl, sym, subst}
+use Rattle.std.proofs.Common.{◌≡◌, ℕ, ◌+◌, ◌-◌, ◌≤◌, min, max, Bool, true, false, ◌&&◌, if◌then◌else◌, nat_le, Option, Some, None, option_and_then, slice_index, IsTrue, arith, refl, sym, subst}
 use Rattle.std.proofs.lemmas.Option.{get_or_from_slice_get}
 use Rattle.std.proofs.lemmas.Grind.{common_steps}
 use Rattle.ertms_codec.specs.declared.from_train.Position.{Position}
@@ -8,7 +8,7 @@ use Rattle.rbc_track.specs.declared.group.Group.{Group}
 use Rattle.rbc_track.specs.declared.group.Way.{Way}
 use Rattle.rbc_track.specs.declared.group.Way.TheVariants.{Up, Down}
 use Rattle.rbc_place.specs.Placing.{Place, back, room, onward, onward_on_line, way_of, in_units, is_known, is_front_on_line, place_from, place_by_group, place_of_report}
-use Rattle.rbc_place.specs.Reach.{IsAhead, StandsAt, MayStandAt, HoldsItsTrain, EachPlaceHoldsItsTrain}
+use Rattle.rbc_place.specs.Reach.{IsAhead, StandsAt, HoldsItsTrain, EachPlaceHoldsItsTrain}
 
 -- a place lies in the interval about an estimate
 pub record IsBetween (facing : Way) (end estimate ahead behind x : ℕ) : Type 0 where

@@ -19,8 +19,9 @@ pub fn says_law()
     ensures one_thing { EachMessageSaysOneThing }
 {}
 
-/// After each step every active stop and every active temporary speed restriction that concerns a train is told to it, unless all
-/// its identifiers of that kind are held or its stamps have ended; and no identifier is used by one that is to be revoked.
+/// After each step, for each train whose stamps have not ended: every active stop and every active temporary speed restriction
+/// that concerns it is told to it, unless all its identifiers of that kind are held; and no identifier is used by one that is to
+/// be revoked.
 pub fn told_law()
     ensures { EachStepTells }
 {}

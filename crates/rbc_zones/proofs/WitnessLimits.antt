@@ -1,7 +1,6 @@
 -- The worked cases of what is told of a restriction.
-use Rattle.std.proofs.Common.{◌≡◌, ◌⊎◌, inl, inr, ℕ, ◌+◌, ◌*◌, ◌^◌, ◌<◌, ◌≤◌, arith, refl}
-use Rattle.rbc_place.specs.Placing.{Place}
-use Rattle.rbc_zones.specs.Limits.{Limit, IsLimit, IsOf, IsTold, IsNearOne, IsToldPart}
+use Rattle.std.proofs.Common.{◌≡◌, ◌⊎◌, inl, inr, ℕ, ◌+◌, ◌<◌, ◌≤◌, arith, refl}
+use Rattle.rbc_zones.specs.Limits.{IsLimit, IsTold, IsNearOne, IsToldPart}
 use Rattle.rbc_zones.specs.Witnesses.{facing_up, facing_down, restriction}
 use Rattle.rbc_zones.proofs.ToldLimits.{each_limit_is_told_rightly}
 use Rattle.rbc_zones.proofs.WitnessStops.{facing_up_is_sound, facing_down_is_sound}

@@ -9,10 +9,9 @@ ghost use Rattle.rbc_zones.specs.Witnesses.{facing_up, facing_down, near_stop, f
 ///
 /// - Facing up, an edge at 5,000.5 m is 4,000 units of 1 m away. Facing down, one at 300 m is 7,000 units of 10 cm
 ///   away.
-/// - Wrong: 0 units of a scale that does not exist, 4,001 units of 1 m, which lie beyond the edge, 400 units of 10
-///   m, which are coarser than they have to be, and 12,000 units of 10 cm down to the lower end of the line, which
-///   is 10,000 away.
-/// - Wrong too: counted from the front of the train, the farther of two edges, the far end of a stop, and an edge
+/// - Wrong: 0 units of a scale that does not exist; 4,001 units of 1 m, which end beyond the edge; 400 units of 10 m,
+///   which are coarser than they have to be; 12,000 units of 10 cm where the line ends after 10,000.
+/// - Wrong too: a distance from the front of the train, the farther of two edges, the far end of a stop, and an edge
 ///   on another line.
 pub fn stop_law_witnesses()
     ensures told_in_metres { IsToldRightly facing_up far_stop 50005 1 4000 }
@@ -30,12 +29,13 @@ pub fn stop_law_witnesses()
 /// Worked cases of the law on restrictions, for a train whose balise group lies at 1,000 m. Each case says a
 /// Q_SCALE, a D_TSR and an L_TSR.
 ///
-/// - Facing up, 1,105 m to 1,205 m begins at 1,050 units of 10 cm and is 1,000 long; 1,105.5 m to 5,105.5 m begins
-///   at 105 units of 1 m and is 4,001 long; of 900 m to 1,205 m, which the group lies on, 2,050 units of 10 cm are
-///   ahead. Facing down, 700 m to 500 m begins at 3,000 units of 10 cm and is 2,000 long.
+/// - Facing up, a restriction from 1,105 m to 1,205 m begins at 1,050 units of 10 cm and is 1,000 long. One from
+///   1,105.5 m to 5,105.5 m begins at 105 units of 1 m and is 4,001 long. Of one from 900 m to 1,205 m, in which the
+///   balise group lies, 2,050 units of 10 cm are ahead. Facing down, one from 700 m to 500 m begins at 3,000 units of
+///   10 cm and is 2,000 long.
 /// - Wrong: 5 m more at each end, a length rounded down, a start rounded up, units of 1 m where those of 10 cm have
-///   room, counted from the front of the train, the whole length where the group lies on the restriction, and
-///   facing down the ends turned round.
+///   room, and a start counted from the front of the train.
+/// - Wrong too: the whole length where the balise group lies in the restriction, and facing down the ends swapped.
 pub fn limit_law_witnesses()
     ensures told { IsToldPart (restriction 11050 12050) facing_up 0 1050 1000 }
     ensures told_in_metres { IsToldPart (restriction 11055 51055) facing_up 1 105 4001 }
