@@ -11,8 +11,6 @@ mod decode;
 mod ending;
 mod fault;
 mod program;
-#[cfg(test)]
-mod tests;
 mod words;
 
 use std::process::ExitCode;

@@ -106,12 +106,7 @@ fn track_text<R: AllocGlobal + Files>(rt: &R, file: &str) -> Result<String, Faul
 }
 
 /// Does a batch on the track that a text is. The track is known before anything of the batch is read.
-pub(crate) fn run_on<R, I, O>(
-    rt: &R,
-    text: &str,
-    input: &mut I,
-    output: &mut O,
-) -> Result<(), Fault>
+fn run_on<R, I, O>(rt: &R, text: &str, input: &mut I, output: &mut O) -> Result<(), Fault>
 where
     R: AllocGlobal,
     I: Read,
