@@ -13,7 +13,7 @@ unwrap_or unwrap use usize var vec while
 # of antt, its tactics and the kit's std
 ANTT = """
 All Appends Dec Next abbrev args pair signed CLAUSE CallerLemmas Consumes FitsSigned IfNone IfOk IfSome IsAtEnd IsErrAnd IsFirstByte IsTrue Keeps STEP YieldsList absurd ap arith
-at_drop_all at_drop_more bytes_eq c cc clap_on_literals cond drop elim ensures eq eqb find find_from_yields_List flat_map fold from_ from_residual
+at_drop_all at_drop_more bytes_eq c cc clap_on_literals cond drop elim ensures eq eqb find find_from_yields_List flat_map fold grind from_ from_residual
 holes ids length-drop zero-add insert_entry-new infixr inl inr insert_entry into_iter_items it loop ne_eqb no now of_z old omega on_ok_weaker opaque option_and_then option_copied
 option_map position_or_len proof proved record refl requires rules rw search shift simp slice_get slice_index subst suc sym take_all to_z tt
 unfolding w16 was weaker where with_items xs zip
