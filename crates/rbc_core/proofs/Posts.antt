@@ -11,14 +11,14 @@ use Rattle.rbc_maps.proofs.MapEdits.{written, inserted}
 use Rattle.rbc_maps.proofs.MapPlaces.{absent_below, value_or-here, value_or-absent, rises-with_value}
 use Rattle.rbc_settle.specs.declared.upkeep.Sent.{Sent}
 use Rattle.rbc_rule.specs.Right.{messages_to}
-use Rattle.rbc_batch.specs.declared.outbox.Mail.{Mail}
-use Rattle.rbc_batch.specs.Held.{AreOutboxes, post_one}
-use Rattle.rbc_batch.specs.Serial.{mail, post, post_all}
+use Rattle.rbc_core.specs.declared.outbox.Mail.{Mail}
+use Rattle.rbc_core.specs.Held.{AreOutboxes, post_one}
+use Rattle.rbc_core.specs.Serial.{mail, post, post_all}
 
 module _ {V : Type 0} where
   -- what stands under each key of a map with one more
   -- a key that is another one is looked for behind
-  later : (key other k : ℕ) (value v new old : V) → k ≢ key → new ≡ cond (eqb key other) value old → cond (eqb k other) v new ≡ cond (eqb key other) value (cond (eqb k other) v old)
+  pub later : (key other k : ℕ) (value v new old : V) → k ≢ key → new ≡ cond (eqb key other) value old → cond (eqb k other) v new ≡ cond (eqb key other) value (cond (eqb k other) v old)
   later key other k value v new old different e =
       (elim (eqb k other) as (λ b. eqb k other ≡ b → cond b v new ≡ cond (eqb key other) value (cond b v old)) [
         | true ↦ λ is. sym (ap (λ b. cond b value v) (ne_eqb key other (λ same. different (eqb-true k other is ∙ sym same))))
@@ -26,7 +26,7 @@ module _ {V : Type 0} where
       ]) refl
 
   -- the value that was there is gone
-  over : (b : Bool) (value v old : V) → cond b value old ≡ cond b value (cond b v old)
+  pub over : (b : Bool) (value v old : V) → cond b value old ≡ cond b value (cond b v old)
   over true value v old = refl
   over false value v old = refl
 

@@ -1,14 +1,14 @@
 use Rattle.std.proofs.Common.{rules, ◌≡◌, ◌≢◌, ℕ, ◌<◌, ◌∙◌, [], false, List, sym, subst, ap, arith, leb, length, get_or}
 use Rattle.std.proofs.lemmas.List.{get_or_default}
 use Rattle.std.proofs.lemmas.Bool.{ne_eqb}
-use Rattle.rbc_batch.specs.declared.outbox.Mail.{Mail}
+use Rattle.rbc_core.specs.declared.outbox.Mail.{Mail}
 use Rattle.rbc_maps.specs.Maps.{index_for, has, value_or}
 use Rattle.rbc_maps.proofs.MapEdits.{position_or_len_le}
 use Rattle.rbc_maps.proofs.MapPlaces.{has_here, has_past}
-use Rattle.rbc_batch.specs.Held.{AreOutboxes}
-use Rattle.rbc_batch.proofs.Posts.{longer, outboxes_with, posted_there, posted_new}
-use Rattle.rbc_batch.proofs.outbox.post.Goals as goal
-use Rattle.rbc_batch.proofs.outbox.post.Goals.{else-at-len-via-then-at-len+else-index-engine, else-at-len-via-else-at-len}
+use Rattle.rbc_core.specs.Held.{AreOutboxes}
+use Rattle.rbc_core.proofs.Posts.{longer, outboxes_with, posted_there, posted_new}
+use Rattle.rbc_core.proofs.outbox.post.Goals as goal
+use Rattle.rbc_core.proofs.outbox.post.Goals.{else-at-len-via-then-at-len+else-index-engine, else-at-len-via-else-at-len}
 
 pub insert-requires : goal.insert-requires
 insert-requires c =

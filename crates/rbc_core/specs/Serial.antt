@@ -8,7 +8,7 @@ use Rattle.rbc_rule.specs.declared.input.Input.{Input}
 use Rattle.rbc_rule.specs.declared.outcome.Reply.{Reply}
 use Rattle.rbc_rule.specs.World.{World, new_world}
 use Rattle.rbc_rule.specs.Step as rule
-use Rattle.rbc_batch.specs.declared.outbox.Mail.{Mail}
+use Rattle.rbc_core.specs.declared.outbox.Mail.{Mail}
 
 -- the world, the results in the order of their inputs, and the mails by engine number
 pub record Desk : Type 0 where

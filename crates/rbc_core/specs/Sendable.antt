@@ -2,7 +2,7 @@
 use Rattle.std.specs.Prelude.{List}
 use Rattle.std.specs.List.{All}
 use Rattle.ertms_codec.specs.ToTrain.{Fits}
-use Rattle.rbc_batch.specs.declared.outbox.Mail.{Mail}
+use Rattle.rbc_core.specs.declared.outbox.Mail.{Mail}
 
 -- each message has its variables in their ranges
 abbrev pub AreSendable : List Mail → Type 0

@@ -1,12 +1,12 @@
 //! The messages that were sent to each engine.
 
-ghost use Rattle.std.specs.Prelude.{◌≡◌, [], ◌∷◌, ◌++◌, OnOk, OnErr};
-ghost use Rattle.std.specs.List.{fold};
+ghost use Rattle.std.specs.Prelude.{◌≡◌, ◌-◌, ◌≤◌, ℕ, List, [], ◌∷◌, ◌++◌, length, take, OnOk, OnErr};
 ghost use Rattle.ertms_codec.specs.ToTrain.{Fits};
 ghost use Rattle.rbc_maps.specs.Maps.{with_value, value_or};
 ghost use Rattle.rbc_rule.specs.Gathered as gathered;
-ghost use Rattle.rbc_batch.specs.Sendable.{AreSendable};
-ghost use Rattle.rbc_batch.specs.Held.{AreOutboxes, post_one};
+ghost use Rattle.rbc_core.specs.declared.outbox.Mail.{Mail};
+ghost use Rattle.rbc_core.specs.Sendable.{AreSendable};
+ghost use Rattle.rbc_core.specs.Held.{AreOutboxes, post_each, taken_back};
 
 use ertms_codec::ToTrain;
 use rbc_rule::SentList;
@@ -29,13 +29,13 @@ pub struct Outbox {
 
 impl Model for Outbox {
     ghost use Rattle.std.specs.Prelude.{List};
-    ghost use Rattle.rbc_batch.specs.declared.outbox.Mail.{Mail};
+    ghost use Rattle.rbc_core.specs.declared.outbox.Mail.{Mail};
 
     ghost Value = { List Mail };
 
     ghost view = { λ o. o.mails.items };
 
-    ghost use Rattle.rbc_batch.specs.Sendable.{AreSendable};
+    ghost use Rattle.rbc_core.specs.Sendable.{AreSendable};
 
     // The variables of each message are in their ranges, so that it can be written.
     ghost invariant = { λ o. AreSendable o.mails.items };
@@ -59,6 +59,13 @@ impl Outbox {
         self.mails.as_slice()
     }
 
+    /// Takes the last message out, if there is one.
+    fn drop_last(&mut self)
+        ensures { self.new ≡ take (length self.old - 1) self.old }
+    {
+        let _ = self.mails.pop();
+    }
+
     /// Adds a message at the end. Fails only for lack of memory, and then changes nothing.
     fn add(&mut self, mail: Mail) -> Result<(), AllocError>
         requires { Fits mail.message }
@@ -70,8 +77,19 @@ impl Outbox {
     }
 }
 
+/// The messages in the outbox of an engine; none if it has no outbox.
+pub(crate) fn mails_of(outboxes: &[(u32, Outbox)], engine: u32) -> &[Mail]
+    requires { AreOutboxes outboxes.now }
+    ensures { result.now ≡ value_or [] outboxes.now engine }
+{
+    match rbc_maps::value_of(outboxes, engine) {
+        Some(outbox) => outbox.mails(),
+        None => &[],
+    }
+}
+
 /// Puts a message into its engine's outbox. An engine gets an outbox with its first message. Fails only for lack of
-/// memory; the outboxes are in order then too.
+/// memory, and then changes nothing.
 fn post(
     alloc: Global,
     outboxes: &mut Vec<(u32, Outbox)>,
@@ -82,6 +100,7 @@ fn post(
     requires fit { Fits mail.message }
     ensures posted { OnOk result (outboxes.new.items ≡ with_value engine (value_or [] outboxes.old.items engine ++ mail ∷ []) outboxes.old.items) }
     ensures outboxes { AreOutboxes outboxes.new.items }
+    ensures err { OnErr result (outboxes.new.items ≡ outboxes.old.items) }
 {
     let at = rbc_maps::index_for(outboxes, engine);
     if at < outboxes.len() && outboxes[at].0 == engine {
@@ -94,8 +113,33 @@ fn post(
     Ok(())
 }
 
-/// Puts the messages of an input into the outboxes of their engines, one after another. Fails only for lack of memory; the
-/// outboxes are in order then too.
+/// Takes the last message out of an engine's outbox, and the outbox with it where it has no other.
+fn take_back(outboxes: &mut Vec<(u32, Outbox)>, engine: u32)
+    requires { AreOutboxes outboxes.old.items }
+    ensures taken { outboxes.new.items ≡ taken_back engine outboxes.old.items }
+    ensures outboxes { AreOutboxes outboxes.new.items }
+{
+    if mails_of(outboxes, engine).len() > 1 {
+        let at = rbc_maps::index_for(outboxes, engine);
+        outboxes[at].1.drop_last();
+    } else {
+        let _ = rbc_maps::remove(outboxes, engine);
+    }
+}
+
+/// Takes back the first messages of an input, the last of them first.
+pub(crate) fn take_back_all(outboxes: &mut Vec<(u32, Outbox)>, messages: &SentList, count: usize)
+    requires outboxes { AreOutboxes outboxes.old.items }
+    requires within { count ≤ length messages.now }
+    ensures back { (input : ℕ) (boxes : List (ℕ × List Mail)) → AreOutboxes boxes → outboxes.old.items ≡ post_each input boxes (take count messages.now) → outboxes.new.items ≡ boxes }
+{
+    for done in 0..count {
+        take_back(outboxes, messages.at(count - 1 - done).engine);
+    }
+}
+
+/// Puts the messages of an input into the outboxes of their engines, one after another. Fails only for lack of memory, and
+/// then changes nothing.
 pub(crate) fn post_all(
     alloc: Global,
     outboxes: &mut Vec<(u32, Outbox)>,
@@ -104,12 +148,16 @@ pub(crate) fn post_all(
 ) -> Result<(), AllocError>
     requires outboxes { AreOutboxes outboxes.old.items }
     requires fit { gathered.AreSendable messages.now }
-    ensures posted { OnOk result (outboxes.new.items ≡ fold (post_one input) outboxes.old.items messages.now) }
+    ensures posted { OnOk result (outboxes.new.items ≡ post_each input outboxes.old.items messages.now) }
     ensures outboxes { AreOutboxes outboxes.new.items }
+    ensures err { OnErr result (outboxes.new.items ≡ outboxes.old.items) }
 {
     for index in 0..messages.len() {
         let Sent { engine, message } = *messages.at(index);
-        post(alloc, outboxes, engine, Mail { input, message })?;
+        if post(alloc, outboxes, engine, Mail { input, message }).is_err() {
+            take_back_all(outboxes, messages, index);
+            return Err(AllocError);
+        }
     }
     Ok(())
 }

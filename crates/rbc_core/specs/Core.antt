@@ -1,0 +1,62 @@
+-- What a book keeps: the desk now, and how far each input is (own rule).
+use Rattle.std.specs.Prelude.{◌≡◌, ◌⊎◌, ℕ, ◌+◌, ◌-◌, ◌<◌, ◌≤◌, Bool, List, length, replicate, Option, Some, slice_get, set, false}
+use Rattle.rbc_records.specs.declared.record.Key.{Key}
+use Rattle.rbc_records.specs.declared.record.Rec.{Rec}
+use Rattle.rbc_records.specs.Notes.{Part}
+use Rattle.rbc_core.specs.Tmp.{AreNow}
+use Rattle.rbc_rule.specs.declared.input.Input.{Input}
+use Rattle.rbc_rule.specs.declared.outcome.Outcome.{Outcome}
+use Rattle.rbc_rule.specs.Gathered.{AreSendable}
+use Rattle.rbc_rule.specs.Right.{IsRight}
+use Rattle.rbc_core.specs.declared.stage.Stage.{Stage}
+use Rattle.rbc_core.specs.declared.stage.Stage.TheVariants.{Free, Out, Tried, Void}
+use Rattle.rbc_core.specs.Held.{Standing, standing}
+use Rattle.rbc_core.specs.Runs.{Run, IsInput}
+
+-- an attempt: the number of an input, what was read under which keys, and what the input does where that stands
+pub record Try : Type 0 where
+  pub number : ℕ
+  pub notes : List (Key × Option Rec)
+  pub outcome : Outcome
+
+-- it is right: in each well-formed world that has what was read, its outcome is that of the input's step
+pub record IsRightTry (run : Run) (a : Try) : Type 0 where
+  pub input : Input
+  pub is_input : IsInput run a.number input
+  pub right : IsRight run.track input (Part a.notes) a.outcome.result a.outcome.writes a.outcome.messages
+  pub fit : AreSendable a.outcome.messages
+
+-- the desk now, how far each input is, how many inputs are committed, taken and computed again, and whether it is closed to `take`
+pub record State : Type 0 where
+  pub desk : Standing
+  pub stages : List (Stage Try)
+  pub committed : ℕ
+  pub taken : ℕ
+  pub recomputed : ℕ
+  pub closed : Bool
+
+-- a book that was just opened
+abbrev pub opening : Run → State
+opening run = record { desk = standing run.opening; stages = replicate (length run.inputs) Free; committed = 0; taken = 0; recomputed = 0; closed = false }
+
+-- the input of this number is taken, not committed, and so far
+pub record IsAt (s : State) (number : ℕ) (stage : Stage Try) : Type 0 where
+  pub uncommitted : s.committed < number
+  pub taken : number ≤ s.taken
+  pub at : slice_get s.stages (number - 1) ≡ Some stage
+
+-- the number of the next input to be committed
+abbrev pub front : State → ℕ
+front s = s.committed + 1
+
+-- the next input to be committed has an attempt, or was given up
+abbrev pub IsReady : State → Type 0
+IsReady s = ((a : Try) × IsAt s (front s) (Tried a)) ⊎ IsAt s (front s) Void
+
+-- it was given up, or something that was read for its attempt is not what stands there now
+abbrev pub IsStale : State → Type 0
+IsStale s = IsAt s (front s) Void ⊎ ((a : Try) × IsAt s (front s) (Tried a) × ¬ (AreNow a.notes s.desk.records))
+
+-- the stages with another one for the input of this number
+abbrev pub with_stage : State → ℕ → Stage Try → List (Stage Try)
+with_stage s number stage = set s.stages (number - 1) stage

@@ -1,0 +1,310 @@
+//! The book of a run: its inputs are taken and attempted in any order, and committed in their own.
+
+ghost use Rattle.std.specs.Prelude.{◌≡◌, ◌+◌, ◌<◌, ◌↔◌, IsTrue, Some, length, replicate, set, slice_get, is_ok, IfOk, IfErr, OnOk, OnErr};
+ghost use Rattle.rbc_records.specs.Notes.{record_in};
+ghost use Rattle.rbc_rule.specs.Gathered.{AreSendable};
+ghost use Rattle.rbc_core.specs.declared.stage.Stage.TheVariants.{Free, Tried, Void};
+ghost use Rattle.rbc_core.specs.Held.{standing};
+ghost use Rattle.rbc_core.specs.Runs.{IsGoodRun, IsSerialRun};
+ghost use Rattle.rbc_core.specs.Core.{Try, opening};
+ghost use Rattle.rbc_core.specs.Books.{IsBook, state_of, IsOutIn, IsJudged, Judges, IsMemoryOf, IsOutcomeAt, IsCarriedOut};
+ghost use Rattle.rbc_core.specs.Events.{Happens, Commits, IsSparing};
+ghost use Rattle.rbc_core.specs.Events.Event.{Takes, Reads, Deposits, Voids};
+
+use crate::attempt::Attempt;
+use crate::desk::{Desk, MAX_RESULTS};
+use crate::run_name::RunName;
+use crate::stage::Stage;
+use rbc_records::{Key, Rec};
+use rbc_rule::{Input, Outcome, RuleFault};
+use rbc_track::Track;
+use std::alloc::{AllocError, Global};
+use std::marker::Model;
+use std::mem;
+
+/// How many inputs were taken, and how many were computed again while they were committed.
+#[derive(Clone, Copy, Debug, PartialEq, Eq)]
+pub struct Stats {
+    pub taken: u32,
+    pub recomputed: u32,
+}
+
+/// What a call of `commit` did.
+#[derive(Clone, Copy, Debug, PartialEq, Eq)]
+pub enum Commit {
+    /// The outcome of the attempt was taken over: all that was read for it stands.
+    Applied,
+    /// The input was computed here: it was given up, or something that was read does not stand any more.
+    Recomputed,
+    /// The input is neither attempted nor given up. Nothing changed.
+    NotReady,
+    /// Every input is committed. Nothing changed.
+    Done,
+    /// Memory was refused now or earlier. No record, result or outbox changed, and no more inputs are taken.
+    Failed,
+}
+
+/// A desk, and how far each input of a run is. The desk is always that of the rules applied to the inputs that are committed, one
+/// after another. Inputs are numbered from 1.
+#[derive(Debug, Drop)]
+pub struct Book<'a, N: RunName> {
+    inputs: &'a [Input],
+    desk: Desk,
+    stages: Vec<Stage<Attempt<N>>>,
+    committed: u32,
+    taken: u32,
+    recomputed: u32,
+    is_closed: bool,
+}
+
+impl<'a, N: RunName> Model for Book<'a, N> {
+    ghost use Rattle.std.specs.Prelude.{◌≡◌};
+    ghost use Rattle.rbc_core.specs.Books as books;
+
+    ghost Value = { books.BookValue };
+
+    ghost view = { λ b. record { desk = b.desk; stages = b.stages.items; committed = b.committed; taken = b.taken; recomputed = b.recomputed; closed = b.is_closed } };
+
+    // The inputs are those of the run, and what is held is the serial run of those that are committed.
+    ghost invariant = { λ b. (b.inputs.now ≡ N.run.inputs) × books.IsBook N.run (books.state_of (record { desk = b.desk; stages = b.stages.items; committed = b.committed; taken = b.taken; recomputed = b.recomputed; closed = b.is_closed })) };
+}
+
+impl<'a, N: RunName> Book<'a, N> {
+    /// Opens a book on a desk and inputs. It makes the room that `take`, `deposit` and `void` need, and copies no record.
+    ///
+    /// # Errors
+    ///
+    /// Fails only for lack of memory, and then hands the desk back.
+    pub fn new(alloc: Global, desk: Desk, inputs: &'a [Input]) -> Result<Self, Desk>
+        requires desk { desk ≡ N.run.opening }
+        requires inputs { inputs.now ≡ N.run.inputs }
+        requires good { IsGoodRun N.run }
+        ensures ok { IfOk result (λ book. state_of book ≡ opening N.run) }
+        ensures err { IfErr result (λ back. back ≡ desk) }
+    {
+        let Ok(stages) = all_free(alloc, inputs.len()) else {
+            return Err(desk);
+        };
+        Ok(Book {
+            inputs,
+            desk,
+            stages,
+            committed: 0,
+            taken: 0,
+            recomputed: 0,
+            is_closed: false,
+        })
+    }
+
+    /// Takes the next input that was not taken yet, and returns its number; `None` if all are taken, or the book is closed to this.
+    pub fn take(&mut self) -> Option<u32>
+        ensures event { Happens N.run (state_of self.old) (Takes result) (state_of self.new) }
+    {
+        if self.is_closed || self.taken as usize >= self.inputs.len() {
+            return None;
+        }
+        self.stages[self.taken as usize] = Stage::Out;
+        self.taken += 1;
+        Some(self.taken)
+    }
+
+    /// A copy of the record that stands under a key now, or `None` if there is none; read for an input. Fails only for lack of memory.
+    pub fn present(&self, alloc: Global, input: u32, key: Key) -> Result<Option<Rec>, AllocError>
+        ensures event { IfOk result (λ found. Happens N.run (state_of self.now) (Reads input key found) (state_of self.now)) }
+    {
+        let _ = input;
+        match self.desk.store().get(key) {
+            Some(rec) => Ok(Some(rec.copy(alloc)?)),
+            None => Ok(None),
+        }
+    }
+
+    /// Keeps an attempt at an input that was taken, and is neither attempted nor given up. Any other attempt is handed back, and
+    /// nothing changes. Takes no memory.
+    pub fn deposit(&mut self, attempt: Attempt<N>) -> Result<(), Attempt<N>>
+        ensures event { Happens N.run (state_of self.old) (Deposits attempt (is_ok result)) (state_of self.new) }
+        ensures back { IfErr result (λ back. back ≡ attempt) }
+    {
+        let number = attempt.number();
+        if !is_out(&self.stages, number) {
+            return Err(attempt);
+        }
+        self.stages[number as usize - 1] = Stage::Tried(attempt);
+        Ok(())
+    }
+
+    /// Gives up an input that was taken, and is neither attempted nor given up; it is then computed where it is committed. `false` for
+    /// any other number, and then nothing changes. Takes no memory.
+    pub fn void(&mut self, number: u32) -> bool
+        ensures { Happens N.run (state_of self.old) (Voids number result) (state_of self.new) }
+    {
+        let is_out = is_out(&self.stages, number);
+        if is_out {
+            self.stages[number as usize - 1] = Stage::Void;
+        }
+        is_out
+    }
+
+    /// Commits the next input, in the order of the inputs: by its attempt if all that was read for it stands, and else by
+    /// computing it here. The track has to be that of the run.
+    pub fn commit(&mut self, alloc: Global, track: &Track) -> Commit
+        requires { track.now ≡ N.run.track }
+        ensures event { Commits N.run (state_of self.old) result (state_of self.new) }
+        ensures sparing { IsSparing (state_of self.old) result }
+    {
+        let inputs = self.inputs;
+        let front = self.committed as usize;
+        if front >= inputs.len() {
+            return Commit::Done;
+        }
+        if self.is_closed {
+            return Commit::Failed;
+        }
+        let Some(is_fresh) = judge(&self.stages, front, &self.desk) else {
+            return Commit::NotReady;
+        };
+        let stage = taken_out(&mut self.stages, front);
+        if carry_out(alloc, track, inputs, front, stage, is_fresh, &mut self.desk).is_err() {
+            self.is_closed = true;
+            return Commit::Failed;
+        }
+        self.stages[front] = Stage::Free;
+        self.committed += 1;
+        if is_fresh {
+            return Commit::Applied;
+        }
+        self.recomputed += 1;
+        Commit::Recomputed
+    }
+
+    /// How many inputs are committed.
+    pub fn committed(&self) -> u32
+        ensures count { result ≡ self.now.committed }
+        ensures book { IsBook N.run (state_of self.now) }
+    {
+        self.committed
+    }
+
+    /// How many inputs were taken, and how many were computed again.
+    pub fn stats(&self) -> Stats
+        ensures counts { result ≡ record { taken = self.now.taken; recomputed = self.now.recomputed } }
+        ensures book { IsBook N.run (state_of self.now) }
+    {
+        Stats {
+            taken: self.taken,
+            recomputed: self.recomputed,
+        }
+    }
+
+    /// Closes the book, and returns the desk: that of the rules applied to the inputs that are committed, one after another.
+    pub fn close(self) -> Desk
+        ensures desk { result ≡ self.entry.desk }
+        ensures serial { IsSerialRun N.run self.entry.committed (standing result) }
+    {
+        let Book {
+            inputs: _,
+            desk,
+            stages: _,
+            committed: _,
+            taken: _,
+            recomputed: _,
+            is_closed: _,
+        } = self;
+        desk
+    }
+}
+
+/// The stages of so many inputs, none of which was taken. Fails only for lack of memory.
+fn all_free<N: RunName>(alloc: Global, count: usize) -> Result<Vec<Stage<Attempt<N>>>, AllocError>
+    ensures { IfOk result (λ stages. stages.items ≡ replicate count Free) }
+{
+    let mut stages = Vec::with_capacity(alloc, count)?;
+    for _i in 0..count {
+        stages.push_reserved(Stage::Free);
+    }
+    Ok(stages)
+}
+
+/// Whether the input of a number was taken, and is neither attempted nor given up.
+fn is_out<N: RunName>(stages: &Vec<Stage<Attempt<N>>>, number: u32) -> bool
+    ensures { IsTrue result ↔ IsOutIn stages.now.items number }
+{
+    number > 0 && matches!(stages.get(number as usize - 1), Some(Stage::Out))
+}
+
+/// Whether the next input is ready to be committed, and then whether by its attempt.
+fn judge<N: RunName>(
+    stages: &Vec<Stage<Attempt<N>>>,
+    front: usize,
+    desk: &Desk,
+) -> Option<bool>
+    requires { front < length stages.now.items }
+    ensures { IsJudged stages.now.items front (record_in desk.now.records) result }
+{
+    match &stages[front] {
+        Stage::Tried(attempt) => Some(attempt.is_fresh(desk)),
+        Stage::Void => Some(false),
+        Stage::Free | Stage::Out => None,
+    }
+}
+
+/// Takes the stage of an input out, which leaves it given up.
+fn taken_out<N: RunName>(
+    stages: &mut Vec<Stage<Attempt<N>>>,
+    front: usize,
+) -> Stage<Attempt<N>>
+    requires { front < length stages.old.items }
+    ensures stage { slice_get stages.old.items front ≡ Some result }
+    ensures void { stages.new.items ≡ set stages.old.items front Void }
+{
+    mem::replace(&mut stages[front], Stage::Void)
+}
+
+/// The outcome of the next input: that of its attempt if it is fresh, and else as it is computed here. Fails only for lack of memory.
+fn outcome_of<N: RunName>(
+    alloc: Global,
+    track: &Track,
+    inputs: &[Input],
+    front: usize,
+    stage: Stage<Attempt<N>>,
+    is_fresh: bool,
+    desk: &mut Desk,
+) -> Result<Outcome, RuleFault>
+    requires run { (track.now ≡ N.run.track) × (inputs.now ≡ N.run.inputs) × IsGoodRun N.run }
+    requires within { front < length inputs.now }
+    requires judged { Judges (record_in desk.old.records) stage (Some is_fresh) }
+    requires number { (a : Try) → stage ≡ Tried a → a.number ≡ front + 1 }
+    ensures outcome { IfOk result (λ outcome. IsOutcomeAt N.run front stage is_fresh (record_in desk.old.records) outcome) }
+    ensures fit { IfOk result (λ outcome. AreSendable outcome.messages) }
+    ensures memory { IfErr result (λ fault. IsMemoryOf N.run.track (record_in desk.old.records) fault) }
+    ensures same { standing desk.new ≡ standing desk.old }
+{
+    match stage {
+        Stage::Tried(attempt) if is_fresh => Ok(attempt.into_outcome()),
+        _ => desk.decide(alloc, track, &inputs[front]),
+    }
+}
+
+/// Does what the next input does. Fails only for lack of memory, and then changes nothing.
+fn carry_out<N: RunName>(
+    alloc: Global,
+    track: &Track,
+    inputs: &[Input],
+    front: usize,
+    stage: Stage<Attempt<N>>,
+    is_fresh: bool,
+    desk: &mut Desk,
+) -> Result<(), RuleFault>
+    requires run { (track.now ≡ N.run.track) × (inputs.now ≡ N.run.inputs) × IsGoodRun N.run }
+    requires within { front < length inputs.now }
+    requires judged { Judges (record_in desk.old.records) stage (Some is_fresh) }
+    requires number { (a : Try) → stage ≡ Tried a → a.number ≡ front + 1 }
+    requires room { length desk.old.results < MAX_RESULTS }
+    ensures done { OnOk result (IsCarriedOut N.run front stage is_fresh (standing desk.old) (standing desk.new)) }
+    ensures memory { IfErr result (λ fault. IsMemoryOf N.run.track (record_in desk.old.records) fault) }
+    ensures err { OnErr result (standing desk.new ≡ standing desk.old) }
+{
+    let outcome = outcome_of(alloc, track, inputs, front, stage, is_fresh, desk)?;
+    desk.take_over(alloc, outcome)?;
+    Ok(())
+}

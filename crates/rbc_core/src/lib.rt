@@ -1,0 +1,17 @@
+//! A desk, and a book in which attempts at its inputs are committed in the order of the inputs.
+#![tactic(auto)]
+
+mod attempt;
+mod book;
+mod desk;
+mod law;
+mod outbox;
+mod run_name;
+mod stage;
+
+pub use attempt::Attempt;
+pub use book::{Book, Commit, Stats};
+pub use desk::{Desk, MAX_RESULTS};
+pub use law::event_law;
+pub use outbox::{Mail, Outbox};
+pub use run_name::RunName;

@@ -1,0 +1,14 @@
+//! How far an input is.
+
+/// How far an input is.
+#[derive(Debug, Drop)]
+pub enum Stage<A> {
+    /// It was not taken yet, or it is committed.
+    Free,
+    /// It was taken, and is neither attempted nor given up.
+    Out,
+    /// An attempt at it was deposited.
+    Tried(A),
+    /// It was given up: it is computed where it is committed.
+    Void,
+}
