@@ -2,7 +2,7 @@
 use Rattle.std.proofs.Common.{◌≡◌, ◌≢◌, ◌⊎◌, ℕ, zero, suc, ◌+◌, ◌-◌, ◌<◌, ◌≤◌, Bool, true, false, List, [], ◌∷◌, ◌++◌, length, take, set, Option, Some, None, inl, inr, ⊎_elim, refl, sym, ap, ◌∙◌, subst, arith}
 use Rattle.std.specs.Prelude.{slice_get, replicate}
 use Rattle.std.specs.List.{fold, All}
-use Rattle.std.proofs.lemmas.List.{length-set, length-replicate}
+use Rattle.std.proofs.lemmas.List.{length-set, length-replicate, length-append}
 use Rattle.std.proofs.lemmas.List.Elements.{All-get_or}
 use Rattle.std.proofs.lemmas.Option.{slice_get_within, get_or_from_slice_get}
 use Rattle.rbc_records.specs.declared.record.Key.{Key}
@@ -16,10 +16,14 @@ use Rattle.rbc_core.specs.declared.stage.Stage.TheVariants.{Free, Out, Tried, Vo
 use Rattle.rbc_core.specs.Held.{Held, Standing, standing, Holds, AreOutboxes, IsOutcomeOf, after_outcome}
 use Rattle.rbc_core.specs.Serial.{Desk, step, serial}
 use Rattle.rbc_core.specs.Runs.{Run, IsGoodRun, IsInput, IsSerialRun}
-use Rattle.rbc_core.specs.Core.{Try, State, opening, IsAt, front, IsReady, with_stage}
-use Rattle.rbc_core.specs.Books.{IsStage, AreStages, IsBook, IsOutIn, Judges, IsJudged}
+use Rattle.rbc_core.specs.Core.{Try, IsRightTry, State, opening, IsAt, front, IsReady, IsStale, with_stage}
+use Rattle.rbc_core.specs.declared.book.Commit.TheVariants.{Applied, Recomputed, NotReady, Failed}
+use Rattle.rbc_core.specs.Tmp.{AreNow}
+use Rattle.rbc_core.specs.Events.{Happens, Commits, IsSparing}
+use Rattle.rbc_core.specs.Events.Event.{Takes, Deposits, Voids, Applies, Recomputes, Waits, Ends, Fails}
+use Rattle.rbc_core.specs.Books.{IsStage, AreStages, IsBook, IsOutIn, Judges, IsJudged, IsCarriedOut}
 use Rattle.rbc_core.proofs.Runs.{fold_more}
-use Rattle.rbc_core.proofs.Stands.{holds_after}
+use Rattle.rbc_core.proofs.Stands.{holds_after, boxes_after}
 
 module _ {A : Type 0} where
   -- what is read from a list after a write
@@ -49,3 +53,260 @@ module _ {A : Type 0} where
   -- what holds of each holds of the one at an index
   pub All-get : (P : A → Type 0) (xs : List A) (i : ℕ) (x : A) → All P xs → slice_get xs i ≡ Some x → P x
   All-get P xs i x all e = subst P (get_or_from_slice_get xs i x x e) (All-get_or P xs i x (slice_get_within xs i x e) all)
+
+-- ---- stages
+
+-- one stage changes
+pub stages_set : (xs : List (Stage Try)) (i n t n' t' : ℕ) (x : Stage Try) → AreStages n t xs → IsStage n' t' i x → ((k : ℕ) (g : Stage Try) → k ≢ i → IsStage n t k g → IsStage n' t' k g) → AreStages n' t' (set xs i x)
+stages_set xs i n t n' t' x old new others k g e =
+    ⊎_elim
+    (λ (q : (k ≡ i) × (x ≡ g)). subst (λ (y : Stage Try). IsStage n' t' k y) q.1 (subst (λ (j : ℕ). IsStage n' t' j x) (sym q.0) new))
+    (λ (q : (k ≢ i) × (slice_get xs k ≡ Some g)). others k g q.0 (old k g q.1))
+    (slice_get_set xs i k x g e)
+
+stage_taken : (n t k : ℕ) (g : Stage Try) → k ≢ t → IsStage n t k g → IsStage n (t + 1) k g
+stage_taken n t k Free ne h = ⊎_elim (λ (q : k < n). inl q) (λ (q : t ≤ k). inr (omega (arith, q, ne))) h
+stage_taken n t k Out ne h = (h.0, omega arith)
+stage_taken n t k (Tried a) ne h = (h.0, omega arith, h.2)
+stage_taken n t k Void ne h = (h.0, omega arith)
+
+stage_committed : (n t k : ℕ) (g : Stage Try) → k ≢ n → IsStage n t k g → IsStage (n + 1) t k g
+stage_committed n t k Free ne h = ⊎_elim (λ (q : k < n). inl (omega (arith, q))) (λ (q : t ≤ k). inr q) h
+stage_committed n t k Out ne h = (omega arith, h.1)
+stage_committed n t k (Tried a) ne h = (omega arith, h.1, h.2)
+stage_committed n t k Void ne h = (omega arith, h.1)
+
+-- ---- what is true of each book
+
+pub opens : (run : Run) → IsGoodRun run → IsBook run (opening run)
+opens run good = record {
+  good = good;
+  serial = λ desk h. h;
+  boxes = good.in_order;
+  results = omega arith;
+  all = length-replicate (length run.inputs) Free;
+  in_turn = omega arith;
+  in_range = omega arith;
+  counted = omega arith;
+  stages = λ k g e. subst (IsStage 0 0 k) (sym (slice_get_replicate (length run.inputs) k Free g e)) (inr (omega arith));
+}
+
+-- the next input is taken
+pub takes : (run : Run) (s : State) (k : ℕ) → IsBook run s → k ≡ s.taken → s.taken < length run.inputs → IsBook run (record s { stages = set s.stages k Out; taken = s.taken + 1 })
+takes run s k b is more = record {
+  good = b.good;
+  serial = b.serial;
+  boxes = b.boxes;
+  results = b.results;
+  all = length-set s.stages k Out ∙ b.all;
+  in_turn = let h = b.in_turn in omega (arith, h);
+  in_range = omega arith;
+  counted = b.counted;
+  stages = stages_set s.stages k s.committed s.taken s.committed (s.taken + 1) Out b.stages (let h = b.in_turn in (omega (arith, h, is), omega (arith, is))) (λ j g ne h. stage_taken s.committed s.taken j g (λ e. ne (e ∙ sym is)) h);
+}
+
+-- a stage changes
+pub keeps : (run : Run) (s : State) (k : ℕ) (x : Stage Try) → IsBook run s → IsStage s.committed s.taken k x → IsBook run (record s { stages = set s.stages k x })
+keeps run s k x b new = record {
+  good = b.good;
+  serial = b.serial;
+  boxes = b.boxes;
+  results = b.results;
+  all = length-set s.stages k x ∙ b.all;
+  in_turn = b.in_turn;
+  in_range = b.in_range;
+  counted = b.counted;
+  stages = stages_set s.stages k s.committed s.taken s.committed s.taken x b.stages new (λ j g ne h. h);
+}
+
+-- a book with other words for the same
+pub same_book : (run : Run) (s t : State) → s ≡ t → IsBook run t → IsBook run s
+same_book run s t e b = subst (IsBook run) (sym e) b
+
+-- the book is closed to `take`
+pub closes : (run : Run) (s : State) → IsBook run s → IsBook run (record s { closed = true })
+closes run s b = record {
+  good = b.good;
+  serial = b.serial;
+  boxes = b.boxes;
+  results = b.results;
+  all = b.all;
+  in_turn = b.in_turn;
+  in_range = b.in_range;
+  counted = b.counted;
+  stages = b.stages;
+}
+
+-- an item has one stage
+pub same_item : {A : Type 0} (xs : List A) (k : ℕ) (x y : A) → slice_get xs k ≡ Some x → slice_get xs k ≡ Some y → x ≡ y
+same_item xs k x y e f = cc (e, f)
+
+-- an outcome of the next input is taken over
+pub commits : (run : Run) (s : State) (input : Input) (outcome : Outcome) (recomputed : ℕ) → IsBook run s → s.committed < s.taken → IsInput run (s.committed + 1) input
+    → IsOutcomeOf run.track input s.desk.records outcome → recomputed ≤ s.committed + 1
+    → IsBook run (record { desk = after_outcome s.desk outcome; stages = set s.stages s.committed Free; committed = s.committed + 1; taken = s.taken; recomputed = recomputed; closed = s.closed })
+commits run s input outcome recomputed b turn is right few =
+    let there : slice_get run.inputs s.committed ≡ Some input = subst (λ (k : ℕ). slice_get run.inputs k ≡ Some input) (minus_one s.committed) is.there in
+    let within = slice_get_within run.inputs s.committed input there in
+    let more : (d : Desk) → serial run.track d (take (s.committed + 1) run.inputs) ≡ step run.track (serial run.track d (take s.committed run.inputs)) input =
+    λ d. fold_more (step run.track) d run.inputs s.committed input within ∙ ap (step run.track (serial run.track d (take s.committed run.inputs))) (get_or_from_slice_get run.inputs s.committed input input there) in
+    record {
+      good = b.good;
+      serial = λ d h. subst (Holds run.track (after_outcome s.desk outcome)) (sym (more d))
+          (holds_after run.track input s.desk outcome (serial run.track d (take s.committed run.inputs)) b.good.track (All-get Fits run.inputs s.committed input b.good.fit there) b.boxes right (b.serial d h));
+      boxes = boxes_after s.desk outcome b.boxes;
+      results = let n = length-append s.desk.results (outcome.result ∷ []) in let m = b.results in omega (arith, n, m);
+      all = length-set s.stages s.committed Free ∙ b.all;
+      in_turn = omega (arith, turn);
+      in_range = b.in_range;
+      counted = few;
+      stages = stages_set s.stages s.committed s.committed s.taken (s.committed + 1) s.taken Free b.stages (inl (omega arith)) (stage_committed s.committed s.taken);
+    }
+  where
+    minus_one : (n : ℕ) → n + 1 - 1 ≡ n
+    minus_one n = omega arith
+
+-- ---- stages and events
+
+-- an input that is taken and not committed is at its stage
+pub at_index : (s : State) (k number : ℕ) (x : Stage Try) → number ≡ k + 1 → s.committed ≤ k → k < s.taken → slice_get s.stages k ≡ Some x → IsAt s number x
+at_index s k number x is low high there = record {
+  uncommitted = omega (arith, is, low);
+  taken = omega (arith, is, high);
+  at = ap (slice_get s.stages) (before number k is) ∙ there;
+}
+  where
+    before : (a b : ℕ) → a ≡ b + 1 → a - 1 ≡ b
+    before a b e = omega (arith, e)
+
+-- an input that is out
+pub is_out_at : (run : Run) (s : State) (number : ℕ) → IsBook run s → IsOutIn s.stages number → IsAt s number Out
+is_out_at run s number b h =
+    let turn = b.stages (number - 1) Out h.1 in
+    at_index s (number - 1) number Out (omega (arith, h.0)) turn.0 turn.1 h.1
+
+pub out_in : (s : State) (number : ℕ) → IsAt s number Out → IsOutIn s.stages number
+out_in s number a = (let low = a.uncommitted in omega (arith, low), a.at)
+
+-- an attempt at an input that is out is kept
+pub deposits : (run : Run) (s old : State) (a : Try) (number : ℕ) → s ≡ old → IsBook run s → IsRightTry run a → IsOutIn s.stages number → number ≡ a.number
+    → Happens run old (Deposits a true) (record s { stages = set s.stages (number - 1) (Tried a) })
+deposits run s old a number is b right out same =
+    subst (λ (o : State). Happens run o (Deposits a true) (record s { stages = set s.stages (number - 1) (Tried a) })) is
+    (record { may = (right, is_out_at run s a.number b (subst (IsOutIn s.stages) same out)); leads = ap (λ n. record s { stages = set s.stages (n - 1) (Tried a) }) same })
+
+-- an input that is out is given up
+pub voids : (run : Run) (s old : State) (number : ℕ) → s ≡ old → IsBook run s → IsOutIn s.stages number → Happens run old (Voids number true) (record s { stages = set s.stages (number - 1) Void })
+voids run s old number is b out =
+    subst (λ (o : State). Happens run o (Voids number true) (record s { stages = set s.stages (number - 1) Void })) is
+    (record { may = is_out_at run s number b out; leads = refl })
+
+-- ---- commits
+
+front_index : (s : State) → s.committed ≡ front s - 1
+front_index s = omega arith
+
+-- what stands at the next input
+at_front : (s : State) (x : Stage Try) → IsAt s (front s) x → slice_get s.stages s.committed ≡ Some x
+at_front s x a = ap (slice_get s.stages) (front_index s) ∙ a.at
+
+freed : (s : State) (xs : List (Stage Try)) → xs ≡ set s.stages s.committed Void → set xs s.committed Free ≡ set s.stages s.committed Free
+freed s xs void = ap (λ (l : List (Stage Try)). set l s.committed Free) void ∙ set_set s.stages s.committed Void Free
+
+-- who can be committed is in turn
+pub judged_turn : (n t k : ℕ) (records : Key → Option Rec) (g : Stage Try) (b : Bool) → Judges records g (Some b) → IsStage n t k g → (n ≤ k) × (k < t)
+judged_turn n t k records (Tried a) b h s = (s.0, s.1)
+judged_turn n t k records Void b h s = s
+judged_turn n t k records Free b h s = absurd h
+judged_turn n t k records Out b h s = absurd h
+
+-- the next input, as it was judged
+pub turn_of : (run : Run) (s : State) (fresh : Bool) → IsBook run s → IsJudged s.stages s.committed s.desk.records (Some fresh) → s.committed < s.taken
+turn_of run s fresh b can = (judged_turn s.committed s.taken s.committed s.desk.records can.0 fresh can.2 (b.stages s.committed can.0 can.1)).1
+
+front_at : (run : Run) (s : State) (fresh : Bool) (x : Stage Try) → IsBook run s → IsJudged s.stages s.committed s.desk.records (Some fresh) → slice_get s.stages s.committed ≡ Some x → IsAt s (front s) x
+front_at run s fresh x b can at = at_index s s.committed (front s) x refl (omega arith) (turn_of run s fresh b can) at
+
+ready_stage : (run : Run) (s : State) (records : Key → Option Rec) (g : Stage Try) (b : Bool) → Judges records g (Some b) → IsAt s (front s) g → IsReady s
+ready_stage run s records (Tried a) b h at = inl (a, at)
+ready_stage run s records Void b h at = inr at
+ready_stage run s records Free b h at = absurd h
+ready_stage run s records Out b h at = absurd h
+
+pub ready : (run : Run) (s : State) (fresh : Bool) → IsBook run s → IsJudged s.stages s.committed s.desk.records (Some fresh) → IsReady s
+ready run s fresh b can = ready_stage run s s.desk.records can.0 fresh can.2 (front_at run s fresh can.0 b can can.1)
+
+stale_stage : (s : State) (g : Stage Try) → Judges s.desk.records g (Some false) → IsAt s (front s) g → IsStale s
+stale_stage s (Tried a) h at = inr (a, at, h)
+stale_stage s Void h at = inl at
+stale_stage s Free h at = absurd h
+stale_stage s Out h at = absurd h
+
+-- an input that is computed again is stale
+pub stale : (run : Run) (s old : State) → s ≡ old → IsBook run s → IsJudged s.stages s.committed s.desk.records (Some false) → IsSparing old Recomputed
+stale run s old is b can = subst IsStale is (stale_stage s can.0 can.2 (front_at run s false can.0 b can can.1))
+
+waiting_stage : (s : State) (g : Stage Try) → Judges s.desk.records g None → slice_get s.stages s.committed ≡ Some g → ¬ (IsReady s)
+waiting_stage s (Tried a) h at r = absurd h
+waiting_stage s Void h at r = absurd h
+waiting_stage s Free h at r = ⊎_elim (λ (q : (a : Try) × IsAt s (front s) (Tried a)). absurd (cc (at_front s (Tried q.0) q.1, at))) (λ (q : IsAt s (front s) Void). absurd (cc (at_front s Void q, at))) r
+waiting_stage s Out h at r = ⊎_elim (λ (q : (a : Try) × IsAt s (front s) (Tried a)). absurd (cc (at_front s (Tried q.0) q.1, at))) (λ (q : IsAt s (front s) Void). absurd (cc (at_front s Void q, at))) r
+
+-- the next input is not ready
+pub waits : (run : Run) (s old : State) → s ≡ old → s.closed ≡ false → s.committed < length run.inputs → IsJudged s.stages s.committed s.desk.records None → Commits run old NotReady old
+waits run s old is opened more can = subst (λ (o : State). Commits run o NotReady o) is (record { may = (opened, more, waiting_stage s can.0 can.2 can.1); leads = refl })
+
+-- memory is refused: the next input is given up, and the book closed
+pub fails : (run : Run) (s old : State) (fresh : Bool) (desk : Standing) (xs : List (Stage Try)) → s ≡ old → IsBook run s → s.closed ≡ false → IsJudged s.stages s.committed s.desk.records (Some fresh)
+    → desk ≡ s.desk → xs ≡ set s.stages s.committed Void → Commits run old Failed (record { desk = desk; stages = xs; committed = s.committed; taken = s.taken; recomputed = s.recomputed; closed = true })
+fails run s old fresh desk xs is b opened can same void =
+    subst (λ (o : State). Commits run o Failed (record { desk = desk; stages = xs; committed = s.committed; taken = s.taken; recomputed = s.recomputed; closed = true })) is
+    (false, record { may = (opened, ready run s fresh b can); leads = λ i. record { desk = same i; stages = (void ∙ ap (λ n. set s.stages n Void) (front_index s)) i; committed = s.committed; taken = s.taken; recomputed = s.recomputed; closed = true } })
+
+pub fails_book : (run : Run) (s : State) (fresh : Bool) (desk : Standing) (xs : List (Stage Try)) → IsBook run s → IsJudged s.stages s.committed s.desk.records (Some fresh)
+    → desk ≡ s.desk → xs ≡ set s.stages s.committed Void → IsBook run (record { desk = desk; stages = xs; committed = s.committed; taken = s.taken; recomputed = s.recomputed; closed = true })
+fails_book run s fresh desk xs b can same void =
+    let turn = turn_of run s fresh b can in
+    subst (IsBook run) (λ i. record { desk = sym same i; stages = sym void i; committed = s.committed; taken = s.taken; recomputed = s.recomputed; closed = true })
+    (closes run (record s { stages = set s.stages s.committed Void }) (keeps run s s.committed Void b (omega arith, turn)))
+
+-- the book was closed before
+pub stays_closed : (run : Run) (s old : State) → s ≡ old → s.closed ≡ true → s.committed < length run.inputs → Commits run old Failed old
+stays_closed run s old is closed more =
+    subst (λ (o : State). Commits run o Failed o) is
+    (true, record { may = (more, inl closed); leads = λ i. record { desk = s.desk; stages = s.stages; committed = s.committed; taken = s.taken; recomputed = s.recomputed; closed = closed i } })
+
+-- the next input is committed
+pub commits_book : (run : Run) (s : State) (fresh : Bool) (stage : Stage Try) (desk : Standing) (xs : List (Stage Try)) (recomputed : ℕ) → IsBook run s → IsJudged s.stages s.committed s.desk.records (Some fresh)
+    → IsCarriedOut run s.committed stage fresh s.desk desk → xs ≡ set s.stages s.committed Void → recomputed ≤ s.committed + 1
+    → IsBook run (record { desk = desk; stages = set xs s.committed Free; committed = s.committed + 1; taken = s.taken; recomputed = recomputed; closed = s.closed })
+commits_book run s fresh stage desk xs recomputed b can done void few =
+    let out = done.is_outcome in
+    subst (IsBook run) (λ i. record { desk = sym done.taken_over i; stages = sym (freed s xs void) i; committed = s.committed + 1; taken = s.taken; recomputed = recomputed; closed = s.closed })
+    (commits run s out.input done.outcome recomputed b (turn_of run s fresh b can) out.is_input out.right few)
+
+-- by its attempt
+pub applies : (run : Run) (s old : State) (stage : Stage Try) (desk : Standing) (xs : List (Stage Try)) → s ≡ old → IsBook run s → s.closed ≡ false → IsJudged s.stages s.committed s.desk.records (Some true)
+    → slice_get s.stages s.committed ≡ Some stage → IsCarriedOut run s.committed stage true s.desk desk → xs ≡ set s.stages s.committed Void
+    → Commits run old Applied (record { desk = desk; stages = set xs s.committed Free; committed = s.committed + 1; taken = s.taken; recomputed = s.recomputed; closed = s.closed })
+applies run s old stage desk xs is b opened can at done void =
+    let attempt = done.is_outcome.attempt in
+    let there : slice_get s.stages s.committed ≡ Some (Tried attempt.0) = at ∙ ap Some attempt.1 in
+    let now : AreNow attempt.0.notes s.desk.records = subst (λ (x : Stage Try). Judges s.desk.records x (Some true)) (same_item s.stages s.committed can.0 (Tried attempt.0) can.1 there) can.2 in
+    subst (λ (o : State). Commits run o Applied (record { desk = desk; stages = set xs s.committed Free; committed = s.committed + 1; taken = s.taken; recomputed = s.recomputed; closed = s.closed })) is
+    (done.outcome, record {
+      may = (opened, (attempt.0, front_at run s true (Tried attempt.0) b can there, now, attempt.2));
+      leads = λ i. record { desk = done.taken_over i; stages = (freed s xs void ∙ ap (λ n. set s.stages n Free) (front_index s)) i; committed = s.committed + 1; taken = s.taken; recomputed = s.recomputed; closed = s.closed };
+    })
+
+-- or computed here
+pub recomputes : (run : Run) (s old : State) (fresh : Bool) (stage : Stage Try) (desk : Standing) (xs : List (Stage Try)) → s ≡ old → IsBook run s → s.closed ≡ false → IsJudged s.stages s.committed s.desk.records (Some fresh)
+    → IsCarriedOut run s.committed stage fresh s.desk desk → xs ≡ set s.stages s.committed Void
+    → Commits run old Recomputed (record { desk = desk; stages = set xs s.committed Free; committed = s.committed + 1; taken = s.taken; recomputed = s.recomputed + 1; closed = s.closed })
+recomputes run s old fresh stage desk xs is b opened can done void =
+    let out = done.is_outcome in
+    subst (λ (o : State). Commits run o Recomputed (record { desk = desk; stages = set xs s.committed Free; committed = s.committed + 1; taken = s.taken; recomputed = s.recomputed + 1; closed = s.closed })) is
+    (done.outcome, record {
+      may = (opened, ready run s fresh b can, (out.input, out.is_input, out.right));
+      leads = λ i. record { desk = done.taken_over i; stages = (freed s xs void ∙ ap (λ n. set s.stages n Free) (front_index s)) i; committed = s.committed + 1; taken = s.taken; recomputed = s.recomputed + 1; closed = s.closed };
+    })

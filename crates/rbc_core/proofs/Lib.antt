@@ -6,3 +6,5 @@ pub mod Sends
 pub mod Stands
 pub mod Books
 pub mod TakesBack
+pub mod Agreeing
+pub mod Laws

@@ -12,7 +12,7 @@ use Rattle.rbc_rule.specs.declared.outcome.RuleFault.TheVariants.{OutOfMemory}
 use Rattle.rbc_rule.specs.World.{World}
 use Rattle.rbc_core.specs.declared.stage.Stage.{Stage}
 use Rattle.rbc_core.specs.declared.stage.Stage.TheVariants.{Free, Out, Tried, Void}
-use Rattle.rbc_core.specs.Held.{Held, Standing, standing, AreRecordsOf, IsOutcomeOf, after_outcome}
+use Rattle.rbc_core.specs.Held.{Held, Standing, standing, AreOutboxes, AreRecordsOf, IsOutcomeOf, after_outcome}
 use Rattle.rbc_core.specs.Runs.{Run, IsGoodRun, IsInput, IsSerialRun}
 use Rattle.rbc_core.specs.Core.{Try, State}
 
@@ -42,6 +42,7 @@ AreStages committed taken stages = (k : ℕ) (g : Stage Try) → slice_get stage
 pub record IsBook (run : Run) (s : State) : Type 0 where
   pub good : IsGoodRun run
   pub serial : IsSerialRun run s.committed s.desk
+  pub boxes : AreOutboxes s.desk.outboxes
   pub results : length s.desk.results ≡ length run.opening.results + s.committed
   pub all : length s.stages ≡ length run.inputs
   pub in_turn : s.committed ≤ s.taken

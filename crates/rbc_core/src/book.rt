@@ -138,11 +138,11 @@ impl<'a, N: RunName> Book<'a, N> {
     pub fn void(&mut self, number: u32) -> bool
         ensures { Happens N.run (state_of self.old) (Voids number result) (state_of self.new) }
     {
-        let is_out = is_out(&self.stages, number);
-        if is_out {
-            self.stages[number as usize - 1] = Stage::Void;
+        if !is_out(&self.stages, number) {
+            return false;
         }
-        is_out
+        self.stages[number as usize - 1] = Stage::Void;
+        true
     }
 
     /// Commits the next input, in the order of the inputs: by its attempt if all that was read for it stands, and else by

@@ -1,0 +1,9 @@
+use Rattle.std.proofs.Common.{◌≡◌, ◌<◌, length, ap, arith, refl}
+use Rattle.rbc_core.proofs.Books.{takes}
+use Rattle.rbc_core.proofs.book.Book.take.Goals as goal
+
+pub invariant_of-self : goal.invariant_of-self
+invariant_of-self g c =
+    let i = c.self.invariant in
+    let more : c.self.inside.taken < length g.N.RunName.run.inputs = omega (arith, ap length i.0) in
+    (i.0, takes _ _ c.self.inside.taken i.1 refl more)
