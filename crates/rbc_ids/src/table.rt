@@ -52,7 +52,7 @@ impl<const N: usize> IdTable<N> {
     pub fn is_same(&self, other: &Self) -> bool
         ensures { IsTrue result ↔ (self.now ≡ other.now) }
     {
-        self.held == other.held
+        self.slots() == other.slots()
     }
 
     /// Returns the slot of an identifier, or `None` if it is free or not below `N`.
