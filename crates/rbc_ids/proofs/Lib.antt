@@ -1,2 +1,3 @@
 pub mod Gaps
 pub mod Tables
+mod Same

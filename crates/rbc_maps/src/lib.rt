@@ -3,6 +3,8 @@
 
 mod lookup;
 mod numbered;
+mod same;
 
 pub use lookup::{has, index_for, remove, value_of};
 pub use numbered::Numbered;
+pub use same::Same;

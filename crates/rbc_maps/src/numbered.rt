@@ -1,10 +1,11 @@
 //! Active values under ascending numbers.
 
-ghost use Rattle.std.specs.Prelude.{◌≡◌, ◌<◌, ◌∷◌, ◌++◌, [], OnOk, OnErr, IfOk, length, Some, slice_get, option_copied};
+ghost use Rattle.std.specs.Prelude.{◌≡◌, ◌↔◌, ◌<◌, ◌∷◌, ◌++◌, [], OnOk, OnErr, IfOk, length, Some, slice_get, option_copied, IsTrue};
 ghost use Rattle.rbc_maps.specs.Maps.{has, value_of, without};
 ghost use Rattle.rbc_maps.specs.Numbered.{AreNumbered, none_numbered};
 
 use crate::lookup;
+use crate::same::{Same, have_same_pairs};
 use std::alloc::{AllocError, Global};
 use std::marker::Model;
 
@@ -114,5 +115,14 @@ impl<V> Numbered<V> {
             last: self.last,
             active: Vec::from_slice(alloc, self.active.as_slice())?,
         })
+    }
+
+    /// Whether both have the same last number, and the same values active under the same numbers. Takes no memory.
+    pub fn is_same(&self, other: &Self) -> bool
+    where
+        V: Same,
+        ensures { IsTrue result ↔ (self.now ≡ other.now) }
+    {
+        self.last == other.last && have_same_pairs(&self.active, &other.active)
     }
 }

@@ -1,6 +1,6 @@
 -- What is known when records are read one at a time (own rule).
 use Rattle.std.specs.Prelude.{◌≡◌, ℕ, ◌+◌, Bool, true, false, List, [], ◌∷◌, Option, Some, None, Result, Ok, Err, ◌==◌, if◌then◌else◌, IsTrue}
-use Rattle.std.specs.List.{list_any}
+use Rattle.std.specs.List.{list_any, All}
 use Rattle.rbc_records.specs.declared.record.Key.{Key}
 use Rattle.rbc_records.specs.declared.record.Key.TheVariants as key
 use Rattle.rbc_records.specs.declared.record.Rec.{Rec}
@@ -38,6 +38,10 @@ is_noted notes k = list_any (λ note. same_key k note.0) notes
 abbrev pub IsNotedOnce : List (Key × Option Rec) → Type 0
 IsNotedOnce [] = Unit
 IsNotedOnce (note ∷ notes) = (is_noted notes note.0 ≡ false) × IsNotedOnce notes
+
+-- each note, also one of absence, is what stands there
+abbrev pub AreNow : List (Key × Option Rec) → (Key → Option Rec) → Type 0
+AreNow notes records = All (λ note. records note.0 ≡ note.1) notes
 
 -- whether it is known what stands under a key
 abbrev pub knows : Notes → Key → Bool

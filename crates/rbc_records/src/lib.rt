@@ -9,6 +9,6 @@ mod writes;
 
 pub use notes::Notes;
 pub use reader::{ReadFault, Reader};
-pub use record::{Key, Rec};
+pub use record::{Key, Rec, same_record};
 pub use store::{PlainStore, apply};
 pub use writes::Writes;

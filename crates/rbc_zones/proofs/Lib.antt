@@ -7,3 +7,4 @@ pub mod Parts
 pub mod ToldLimits
 pub mod WitnessStops
 pub mod WitnessLimits
+mod Same

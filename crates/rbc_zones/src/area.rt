@@ -5,6 +5,7 @@ ghost use Rattle.rbc_zones.specs.Segments.{is_good_area, IsSegment, AreSegments}
 ghost use Rattle.std.specs.List.{All};
 
 use crate::segment::{Segment, is_good_segment};
+use rbc_maps::Same;
 use rbc_track::Track;
 use std::marker::Model;
 
@@ -85,6 +86,13 @@ impl Area {
         ensures sound { AreSegments self.now }
     {
         &self.segments[..self.count]
+    }
+}
+
+impl Same for Area {
+    /// Whether both have the same segments in the same order. Takes no memory.
+    fn is_same(&self, other: &Self) -> bool {
+        self.segments() == other.segments()
     }
 }
 

@@ -2,7 +2,8 @@
 
 use super::same;
 use crate::tests::setting::{assert_engines, engines, train, train_in};
-use rbc_records::{Key, Notes, Rec};
+use crate::tests::stores::write;
+use rbc_records::{Key, Notes, PlainStore, Rec};
 use std::alloc::Global;
 use std::process::Abort;
 use std::test::Fail;
@@ -85,5 +86,33 @@ fn nothing_is_noted_at_first(rt: HostRuntime) -> Result<(), Fail> {
     for (key, _) in READ {
         same(&rt, under(&notes, key), None);
     }
+    Ok(())
+}
+
+// a train that was not there has come and gone, a train that was there has another stamp, and then is gone
+#[test]
+fn notes_agree_with_a_store_that_has_what_was_read(rt: HostRuntime) -> Result<(), Fail> {
+    let alloc = rt.alloc();
+    let notes = noted(&rt, alloc)?;
+    let mut store = PlainStore::new(alloc);
+    same(&rt, notes.agree_with(&store), false);
+    same(&rt, Notes::new(alloc).agree_with(&store), true);
+    let rec = engines(alloc, &[7, 9])?;
+    write(&rt, alloc, &mut store, Key::Roster, Some(rec))?;
+    let rec = train(alloc, 7, 20)?;
+    write(&rt, alloc, &mut store, Key::Train(7), Some(rec))?;
+    let rec = train(alloc, 8, 20)?;
+    write(&rt, alloc, &mut store, Key::Train(8), Some(rec))?;
+    same(&rt, notes.agree_with(&store), true);
+    let rec = train(alloc, 9, 20)?;
+    write(&rt, alloc, &mut store, Key::Train(9), Some(rec))?;
+    same(&rt, notes.agree_with(&store), false);
+    write(&rt, alloc, &mut store, Key::Train(9), None)?;
+    same(&rt, notes.agree_with(&store), true);
+    let rec = train(alloc, 7, 21)?;
+    write(&rt, alloc, &mut store, Key::Train(7), Some(rec))?;
+    same(&rt, notes.agree_with(&store), false);
+    write(&rt, alloc, &mut store, Key::Train(7), None)?;
+    same(&rt, notes.agree_with(&store), false);
     Ok(())
 }

@@ -21,7 +21,7 @@ const KEYS: [Key; 5] = [
 ];
 
 /// Does one write.
-fn write(
+pub(super) fn write(
     rt: &impl Abort,
     alloc: Global,
     store: &mut PlainStore,

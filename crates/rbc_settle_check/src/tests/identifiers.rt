@@ -281,6 +281,32 @@ fn copies_each_slot(rt: HostRuntime) -> Result<(), Fail> {
 }
 
 #[test]
+fn tables_differ_by_each_part_of_a_slot(rt: HostRuntime) -> Result<(), Fail> {
+    let table = one(&rt, rt.alloc(), Kind::Conditional)?;
+    for (number, stamp, kind, wanted) in [
+        (1, 7, Kind::Conditional, true),
+        (2, 7, Kind::Conditional, false),
+        (1, 8, Kind::Conditional, false),
+        (1, 7, Kind::Unconditional, false),
+    ] {
+        let mut other = IdTable::<15>::new(rt.alloc());
+        same(&rt, other.is_same(&table), false);
+        same(&rt, issue(&mut other, number, stamp, kind), Some(Ok(0)));
+        same(&rt, other.is_same(&table), wanted);
+    }
+    let mut other = table.copy(rt.alloc())?;
+    same(&rt, other.ack_id(0, 1), IdAck::Marked);
+    same(&rt, other.is_same(&table), false);
+    assert!(rt; revoke(&mut other, 0, 7));
+    same(&rt, other.is_same(&table), false);
+    let mut first = IdTable::<15>::new(rt.alloc());
+    let mut second = IdTable::<15>::new(rt.alloc());
+    assert!(rt; tell(&mut first, 1, 30)? && tell(&mut second, 2, 30)?);
+    same(&rt, first.is_same(&second), false);
+    Ok(())
+}
+
+#[test]
 fn reads_the_stamp_of_a_slot(rt: HostRuntime) -> Result<(), Fail> {
     same(&rt, stop(5).stamp(), 5);
     same(&rt, Slot::Revoking { stamp: 6 }.stamp(), 6);
