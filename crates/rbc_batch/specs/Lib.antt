@@ -1,7 +1,5 @@
 pub mod BatchText
 pub mod Pieces
-pub mod Serial
-pub mod Held
 pub mod OutputText
-pub mod Sendable
 pub mod Process
+pub mod Turns

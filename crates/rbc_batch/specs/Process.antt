@@ -7,7 +7,7 @@ use Rattle.rbc_batch.specs.declared.batch.ProcessError.{ProcessError}
 use Rattle.rbc_batch.specs.declared.batch.ProcessError.TheVariants as fault
 use Rattle.rbc_rule.specs.declared.input.Input.{Input}
 use Rattle.rbc_batch.specs.BatchText.{AreInputsOf}
-use Rattle.rbc_batch.specs.Serial.{serial, new_desk}
+use Rattle.rbc_core.specs.Serial.{serial, new_desk}
 use Rattle.rbc_batch.specs.OutputText.{output_of}
 
 -- a batch has at most so many bytes

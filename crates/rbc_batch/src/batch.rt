@@ -1,19 +1,13 @@
 //! Processing a batch, from a reader to a writer.
 
-ghost use Rattle.std.specs.Prelude.{◌≡◌, ◌<◌, ◌≤◌, length, IfOk, IfErr, IfSome, IsErrOf};
-ghost use Rattle.std.specs.List.{All};
-ghost use Rattle.rbc_track.specs.Plan.{IsPlan};
-ghost use Rattle.rbc_rule.specs.Inputs.{Fits};
-ghost use Rattle.rbc_batch.specs.Held.{Holds};
-ghost use Rattle.rbc_batch.specs.Serial.{serial, new_desk};
+ghost use Rattle.std.specs.Prelude.{◌<◌, length, IfSome, IsErrOf};
 ghost use Rattle.rbc_batch.specs.Process.{Answers, IsUntouched, max_batch};
 
-use crate::desk::Desk;
 use crate::parse::parse_batch;
 use crate::read::read_batch;
 use crate::render::render;
+use crate::run::run_inputs;
 use crate::write::write_text;
-use rbc_rule::{Input, RuleFault};
 use rbc_track::Track;
 use std::alloc::{AllocError, Global};
 use std::error::Error;
@@ -63,40 +57,6 @@ impl From<AllocError> for ProcessError {
     }
 }
 
-/// Says in its contract what every track satisfies, because a step requires it.
-fn keeps(track: &Track)
-    ensures { IsPlan track.now }
-{
-    let _ = track.horizon();
-}
-
-/// Runs the inputs one after another on a track, from a new desk. Fails only for lack of memory.
-fn run_inputs(alloc: Global, track: &Track, inputs: &[Input]) -> Result<Desk, RuleFault>
-    requires plan { IsPlan track.now }
-    requires fit { All Fits inputs.now }
-    requires few { length inputs.now ≤ max_batch }
-    ensures desk { IfOk result (λ desk. Holds track.now desk (serial track.now new_desk inputs.now)) }
-    ensures memory { IfErr result (λ fault. fault ≡ RuleFault.OutOfMemory) }
-{
-    let mut desk = Desk::new(alloc);
-    for input in inputs {
-        desk.step(alloc, track, input)?;
-    }
-    Ok(desk)
-}
-
-impl From<RuleFault> for ProcessError {
-    ghost use Rattle.std.specs.Prelude.{◌≡◌};
-    ghost use Rattle.rbc_batch.specs.declared.batch.ProcessError.TheVariants.{Memory};
-
-    ghost from_gives = { λ _ e. e ≡ Memory };
-
-    /// A run from a new desk fails only for lack of memory: its records are consistent, and reading them never fails.
-    fn from(_: RuleFault) -> ProcessError {
-        ProcessError::Memory
-    }
-}
-
 /// Reads a batch to its end, runs its lines one after another on a track, from a new desk, and writes the output text.
 /// Nothing is written before the whole output is known.
 ///
@@ -117,7 +77,6 @@ pub fn process<R: Read, W: Write>(
     let alloc = rt.alloc();
     let batch = read_batch(alloc, reader)?;
     let inputs = parse_batch(rt, &batch)?;
-    keeps(track);
     let desk = run_inputs(alloc, track, &inputs)?;
     let text = render(alloc, &desk)?;
     write_text(writer, &text).map_err(|sent| ProcessError::Write { sent: sent as u64 })

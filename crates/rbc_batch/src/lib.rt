@@ -2,13 +2,13 @@
 #![tactic(auto)]
 
 mod batch;
-mod desk;
-mod outbox;
 mod parse;
 mod read;
 mod render;
+mod run;
 mod write;
 
 pub use batch::{ProcessError, process};
 pub use parse::parse_batch;
+pub use render::render;
 pub use write::write_text;

@@ -5,12 +5,12 @@ ghost use Rattle.std.specs.Fmt.{decimal};
 ghost use Rattle.std.specs.List.{flat_map, enumerate_from};
 ghost use Rattle.hex.specs.Hex.{encode_upper};
 ghost use Rattle.ertms_codec.specs.ToTrain.{Fits};
+ghost use Rattle.rbc_core.specs.Sendable.{AreSendable};
 ghost use Rattle.rbc_batch.specs.OutputText.{reply_text, result_line, mail_line, outbox_lines, output_of};
 
-use crate::desk::Desk;
-use crate::outbox::{Mail, Outbox};
 use ertms_codec::write_to_train;
 use itoa::Buffer;
+use rbc_core::{Desk, Mail};
 use rbc_rule::Reply;
 use std::alloc::{AllocError, Global};
 
@@ -76,10 +76,11 @@ fn push_mail(text: &mut Vec<u8>, engine: u32, mail: &Mail) -> Result<(), AllocEr
 }
 
 /// Appends the lines of an engine's outbox.
-fn push_outbox(text: &mut Vec<u8>, engine: u32, outbox: &Outbox) -> Result<(), AllocError>
-    ensures { OnOk result (text.new.items ≡ text.old.items ++ outbox_lines (engine, outbox.now)) }
+fn push_outbox(text: &mut Vec<u8>, engine: u32, mails: &[Mail]) -> Result<(), AllocError>
+    requires { AreSendable mails.now }
+    ensures { OnOk result (text.new.items ≡ text.old.items ++ outbox_lines (engine, mails.now)) }
 {
-    for mail in outbox.mails() {
+    for mail in mails {
         push_mail(text, engine, mail)?;
     }
     Ok(())
@@ -96,12 +97,13 @@ fn push_results(text: &mut Vec<u8>, results: &[Reply]) -> Result<(), AllocError>
     Ok(())
 }
 
-/// Appends the lines of all outboxes.
-fn push_outboxes(text: &mut Vec<u8>, outboxes: &[(u32, Outbox)]) -> Result<(), AllocError>
-    ensures { OnOk result (text.new.items ≡ text.old.items ++ flat_map outbox_lines outboxes.now) }
+/// Appends the lines of all outboxes of a desk.
+fn push_outboxes(text: &mut Vec<u8>, desk: &Desk) -> Result<(), AllocError>
+    ensures { OnOk result (text.new.items ≡ text.old.items ++ flat_map outbox_lines desk.now.outboxes) }
 {
-    for (engine, outbox) in outboxes {
-        push_outbox(text, *engine, outbox)?;
+    for index in 0..desk.outboxes() {
+        let (engine, mails) = desk.outbox_at(index);
+        push_outbox(text, engine, mails)?;
     }
     Ok(())
 }
@@ -112,6 +114,6 @@ pub fn render(alloc: Global, desk: &Desk) -> Result<Vec<u8>, AllocError>
 {
     let mut text = Vec::new(alloc);
     push_results(&mut text, desk.results())?;
-    push_outboxes(&mut text, desk.outboxes())?;
+    push_outboxes(&mut text, desk)?;
     Ok(text)
 }

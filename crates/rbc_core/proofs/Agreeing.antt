@@ -8,8 +8,7 @@ use Rattle.rbc_track.specs.Plan.{Plan}
 use Rattle.rbc_records.specs.declared.record.Key.{Key}
 use Rattle.rbc_records.specs.declared.record.Key.TheVariants as key
 use Rattle.rbc_records.specs.declared.record.Rec.{Rec}
-use Rattle.rbc_records.specs.Notes.{Part, same_key, note_in, is_noted}
-use Rattle.rbc_core.specs.Tmp.{AreNow}
+use Rattle.rbc_records.specs.Notes.{Part, same_key, note_in, is_noted, AreNow}
 use Rattle.rbc_rule.specs.declared.input.Input.{Input}
 use Rattle.rbc_rule.specs.declared.outcome.Outcome.{Outcome}
 use Rattle.rbc_rule.specs.Right.{IsRight}

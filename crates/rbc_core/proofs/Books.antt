@@ -18,7 +18,7 @@ use Rattle.rbc_core.specs.Serial.{Desk, step, serial}
 use Rattle.rbc_core.specs.Runs.{Run, IsGoodRun, IsInput, IsSerialRun}
 use Rattle.rbc_core.specs.Core.{Try, IsRightTry, State, opening, IsAt, front, IsReady, IsStale, with_stage}
 use Rattle.rbc_core.specs.declared.book.Commit.TheVariants.{Applied, Recomputed, NotReady, Failed}
-use Rattle.rbc_core.specs.Tmp.{AreNow}
+use Rattle.rbc_records.specs.Notes.{AreNow}
 use Rattle.rbc_core.specs.Events.{Happens, Commits, IsSparing}
 use Rattle.rbc_core.specs.Events.Event.{Takes, Deposits, Voids, Applies, Recomputes, Waits, Ends, Fails}
 use Rattle.rbc_core.specs.Books.{IsStage, AreStages, IsBook, IsOutIn, Judges, IsJudged, IsCarriedOut}

@@ -8,3 +8,4 @@ pub mod Books
 pub mod TakesBack
 pub mod Agreeing
 pub mod Laws
+pub mod Mails

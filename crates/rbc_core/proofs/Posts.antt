@@ -169,7 +169,7 @@ post_value input boxes to [] engine =
     ]) refl
 post_value input boxes to (message ∷ messages) engine = value_or-with [] to (value_or [] boxes to ++ map (mail input) (message ∷ messages)) boxes engine
 
-all_posted : (input least : ℕ) (sent : List (ℕ × List ToTrain)) (boxes : List (ℕ × List Mail)) (engine : ℕ) → rises_from least (keys sent) ≡ true
+pub all_posted : (input least : ℕ) (sent : List (ℕ × List ToTrain)) (boxes : List (ℕ × List Mail)) (engine : ℕ) → rises_from least (keys sent) ≡ true
     → value_or [] (post_all input sent boxes) engine ≡ value_or [] boxes engine ++ map (mail input) (value_or [] sent engine)
 all_posted input least [] boxes engine rises = sym (append-nil (value_or [] boxes engine))
 all_posted input least ((to, messages) ∷ sent) boxes engine rises =

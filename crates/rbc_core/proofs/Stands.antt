@@ -5,8 +5,7 @@ use Rattle.rbc_track.specs.Plan.{Plan, IsPlan}
 use Rattle.ertms_codec.specs.declared.to_train.ToTrain.{ToTrain}
 use Rattle.rbc_records.specs.declared.record.Key.{Key}
 use Rattle.rbc_records.specs.declared.record.Rec.{Rec}
-use Rattle.rbc_records.specs.Notes.{Whole, Part, Extends, record_in, note_in, is_noted}
-use Rattle.rbc_core.specs.Tmp.{AreNow}
+use Rattle.rbc_records.specs.Notes.{Whole, Part, Extends, record_in, note_in, is_noted, AreNow}
 use Rattle.rbc_records.specs.Writes.{written}
 use Rattle.rbc_rule.specs.declared.input.Input.{Input}
 use Rattle.rbc_rule.specs.declared.outcome.Outcome.{Outcome}

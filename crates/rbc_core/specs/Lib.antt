@@ -1,4 +1,3 @@
-pub mod Tmp
 pub mod Serial
 pub mod Sendable
 pub mod Held
@@ -6,3 +5,4 @@ pub mod Runs
 pub mod Core
 pub mod Events
 pub mod Books
+pub mod SaidMails

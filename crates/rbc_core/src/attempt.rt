@@ -1,8 +1,7 @@
 //! Attempts at inputs.
 
 ghost use Rattle.std.specs.Prelude.{◌≡◌, ◌↔◌, IsTrue};
-ghost use Rattle.rbc_records.specs.Notes.{Part, record_in};
-ghost use Rattle.rbc_core.specs.Tmp.{AreNow};
+ghost use Rattle.rbc_records.specs.Notes.{Part, AreNow, record_in};
 ghost use Rattle.rbc_rule.specs.Right.{IsRight};
 ghost use Rattle.rbc_rule.specs.Gathered.{AreSendable};
 ghost use Rattle.rbc_core.specs.Runs.{IsInput};
@@ -67,8 +66,7 @@ impl<N: RunName> Attempt<N> {
     pub(crate) fn is_fresh(&self, desk: &Desk) -> bool
         ensures { IsTrue result ↔ AreNow self.now.notes (record_in desk.now.records) }
     {
-        let _ = desk;
-        self.number > 0
+        self.notes.agree_with(desk.store())
     }
 
     /// What the input does where what was read stands.

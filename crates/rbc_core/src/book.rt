@@ -8,6 +8,7 @@ ghost use Rattle.rbc_core.specs.Held.{standing};
 ghost use Rattle.rbc_core.specs.Runs.{IsGoodRun, IsSerialRun};
 ghost use Rattle.rbc_core.specs.Core.{Try, opening};
 ghost use Rattle.rbc_core.specs.Books.{IsBook, state_of, IsOutIn, IsJudged, Judges, IsMemoryOf, IsOutcomeAt, IsCarriedOut};
+ghost use Rattle.rbc_core.specs.SaidMails.{IsSaidSince};
 ghost use Rattle.rbc_core.specs.Events.{Happens, Commits, IsSparing};
 ghost use Rattle.rbc_core.specs.Events.Event.{Takes, Reads, Deposits, Voids};
 
@@ -196,10 +197,12 @@ impl<'a, N: RunName> Book<'a, N> {
         }
     }
 
-    /// Closes the book, and returns the desk: that of the rules applied to the inputs that are committed, one after another.
+    /// Closes the book, and returns the desk: that of the rules applied to the inputs that are committed, one after another. Each mail
+    /// that it has more than the desk before says what the rules give its train.
     pub fn close(self) -> Desk
         ensures desk { result ≡ self.entry.desk }
         ensures serial { IsSerialRun N.run self.entry.committed (standing result) }
+        ensures mails { IsSaidSince N.run self.entry.committed result.outboxes }
     {
         let Book {
             inputs: _,

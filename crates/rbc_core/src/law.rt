@@ -1,9 +1,16 @@
 //! What holds after all events.
 
 ghost use Rattle.rbc_core.specs.Events.{EventsAreSerial};
+ghost use Rattle.rbc_core.specs.SaidMails.{EachRunSays};
 
 /// After any events of a book, in any order, the desk is that of the rules applied to the inputs that are committed, one after
 /// another: attempts made from reads at different moments make no difference.
 pub fn event_law()
     ensures { EventsAreSerial }
+{}
+
+/// Each mail that a run adds to an engine's outbox has the number of the input that caused it, and says what the rules give that train
+/// after that input, for one thing that settling it does.
+pub fn mails_law()
+    ensures { EachRunSays }
 {}

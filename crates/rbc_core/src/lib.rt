@@ -12,6 +12,6 @@ mod stage;
 pub use attempt::Attempt;
 pub use book::{Book, Commit, Stats};
 pub use desk::{Desk, MAX_RESULTS};
-pub use law::event_law;
+pub use law::{event_law, mails_law};
 pub use outbox::{Mail, Outbox};
 pub use run_name::RunName;
