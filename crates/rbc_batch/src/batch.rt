@@ -5,7 +5,7 @@ ghost use Rattle.rbc_batch.specs.Process.{Answers, IsUntouched, max_batch};
 
 use crate::parse::parse_batch;
 use crate::read::read_batch;
-use crate::render::render;
+use crate::output::render;
 use crate::run::run_inputs;
 use crate::write::write_text;
 use rbc_track::Track;

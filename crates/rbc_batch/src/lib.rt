@@ -2,13 +2,13 @@
 #![tactic(auto)]
 
 mod batch;
+mod output;
 mod parse;
 mod read;
-mod render;
 mod run;
 mod write;
 
 pub use batch::{ProcessError, process};
+pub use output::render;
 pub use parse::parse_batch;
-pub use render::render;
 pub use write::write_text;

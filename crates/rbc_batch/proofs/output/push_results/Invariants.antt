@@ -1,7 +1,7 @@
 use Rattle.std.proofs.Common.{◌≡◌, ◌++◌, ◌+◌, drop}
 use Rattle.std.specs.List.{flat_map, enumerate_from}
 use Rattle.rbc_batch.specs.OutputText.{result_line}
-use Rattle.rbc_batch.proofs.render.push_results.Given as goal
+use Rattle.rbc_batch.proofs.output.push_results.Given as goal
 
 -- what is written, and the lines of what is left, are all lines
 abbrev pub invariant-loop-place : goal.invariant-loop-place

@@ -3,7 +3,7 @@ use Rattle.std.specs.Char.{to_ascii_uppercase}
 use Rattle.std.proofs.lemmas.Result.{IfOk-at_ok}
 use Rattle.hex.specs.Hex.{encode_lower, encode_upper}
 use Rattle.rbc_batch.proofs.Texts.{appended, upper_of_lower}
-use Rattle.rbc_batch.proofs.render.push_hex.Goals as goal
+use Rattle.rbc_batch.proofs.output.push_hex.Goals as goal
 
 pub returns : goal.returns
 returns c =
