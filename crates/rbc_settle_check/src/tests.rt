@@ -1,4 +1,3 @@
-mod borrowed;
 mod desk;
 mod full_tables;
 mod identifiers;

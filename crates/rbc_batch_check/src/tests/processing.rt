@@ -5,7 +5,7 @@ use rbc_batch::{ProcessError, process};
 use rbc_track::{Track, track_from_toml};
 use std::io;
 use std::io::{ErrorKind, Read, Write};
-use std::test::Fail;
+use std::process::Abort;
 
 /// Two lines, of 300,000 and of 3,000,000 units of 10 cm.
 const TRACK: &str = "horizon = 100000
@@ -15,35 +15,32 @@ length = 300000
 length = 3000000
 ";
 
-fn track(rt: &HostRuntime) -> Result<Track, Fail> {
-    Ok(track_from_toml(rt.alloc(), TRACK)?)
+fn track<R: Abort + AllocGlobal>(rt: &R) -> Track {
+    track_from_toml(rt.alloc(), TRACK).expect(rt, "a good track")
 }
 
 /// The output text of a batch on a track.
-pub(super) fn output_on<R: AllocGlobal>(
-    rt: &R,
-    track: &str,
-    batch: &[u8],
-) -> Result<Vec<u8>, Fail> {
+pub(super) fn output_on<R: Abort + AllocGlobal>(rt: &R, track: &str, batch: &[u8]) -> Vec<u8> {
     let mut written = Vec::new(rt.alloc());
     let mut reader = batch;
-    let track = track_from_toml(rt.alloc(), track)?;
-    process(rt, &track, &mut reader, &mut written)?;
-    Ok(written)
+    let track = track_from_toml(rt.alloc(), track).expect(rt, "a good track");
+    process(rt, &track, &mut reader, &mut written).expect(rt, "an output");
+    written
 }
 
 /// The output text of a batch.
-fn output(rt: &HostRuntime, batch: &[u8]) -> Result<Vec<u8>, Fail> {
+fn output<R: Abort + AllocGlobal>(rt: &R, batch: &[u8]) -> Vec<u8> {
     output_on(rt, TRACK, batch)
 }
 
 /// A batch with one enrolment and then so many stops, each of one segment.
-fn stops(rt: &HostRuntime, count: u32) -> Result<String, Fail> {
-    let mut batch = String::from_str(rt.alloc(), "enrol 7 2000\n")?;
+fn stops<R: Abort + AllocGlobal>(rt: &R, count: u32) -> String {
+    let mut batch = String::new(rt.alloc());
+    batch.push_str("enrol 7 2000\n").expect(rt, "memory");
     for number in 1..=count {
-        writeln!(batch, "stop {number} 0:0-10")?;
+        writeln!(batch, "stop {number} 0:0-10").expect(rt, "memory");
     }
-    Ok(batch)
+    batch
 }
 
 /// The last line of a text.
@@ -54,7 +51,7 @@ fn last_line(text: &[u8]) -> &[u8] {
 }
 
 #[test]
-fn answers_worked_batches(rt: HostRuntime) -> Result<(), Fail> {
+fn answers_worked_batches(rt: HostRuntime) {
     let told = "1 ok 0\n2 ok 1\n7 2 1002800000005FFFFFE0\n";
     let rows = [
         ("", ""),
@@ -89,25 +86,24 @@ fn answers_worked_batches(rt: HostRuntime) -> Result<(), Fail> {
         ),
     ];
     for (batch, text) in rows {
-        let written = output(&rt, batch.as_bytes())?;
+        let written = output(&rt, batch.as_bytes());
         same(&rt, written.as_slice(), text.as_bytes());
     }
-    Ok(())
 }
 
 #[test]
-fn tells_stops_as_long_as_there_are_identifiers(rt: HostRuntime) -> Result<(), Fail> {
-    let nine = output(&rt, stops(&rt, 9)?.as_bytes())?;
+fn tells_stops_as_long_as_there_are_identifiers(rt: HostRuntime) {
+    let nine = output(&rt, stops(&rt, 9).as_bytes());
     same(
         &rt,
         last_line(&nine),
         b"7 10 1002800000025FFFFFF0".as_slice(),
     );
-    let sixteen = output(&rt, stops(&rt, 16)?.as_bytes())?;
+    let sixteen = output(&rt, stops(&rt, 16).as_bytes());
     let mut lines = sixteen.split(|b| *b == b'\n');
     same(&rt, lines.next(), Some(b"1 ok 0".as_slice()));
     for input in 2..=16u32 {
-        let line = format!(in rt.alloc(); "{input} ok 1")?;
+        let line = format!(in rt.alloc(); "{input} ok 1").expect(&rt, "memory");
         same(&rt, lines.next(), Some(line.as_bytes()));
     }
     same(&rt, lines.next(), Some(b"17 ok 0".as_slice()));
@@ -116,43 +112,40 @@ fn tells_stops_as_long_as_there_are_identifiers(rt: HostRuntime) -> Result<(), F
         sixteen.iter().filter(|b| **b == b'\n').count(),
         17 + 15,
     );
-    Ok(())
 }
 
 #[test]
-fn refuses_what_is_too_many(rt: HostRuntime) -> Result<(), Fail> {
+fn refuses_what_is_too_many(rt: HostRuntime) {
     let mut batch = String::new(rt.alloc());
     for engine in 1..=2_001 {
-        writeln!(batch, "enrol {engine} 2000")?;
+        writeln!(batch, "enrol {engine} 2000").expect(&rt, "memory");
     }
-    writeln!(batch, "enrol 1 2000")?;
-    let written = output(&rt, batch.as_bytes())?;
+    writeln!(batch, "enrol 1 2000").expect(&rt, "memory");
+    let written = output(&rt, batch.as_bytes());
     let mut lines = written.split(|b| *b == b'\n').skip(1_999);
     same(&rt, lines.next(), Some(b"2000 ok 0".as_slice()));
     same(&rt, lines.next(), Some(b"2001 refused 9".as_slice()));
     same(&rt, lines.next(), Some(b"2002 refused 8".as_slice()));
-    let written = output(&rt, stops(&rt, 66)?.as_bytes())?;
+    let written = output(&rt, stops(&rt, 66).as_bytes());
     let mut lines = written.split(|b| *b == b'\n').skip(64);
     same(&rt, lines.next(), Some(b"65 ok 0".as_slice()));
     same(&rt, lines.next(), Some(b"66 refused 13".as_slice()));
     same(&rt, lines.next(), Some(b"67 refused 13".as_slice()));
-    Ok(())
 }
 
 #[test]
-fn refuses_one_restriction_too_many(rt: HostRuntime) -> Result<(), Fail> {
+fn refuses_one_restriction_too_many(rt: HostRuntime) {
     let mut batch = String::new(rt.alloc());
     for number in 1..=301 {
-        writeln!(batch, "restrict {number} 0:0-10 up 40 1")?;
+        writeln!(batch, "restrict {number} 0:0-10 up 40 1").expect(&rt, "memory");
     }
-    writeln!(batch, "lift 7\nrestrict 301 0:0-10 up 40 1")?;
-    let written = output(&rt, batch.as_bytes())?;
+    writeln!(batch, "lift 7\nrestrict 301 0:0-10 up 40 1").expect(&rt, "memory");
+    let written = output(&rt, batch.as_bytes());
     let mut lines = written.split(|b| *b == b'\n').skip(299);
     same(&rt, lines.next(), Some(b"300 ok 0".as_slice()));
     same(&rt, lines.next(), Some(b"301 refused 13".as_slice()));
     same(&rt, lines.next(), Some(b"302 ok 0".as_slice()));
     same(&rt, lines.next(), Some(b"303 ok 0".as_slice()));
-    Ok(())
 }
 
 /// Gives a text in pieces of 7 bytes, and fails at one call.
@@ -176,9 +169,9 @@ impl Read for Pieces<'_> {
 }
 
 #[test]
-fn fails_where_the_reader_fails(rt: HostRuntime) -> Result<(), Fail> {
-    let batch = stops(&rt, 3)?;
-    let whole = output(&rt, batch.as_bytes())?;
+fn fails_where_the_reader_fails(rt: HostRuntime) {
+    let batch = stops(&rt, 3);
+    let whole = output(&rt, batch.as_bytes());
     for fails_at in 1..=12 {
         for kind in [ErrorKind::Other, ErrorKind::Interrupted] {
             let mut reader = Pieces {
@@ -188,7 +181,7 @@ fn fails_where_the_reader_fails(rt: HostRuntime) -> Result<(), Fail> {
                 kind,
             };
             let mut written = Vec::new(rt.alloc());
-            let result = process(&rt, &track(&rt)?, &mut reader, &mut written);
+            let result = process(&rt, &track(&rt), &mut reader, &mut written);
             let calls = reader.calls;
             if kind == ErrorKind::Other && fails_at <= calls {
                 same(&rt, result, Err(ProcessError::Read));
@@ -199,7 +192,6 @@ fn fails_where_the_reader_fails(rt: HostRuntime) -> Result<(), Fail> {
             }
         }
     }
-    Ok(())
 }
 
 /// Is always interrupted, and counts it.
@@ -227,18 +219,17 @@ impl Write for Interrupted {
 }
 
 #[test]
-fn gives_up_on_endless_interruptions(rt: HostRuntime) -> Result<(), Fail> {
+fn gives_up_on_endless_interruptions(rt: HostRuntime) {
     let mut reader = Interrupted { calls: 0 };
     let mut written = Vec::new(rt.alloc());
-    let result = process(&rt, &track(&rt)?, &mut reader, &mut written);
+    let result = process(&rt, &track(&rt), &mut reader, &mut written);
     same(&rt, result, Err(ProcessError::Read));
     same(&rt, (reader.calls, written.len()), (20_000_000, 0));
     let mut text = b"enrol 7 2000".as_slice();
     let mut writer = Interrupted { calls: 0 };
-    let result = process(&rt, &track(&rt)?, &mut text, &mut writer);
+    let result = process(&rt, &track(&rt), &mut text, &mut writer);
     same(&rt, result, Err(ProcessError::Write { sent: 0 }));
     same(&rt, writer.calls, 1_000);
-    Ok(())
 }
 
 /// Takes one byte a call up to some number, and then gives 0 or fails; every other call is interrupted.
@@ -278,9 +269,9 @@ impl Write for Narrow {
 }
 
 #[test]
-fn counts_what_is_out_where_the_writer_fails(rt: HostRuntime) -> Result<(), Fail> {
+fn counts_what_is_out_where_the_writer_fails(rt: HostRuntime) {
     let batch = b"enrol 7 2000\nstop 1 0:0-10\n";
-    let whole = output(&rt, batch)?;
+    let whole = output(&rt, batch);
     for room in 0..=whole.len() {
         for fails in [false, true] {
             let mut reader = batch.as_slice();
@@ -290,7 +281,7 @@ fn counts_what_is_out_where_the_writer_fails(rt: HostRuntime) -> Result<(), Fail
                 fails,
                 interrupts: false,
             };
-            let result = process(&rt, &track(&rt)?, &mut reader, &mut writer);
+            let result = process(&rt, &track(&rt), &mut reader, &mut writer);
             if room < whole.len() {
                 let sent = room as u64;
                 same(&rt, result, Err(ProcessError::Write { sent }));
@@ -301,19 +292,17 @@ fn counts_what_is_out_where_the_writer_fails(rt: HostRuntime) -> Result<(), Fail
             }
         }
     }
-    Ok(())
 }
 
 #[test]
-fn takes_the_longest_batch_and_none_longer(rt: HostRuntime) -> Result<(), Fail> {
-    let longer = vec![in rt.alloc(); b'x'; 16_777_217]?;
+fn takes_the_longest_batch_and_none_longer(rt: HostRuntime) {
+    let longer = vec![in rt.alloc(); b'x'; 16_777_217].expect(&rt, "memory");
     let mut reader = longer.as_slice();
     let mut written = Vec::new(rt.alloc());
-    let result = process(&rt, &track(&rt)?, &mut reader, &mut written);
+    let result = process(&rt, &track(&rt), &mut reader, &mut written);
     same(&rt, result, Err(ProcessError::TooLong));
     same(&rt, written.len(), 0);
     same(&rt, longer.len(), 16_777_217);
-    let written = output(&rt, &longer[1..])?;
+    let written = output(&rt, &longer[1..]);
     same(&rt, written.as_slice(), b"1 refused 1\n".as_slice());
-    Ok(())
 }

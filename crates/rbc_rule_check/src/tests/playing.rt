@@ -1,32 +1,38 @@
-//! Inputs in turn over a plain store, by the operating rules.
+//! Transcripts: inputs in turn over a plain store, by the operating rules.
+//!
+//! A line that begins with `> ` is an input or a question, and the lines behind it, up to the next one, are its answer.
+//!
+//! - The inputs are `enrol ENGINE LENGTH`, `withdraw ENGINE`, `stop NUMBER FROM TO` on line 0, `release NUMBER`, `restrict NUMBER
+//!   SPEED` from 1.1 km to 1.2 km of line 0 for trains that face up, `lift NUMBER`, `report ENGINE STAMP` at `UP`, `ack STAMP
+//!   ACKED` and `reject STAMP` of the stop with identifier 0, both of train 7, and `bad CODE`. Each is decided, and its writes
+//!   are taken over. It is answered by the reply and the keys of the writes, and then by the messages, each behind its engine.
+//! - `seven` is answered by the stamp of train 7, whether it has a place, for how many stops it stops at once, and how many
+//!   identifiers of stops and of restrictions it holds, or by `None`. `roster` is answered by whether there is one.
 
 use super::same;
-use crate::tests::setting::{UP, enrol, enrolled, head, play, refuse, stop};
-use ertms_codec::{FromTrain, Position, ToTrain};
-use rbc_records::{Key, PlainStore, Rec};
-use rbc_rule::Input;
-use rbc_settle::TrainRec;
+use crate::tests::setting::{UP, stop, track};
+use ertms_codec::FromTrain;
+use rbc_records::{Key, PlainStore, Rec, Writes, apply};
+use rbc_rule::{Input, decide};
+use rbc_track::Track;
 use rbc_zones::{Dirs, Segment};
 use std::alloc::Global;
 use std::process::Abort;
-use std::test::Fail;
+use std::str::SplitWhitespace;
 
-/// NID_LRBG of a train without a place.
-const UNKNOWN: u32 = 16_777_215;
+/// A plain store on a track.
+#[derive(Drop)]
+pub(crate) struct Play {
+    alloc: Global,
+    track: Track,
+    pub store: PlainStore,
+}
 
-/// The keys under which is written what concerns train 7.
-const TRAIN: &[Key] = &[Key::Train(7)];
-
-const LIMITS: &[Key] = &[Key::Limits];
-
-const ROSTER_AND_TRAIN: &[Key] = &[Key::Roster, Key::Train(7)];
-
-const TRAIN_AND_STOPS: &[Key] = &[Key::Train(7), Key::Stops];
-
-const TRAIN_AND_LIMITS: &[Key] = &[Key::Train(7), Key::Limits];
-
-/// What happens, the keys of the writes, and the message to train 7.
-type Step = (Input, &'static [Key], Option<ToTrain>);
+/// The next word of a line as a number.
+fn number(rt: &impl Abort, words: &mut SplitWhitespace<'_>) -> u32 {
+    let word = words.next().expect(rt, "a number");
+    word.parse().expect(rt, "a number")
+}
 
 /// A restriction from 1.1 km to 1.2 km of line 0, for trains that face up.
 fn restrict(number: u32, speed: u32) -> Input {
@@ -43,205 +49,235 @@ fn restrict(number: u32, speed: u32) -> Input {
     }
 }
 
-fn report(engine: u32, stamp: u32) -> Input {
-    Input::Received(FromTrain::Report {
-        stamp,
-        engine,
-        position: UP,
-    })
-}
-
-fn acknowledge(stamp: u32, acked: u32) -> Input {
-    Input::Received(FromTrain::Ack {
-        stamp,
-        engine: 7,
-        acked,
-    })
-}
-
-fn reject(stamp: u32, position: Position) -> Input {
-    Input::Received(FromTrain::StopAck {
-        stamp,
-        engine: 7,
-        id: 0,
-        answer: 3,
-        position,
-    })
-}
-
-/// Message 16: a stop at once.
-fn at_once(stamp: u32, lrbg: u32) -> ToTrain {
-    let head = head(stamp, false, lrbg);
-    ToTrain::Stop { head, id: 0 }
-}
-
-/// Message 15: a stop 1 km beyond balise group 5.
-fn before(stamp: u32) -> ToTrain {
-    ToTrain::StopAt {
-        head: head(stamp, false, 5),
-        id: 0,
-        scale: 0,
-        reference: 0,
-        dir: 1,
-        distance: 10_000,
+/// A message from a train.
+fn received(rt: &impl Abort, first: &str, words: &mut SplitWhitespace<'_>) -> FromTrain {
+    match first {
+        "report" => FromTrain::Report {
+            engine: number(rt, words),
+            stamp: number(rt, words),
+            position: UP,
+        },
+        "ack" => FromTrain::Ack {
+            stamp: number(rt, words),
+            engine: 7,
+            acked: number(rt, words),
+        },
+        "reject" => FromTrain::StopAck {
+            stamp: number(rt, words),
+            engine: 7,
+            id: 0,
+            answer: 3,
+            position: UP,
+        },
+        _ => rt.panic("no input"),
     }
 }
 
-/// Message 18: the stop is revoked.
-fn revoked(stamp: u32, lrbg: u32) -> ToTrain {
-    let head = head(stamp, true, lrbg);
-    ToTrain::Revoke { head, id: 0 }
-}
-
-/// Message 24 with packet 65: 40 km/h from 100 m to 200 m beyond balise group 5.
-fn restricted(stamp: u32) -> ToTrain {
-    ToTrain::Restrict {
-        head: head(stamp, true, 5),
-        dir: 1,
-        scale: 0,
-        id: 0,
-        start: 1_000,
-        length: 1_000,
-        front: true,
-        speed: 8,
+/// The input of a line.
+fn input(rt: &impl Abort, alloc: Global, first: &str, words: &mut SplitWhitespace<'_>) -> Input {
+    match first {
+        "enrol" => Input::Enrol {
+            engine: number(rt, words),
+            length: number(rt, words),
+        },
+        "withdraw" => Input::Withdraw {
+            engine: number(rt, words),
+        },
+        "stop" => {
+            let (number, from, to) = (number(rt, words), number(rt, words), number(rt, words));
+            stop(alloc, number, from, to).expect(rt, "memory")
+        }
+        "release" => Input::Release {
+            number: number(rt, words),
+        },
+        "restrict" => restrict(number(rt, words), number(rt, words)),
+        "lift" => Input::Lift {
+            number: number(rt, words),
+        },
+        "bad" => Input::Bad(u8::try_from(number(rt, words)).expect(rt, "a code")),
+        _ => Input::Received(received(rt, first, words)),
     }
 }
 
-/// Message 24 with packet 66: the restriction is revoked.
-fn lifted(stamp: u32) -> ToTrain {
-    let head = head(stamp, true, 5);
-    ToTrain::Lift {
-        head,
-        dir: 2,
-        id: 0,
+/// The keys under which records are written, in turn.
+fn keys_of(rt: &impl Abort, alloc: Global, writes: &Writes) -> Vec<Key> {
+    let mut keys = Vec::new(alloc);
+    for index in 0..writes.len() {
+        let (key, _) = writes.at(index);
+        keys.push(key).expect(rt, "memory");
+    }
+    keys
+}
+
+impl Play {
+    /// The next line, and its answer.
+    fn follow(&mut self, rt: &impl Abort, line: &str, said: &mut String) {
+        let mut words = line.split_whitespace();
+        match words.next().unwrap_or("") {
+            "seven" => self.seven(rt, said),
+            "roster" => {
+                let is_there = self.store.get(Key::Roster).is_some();
+                writeln!(said, "{is_there}").expect(rt, "memory");
+            }
+            first => {
+                let input = input(rt, self.alloc, first, &mut words);
+                self.decide(rt, &input, said);
+            }
+        }
+    }
+
+    /// Decides an input, and takes its writes over.
+    fn decide(&mut self, rt: &impl Abort, input: &Input, said: &mut String) {
+        assert!(rt; input.fits());
+        let outcome = decide(self.alloc, &self.track, input, &mut self.store);
+        let outcome = outcome.expect(rt, "an outcome");
+        let keys = keys_of(rt, self.alloc, &outcome.writes);
+        writeln!(said, "{:?} {keys:?}", outcome.result).expect(rt, "memory");
+        assert!(rt; apply(&mut self.store, outcome.writes).is_ok());
+        for sent in &outcome.messages.into_vec() {
+            writeln!(said, "{} {:?}", sent.engine, sent.message).expect(rt, "memory");
+        }
+    }
+
+    /// What is known of train 7.
+    fn seven(&self, rt: &impl Abort, said: &mut String) {
+        let known = match self.store.get(Key::Train(7)) {
+            Some(Rec::Train(train)) => Some((
+                train.stamp,
+                train.place.is_some(),
+                train.forced.len(),
+                (train.stops.held(), train.limits.held()),
+            )),
+            _ => None,
+        };
+        writeln!(said, "{known:?}").expect(rt, "memory");
     }
 }
 
-/// Train 7, if it is enrolled.
-fn seven(store: &PlainStore) -> Option<&TrainRec> {
-    match store.get(Key::Train(7)) {
-        Some(Rec::Train(train)) => Some(train),
-        _ => None,
+/// Plays a transcript over an empty store, and asserts that the answers are those that stand there. Returns the store after it.
+pub(crate) fn assert_transcript(rt: &impl Abort, alloc: Global, transcript: &str) -> PlainStore {
+    let mut play = Play {
+        alloc,
+        track: track(alloc).expect(rt, "a good track"),
+        store: PlainStore::new(alloc),
+    };
+    let mut said = String::new(alloc);
+    for line in transcript.lines() {
+        if let Some(input) = line.strip_prefix("> ") {
+            writeln!(said, "{line}").expect(rt, "memory");
+            play.follow(rt, input, &mut said);
+        }
     }
-}
-
-/// Asserts its stamp, whether it has a place, for how many stops it stops at once, and how many identifiers of each kind it holds.
-fn assert_seven(
-    rt: &impl Abort,
-    store: &PlainStore,
-    stamp: u32,
-    placed: bool,
-    forced: usize,
-    held: (usize, usize),
-) {
-    let train = seven(store).expect(rt, "train 7");
-    same(rt, (train.stamp, train.place.is_some()), (stamp, placed));
-    same(rt, train.forced.len(), forced);
-    same(rt, (train.stops.held(), train.limits.held()), held);
-}
-
-/// A store at which train 7 is enrolled.
-fn with_seven(rt: &impl Abort, alloc: Global) -> Result<PlainStore, Fail> {
-    let mut store = PlainStore::new(alloc);
-    enrolled(rt, alloc, &mut store, 7)?;
-    Ok(store)
-}
-
-/// Plays steps in turn.
-fn play_all(
-    rt: &impl Abort,
-    alloc: Global,
-    store: &mut PlainStore,
-    steps: &[Step],
-) -> Result<(), Fail> {
-    for (input, keys, told) in steps {
-        play(rt, alloc, store, input, *keys, *told)?;
-    }
-    Ok(())
+    same(rt, said.as_str(), transcript);
+    play.store
 }
 
 // to a train without a place: a stop at once, and its revocation; no restriction
 #[test]
-fn a_train_without_a_place_is_told_to_stop(rt: HostRuntime) -> Result<(), Fail> {
-    let alloc = rt.alloc();
-    let mut store = with_seven(&rt, alloc)?;
-    assert_seven(&rt, &store, 0, false, 0, (0, 0));
-    let closed = stop(alloc, 1, 20_000, 21_000)?;
-    let told = Some(at_once(1, UNKNOWN));
-    play(&rt, alloc, &mut store, &closed, TRAIN_AND_STOPS, told)?;
-    assert_seven(&rt, &store, 1, false, 0, (1, 0));
-    let leaving = Input::Withdraw { engine: 7 };
-    refuse(&rt, alloc, &mut store, &leaving, 10)?;
-    let opened = Input::Release { number: 1 };
-    let told = Some(revoked(2, UNKNOWN));
-    play(&rt, alloc, &mut store, &opened, TRAIN_AND_STOPS, told)?;
-    assert_seven(&rt, &store, 2, false, 0, (1, 0));
-    let steps = [
-        (restrict(1, 40), LIMITS, None),
-        (acknowledge(1_000, 2), TRAIN, None),
-    ];
-    play_all(&rt, alloc, &mut store, &steps)?;
-    assert_seven(&rt, &store, 1_000, false, 0, (0, 0));
-    play(&rt, alloc, &mut store, &leaving, ROSTER_AND_TRAIN, None)?;
-    assert!(rt; seven(&store).is_none());
-    assert!(rt; store.get(Key::Roster).is_none());
-    Ok(())
+fn a_train_without_a_place_is_told_to_stop(rt: HostRuntime) {
+    let transcript = "> enrol 7 2000
+Done(0) [Roster, Train(7)]
+> seven
+Some((0, false, 0, (0, 0)))
+> stop 1 20000 21000
+Done(1) [Train(7), Stops]
+7 Stop { head: Head { stamp: 1, ack: false, lrbg: 16777215 }, id: 0 }
+> seven
+Some((1, false, 0, (1, 0)))
+> withdraw 7
+Refused(10) []
+> release 1
+Done(1) [Train(7), Stops]
+7 Revoke { head: Head { stamp: 2, ack: true, lrbg: 16777215 }, id: 0 }
+> seven
+Some((2, false, 0, (1, 0)))
+> restrict 1 40
+Done(0) [Limits]
+> ack 1000 2
+Done(0) [Train(7)]
+> seven
+Some((1000, false, 0, (0, 0)))
+> withdraw 7
+Done(0) [Roster, Train(7)]
+> seven
+None
+> roster
+false
+";
+    assert_transcript(&rt, rt.alloc(), transcript);
 }
 
 // to a train at a place: the restriction, a stop before its edge, the same stop at once after it was rejected, and that both end
 #[test]
-fn a_train_at_a_place_is_told_what_lies_ahead(rt: HostRuntime) -> Result<(), Fail> {
-    let alloc = rt.alloc();
-    let mut store = with_seven(&rt, alloc)?;
-    let closed = stop(alloc, 4, 20_000, 21_000)?;
-    let steps = [
-        (restrict(1, 40), LIMITS, None),
-        (report(7, 1_000), TRAIN, Some(restricted(1_001))),
-        (closed, TRAIN_AND_STOPS, Some(before(1_002))),
-        (reject(1_100, UP), TRAIN, Some(at_once(1_101, 5))),
-    ];
-    play_all(&rt, alloc, &mut store, &steps)?;
-    assert_seven(&rt, &store, 1_101, true, 1, (1, 1));
-    let opened = Input::Release { number: 4 };
-    let free = Input::Lift { number: 1 };
-    let steps = [
-        (opened, TRAIN_AND_STOPS, Some(revoked(1_102, 5))),
-        (free, TRAIN_AND_LIMITS, Some(lifted(1_103))),
-    ];
-    play_all(&rt, alloc, &mut store, &steps)?;
-    assert_seven(&rt, &store, 1_103, true, 0, (1, 1));
-    Ok(())
+fn a_train_at_a_place_is_told_what_lies_ahead(rt: HostRuntime) {
+    let transcript = "> enrol 7 2000
+Done(0) [Roster, Train(7)]
+> restrict 1 40
+Done(0) [Limits]
+> report 7 1000
+Done(1) [Train(7)]
+7 Restrict { head: Head { stamp: 1001, ack: true, lrbg: 5 }, dir: 1, scale: 0, id: 0, start: 1000, length: 1000, front: true, speed: 8 }
+> stop 4 20000 21000
+Done(1) [Train(7), Stops]
+7 StopAt { head: Head { stamp: 1002, ack: false, lrbg: 5 }, id: 0, scale: 0, reference: 0, dir: 1, distance: 10000 }
+> reject 1100
+Done(1) [Train(7)]
+7 Stop { head: Head { stamp: 1101, ack: false, lrbg: 5 }, id: 0 }
+> seven
+Some((1101, true, 1, (1, 1)))
+> release 4
+Done(1) [Train(7), Stops]
+7 Revoke { head: Head { stamp: 1102, ack: true, lrbg: 5 }, id: 0 }
+> lift 1
+Done(1) [Train(7), Limits]
+7 Lift { head: Head { stamp: 1103, ack: true, lrbg: 5 }, dir: 2, id: 0 }
+> seven
+Some((1103, true, 0, (1, 1)))
+";
+    assert_transcript(&rt, rt.alloc(), transcript);
 }
 
 // train 7 is enrolled and stop 5 is active: the least code that applies refuses each of these, and nothing changes
 #[test]
-fn refusals_change_nothing(rt: HostRuntime) -> Result<(), Fail> {
-    let alloc = rt.alloc();
-    let mut empty = PlainStore::new(alloc);
-    refuse(&rt, alloc, &mut empty, &Input::Withdraw { engine: 7 }, 7)?;
-    let mut store = with_seven(&rt, alloc)?;
-    let far = stop(alloc, 5, 0, 100)?;
-    play(&rt, alloc, &mut store, &report(7, 1_000), TRAIN, None)?;
-    play(&rt, alloc, &mut store, &far, &[Key::Stops], None)?;
-    let refused = [
-        (report(8, 1_000), 7),
-        (enrol(7), 8),
-        (stop(alloc, 5, 0, 100)?, 11),
-        (restrict(0, 42), 11),
-        (stop(alloc, 6, 101, 100)?, 12),
-        (stop(alloc, 6, 0, 300_001)?, 12),
-        (restrict(1, 42), 12),
-        (restrict(1, 605), 12),
-        (Input::Release { number: 4 }, 14),
-        (Input::Lift { number: 1 }, 14),
-        (report(7, 4_200_000_001), 15),
-        (acknowledge(2_000, 1), 16),
-        (reject(2_000, UP), 16),
-        (Input::Bad(2), 2),
-    ];
-    for (input, code) in &refused {
-        refuse(&rt, alloc, &mut store, input, *code)?;
-    }
-    assert_seven(&rt, &store, 1_000, true, 0, (0, 0));
-    Ok(())
+fn refusals_change_nothing(rt: HostRuntime) {
+    let transcript = "> withdraw 7
+Refused(7) []
+> enrol 7 2000
+Done(0) [Roster, Train(7)]
+> report 7 1000
+Done(0) [Train(7)]
+> stop 5 0 100
+Done(0) [Stops]
+> report 8 1000
+Refused(7) []
+> enrol 7 2000
+Refused(8) []
+> stop 5 0 100
+Refused(11) []
+> restrict 0 42
+Refused(11) []
+> stop 6 101 100
+Refused(12) []
+> stop 6 0 300001
+Refused(12) []
+> restrict 1 42
+Refused(12) []
+> restrict 1 605
+Refused(12) []
+> release 4
+Refused(14) []
+> lift 1
+Refused(14) []
+> report 7 4200000001
+Refused(15) []
+> ack 2000 1
+Refused(16) []
+> reject 2000
+Refused(16) []
+> bad 2
+Refused(2) []
+> seven
+Some((1000, true, 0, (0, 0)))
+";
+    assert_transcript(&rt, rt.alloc(), transcript);
 }

@@ -40,29 +40,26 @@ fn inputs_fit_up_to_the_ends_of_their_ranges(rt: HostRuntime) -> Result<(), Fail
         engine: 16_777_215,
         position: UP,
     });
-    let cases = [
-        (enrol(0, 1), true),
-        (enrol(0, 0), false),
-        (enrol(16_777_215, 40_000), true),
-        (enrol(16_777_216, 40_000), false),
-        (enrol(16_777_215, 40_001), false),
-        (Input::Withdraw { engine: 0 }, true),
-        (Input::Withdraw { engine: 16_777_215 }, true),
-        (Input::Withdraw { engine: 16_777_216 }, false),
-        (nowhere(rt.alloc()), false),
-        (stop(rt.alloc(), 0, 1, 0)?, true),
-        (Input::Release { number: 0 }, true),
-        (Input::Lift { number: u32::MAX }, true),
-        (restricted, true),
-        (received, true),
-        (Input::Bad(0), false),
-        (Input::Bad(1), true),
-        (Input::Bad(6), true),
-        (Input::Bad(7), false),
-    ];
-    for (input, wanted) in &cases {
-        same(&rt, input.fits(), *wanted);
+    same(&rt, (restricted.fits(), received.fits()), (true, true));
+    for (engine, length, wanted) in [
+        (0, 1, true),
+        (0, 0, false),
+        (16_777_215, 40_000, true),
+        (16_777_216, 40_000, false),
+        (16_777_215, 40_001, false),
+    ] {
+        same(&rt, enrol(engine, length).fits(), wanted);
     }
+    for (engine, wanted) in [(0, true), (16_777_215, true), (16_777_216, false)] {
+        same(&rt, Input::Withdraw { engine }.fits(), wanted);
+    }
+    for (code, wanted) in [(0, false), (1, true), (6, true), (7, false)] {
+        same(&rt, Input::Bad(code).fits(), wanted);
+    }
+    same(&rt, nowhere(rt.alloc()).fits(), false);
+    same(&rt, stop(rt.alloc(), 0, 1, 0)?.fits(), true);
+    same(&rt, Input::Release { number: 0 }.fits(), true);
+    same(&rt, Input::Lift { number: u32::MAX }.fits(), true);
     Ok(())
 }
 

@@ -3,13 +3,13 @@
 ghost use Rattle.std.specs.Prelude.{◌≡◌};
 
 use super::same;
-use crate::tests::setting::{enrol, enrolled, play, stop, track, write};
-use rbc_records::{Key, Notes, PlainStore, ReadFault, Reader, Rec};
-use rbc_rule::{Input, Reply, RuleFault, decide};
+use crate::tests::playing::assert_transcript;
+use crate::tests::setting::{enrol, stop, track};
+use rbc_records::{Key, Notes, PlainStore, ReadFault, Reader, Rec, Writes, apply};
+use rbc_rule::{Input, Outcome, Reply, RuleFault, decide};
 use rbc_settle::Numbers;
 use std::alloc::Global;
 use std::process::Abort;
-use std::test::Fail;
 
 /// Reads copies from a store, and fails once `left` reads were made.
 #[derive(Drop)]
@@ -88,88 +88,86 @@ const READ: [Key; 5] = [
     Key::Train(7),
 ];
 
-#[test]
-fn fails_at_each_read(rt: HostRuntime) -> Result<(), Fail> {
-    let alloc = rt.alloc();
-    let track = track(alloc)?;
-    let mut store = PlainStore::new(alloc);
-    enrolled(&rt, alloc, &mut store, 7)?;
-    enrolled(&rt, alloc, &mut store, 3)?;
-    let input = stop(alloc, 1, 0, 100)?;
+/// A stop for one segment of line 0.
+fn closed(rt: &impl Abort, alloc: Global, number: u32) -> Input {
+    stop(alloc, number, 0, 100).expect(rt, "memory")
+}
+
+/// Takes one write over.
+fn write(rt: &impl Abort, alloc: Global, store: &mut PlainStore, key: Key, rec: Rec) {
+    let mut writes = Writes::new(alloc);
+    writes.set(key, Some(rec)).expect(rt, "memory");
+    assert!(rt; apply(store, writes).is_ok());
+}
+
+/// Asserts that a stop with trains 3 and 7, over a reader that fails once `left` reads were made, is decided if these are
+/// enough, and else is not, and that just so many records were read.
+fn assert_fails_after(rt: &impl Abort, alloc: Global, store: &PlainStore, left: usize) {
+    let track = track(alloc).expect(rt, "a good track");
+    let input = closed(rt, alloc, 1);
     assert!(rt; input.fits());
-    for left in 0..7 {
-        let mut reader = reader_of(alloc, &store, left);
-        match decide(alloc, &track, &input, &mut reader) {
-            Ok(outcome) => {
-                assert!(rt; left >= READ.len());
-                same(&rt, outcome.result, Reply::Done(2));
-                same(&rt, reader.failures(), 0);
-            }
-            Err(fault) => {
-                assert!(rt; left < READ.len());
-                same(&rt, fault, RuleFault::Reader);
-                same(&rt, reader.failures(), 1);
-            }
-        }
-        assert_known(&rt, &reader.notes, &READ, left);
+    let mut reader = reader_of(alloc, store, left);
+    let result = decide(alloc, &track, &input, &mut reader).map(|outcome: Outcome| outcome.result);
+    if left < READ.len() {
+        same(rt, result, Err(RuleFault::Reader));
+        same(rt, reader.failures(), 1);
+    } else {
+        same(rt, result, Ok(Reply::Done(2)));
+        same(rt, reader.failures(), 0);
     }
-    Ok(())
+    assert_known(rt, &reader.notes, &READ, left);
+}
+
+#[test]
+fn fails_at_each_read(rt: HostRuntime) {
+    let transcript = "> enrol 7 2000
+Done(0) [Roster, Train(7)]
+> enrol 3 2000
+Done(0) [Roster, Train(3)]
+";
+    let store = assert_transcript(&rt, rt.alloc(), transcript);
+    for left in 0..7 {
+        assert_fails_after(&rt, rt.alloc(), &store, left);
+    }
 }
 
 /// Asserts that an input is decided, or that what was read is torn.
-fn assert_returns(
-    rt: &impl Abort,
-    alloc: Global,
-    store: &PlainStore,
-    input: &Input,
-) -> Result<(), Fail> {
+fn assert_returns(rt: &impl Abort, alloc: Global, store: &PlainStore, input: &Input) {
     assert!(rt; input.fits());
+    let track = track(alloc).expect(rt, "a good track");
     let mut reader = reader_of(alloc, store, 10);
-    match decide(alloc, &track(alloc)?, input, &mut reader) {
+    match decide(alloc, &track, input, &mut reader) {
         Ok(_) => {}
         Err(fault) => same(rt, fault, RuleFault::Torn),
     }
     same(rt, reader.failures(), 0);
-    Ok(())
 }
 
 // the roster names train 9, of which there is no record
 #[test]
-fn a_missing_train_is_no_failure(rt: HostRuntime) -> Result<(), Fail> {
+fn a_missing_train_is_no_failure(rt: HostRuntime) {
     let alloc = rt.alloc();
     let mut engines = Numbers::new(alloc);
     assert!(rt; !engines.has(9));
-    engines.add(9)?;
+    engines.add(9).expect(&rt, "memory");
     let mut store = PlainStore::new(alloc);
-    write(
-        &rt,
-        alloc,
-        &mut store,
-        Key::Roster,
-        Some(Rec::Engines(engines)),
-    )?;
-    assert_returns(&rt, alloc, &store, &stop(alloc, 1, 0, 100)?)?;
-    assert_returns(&rt, alloc, &store, &Input::Withdraw { engine: 9 })
+    write(&rt, alloc, &mut store, Key::Roster, Rec::Engines(engines));
+    assert_returns(&rt, alloc, &store, &closed(&rt, alloc, 1));
+    assert_returns(&rt, alloc, &store, &Input::Withdraw { engine: 9 });
 }
 
 // the stops are those after a stop, and the train is the one before it
 #[test]
-fn stops_of_another_time_are_no_failure(rt: HostRuntime) -> Result<(), Fail> {
+fn stops_of_another_time_are_no_failure(rt: HostRuntime) {
     let alloc = rt.alloc();
-    let mut before = PlainStore::new(alloc);
-    enrolled(&rt, alloc, &mut before, 7)?;
-    let mut after = PlainStore::new(alloc);
-    let closed = stop(alloc, 1, 0, 100)?;
-    play(&rt, alloc, &mut after, &closed, &[Key::Stops], None)?;
-    let stops = after.get(Key::Stops).expect(&rt, "the stops").copy(alloc)?;
-    write(&rt, alloc, &mut before, Key::Stops, Some(stops))?;
-    for input in [
-        stop(alloc, 2, 0, 100)?,
-        Input::Release { number: 1 },
-        Input::Withdraw { engine: 7 },
-        enrol(8),
-    ] {
-        assert_returns(&rt, alloc, &before, &input)?;
-    }
-    Ok(())
+    let transcript = "> enrol 7 2000\nDone(0) [Roster, Train(7)]\n";
+    let mut before = assert_transcript(&rt, alloc, transcript);
+    let after = assert_transcript(&rt, alloc, "> stop 1 0 100\nDone(0) [Stops]\n");
+    let stops = after.get(Key::Stops).expect(&rt, "the stops");
+    let stops = stops.copy(alloc).expect(&rt, "memory");
+    write(&rt, alloc, &mut before, Key::Stops, stops);
+    assert_returns(&rt, alloc, &before, &closed(&rt, alloc, 2));
+    assert_returns(&rt, alloc, &before, &Input::Release { number: 1 });
+    assert_returns(&rt, alloc, &before, &Input::Withdraw { engine: 7 });
+    assert_returns(&rt, alloc, &before, &enrol(8));
 }

@@ -1,129 +1,114 @@
 //! Trains whose identifiers are all held.
 
-use super::desk::{Desk, UNKNOWN, UP, at_once, lift, lost, restrict, revoke, used};
-use super::same;
-use rbc_ids::{Kind, StampAck};
-use rbc_settle::{TrainRec, settle};
-use rbc_zones::Dirs;
+use super::desk::assert_transcript;
+use std::alloc::Global;
 use std::test::Fail;
 
-/// Returns the engine number, the length, the stamp, and how many stops were rejected and identifiers are held.
-fn numbers_of(train: &TrainRec) -> [usize; 6] {
-    [
-        train.engine as usize,
-        train.length as usize,
-        train.stamp as usize,
-        train.forced.len(),
-        train.stops.held(),
-        train.limits.held(),
-    ]
+/// Commands that activate 16 stops and bring a train without a place.
+fn sixteen(alloc: Global, stamp: u32) -> Result<String, Fail> {
+    let mut text = String::new(alloc);
+    for number in 1..=16 {
+        writeln!(text, "> stop {number} 0 10")?;
+    }
+    writeln!(text, "> train lost {stamp}\n> settle")?;
+    for id in 0..15u32 {
+        let stamp = stamp.wrapping_add(1).wrapping_add(id);
+        writeln!(
+            text,
+            "Stop {{ head: Head {{ stamp: {stamp}, ack: false, lrbg: 16777215 }}, id: {id} }}"
+        )?;
+    }
+    Ok(text)
+}
+
+/// The lines of identifiers that are used by the numbers from 1 on, with stamps from a first one on.
+fn show_used(
+    text: &mut String,
+    name: &str,
+    count: u32,
+    first: u32,
+    kind: &str,
+) -> Result<(), Fail> {
+    for id in 0..count {
+        let (number, stamp) = (id.wrapping_add(1), id.wrapping_add(first));
+        writeln!(
+            text,
+            "{name} {id}: Used {{ number: {number}, stamp: {stamp}, kind: {kind}, acked: false }}"
+        )?;
+    }
+    Ok(())
 }
 
 // an identifier that is being revoked is not free: the stop waits until the train has acknowledged the revocation
 #[test]
 fn the_sixteenth_stop_waits(rt: HostRuntime) -> Result<(), Fail> {
-    let mut desk = Desk::new(rt.alloc())?;
-    for number in 1..=16 {
-        desk.stop(&rt, number, 0, 10)?;
-    }
-    let mut train = lost(rt.alloc(), 100);
-    let mut wanted = Vec::new(rt.alloc());
-    for id in 0..15 {
-        wanted.push(at_once(101 + u32::from(id), UNKNOWN, id))?;
-    }
-    desk.assert_sent(&rt, rt.alloc(), &mut train, wanted.as_slice())?;
-    same(&rt, train.stops.held(), 15);
-    for id in 0..15 {
-        let slot = used(1 + u32::from(id), 101 + u32::from(id), Kind::Unconditional);
-        same(&rt, train.stops.slot(id), Some(slot));
-    }
-    assert!(rt; desk.stops.remove(5));
-    desk.assert_sent(&rt, rt.alloc(), &mut train, &[revoke(116, UNKNOWN, 4)])?;
-    same(&rt, train.stops.ack_stamp(105), StampAck::Nothing);
-    desk.assert_sent(&rt, rt.alloc(), &mut train, &[])?;
-    same(&rt, train.stops.ack_stamp(116), StampAck::Freed);
-    desk.assert_sent(&rt, rt.alloc(), &mut train, &[at_once(117, UNKNOWN, 4)])?;
-    same(
-        &rt,
-        train.stops.slot(4),
-        Some(used(16, 117, Kind::Unconditional)),
-    );
+    let mut text = sixteen(rt.alloc(), 100)?;
+    text.push_str("> show\n(7, 2000, 115)\nNone\n[]\n")?;
+    show_used(&mut text, "stop", 15, 101, "Unconditional")?;
+    text.push_str(
+        "> release 5
+> settle
+Revoke { head: Head { stamp: 116, ack: true, lrbg: 16777215 }, id: 4 }
+> freed 105
+Nothing
+> settle
+> freed 116
+Freed
+> settle
+Stop { head: Head { stamp: 117, ack: false, lrbg: 16777215 }, id: 4 }
+> stop-slot 4
+Some(Used { number: 16, stamp: 117, kind: Unconditional, acked: false })
+",
+    )?;
+    assert_transcript(&rt, rt.alloc(), &text);
     Ok(())
 }
 
 // the same of the 255 identifiers of restrictions
 #[test]
 fn the_last_of_256_restrictions_waits(rt: HostRuntime) -> Result<(), Fail> {
-    let mut desk = Desk::new(rt.alloc())?;
+    let mut text = String::new(rt.alloc());
     for number in 1..=256 {
-        desk.slow(&rt, number, 11_000, 12_000, Dirs::Up)?;
+        writeln!(text, "> restrict {number} 11000 12000 up")?;
     }
-    let mut train = desk.train(rt.alloc(), 1_000, &UP);
-    let mut wanted = Vec::new(rt.alloc());
-    for id in 0..255 {
-        wanted.push(restrict(1_001 + u32::from(id), id, 1, 1_000, 1_000))?;
+    text.push_str("> train up 1000\n> settle\n")?;
+    for id in 0..255u32 {
+        let stamp = id.wrapping_add(1_001);
+        writeln!(
+            text,
+            "Restrict {{ head: Head {{ stamp: {stamp}, ack: true, lrbg: 5 }}, dir: 1, scale: 0, id: {id}, start: 1000, length: 1000, front: true, speed: 8 }}"
+        )?;
     }
-    desk.assert_sent(&rt, rt.alloc(), &mut train, wanted.as_slice())?;
-    same(&rt, train.limits.held(), 255);
-    for id in 0..255 {
-        let slot = used(1 + u32::from(id), 1_001 + u32::from(id), Kind::Restriction);
-        same(&rt, train.limits.slot(id), Some(slot));
-    }
-    assert!(rt; desk.limits.remove(100));
-    desk.assert_sent(&rt, rt.alloc(), &mut train, &[lift(1_256, 5, 99)])?;
-    same(&rt, train.limits.ack_stamp(1_100), StampAck::Nothing);
-    desk.assert_sent(&rt, rt.alloc(), &mut train, &[])?;
-    same(&rt, train.limits.ack_stamp(1_256), StampAck::Freed);
-    desk.assert_sent(
-        &rt,
-        rt.alloc(),
-        &mut train,
-        &[restrict(1_257, 99, 1, 1_000, 1_000)],
+    text.push_str("> show\n(7, 2000, 1255)\nSome((9900, 12100))\n[]\n")?;
+    show_used(&mut text, "restriction", 255, 1_001, "Restriction")?;
+    text.push_str(
+        "> lift 100
+> settle
+Lift { head: Head { stamp: 1256, ack: true, lrbg: 5 }, dir: 2, id: 99 }
+> lifted 1100
+Nothing
+> settle
+> lifted 1256
+Freed
+> settle
+Restrict { head: Head { stamp: 1257, ack: true, lrbg: 5 }, dir: 1, scale: 0, id: 99, start: 1000, length: 1000, front: true, speed: 8 }
+> restriction-slot 99
+Some(Used { number: 256, stamp: 1257, kind: Restriction, acked: false })
+",
     )?;
-    same(
-        &rt,
-        train.limits.slot(99),
-        Some(used(256, 1_257, Kind::Restriction)),
-    );
+    assert_transcript(&rt, rt.alloc(), &text);
     Ok(())
 }
 
 // of a full table, of 16 active stops and of a full train, each compared with its source
 #[test]
 fn copies_are_whole(rt: HostRuntime) -> Result<(), Fail> {
-    let mut desk = Desk::new(rt.alloc())?;
-    for number in 1..=16 {
-        desk.stop(&rt, number, 0, 10)?;
+    let mut text = sixteen(rt.alloc(), 0)?;
+    for copy in ["stops", "train", "table"] {
+        writeln!(text, "> copy {copy}\n> show\n(7, 2000, 15)\nNone\n[]")?;
+        show_used(&mut text, "stop", 15, 1, "Unconditional")?;
     }
-    let mut train = lost(rt.alloc(), 0);
-    let _ = settle(
-        rt.alloc(),
-        &desk.track,
-        &desk.stops,
-        &desk.limits,
-        &mut train,
-    )?;
-    let table = train.stops.copy(rt.alloc())?;
-    let stops = desk.stops.copy(rt.alloc())?;
-    let copy = train.copy(rt.alloc())?;
-    for id in 0..15 {
-        let number = 1 + u32::from(id);
-        let slot = Some(used(number, number, Kind::Unconditional));
-        same(&rt, train.stops.slot(id), slot);
-        same(&rt, table.slot(id), slot);
-        same(&rt, copy.stops.slot(id), slot);
-    }
-    for number in 1..=16 {
-        assert!(rt; desk.stops.get(number).is_some(), "stop {number}");
-        same(&rt, stops.get(number), desk.stops.get(number));
-    }
-    same(
-        &rt,
-        (table.held(), stops.last(), stops.count()),
-        (15, 16, 16),
-    );
-    same(&rt, numbers_of(&train), [7, 2_000, 15, 0, 15, 0]);
-    same(&rt, numbers_of(&copy), numbers_of(&train));
-    same(&rt, copy.place, None);
+    text.push_str("> active\n(16, 16)\n")?;
+    assert_transcript(&rt, rt.alloc(), &text);
     Ok(())
 }

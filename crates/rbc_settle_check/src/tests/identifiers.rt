@@ -9,7 +9,7 @@ use std::process::Abort;
 use std::test::Fail;
 
 /// Issues an identifier for a number, or returns `None` if the number is told already.
-fn issue<const N: usize>(
+pub(super) fn issue<const N: usize>(
     table: &mut IdTable<N>,
     number: u32,
     stamp: u32,

@@ -7,7 +7,7 @@ use std::process::Abort;
 use std::test::Fail;
 
 /// Adds a number if the list does not have it, and returns whether it was added.
-fn add(numbers: &mut Numbers, n: u32) -> Result<bool, AllocError> {
+pub(super) fn add(numbers: &mut Numbers, n: u32) -> Result<bool, AllocError> {
     if numbers.has(n) {
         Ok(false)
     } else {

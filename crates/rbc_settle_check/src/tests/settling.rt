@@ -1,273 +1,346 @@
 //! Trains settled by hand.
 
-use super::desk::{
-    DOWN, Desk, FAR, UNKNOWN, UP, at_once, before, issue, lift, lost, restrict, revoke, used,
-};
-use super::same;
-use rbc_ids::{Kind, Slot};
-use rbc_settle::TrainRec;
-use rbc_zones::Dirs;
-use std::alloc::Global;
-use std::process::Abort;
-use std::test::Fail;
+use super::desk::assert_transcript;
 
 // an identifier that is revoked is not free before the train has acknowledged that
 #[test]
-fn a_revocation_comes_before_a_telling(rt: HostRuntime) -> Result<(), Fail> {
-    let mut desk = Desk::new(rt.alloc())?;
-    desk.stop(&rt, 2, 0, 10)?;
-    let mut train = lost(rt.alloc(), 20);
-    issue(&mut train.stops, 1, 20, Kind::Unconditional)?;
-    let wanted = [revoke(21, UNKNOWN, 0), at_once(22, UNKNOWN, 1)];
-    desk.assert_sent(&rt, rt.alloc(), &mut train, &wanted)
+fn a_revocation_comes_before_a_telling(rt: HostRuntime) {
+    let transcript = "> stop 2 0 10
+> train lost 20
+> stopped 1 20 unconditional
+Some(Ok(0))
+> settle
+Revoke { head: Head { stamp: 21, ack: true, lrbg: 16777215 }, id: 0 }
+Stop { head: Head { stamp: 22, ack: false, lrbg: 16777215 }, id: 1 }
+";
+    assert_transcript(&rt, rt.alloc(), transcript);
 }
 
 // revocations ascend in the identifier, not in the number, and each takes the next stamp
 #[test]
-fn revocations_ascend_in_the_identifier(rt: HostRuntime) -> Result<(), Fail> {
-    let mut desk = Desk::new(rt.alloc())?;
-    desk.stop(&rt, 4, 0, 10)?;
-    desk.slow(&rt, 5, 0, 10, Dirs::Both)?;
-    let mut train = lost(rt.alloc(), 60);
-    for number in [9, 4, 7, 2] {
-        issue(&mut train.stops, number, 50, Kind::Unconditional)?;
-    }
-    for number in [8, 6, 5, 3] {
-        issue(&mut train.limits, number, 55, Kind::Restriction)?;
-    }
-    let wanted = [
-        revoke(61, UNKNOWN, 0),
-        revoke(62, UNKNOWN, 2),
-        revoke(63, UNKNOWN, 3),
-        lift(64, UNKNOWN, 0),
-        lift(65, UNKNOWN, 1),
-        lift(66, UNKNOWN, 3),
-    ];
-    desk.assert_sent(&rt, rt.alloc(), &mut train, &wanted)?;
-    let stops = [
-        (0, Slot::Revoking { stamp: 61 }),
-        (1, used(4, 50, Kind::Unconditional)),
-        (2, Slot::Revoking { stamp: 62 }),
-        (3, Slot::Revoking { stamp: 63 }),
-    ];
-    let limits = [
-        (0, Slot::Revoking { stamp: 64 }),
-        (1, Slot::Revoking { stamp: 65 }),
-        (2, used(5, 55, Kind::Restriction)),
-        (3, Slot::Revoking { stamp: 66 }),
-    ];
-    same(&rt, train.stops.slots(), stops.as_slice());
-    same(&rt, train.limits.slots(), limits.as_slice());
-    Ok(())
+fn revocations_ascend_in_the_identifier(rt: HostRuntime) {
+    let transcript = "> stop 4 0 10
+> restrict 5 0 10 both
+> train lost 60
+> stopped 9 50 unconditional
+Some(Ok(0))
+> stopped 4 50 unconditional
+Some(Ok(1))
+> stopped 7 50 unconditional
+Some(Ok(2))
+> stopped 2 50 unconditional
+Some(Ok(3))
+> restricted 8 55
+Some(Ok(0))
+> restricted 6 55
+Some(Ok(1))
+> restricted 5 55
+Some(Ok(2))
+> restricted 3 55
+Some(Ok(3))
+> settle
+Revoke { head: Head { stamp: 61, ack: true, lrbg: 16777215 }, id: 0 }
+Revoke { head: Head { stamp: 62, ack: true, lrbg: 16777215 }, id: 2 }
+Revoke { head: Head { stamp: 63, ack: true, lrbg: 16777215 }, id: 3 }
+Lift { head: Head { stamp: 64, ack: true, lrbg: 16777215 }, dir: 2, id: 0 }
+Lift { head: Head { stamp: 65, ack: true, lrbg: 16777215 }, dir: 2, id: 1 }
+Lift { head: Head { stamp: 66, ack: true, lrbg: 16777215 }, dir: 2, id: 3 }
+> show
+(7, 2000, 66)
+None
+[]
+stop 0: Revoking { stamp: 61 }
+stop 1: Used { number: 4, stamp: 50, kind: Unconditional, acked: false }
+stop 2: Revoking { stamp: 62 }
+stop 3: Revoking { stamp: 63 }
+restriction 0: Revoking { stamp: 64 }
+restriction 1: Revoking { stamp: 65 }
+restriction 2: Used { number: 5, stamp: 55, kind: Restriction, acked: false }
+restriction 3: Revoking { stamp: 66 }
+";
+    assert_transcript(&rt, rt.alloc(), transcript);
 }
 
 // a stop ahead of a train is told with its distance, and one that it rejected at once
 #[test]
-fn a_stop_ahead_is_told_with_its_distance(rt: HostRuntime) -> Result<(), Fail> {
-    let mut desk = Desk::new(rt.alloc())?;
-    desk.stop(&rt, 1, 20_000, 21_000)?;
-    let mut train = desk.train(rt.alloc(), 1_000, &UP);
-    desk.assert_sent(&rt, rt.alloc(), &mut train, &[before(1_001, 0, 1, 10_000)])?;
-    let mut forced = desk.train(rt.alloc(), 1_000, &UP);
-    if !forced.forced.has(1) {
-        forced.forced.add(1)?;
-    }
-    desk.assert_sent(&rt, rt.alloc(), &mut forced, &[at_once(1_001, 5, 0)])
+fn a_stop_ahead_is_told_with_its_distance(rt: HostRuntime) {
+    let transcript = "> stop 1 20000 21000
+> train up 1000
+> settle
+StopAt { head: Head { stamp: 1001, ack: false, lrbg: 5 }, id: 0, scale: 0, reference: 0, dir: 1, distance: 10000 }
+> train up 1000
+> rejected 1
+true
+> settle
+Stop { head: Head { stamp: 1001, ack: false, lrbg: 5 }, id: 0 }
+";
+    assert_transcript(&rt, rt.alloc(), transcript);
 }
 
 // the last stamp is used, and nothing is told after it
 #[test]
-fn stamps_end_inside_a_list(rt: HostRuntime) -> Result<(), Fail> {
-    let mut desk = Desk::new(rt.alloc())?;
-    desk.stop(&rt, 1, 0, 10)?;
-    desk.stop(&rt, 2, 0, 10)?;
-    let mut train = lost(rt.alloc(), 4_294_967_293);
-    let last = at_once(4_294_967_294, UNKNOWN, 0);
-    desk.assert_sent(&rt, rt.alloc(), &mut train, &[last])?;
-    same(&rt, train.stamp, 4_294_967_294);
-    same(&rt, train.stops.of_number(2), None);
-    Ok(())
-}
-
-/// One action of each kind is to be done to a train at `UP`.
-fn one_of_each(rt: &impl Abort, alloc: Global) -> Result<Desk, Fail> {
-    let mut desk = Desk::new(alloc)?;
-    desk.stop(rt, 2, 20_000, 21_000)?;
-    desk.slow(rt, 2, 11_000, 12_000, Dirs::Up)?;
-    Ok(desk)
-}
-
-/// A train at `UP` that was told a stop and a restriction which are not active any more.
-fn told_before(alloc: Global, desk: &Desk, stamp: u32) -> Result<TrainRec, Fail> {
-    let mut train = desk.train(alloc, stamp, &UP);
-    issue(&mut train.stops, 1, 90, Kind::Conditional)?;
-    issue(&mut train.limits, 1, 91, Kind::Restriction)?;
-    Ok(train)
+fn stamps_end_inside_a_list(rt: HostRuntime) {
+    let transcript = "> stop 1 0 10
+> stop 2 0 10
+> train lost 4294967293
+> settle
+Stop { head: Head { stamp: 4294967294, ack: false, lrbg: 16777215 }, id: 0 }
+> show
+(7, 2000, 4294967294)
+None
+[]
+stop 0: Used { number: 1, stamp: 4294967294, kind: Unconditional, acked: false }
+";
+    assert_transcript(&rt, rt.alloc(), transcript);
 }
 
 // two stamps are left for four actions of different kinds
 #[test]
-fn the_first_two_actions_get_the_last_two_stamps(rt: HostRuntime) -> Result<(), Fail> {
-    let desk = one_of_each(&rt, rt.alloc())?;
-    let mut train = told_before(rt.alloc(), &desk, 4_294_967_292)?;
-    let wanted = [
-        revoke(4_294_967_293, 5, 0),
-        before(4_294_967_294, 1, 1, 10_000),
-    ];
-    desk.assert_sent(&rt, rt.alloc(), &mut train, &wanted)?;
-    let stops = [
-        (
-            0,
-            Slot::Revoking {
-                stamp: 4_294_967_293,
-            },
-        ),
-        (1, used(2, 4_294_967_294, Kind::Conditional)),
-    ];
-    let limits = [(0, used(1, 91, Kind::Restriction))];
-    same(&rt, train.stamp, 4_294_967_294);
-    same(&rt, train.stops.slots(), stops.as_slice());
-    same(&rt, train.limits.slots(), limits.as_slice());
-    Ok(())
+fn the_first_two_actions_get_the_last_two_stamps(rt: HostRuntime) {
+    let transcript = "> stop 2 20000 21000
+> restrict 2 11000 12000 up
+> train up 4294967292
+> stopped 1 90 conditional
+Some(Ok(0))
+> restricted 1 91
+Some(Ok(0))
+> settle
+Revoke { head: Head { stamp: 4294967293, ack: true, lrbg: 5 }, id: 0 }
+StopAt { head: Head { stamp: 4294967294, ack: false, lrbg: 5 }, id: 1, scale: 0, reference: 0, dir: 1, distance: 10000 }
+> show
+(7, 2000, 4294967294)
+Some((9900, 12100))
+[]
+stop 0: Revoking { stamp: 4294967293 }
+stop 1: Used { number: 2, stamp: 4294967294, kind: Conditional, acked: false }
+restriction 0: Used { number: 1, stamp: 91, kind: Restriction, acked: false }
+";
+    assert_transcript(&rt, rt.alloc(), transcript);
 }
 
 // as many of the four actions are done as stamps are left
 #[test]
-fn no_action_is_done_without_a_stamp(rt: HostRuntime) -> Result<(), Fail> {
-    let desk = one_of_each(&rt, rt.alloc())?;
-    for (stamp, count) in [
-        (0, 4),
-        (4_294_967_289, 4),
-        (4_294_967_290, 4),
-        (4_294_967_291, 3),
-        (4_294_967_292, 2),
-        (4_294_967_293, 1),
-        (4_294_967_294, 0),
-        (4_294_967_295, 0),
-    ] {
-        let mut train = told_before(rt.alloc(), &desk, stamp)?;
-        let wanted = [
-            revoke(stamp.wrapping_add(1), 5, 0),
-            before(stamp.wrapping_add(2), 1, 1, 10_000),
-            lift(stamp.wrapping_add(3), 5, 0),
-            restrict(stamp.wrapping_add(4), 1, 1, 1_000, 1_000),
-        ];
-        assert!(rt; count <= wanted.len());
-        desk.assert_sent(&rt, rt.alloc(), &mut train, &wanted[..count])?;
-    }
-    Ok(())
+fn no_action_is_done_without_a_stamp(rt: HostRuntime) {
+    let transcript = "> stop 2 20000 21000
+> restrict 2 11000 12000 up
+> train up 0
+> stopped 1 90 conditional
+Some(Ok(0))
+> restricted 1 91
+Some(Ok(0))
+> settle
+Revoke { head: Head { stamp: 1, ack: true, lrbg: 5 }, id: 0 }
+StopAt { head: Head { stamp: 2, ack: false, lrbg: 5 }, id: 1, scale: 0, reference: 0, dir: 1, distance: 10000 }
+Lift { head: Head { stamp: 3, ack: true, lrbg: 5 }, dir: 2, id: 0 }
+Restrict { head: Head { stamp: 4, ack: true, lrbg: 5 }, dir: 1, scale: 0, id: 1, start: 1000, length: 1000, front: true, speed: 8 }
+> train up 4294967289
+> stopped 1 90 conditional
+Some(Ok(0))
+> restricted 1 91
+Some(Ok(0))
+> settle
+Revoke { head: Head { stamp: 4294967290, ack: true, lrbg: 5 }, id: 0 }
+StopAt { head: Head { stamp: 4294967291, ack: false, lrbg: 5 }, id: 1, scale: 0, reference: 0, dir: 1, distance: 10000 }
+Lift { head: Head { stamp: 4294967292, ack: true, lrbg: 5 }, dir: 2, id: 0 }
+Restrict { head: Head { stamp: 4294967293, ack: true, lrbg: 5 }, dir: 1, scale: 0, id: 1, start: 1000, length: 1000, front: true, speed: 8 }
+> train up 4294967290
+> stopped 1 90 conditional
+Some(Ok(0))
+> restricted 1 91
+Some(Ok(0))
+> settle
+Revoke { head: Head { stamp: 4294967291, ack: true, lrbg: 5 }, id: 0 }
+StopAt { head: Head { stamp: 4294967292, ack: false, lrbg: 5 }, id: 1, scale: 0, reference: 0, dir: 1, distance: 10000 }
+Lift { head: Head { stamp: 4294967293, ack: true, lrbg: 5 }, dir: 2, id: 0 }
+Restrict { head: Head { stamp: 4294967294, ack: true, lrbg: 5 }, dir: 1, scale: 0, id: 1, start: 1000, length: 1000, front: true, speed: 8 }
+> train up 4294967291
+> stopped 1 90 conditional
+Some(Ok(0))
+> restricted 1 91
+Some(Ok(0))
+> settle
+Revoke { head: Head { stamp: 4294967292, ack: true, lrbg: 5 }, id: 0 }
+StopAt { head: Head { stamp: 4294967293, ack: false, lrbg: 5 }, id: 1, scale: 0, reference: 0, dir: 1, distance: 10000 }
+Lift { head: Head { stamp: 4294967294, ack: true, lrbg: 5 }, dir: 2, id: 0 }
+> train up 4294967292
+> stopped 1 90 conditional
+Some(Ok(0))
+> restricted 1 91
+Some(Ok(0))
+> settle
+Revoke { head: Head { stamp: 4294967293, ack: true, lrbg: 5 }, id: 0 }
+StopAt { head: Head { stamp: 4294967294, ack: false, lrbg: 5 }, id: 1, scale: 0, reference: 0, dir: 1, distance: 10000 }
+> train up 4294967293
+> stopped 1 90 conditional
+Some(Ok(0))
+> restricted 1 91
+Some(Ok(0))
+> settle
+Revoke { head: Head { stamp: 4294967294, ack: true, lrbg: 5 }, id: 0 }
+> train up 4294967294
+> stopped 1 90 conditional
+Some(Ok(0))
+> restricted 1 91
+Some(Ok(0))
+> settle
+> train up 4294967295
+> stopped 1 90 conditional
+Some(Ok(0))
+> restricted 1 91
+Some(Ok(0))
+> settle
+";
+    assert_transcript(&rt, rt.alloc(), transcript);
 }
 
 // revocations and tellings of stops come before those of restrictions; one that is clear is revoked though it is active
 #[test]
-fn stops_come_before_restrictions(rt: HostRuntime) -> Result<(), Fail> {
-    let mut desk = Desk::new(rt.alloc())?;
-    desk.stop(&rt, 3, 20_000, 21_000)?;
-    desk.slow(&rt, 4, 1_000, 9_899, Dirs::Up)?;
-    desk.slow(&rt, 6, 9_000, 11_000, Dirs::Up)?;
-    let mut train = desk.train(rt.alloc(), 100, &UP);
-    issue(&mut train.stops, 1, 90, Kind::Conditional)?;
-    issue(&mut train.stops, 2, 91, Kind::Unconditional)?;
-    issue(&mut train.limits, 4, 92, Kind::Restriction)?;
-    issue(&mut train.limits, 5, 93, Kind::Restriction)?;
-    let wanted = [
-        revoke(101, 5, 0),
-        revoke(102, 5, 1),
-        before(103, 2, 1, 10_000),
-        lift(104, 5, 0),
-        lift(105, 5, 1),
-        restrict(106, 2, 1, 0, 1_000),
-    ];
-    desk.assert_sent(&rt, rt.alloc(), &mut train, &wanted)
+fn stops_come_before_restrictions(rt: HostRuntime) {
+    let transcript = "> stop 3 20000 21000
+> restrict 4 1000 9899 up
+> restrict 6 9000 11000 up
+> train up 100
+> stopped 1 90 conditional
+Some(Ok(0))
+> stopped 2 91 unconditional
+Some(Ok(1))
+> restricted 4 92
+Some(Ok(0))
+> restricted 5 93
+Some(Ok(1))
+> settle
+Revoke { head: Head { stamp: 101, ack: true, lrbg: 5 }, id: 0 }
+Revoke { head: Head { stamp: 102, ack: true, lrbg: 5 }, id: 1 }
+StopAt { head: Head { stamp: 103, ack: false, lrbg: 5 }, id: 2, scale: 0, reference: 0, dir: 1, distance: 10000 }
+Lift { head: Head { stamp: 104, ack: true, lrbg: 5 }, dir: 2, id: 0 }
+Lift { head: Head { stamp: 105, ack: true, lrbg: 5 }, dir: 2, id: 1 }
+Restrict { head: Head { stamp: 106, ack: true, lrbg: 5 }, dir: 1, scale: 0, id: 2, start: 0, length: 1000, front: true, speed: 8 }
+";
+    assert_transcript(&rt, rt.alloc(), transcript);
 }
 
 // the same of a train that faces down, with two actions of each kind: tellings ascend in the number, under identifiers above
 // those that are held
 #[test]
-fn tells_a_train_that_faces_down(rt: HostRuntime) -> Result<(), Fail> {
-    let mut desk = Desk::new(rt.alloc())?;
-    desk.stop(&rt, 2, 200_000, 210_000)?;
-    desk.stop(&rt, 4, 8_000, 8_500)?;
-    desk.stop(&rt, 5, 1_000, 3_000)?;
-    desk.stop(&rt, 6, 150_000, 160_000)?;
-    desk.slow(&rt, 2, 1_000, 5_000, Dirs::Up)?;
-    desk.slow(&rt, 4, 1_000, 5_000, Dirs::Both)?;
-    desk.slow(&rt, 5, 9_000, 12_000, Dirs::Down)?;
-    desk.slow(&rt, 6, 1_000, 5_000, Dirs::Up)?;
-    desk.slow(&rt, 7, 7_000, 8_000, Dirs::Down)?;
-    let mut train = desk.train(rt.alloc(), 200, &DOWN);
-    for number in [3, 2, 1] {
-        issue(&mut train.stops, number, 190, Kind::Unconditional)?;
-    }
-    for number in [7, 2, 3] {
-        issue(&mut train.limits, number, 195, Kind::Restriction)?;
-    }
-    let wanted = [
-        revoke(201, 5, 0),
-        revoke(202, 5, 2),
-        at_once(203, 5, 3),
-        before(204, 4, 0, 7_000),
-        lift(205, 5, 1),
-        lift(206, 5, 2),
-        restrict(207, 3, 0, 5_000, 4_000),
-        restrict(208, 4, 0, 0, 1_000),
-    ];
-    desk.assert_sent(&rt, rt.alloc(), &mut train, &wanted)
+fn tells_a_train_that_faces_down(rt: HostRuntime) {
+    let transcript = "> stop 2 200000 210000
+> stop 4 8000 8500
+> stop 5 1000 3000
+> stop 6 150000 160000
+> restrict 2 1000 5000 up
+> restrict 4 1000 5000 both
+> restrict 5 9000 12000 down
+> restrict 6 1000 5000 up
+> restrict 7 7000 8000 down
+> train down 200
+> stopped 3 190 unconditional
+Some(Ok(0))
+> stopped 2 190 unconditional
+Some(Ok(1))
+> stopped 1 190 unconditional
+Some(Ok(2))
+> restricted 7 195
+Some(Ok(0))
+> restricted 2 195
+Some(Ok(1))
+> restricted 3 195
+Some(Ok(2))
+> settle
+Revoke { head: Head { stamp: 201, ack: true, lrbg: 5 }, id: 0 }
+Revoke { head: Head { stamp: 202, ack: true, lrbg: 5 }, id: 2 }
+Stop { head: Head { stamp: 203, ack: false, lrbg: 5 }, id: 3 }
+StopAt { head: Head { stamp: 204, ack: false, lrbg: 5 }, id: 4, scale: 0, reference: 0, dir: 0, distance: 7000 }
+Lift { head: Head { stamp: 205, ack: true, lrbg: 5 }, dir: 2, id: 1 }
+Lift { head: Head { stamp: 206, ack: true, lrbg: 5 }, dir: 2, id: 2 }
+Restrict { head: Head { stamp: 207, ack: true, lrbg: 5 }, dir: 0, scale: 0, id: 3, start: 5000, length: 4000, front: true, speed: 8 }
+Restrict { head: Head { stamp: 208, ack: true, lrbg: 5 }, dir: 0, scale: 0, id: 4, start: 0, length: 1000, front: true, speed: 8 }
+";
+    assert_transcript(&rt, rt.alloc(), transcript);
 }
 
 // a told stop stays told though it concerns the train no more, and so does a restriction of a train without a place
 #[test]
-fn what_is_told_stays_told(rt: HostRuntime) -> Result<(), Fail> {
-    let mut desk = Desk::new(rt.alloc())?;
-    desk.stop(&rt, 1, 0, 100)?;
-    desk.slow(&rt, 1, 0, 100, Dirs::Up)?;
-    let mut train = desk.train(rt.alloc(), 100, &UP);
-    issue(&mut train.stops, 1, 90, Kind::Conditional)?;
-    desk.assert_sent(&rt, rt.alloc(), &mut train, &[])?;
-    let mut unplaced = lost(rt.alloc(), 100);
-    issue(&mut unplaced.stops, 1, 90, Kind::Unconditional)?;
-    issue(&mut unplaced.limits, 1, 91, Kind::Restriction)?;
-    desk.assert_sent(&rt, rt.alloc(), &mut unplaced, &[])
+fn what_is_told_stays_told(rt: HostRuntime) {
+    let transcript = "> stop 1 0 100
+> restrict 1 0 100 up
+> train up 100
+> stopped 1 90 conditional
+Some(Ok(0))
+> settle
+> train lost 100
+> stopped 1 90 unconditional
+Some(Ok(0))
+> restricted 1 91
+Some(Ok(0))
+> settle
+";
+    assert_transcript(&rt, rt.alloc(), transcript);
 }
 
 // once a train has passed them, a stop stays told and a restriction is revoked, though both are active
 #[test]
-fn a_restriction_behind_is_revoked_and_a_stop_is_not(rt: HostRuntime) -> Result<(), Fail> {
-    let mut desk = Desk::new(rt.alloc())?;
-    desk.stop(&rt, 1, 20_000, 21_000)?;
-    desk.slow(&rt, 1, 11_000, 12_000, Dirs::Up)?;
-    let mut train = desk.train(rt.alloc(), 300, &UP);
-    let wanted = [before(301, 0, 1, 10_000), restrict(302, 0, 1, 1_000, 1_000)];
-    desk.assert_sent(&rt, rt.alloc(), &mut train, &wanted)?;
-    train.place = desk.train(rt.alloc(), 0, &FAR).place;
-    desk.assert_sent(&rt, rt.alloc(), &mut train, &[lift(303, 5, 0)])?;
-    let stops = [(0, used(1, 301, Kind::Conditional))];
-    same(&rt, train.stops.slots(), stops.as_slice());
-    same(
-        &rt,
-        train.limits.slots(),
-        [(0, Slot::Revoking { stamp: 303 })].as_slice(),
-    );
-    Ok(())
+fn a_restriction_behind_is_revoked_and_a_stop_is_not(rt: HostRuntime) {
+    let transcript = "> stop 1 20000 21000
+> restrict 1 11000 12000 up
+> train up 300
+> settle
+StopAt { head: Head { stamp: 301, ack: false, lrbg: 5 }, id: 0, scale: 0, reference: 0, dir: 1, distance: 10000 }
+Restrict { head: Head { stamp: 302, ack: true, lrbg: 5 }, dir: 1, scale: 0, id: 0, start: 1000, length: 1000, front: true, speed: 8 }
+> place far
+> settle
+Lift { head: Head { stamp: 303, ack: true, lrbg: 5 }, dir: 2, id: 0 }
+> show
+(7, 2000, 303)
+Some((22900, 25100))
+[]
+stop 0: Used { number: 1, stamp: 301, kind: Conditional, acked: false }
+restriction 0: Revoking { stamp: 303 }
+";
+    assert_transcript(&rt, rt.alloc(), transcript);
 }
 
 // a train without a place keeps its restrictions, but those that are not active any more
 #[test]
-fn a_train_without_a_place_keeps_what_is_active(rt: HostRuntime) -> Result<(), Fail> {
-    let mut desk = Desk::new(rt.alloc())?;
-    desk.slow(&rt, 1, 0, 100, Dirs::Up)?;
-    desk.slow(&rt, 3, 11_000, 12_000, Dirs::Down)?;
-    desk.slow(&rt, 4, 11_000, 12_000, Dirs::Up)?;
-    let mut train = lost(rt.alloc(), 400);
-    for number in [1, 2, 3] {
-        issue(&mut train.limits, number, 390, Kind::Restriction)?;
-    }
-    desk.assert_sent(&rt, rt.alloc(), &mut train, &[lift(401, UNKNOWN, 1)])?;
-    let limits = [
-        (0, used(1, 390, Kind::Restriction)),
-        (1, Slot::Revoking { stamp: 401 }),
-        (2, used(3, 390, Kind::Restriction)),
-    ];
-    same(&rt, train.limits.slots(), limits.as_slice());
-    Ok(())
+fn a_train_without_a_place_keeps_what_is_active(rt: HostRuntime) {
+    let transcript = "> restrict 1 0 100 up
+> restrict 3 11000 12000 down
+> restrict 4 11000 12000 up
+> train lost 400
+> restricted 1 390
+Some(Ok(0))
+> restricted 2 390
+Some(Ok(1))
+> restricted 3 390
+Some(Ok(2))
+> settle
+Lift { head: Head { stamp: 401, ack: true, lrbg: 16777215 }, dir: 2, id: 1 }
+> show
+(7, 2000, 401)
+None
+[]
+restriction 0: Used { number: 1, stamp: 390, kind: Restriction, acked: false }
+restriction 1: Revoking { stamp: 401 }
+restriction 2: Used { number: 3, stamp: 390, kind: Restriction, acked: false }
+";
+    assert_transcript(&rt, rt.alloc(), transcript);
+}
+
+// nothing where there is nothing to do; then the train to which a stop is told, while the borrowed one stays as it was
+#[test]
+fn a_borrowed_train_stays_as_it_is(rt: HostRuntime) {
+    let transcript = "> train lost 20
+> settled
+> stop 1 0 10
+> settled
+Stop { head: Head { stamp: 21, ack: false, lrbg: 16777215 }, id: 0 }
+(7, 2000, 21)
+None
+[]
+stop 0: Used { number: 1, stamp: 21, kind: Unconditional, acked: false }
+> show
+(7, 2000, 20)
+None
+[]
+";
+    assert_transcript(&rt, rt.alloc(), transcript);
 }

@@ -1,131 +1,50 @@
 //! What is known of a train, at first and in a copy.
 
-use super::same;
-use ertms_codec::Position;
-use rbc_ids::{IdTable, IssueError, Kind, Slot};
-use rbc_place::{Place, place_of};
-use rbc_settle::TrainRec;
-use rbc_track::track_from_toml;
-use std::alloc::AllocError;
-use std::process::Abort;
-use std::test::Fail;
+use super::desk::assert_transcript;
 
-/// A line of 30 km with a balise group at 1 km.
-const TRACK: &str = "horizon = 100000
-[[line]]
-length = 300000
-[[group]]
-nid = 5
-line = 0
-at = 10000
-nominal = \"up\"
+// nothing is told at first
+#[test]
+fn nothing_is_told_at_first(rt: HostRuntime) {
+    let transcript = "> train lost 1000
+> show
+(7, 2000, 1000)
+None
+[]
 ";
-
-/// 200 m beyond that balise group.
-const BEYOND: Position = Position {
-    previous: None,
-    scale: 0,
-    lrbg: 5,
-    distance: 2_000,
-    dir: 1,
-    side: 1,
-    over: 100,
-    under: 100,
-};
-
-/// Issues an identifier for a number, or returns `None` if the number is told already.
-fn issue<const N: usize>(
-    table: &mut IdTable<N>,
-    number: u32,
-    stamp: u32,
-    kind: Kind,
-) -> Option<Result<u8, IssueError>> {
-    match table.of_number(number) {
-        Some(_) => None,
-        None => Some(table.issue(number, stamp, kind)),
-    }
+    assert_transcript(&rt, rt.alloc(), transcript);
 }
 
-/// Makes a train reject a stop, and returns whether it had not rejected it before.
-fn reject(train: &mut TrainRec, stop: u32) -> Result<bool, AllocError> {
-    if train.forced.has(stop) {
-        Ok(false)
-    } else {
-        train.forced.add(stop)?;
-        Ok(true)
-    }
-}
-
-/// Asserts that a train has the numbers 3 and 8 forced, and no more.
-fn assert_forced(rt: &impl Abort, train: &TrainRec) {
-    same(rt, train.forced.len(), 2);
-    assert!(rt; train.forced.has(3) && train.forced.has(8));
-}
-
+// each field is copied
 #[test]
-fn nothing_is_told_at_first(rt: HostRuntime) -> Result<(), Fail> {
-    let train = TrainRec::new(rt.alloc(), 7, 2_000, 1_000);
-    same(
-        &rt,
-        (train.engine, train.length, train.stamp),
-        (7, 2_000, 1_000),
-    );
-    same(&rt, train.place, None);
-    same(&rt, train.forced.len(), 0);
-    same(&rt, (train.stops.held(), train.limits.held()), (0, 0));
-    Ok(())
-}
-
-#[test]
-fn copies_each_field(rt: HostRuntime) -> Result<(), Fail> {
-    let track = track_from_toml(rt.alloc(), TRACK)?;
-    let place = place_of(&track, &BEYOND, 2_000).expect(&rt, "a place");
-    let mut train = TrainRec::new(rt.alloc(), 7, 2_000, 1_000);
-    train.place = Some(place);
-    assert!(rt; reject(&mut train, 8)? && reject(&mut train, 3)?);
-    same(
-        &rt,
-        issue(&mut train.stops, 4, 1_001, Kind::Conditional),
-        Some(Ok(0)),
-    );
-    same(
-        &rt,
-        issue(&mut train.stops, 5, 1_002, Kind::Unconditional),
-        Some(Ok(1)),
-    );
-    same(
-        &rt,
-        issue(&mut train.limits, 6, 1_003, Kind::Restriction),
-        Some(Ok(0)),
-    );
-    let copy = train.copy(rt.alloc())?;
-    same(
-        &rt,
-        (copy.engine, copy.length, copy.stamp),
-        (7, 2_000, 1_000),
-    );
-    same(
-        &rt,
-        copy.place.map(|place: Place| (place.lo(), place.hi())),
-        Some((9_900, 12_100)),
-    );
-    same(&rt, copy.place, train.place);
-    assert_forced(&rt, &train);
-    assert_forced(&rt, &copy);
-    same(&rt, copy.stops.slots(), train.stops.slots());
-    same(&rt, copy.stops.held(), 2);
-    same(&rt, copy.limits.slots(), train.limits.slots());
-    same(
-        &rt,
-        copy.limits.slot(0),
-        Some(Slot::Used {
-            number: 6,
-            stamp: 1_003,
-            kind: Kind::Restriction,
-            acked: false,
-        }),
-    );
-    Ok(())
+fn copies_each_field(rt: HostRuntime) {
+    let transcript = "> train up 1000
+> rejected 8
+true
+> rejected 3
+true
+> stopped 4 1001 conditional
+Some(Ok(0))
+> stopped 5 1002 unconditional
+Some(Ok(1))
+> restricted 6 1003
+Some(Ok(0))
+> show
+(7, 2000, 1000)
+Some((9900, 12100))
+[3, 8]
+stop 0: Used { number: 4, stamp: 1001, kind: Conditional, acked: false }
+stop 1: Used { number: 5, stamp: 1002, kind: Unconditional, acked: false }
+restriction 0: Used { number: 6, stamp: 1003, kind: Restriction, acked: false }
+> copy train
+> show
+(7, 2000, 1000)
+Some((9900, 12100))
+[3, 8]
+stop 0: Used { number: 4, stamp: 1001, kind: Conditional, acked: false }
+stop 1: Used { number: 5, stamp: 1002, kind: Unconditional, acked: false }
+restriction 0: Used { number: 6, stamp: 1003, kind: Restriction, acked: false }
+";
+    assert_transcript(&rt, rt.alloc(), transcript);
 }
 
 // one field at a time is another one, and then again what it was
