@@ -13,6 +13,7 @@
 //!   answers with the train after it too, and leaves it.
 //! - `show` answers with what is known of the train, `stop-slot ID` and `restriction-slot ID` with one slot, and `active`
 //!   with the last stop and the number of active ones.
+//! - `keep` keeps a copy of the train, and `same` answers whether the train is the same as the one that was kept.
 //! - `copy train|table|stops` puts a copy in the place of the train, of the slots of its stops, or of the active stops.
 
 use super::identifiers::issue;
@@ -65,7 +66,7 @@ const FAR: Position = Position {
     ..UP
 };
 
-/// A track with what is active on it, and a train.
+/// A track with what is active on it, a train, and a train that was kept.
 #[derive(Drop)]
 struct Desk {
     alloc: Global,
@@ -73,6 +74,7 @@ struct Desk {
     stops: Stops,
     limits: Limits,
     train: TrainRec,
+    kept: TrainRec,
 }
 
 /// A train of 200 m to which nothing was told, and whose place is not known.
@@ -155,6 +157,7 @@ impl Desk {
             stops: Stops::new(alloc),
             limits: Limits::new(alloc),
             train: lost(alloc, 0),
+            kept: lost(alloc, 0),
         }
     }
 
@@ -200,6 +203,8 @@ impl Desk {
                 let id = issue(&mut self.train.limits, number, stamp, Kind::Restriction);
                 say(rt, said, id);
             }
+            "keep" => self.kept = self.train.copy(self.alloc).expect(rt, "memory"),
+            "same" => say(rt, said, self.train.is_same(&self.kept)),
             "rejected" => {
                 let is_new = add(&mut self.train.forced, number(rt, words));
                 say(rt, said, is_new.expect(rt, "memory"));
