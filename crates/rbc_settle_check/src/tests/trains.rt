@@ -128,43 +128,31 @@ fn copies_each_field(rt: HostRuntime) -> Result<(), Fail> {
     Ok(())
 }
 
-// one field at a time is another one, and then again what it was
 #[test]
 fn trains_differ_by_each_field(rt: HostRuntime) -> Result<(), Fail> {
+    let train = TrainRec::new(rt.alloc(), 7, 2_000, 1_000);
+    for (engine, length, stamp, wanted) in [
+        (7, 2_000, 1_000, true),
+        (8, 2_000, 1_000, false),
+        (7, 2_001, 1_000, false),
+        (7, 2_000, 1_001, false),
+    ] {
+        let other = TrainRec::new(rt.alloc(), engine, length, stamp);
+        same(&rt, other.is_same(&train), wanted);
+    }
     let track = track_from_toml(rt.alloc(), TRACK)?;
-    let mut train = TrainRec::new(rt.alloc(), 7, 2_000, 1_000);
-    train.place = place_of(&track, &BEYOND, 2_000);
-    assert!(rt; reject(&mut train, 8)?);
     let mut other = train.copy(rt.alloc())?;
-    same(&rt, other.is_same(&train), true);
-    other.engine = 8;
+    other.place = place_of(&track, &BEYOND, 2_000);
     same(&rt, other.is_same(&train), false);
-    other.engine = 7;
-    other.length = 2_001;
+    other.place = None;
+    assert!(rt; reject(&mut other, 8)?);
     same(&rt, other.is_same(&train), false);
-    other.length = 2_000;
-    other.stamp = 1_001;
-    same(&rt, other.is_same(&train), false);
-    other.stamp = 1_000;
-    other.place = place_of(&track, &BEYOND, 1_999);
-    same(&rt, other.is_same(&train), false);
-    other.place = train.place;
-    assert!(rt; other.forced.remove(8) && reject(&mut other, 9)?);
-    same(&rt, other.is_same(&train), false);
-    assert!(rt; other.forced.remove(9) && reject(&mut other, 8)?);
-    same(&rt, other.is_same(&train), true);
-    same(
-        &rt,
-        issue(&mut other.stops, 4, 1_001, Kind::Conditional),
-        Some(Ok(0)),
-    );
+    assert!(rt; other.forced.remove(8));
+    let _ = issue(&mut other.stops, 4, 1_000, Kind::Conditional);
     same(&rt, other.is_same(&train), false);
     other.stops = IdTable::new(rt.alloc());
-    same(
-        &rt,
-        issue(&mut other.limits, 6, 1_003, Kind::Restriction),
-        Some(Ok(0)),
-    );
+    same(&rt, other.is_same(&train), true);
+    let _ = issue(&mut other.limits, 4, 1_000, Kind::Restriction);
     same(&rt, other.is_same(&train), false);
     Ok(())
 }
