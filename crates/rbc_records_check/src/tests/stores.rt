@@ -6,7 +6,7 @@ use super::same;
 use crate::tests::setting::{
     assert_engines, engines, limits, limits_in, stops, stops_in, train, train_in,
 };
-use rbc_records::{Key, PlainStore, Reader, Rec, Writes, apply};
+use rbc_records::{Key, PlainStore, Reader, Rec, Writes, apply, same_record};
 use std::alloc::Global;
 use std::process::Abort;
 use std::test::Fail;
@@ -105,6 +105,27 @@ fn a_write_changes_its_key_alone(rt: HostRuntime) -> Result<(), Fail> {
     write(&rt, rt.alloc(), &mut store, Key::Train(1), Some(rec))?;
     same(&rt, stamp(&store, 1), Some((1, 11)));
     assert_others(&rt, &store);
+    Ok(())
+}
+
+// one of each kind, a second train, and a key without a record: none is the same as another
+#[test]
+fn a_record_is_the_same_as_itself_alone(rt: HostRuntime) -> Result<(), Fail> {
+    let store = full(&rt, rt.alloc())?;
+    let keys = [
+        Key::Roster,
+        Key::Train(1),
+        Key::Train(2),
+        Key::Train(3),
+        Key::Stops,
+        Key::Limits,
+    ];
+    for key in keys {
+        for other in keys {
+            let found = same_record(store.get(key), store.get(other));
+            same(&rt, found, key == other);
+        }
+    }
     Ok(())
 }
 
