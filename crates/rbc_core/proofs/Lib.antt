@@ -9,3 +9,5 @@ pub mod TakesBack
 pub mod Agreeing
 pub mod Laws
 pub mod Mails
+pub mod Facts
+pub mod WitnessEvents

@@ -6,3 +6,5 @@ pub mod Core
 pub mod Events
 pub mod Books
 pub mod SaidMails
+pub mod Facts
+pub mod Witnesses

@@ -1,6 +1,7 @@
 //! What holds after all events.
 
 ghost use Rattle.rbc_core.specs.Events.{EventsAreSerial};
+ghost use Rattle.rbc_core.specs.Facts.{AttemptsStay, RecordsStay, ClosedStays};
 ghost use Rattle.rbc_core.specs.SaidMails.{EachRunSays};
 
 /// After any events of a book, in any order, the desk is that of the rules applied to the inputs that are committed, one after
@@ -13,4 +14,12 @@ pub fn event_law()
 /// after that input, for one thing that settling it does.
 pub fn mails_law()
     ensures { EachRunSays }
+{}
+
+/// What one event leaves: an attempt that was deposited stays until its input is committed, or lost where memory was refused; what
+/// stands under a key changes only where an input is committed whose writes name it; and a book that is closed stays closed.
+pub fn staying_law()
+    ensures attempts { AttemptsStay }
+    ensures records { RecordsStay }
+    ensures closed { ClosedStays }
 {}

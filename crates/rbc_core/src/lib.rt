@@ -8,10 +8,12 @@ mod law;
 mod outbox;
 mod run_name;
 mod stage;
+mod witnesses;
 
 pub use attempt::Attempt;
 pub use book::{Book, Commit, Stats};
 pub use desk::{Desk, MAX_RESULTS};
-pub use law::{event_law, mails_law};
+pub use law::{event_law, mails_law, staying_law};
 pub use outbox::{Mail, Outbox};
 pub use run_name::RunName;
+pub use witnesses::event_law_witnesses;
