@@ -1,7 +1,7 @@
 -- Each call of a book keeps what is true of it.
-use Rattle.std.proofs.Common.{◌≡◌, ◌≢◌, ◌⊎◌, ℕ, zero, suc, ◌+◌, ◌-◌, ◌<◌, ◌≤◌, Bool, true, false, List, [], ◌∷◌, ◌++◌, length, take, set, Option, Some, None, inl, inr, ⊎_elim, refl, sym, ap, ◌∙◌, subst, arith}
+use Rattle.std.proofs.Common.{◌≡◌, ◌≢◌, ◌⊎◌, ℕ, zero, suc, ◌+◌, ◌-◌, ◌<◌, ◌≤◌, Bool, true, false, List, [], ◌∷◌, length, take, set, Option, Some, None, inl, inr, ⊎_elim, refl, sym, ap, ◌∙◌, subst, arith}
 use Rattle.std.specs.Prelude.{slice_get, replicate}
-use Rattle.std.specs.List.{fold, All}
+use Rattle.std.specs.List.{All}
 use Rattle.std.proofs.lemmas.List.{length-set, length-replicate, length-append}
 use Rattle.std.proofs.lemmas.List.Elements.{All-get_or}
 use Rattle.std.proofs.lemmas.Option.{slice_get_within, get_or_from_slice_get}
@@ -9,18 +9,17 @@ use Rattle.rbc_records.specs.declared.record.Key.{Key}
 use Rattle.rbc_records.specs.declared.record.Rec.{Rec}
 use Rattle.rbc_rule.specs.declared.input.Input.{Input}
 use Rattle.rbc_rule.specs.declared.outcome.Outcome.{Outcome}
-use Rattle.rbc_rule.specs.declared.outcome.Reply.{Reply}
 use Rattle.rbc_rule.specs.Inputs.{Fits}
 use Rattle.rbc_core.specs.declared.stage.Stage.{Stage}
 use Rattle.rbc_core.specs.declared.stage.Stage.TheVariants.{Free, Out, Tried, Void}
-use Rattle.rbc_core.specs.Held.{Held, Standing, standing, Holds, AreOutboxes, IsOutcomeOf, after_outcome}
+use Rattle.rbc_core.specs.Held.{Standing, Holds, IsOutcomeOf, after_outcome}
 use Rattle.rbc_core.specs.Serial.{Desk, step, serial}
-use Rattle.rbc_core.specs.Runs.{Run, IsGoodRun, IsInput, IsSerialRun}
-use Rattle.rbc_core.specs.Core.{Try, IsRightTry, State, opening, IsAt, front, IsReady, IsStale, with_stage}
+use Rattle.rbc_core.specs.Runs.{Run, IsGoodRun, IsInput}
+use Rattle.rbc_core.specs.Core.{Try, IsRightTry, State, opening, IsAt, front, IsReady, IsStale}
 use Rattle.rbc_core.specs.declared.book.Commit.TheVariants.{Applied, Recomputed, NotReady, Failed}
 use Rattle.rbc_records.specs.Notes.{AreNow}
 use Rattle.rbc_core.specs.Events.{Happens, Commits, IsSparing}
-use Rattle.rbc_core.specs.Events.Event.{Takes, Deposits, Voids, Applies, Recomputes, Waits, Ends, Fails}
+use Rattle.rbc_core.specs.Events.Event.{Deposits, Voids}
 use Rattle.rbc_core.specs.Books.{IsStage, AreStages, IsBook, IsOutIn, Judges, IsJudged, IsCarriedOut}
 use Rattle.rbc_core.proofs.Runs.{fold_more}
 use Rattle.rbc_core.proofs.Stands.{holds_after, boxes_after}
@@ -293,11 +292,13 @@ applies run s old stage desk xs is b opened can at done void =
     let attempt = done.is_outcome.attempt in
     let there : slice_get s.stages s.committed ≡ Some (Tried attempt.0) = at ∙ ap Some attempt.1 in
     let now : AreNow attempt.0.notes s.desk.records = subst (λ (x : Stage Try). Judges s.desk.records x (Some true)) (same_item s.stages s.committed can.0 (Tried attempt.0) can.1 there) can.2 in
-    subst (λ (o : State). Commits run o Applied (record { desk = desk; stages = set xs s.committed Free; committed = s.committed + 1; taken = s.taken; recomputed = s.recomputed; closed = s.closed })) is
-    (done.outcome, record {
-      may = (opened, (attempt.0, front_at run s true (Tried attempt.0) b can there, now, attempt.2));
-      leads = λ i. record { desk = done.taken_over i; stages = (freed s xs void ∙ ap (λ n. set s.stages n Free) (front_index s)) i; committed = s.committed + 1; taken = s.taken; recomputed = s.recomputed; closed = s.closed };
-    })
+    subst (λ (o : State). Commits run o Applied (record { desk = desk; stages = set xs s.committed Free; committed = s.committed + 1; taken = s.taken; recomputed = s.recomputed; closed = s.closed })) is (
+      done.outcome,
+      record {
+        may = (opened, (attempt.0, front_at run s true (Tried attempt.0) b can there, now, attempt.2));
+        leads = λ i. record { desk = done.taken_over i; stages = (freed s xs void ∙ ap (λ n. set s.stages n Free) (front_index s)) i; committed = s.committed + 1; taken = s.taken; recomputed = s.recomputed; closed = s.closed };
+      },
+    )
 
 -- or computed here
 pub recomputes : (run : Run) (s old : State) (fresh : Bool) (stage : Stage Try) (desk : Standing) (xs : List (Stage Try)) → s ≡ old → IsBook run s → s.closed ≡ false → IsJudged s.stages s.committed s.desk.records (Some fresh)
@@ -305,8 +306,10 @@ pub recomputes : (run : Run) (s old : State) (fresh : Bool) (stage : Stage Try) 
     → Commits run old Recomputed (record { desk = desk; stages = set xs s.committed Free; committed = s.committed + 1; taken = s.taken; recomputed = s.recomputed + 1; closed = s.closed })
 recomputes run s old fresh stage desk xs is b opened can done void =
     let out = done.is_outcome in
-    subst (λ (o : State). Commits run o Recomputed (record { desk = desk; stages = set xs s.committed Free; committed = s.committed + 1; taken = s.taken; recomputed = s.recomputed + 1; closed = s.closed })) is
-    (done.outcome, record {
-      may = (opened, ready run s fresh b can, (out.input, out.is_input, out.right));
-      leads = λ i. record { desk = done.taken_over i; stages = (freed s xs void ∙ ap (λ n. set s.stages n Free) (front_index s)) i; committed = s.committed + 1; taken = s.taken; recomputed = s.recomputed + 1; closed = s.closed };
-    })
+    subst (λ (o : State). Commits run o Recomputed (record { desk = desk; stages = set xs s.committed Free; committed = s.committed + 1; taken = s.taken; recomputed = s.recomputed + 1; closed = s.closed })) is (
+      done.outcome,
+      record {
+        may = (opened, ready run s fresh b can, (out.input, out.is_input, out.right));
+        leads = λ i. record { desk = done.taken_over i; stages = (freed s xs void ∙ ap (λ n. set s.stages n Free) (front_index s)) i; committed = s.committed + 1; taken = s.taken; recomputed = s.recomputed + 1; closed = s.closed };
+      },
+    )

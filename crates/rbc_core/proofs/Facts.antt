@@ -1,5 +1,5 @@
 -- What one event leaves.
-use Rattle.std.proofs.Common.{◌≡◌, ◌≢◌, ◌⊎◌, ℕ, zero, suc, ◌+◌, ◌-◌, ◌<◌, ◌≤◌, ◌||◌, Bool, true, false, cond, List, [], ◌∷◌, set, Option, Some, None, inl, inr, IsTrue, refl, sym, ap, ◌∙◌, subst, ⊎_elim, arith}
+use Rattle.std.proofs.Common.{◌≡◌, ◌≢◌, ◌⊎◌, ℕ, zero, suc, ◌+◌, ◌-◌, ◌<◌, ◌≤◌, ◌||◌, Bool, true, false, cond, List, [], ◌∷◌, set, Option, Some, None, inl, inr, IsTrue, refl, sym, ap, ◌∙◌, ⊎_elim, arith}
 use Rattle.std.specs.Prelude.{slice_get}
 use Rattle.std.proofs.lemmas.Bool.{cases_lt}
 use Rattle.rbc_records.specs.declared.record.Key.{Key}
@@ -8,11 +8,10 @@ use Rattle.rbc_records.specs.Notes.{same_key}
 use Rattle.rbc_records.specs.Writes.{written, write_over}
 use Rattle.rbc_core.specs.declared.stage.Stage.{Stage}
 use Rattle.rbc_core.specs.declared.stage.Stage.TheVariants.{Free, Out, Tried, Void}
-use Rattle.rbc_core.specs.Runs.{Run}
 use Rattle.rbc_core.specs.Core.{Try, State, IsAt, front, with_stage}
-use Rattle.rbc_core.specs.Events.{Event, May, next}
+use Rattle.rbc_core.specs.Events.{next}
 use Rattle.rbc_core.specs.Events.Event.{Takes, Reads, Deposits, Voids, Applies, Recomputes, Waits, Ends, Fails}
-use Rattle.rbc_core.specs.Facts.{names, WritesTo, AttemptsStay, RecordsStay, ClosedStays}
+use Rattle.rbc_core.specs.Facts.{names, AttemptsStay, RecordsStay, ClosedStays}
 
 -- another item stays
 slice_get_other : {A : Type 0} (xs : List A) (i k : ℕ) (x : A) → k ≢ i → slice_get (set xs i x) k ≡ slice_get xs k

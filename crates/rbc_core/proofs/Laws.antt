@@ -1,5 +1,5 @@
 -- Each event keeps what is true of a book, and that its attempts are right.
-use Rattle.std.proofs.Common.{◌≡◌, ◌≢◌, ◌⊎◌, ℕ, ◌+◌, ◌-◌, ◌<◌, ◌≤◌, Bool, true, false, List, [], ◌∷◌, length, set, Option, Some, None, inl, inr, refl, sym, ap, ◌∙◌, subst, ⊎_elim, arith}
+use Rattle.std.proofs.Common.{◌≡◌, ◌≢◌, ℕ, ◌+◌, ◌-◌, ◌<◌, ◌≤◌, true, false, List, [], ◌∷◌, length, set, Some, None, sym, subst, ⊎_elim, arith}
 use Rattle.std.specs.Prelude.{slice_get}
 use Rattle.std.specs.List.{fold}
 use Rattle.rbc_rule.specs.declared.outcome.Outcome.{Outcome}
@@ -9,7 +9,7 @@ use Rattle.rbc_core.specs.Held.{IsOutcomeOf, after_outcome}
 use Rattle.rbc_core.specs.Runs.{Run, IsGoodRun, IsInput}
 use Rattle.rbc_core.specs.Core.{Try, IsRightTry, State, opening, IsAt, front, IsReady, with_stage}
 use Rattle.rbc_core.specs.Books.{IsBook}
-use Rattle.rbc_core.specs.Events.{Event, May, next, after_commit, Follow, EventsAreSerial}
+use Rattle.rbc_core.specs.Events.{Event, May, next, Follow, EventsAreSerial}
 use Rattle.rbc_core.specs.Events.Event.{Takes, Reads, Deposits, Voids, Applies, Recomputes, Waits, Ends, Fails}
 use Rattle.rbc_core.proofs.Books.{slice_get_set, slice_get_replicate, opens, takes, keeps, closes, commits}
 use Rattle.rbc_core.proofs.Agreeing.{right_outcome}

@@ -1,11 +1,11 @@
 -- The mails of a run say what the rules give.
-use Rattle.std.proofs.Common.{◌≡◌, ℕ, zero, suc, ◌+◌, ◌<◌, ◌≤◌, true, false, cond, eqb, List, [], ◌∷◌, ◌++◌, map, length, take, Some, Result, Ok, Err, refl, sym, ap, ◌∙◌, subst, arith, append_assoc, inl, inr}
+use Rattle.std.proofs.Common.{◌≡◌, ℕ, zero, suc, ◌+◌, ◌<◌, ◌≤◌, true, false, cond, eqb, List, [], ◌∷◌, ◌++◌, map, length, take, Some, Result, Ok, Err, refl, sym, ap, ◌∙◌, subst, arith, append_assoc}
 use Rattle.std.specs.Prelude.{Contains, slice_get}
-use Rattle.std.specs.List.{All, fold}
-use Rattle.std.proofs.lemmas.Bool.{eqb-true, cases_lt}
+use Rattle.std.specs.List.{All}
+use Rattle.std.proofs.lemmas.Bool.{eqb-true}
 use Rattle.std.proofs.lemmas.List.{append-nil, length-append, take_all, length-take-le}
 use Rattle.std.proofs.lemmas.List.Elements.{All-nil, All-cons, All-head, All-tail, All-append, All-map, All-take, All-weaker, All-contains_itself}
-use Rattle.std.proofs.lemmas.Option.{slice_get-get_or, slice_get_within, get_or_from_slice_get}
+use Rattle.std.proofs.lemmas.Option.{slice_get_within, get_or_from_slice_get}
 use Rattle.ertms_codec.specs.declared.to_train.ToTrain.{ToTrain}
 use Rattle.rbc_track.specs.Plan.{Plan, IsPlan}
 use Rattle.rbc_maps.specs.Maps.{value_or}
@@ -21,10 +21,10 @@ use Rattle.rbc_rule.specs.SaidFor.{SaysFor, AllSay, AllSayTo, IsSaidAfter}
 use Rattle.rbc_rule.specs.WellFormed.{IsWellFormed}
 use Rattle.rbc_rule.proofs.Says.{step_says}
 use Rattle.rbc_core.specs.declared.outbox.Mail.{Mail}
-use Rattle.rbc_core.specs.Serial.{Desk, step, serial, mail, post_all}
-use Rattle.rbc_core.specs.Held.{Standing, Holds}
+use Rattle.rbc_core.specs.Serial.{Desk, step, serial, mail}
+use Rattle.rbc_core.specs.Held.{Standing}
 use Rattle.rbc_core.specs.Runs.{Run, IsGoodRun, IsSerialRun}
-use Rattle.rbc_core.specs.SaidMails.{IsSaidTo, IsSaidMail, AreSaidMails, EachRunSays, IsSaidSince}
+use Rattle.rbc_core.specs.SaidMails.{IsSaidTo, IsSaidMail, EachRunSays, IsSaidSince}
 use Rattle.rbc_core.proofs.Kept.{step_keeps}
 use Rattle.rbc_core.proofs.Runs.{fold_more}
 use Rattle.rbc_core.proofs.Sends.{sent_ascends}

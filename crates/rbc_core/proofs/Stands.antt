@@ -1,11 +1,9 @@
 -- Which desks are held.
-use Rattle.std.proofs.Common.{◌≡◌, ℕ, ◌+◌, List, [], ◌∷◌, ◌++◌, length, Option, Some, IsTrue, true, refl, sym, ap, ◌∙◌, subst, arith}
-use Rattle.std.specs.List.{All}
+use Rattle.std.proofs.Common.{◌≡◌, ℕ, ◌+◌, List, [], ◌∷◌, ◌++◌, length, Option, refl, sym, ap, ◌∙◌, subst, arith}
 use Rattle.rbc_track.specs.Plan.{Plan, IsPlan}
-use Rattle.ertms_codec.specs.declared.to_train.ToTrain.{ToTrain}
 use Rattle.rbc_records.specs.declared.record.Key.{Key}
 use Rattle.rbc_records.specs.declared.record.Rec.{Rec}
-use Rattle.rbc_records.specs.Notes.{Whole, Part, Extends, record_in, note_in, is_noted, AreNow}
+use Rattle.rbc_records.specs.Notes.{Whole, Extends, record_in}
 use Rattle.rbc_records.specs.Writes.{written}
 use Rattle.rbc_rule.specs.declared.input.Input.{Input}
 use Rattle.rbc_rule.specs.declared.outcome.Outcome.{Outcome}
@@ -17,7 +15,7 @@ use Rattle.rbc_rule.specs.World.{World}
 use Rattle.rbc_rule.specs.Right.{MayBe, IsRight, IsFault}
 use Rattle.rbc_rule.specs.Step as rule
 use Rattle.rbc_core.specs.declared.outbox.Mail.{Mail}
-use Rattle.rbc_core.specs.Held.{Standing, Holds, AreRecordsOf, AreOutboxes, IsOutcomeOf, after_outcome, post_each}
+use Rattle.rbc_core.specs.Held.{Standing, Holds, AreRecordsOf, AreOutboxes, IsOutcomeOf, after_outcome}
 use Rattle.rbc_core.specs.Serial.{Desk, step, post_all}
 use Rattle.rbc_core.specs.Books.{IsMemoryOf}
 use Rattle.rbc_core.proofs.Kept.{step_keeps}

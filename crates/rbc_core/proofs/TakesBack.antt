@@ -1,13 +1,12 @@
 -- A message that is taken back leaves the outboxes as they were.
-use Rattle.std.proofs.Common.{◌≡◌, ◌≢◌, ℕ, ◌+◌, ◌-◌, ◌<◌, ◌≤◌, Bool, true, false, not, cond, eqb, ltb, List, [], ◌∷◌, ◌++◌, length, take, drop, get_or, set, refl, sym, ap, ◌∙◌, subst, arith, zero, suc}
-use Rattle.std.specs.List.{filter, All, fold}
-use Rattle.std.proofs.lemmas.Bool.{eq-eqb, ne_eqb, eqb-true, lt-ltb, le-ltb, ltb-true}
+use Rattle.std.proofs.Common.{◌≡◌, ◌≢◌, ℕ, ◌+◌, ◌-◌, ◌<◌, ◌≤◌, Bool, true, false, not, cond, eqb, ltb, List, [], ◌∷◌, ◌++◌, length, take, get_or, set, refl, sym, ap, ◌∙◌, subst, arith}
+use Rattle.std.proofs.lemmas.Bool.{eq-eqb, eqb-true, lt-ltb, le-ltb, ltb-true}
 use Rattle.std.proofs.lemmas.List.{length-append, take_at, length-take-le}
 use Rattle.std.proofs.lemmas.List.Elements.{All-filter}
 use Rattle.std.specs.Prelude.{slice_get, Some, None, Option}
 use Rattle.std.specs.Option.{unwrap_or}
 use Rattle.std.proofs.lemmas.Option.{slice_get_within, get_or_from_slice_get}
-use Rattle.rbc_maps.specs.Maps.{keys, rises_from, has, value_or, value_of, with_value, without, index_for}
+use Rattle.rbc_maps.specs.Maps.{has, value_or, value_of, with_value, without, index_for}
 use Rattle.rbc_maps.proofs.MapPlaces.{rises-with_value, value_or-here, value_or-absent}
 use Rattle.rbc_maps.proofs.MapValues.{rises-without, found_here}
 use Rattle.rbc_maps.proofs.MapEdits.{written}
@@ -84,14 +83,14 @@ takes_back input boxes sent h =
     let one = mail input sent.message in
     let there : value_or [] after engine ≡ old ++ one ∷ [] = value_or-with [] engine (old ++ one ∷ []) boxes engine ∙ ap (λ b. cond b (old ++ one ∷ []) old) (eq-eqb engine engine refl) in
     same_boxes 0 (taken_back engine after) boxes keeps.ascending h.ascending keeps.filled h.filled (λ other.
-        taken_value engine after other
-        ∙ ap (λ (ms : List Mail). cond (eqb engine other) (take (length ms - 1) ms) (value_or [] after other)) there
-        ∙ ap (λ (ms : List Mail). cond (eqb engine other) ms (value_or [] after other)) (without_last old one)
-        ∙ ap (λ (ms : List Mail). cond (eqb engine other) old ms) (value_or-with [] engine (old ++ one ∷ []) boxes other)
-        ∙ (elim (eqb engine other) as (λ b. eqb engine other ≡ b → cond b old (cond b (old ++ one ∷ []) (value_or [] boxes other)) ≡ value_or [] boxes other) [
-          | true ↦ λ is. ap (value_or [] boxes) (eqb-true engine other is)
-          | false ↦ λ is. refl
-        ]) refl)
+    taken_value engine after other
+    ∙ ap (λ (ms : List Mail). cond (eqb engine other) (take (length ms - 1) ms) (value_or [] after other)) there
+    ∙ ap (λ (ms : List Mail). cond (eqb engine other) ms (value_or [] after other)) (without_last old one)
+    ∙ ap (λ (ms : List Mail). cond (eqb engine other) old ms) (value_or-with [] engine (old ++ one ∷ []) boxes other)
+    ∙ (elim (eqb engine other) as (λ b. eqb engine other ≡ b → cond b old (cond b (old ++ one ∷ []) (value_or [] boxes other)) ≡ value_or [] boxes other) [
+      | true ↦ λ is. ap (value_or [] boxes) (eqb-true engine other is)
+      | false ↦ λ is. refl
+    ]) refl)
 
 -- the last of some messages
 pub posted_last : (input : ℕ) (boxes : List (ℕ × List Mail)) (sent : List Sent) (n : ℕ) (one : Sent) → slice_get sent n ≡ Some one

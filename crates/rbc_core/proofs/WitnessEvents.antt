@@ -1,6 +1,5 @@
 -- What holds of worked events.
-use Rattle.std.proofs.Common.{◌≡◌, ◌⊎◌, ℕ, ◌<◌, ◌≤◌, Bool, true, false, cond, eqb, leb, option_map, List, [], ◌∷◌, map, Option, Some, None, inl, inr, refl, sym, ap, ◌∙◌, subst, ⊎_elim, arith}
-use Rattle.std.specs.Prelude.{slice_get}
+use Rattle.std.proofs.Common.{◌≡◌, ℕ, ◌≤◌, Bool, true, false, cond, eqb, leb, option_map, List, [], ◌∷◌, Option, Some, None, refl, sym, ap, ◌∙◌, subst, arith}
 use Rattle.std.specs.List.{All}
 use Rattle.std.proofs.lemmas.Bool.{and_parts, leb-true, eqb-true}
 use Rattle.std.proofs.lemmas.List.Elements.{All-head, All-tail, All-nil, All-cons}
@@ -8,7 +7,6 @@ use Rattle.rbc_maps.specs.Maps.{keys, rises_from}
 use Rattle.rbc_maps.specs.Numbered.{Numbered, AreNumbered, none_numbered}
 use Rattle.ertms_codec.specs.declared.to_train.ToTrain.{ToTrain}
 use Rattle.rbc_settle.specs.Trains.{new_train}
-use Rattle.rbc_settle.specs.Settling.{Stops, Limits}
 use Rattle.rbc_settle.specs.declared.train.TrainRec.{TrainRec}
 use Rattle.rbc_records.specs.declared.record.Key.{Key}
 use Rattle.rbc_records.specs.declared.record.Key.TheVariants as key
@@ -19,14 +17,12 @@ use Rattle.rbc_records.specs.Writes.{written}
 use Rattle.rbc_rule.specs.declared.input.Input.TheVariants as input
 use Rattle.rbc_rule.specs.World.{World, new_world}
 use Rattle.rbc_rule.specs.Step.{step}
-use Rattle.rbc_rule.specs.Records.{record_of, engines_record, stops_record, limits_record}
-use Rattle.rbc_rule.specs.Right.{MayBe, IsStep, IsRight}
+use Rattle.rbc_rule.specs.Records.{record_of, engines_record}
+use Rattle.rbc_rule.specs.Right.{MayBe, IsStep}
 use Rattle.rbc_rule.specs.Witnesses.{track_a}
 use Rattle.rbc_rule.proofs.WorldMaps.{eqb_turned}
-use Rattle.rbc_core.specs.declared.stage.Stage.{Stage}
-use Rattle.rbc_core.specs.declared.stage.Stage.TheVariants.{Free, Out, Tried, Void}
 use Rattle.rbc_core.specs.Held.{IsOutcomeOf}
-use Rattle.rbc_core.specs.Core.{Try, IsRightTry, State, IsAt, front}
+use Rattle.rbc_core.specs.Core.{Try, IsRightTry}
 use Rattle.rbc_core.specs.Witnesses.{two_inputs, enrolled, refused, nothing_there, first_try, second_try}
 
 -- ---- the outcomes

@@ -8,7 +8,7 @@ use Rattle.rbc_rule.specs.declared.outcome.Outcome.{Outcome}
 use Rattle.rbc_rule.specs.Gathered.{AreSendable}
 use Rattle.rbc_rule.specs.Right.{IsRight}
 use Rattle.rbc_core.specs.declared.stage.Stage.{Stage}
-use Rattle.rbc_core.specs.declared.stage.Stage.TheVariants.{Free, Out, Tried, Void}
+use Rattle.rbc_core.specs.declared.stage.Stage.TheVariants.{Free, Tried, Void}
 use Rattle.rbc_core.specs.Held.{Standing, standing}
 use Rattle.rbc_core.specs.Runs.{Run, IsInput}
 

@@ -1,5 +1,5 @@
 -- Worked cases of the law of events. Places and lengths are in units of 10 cm.
-use Rattle.std.specs.Prelude.{ℕ, Bool, true, false, List, [], ◌∷◌, Option, Some, None}
+use Rattle.std.specs.Prelude.{true, false, List, [], ◌∷◌, Option, Some, None}
 use Rattle.std.specs.List.{fold}
 use Rattle.rbc_settle.specs.Trains.{new_train}
 use Rattle.rbc_records.specs.declared.record.Key.{Key}

@@ -1,8 +1,8 @@
-use Rattle.std.proofs.Common.{◌≡◌, ◌-◌, ◌+◌, ◌∙◌, ℕ, List, take, ap, arith, sym}
+use Rattle.std.proofs.Common.{◌≡◌, ◌-◌, ◌+◌, ◌∙◌, ℕ, List, take, ap, arith}
 use Rattle.std.specs.Prelude.{slice_get, Some}
 use Rattle.rbc_settle.specs.declared.upkeep.Sent.{Sent}
 use Rattle.rbc_core.specs.declared.outbox.Mail.{Mail}
-use Rattle.rbc_core.specs.Held.{AreOutboxes, post_one, post_each, taken_back}
+use Rattle.rbc_core.specs.Held.{AreOutboxes, post_each, taken_back}
 use Rattle.rbc_core.proofs.TakesBack.{takes_back, posted_last, posts_keep}
 use Rattle.rbc_core.proofs.outbox.take_back_all.Goals as goal
 

@@ -1,10 +1,10 @@
-use Rattle.std.proofs.Common.{◌≡◌, ◌<◌, ◌≤◌, ℕ, List, [], ◌∷◌, Some, None, true, false, refl, sym, ap, arith, inl, inr}
+use Rattle.std.proofs.Common.{◌≡◌, [], Some, refl, ap, arith, inl, inr}
 use Rattle.std.proofs.lemmas.List.Elements.{All-nil}
 use Rattle.rbc_settle.specs.Trains.{new_train}
 use Rattle.rbc_records.specs.declared.record.Rec.TheVariants as rec
 use Rattle.rbc_rule.specs.declared.input.Input.TheVariants as input
 use Rattle.rbc_core.specs.Runs.{IsInput}
-use Rattle.rbc_core.specs.Core.{IsAt, Try}
+use Rattle.rbc_core.specs.Core.{Try}
 use Rattle.rbc_core.specs.Witnesses.{two_inputs, first_try, second_try, stale_try}
 use Rattle.rbc_core.proofs.WitnessEvents.{right_first, right_second, nothing_now, recomputes_second, third_is_stale}
 use Rattle.rbc_core.proofs.witnesses.event_law_witnesses.Goals as goal

@@ -1,4 +1,4 @@
-use Rattle.std.proofs.Common.{ℕ, ap, subst}
+use Rattle.std.proofs.Common.{ap, subst}
 use Rattle.rbc_core.specs.Books.{BookValue}
 use Rattle.rbc_core.specs.Held.{standing}
 use Rattle.rbc_core.specs.SaidMails.{IsSaidSince}

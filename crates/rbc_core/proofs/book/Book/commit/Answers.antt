@@ -1,9 +1,9 @@
-use Rattle.std.proofs.Common.{◌≡◌, ◌∙◌, ◌<◌, ap, rules, arith, length, Some, true, false, sym}
+use Rattle.std.proofs.Common.{◌≡◌, ◌∙◌, ap, rules, arith, Some, true, false}
 use Rattle.rbc_records.specs.Notes.{record_in}
 use Rattle.rbc_core.specs.declared.stage.Stage.TheVariants.{Tried}
 use Rattle.rbc_core.specs.Held.{standing}
 use Rattle.rbc_core.specs.Books.{IsJudged, IsCarriedOut, state_of}
-use Rattle.rbc_core.proofs.Books.{fails, fails_book, commits_book, applies, recomputes, stale, waits, stays_closed}
+use Rattle.rbc_core.proofs.Books.{fails, fails_book, commits_book, applies, recomputes, stale}
 use Rattle.rbc_core.proofs.book.Book.commit.Goals as goal
 
 pub carry_out-requires-clause-number : goal.carry_out-requires-clause-number

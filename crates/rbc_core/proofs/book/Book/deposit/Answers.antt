@@ -1,4 +1,4 @@
-use Rattle.std.proofs.Common.{◌≡◌, ◌+◌, ◌-◌, ◌∙◌, ℕ, refl, sym, ap, subst, arith, rules}
+use Rattle.std.proofs.Common.{◌≡◌, ◌+◌, ◌-◌, ◌∙◌, refl, sym, ap, arith}
 use Rattle.rbc_core.specs.declared.stage.Stage.TheVariants.{Tried}
 use Rattle.rbc_core.specs.Books.{IsOutIn, state_of}
 use Rattle.rbc_core.proofs.Books.{keeps, deposits}

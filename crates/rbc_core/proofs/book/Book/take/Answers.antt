@@ -1,4 +1,4 @@
-use Rattle.std.proofs.Common.{◌≡◌, ◌<◌, length, ap, arith, refl}
+use Rattle.std.proofs.Common.{◌<◌, length, ap, arith, refl}
 use Rattle.rbc_core.proofs.Books.{takes}
 use Rattle.rbc_core.proofs.book.Book.take.Goals as goal
 
