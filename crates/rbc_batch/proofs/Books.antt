@@ -1,19 +1,17 @@
 -- The next input of a book is given up, and then committed.
-use Rattle.std.proofs.Common.{◌≡◌, ◌⊎◌, ℕ, ◌+◌, ◌-◌, ◌<◌, ◌≤◌, Bool, true, false, length, set, Option, Some, None, inl, inr, refl, sym, ap, ◌∙◌, subst, ⊎_elim, arith}
+use Rattle.std.proofs.Common.{◌≡◌, ℕ, ◌+◌, ◌-◌, ◌<◌, Bool, true, false, length, Some, None, inl, inr, sym, ap, ◌∙◌, ⊎_elim, arith}
 use Rattle.std.specs.Prelude.{slice_get}
 use Rattle.std.proofs.lemmas.List.{length-set}
 use Rattle.std.proofs.lemmas.Option.{slice_get_within}
 use Rattle.rbc_rule.specs.declared.input.Input.{Input}
-use Rattle.rbc_rule.specs.declared.outcome.Outcome.{Outcome}
 use Rattle.rbc_core.specs.declared.book.Commit.{Commit}
 use Rattle.rbc_core.specs.declared.book.Commit.TheVariants.{Applied, Recomputed, NotReady, Done, Failed}
-use Rattle.rbc_core.specs.declared.stage.Stage.{Stage}
-use Rattle.rbc_core.specs.declared.stage.Stage.TheVariants.{Free, Out, Tried, Void}
+use Rattle.rbc_core.specs.declared.stage.Stage.TheVariants.{Out, Tried, Void}
 use Rattle.rbc_core.specs.Runs.{Run, IsInput}
-use Rattle.rbc_core.specs.Core.{Try, State, IsAt, front, IsReady, with_stage}
+use Rattle.rbc_core.specs.Core.{Try, State, IsAt, front}
 use Rattle.rbc_core.specs.Books.{IsBook}
-use Rattle.rbc_core.specs.Events.{Happens, Commits, next}
-use Rattle.rbc_core.specs.Events.Event.{Takes, Voids, Applies, Recomputes, Waits, Ends, Fails}
+use Rattle.rbc_core.specs.Events.{Happens, Commits}
+use Rattle.rbc_core.specs.Events.Event.{Takes, Voids}
 use Rattle.rbc_core.proofs.Books.{slice_get_at}
 use Rattle.rbc_batch.specs.Turns.{IsIdle, IsGivenUp, IsNext}
 
@@ -34,12 +32,18 @@ gives_up run s t u number true b idle took gave =
     let more = took.may.1 in
     let within : number - 1 < length t.stages = omega (arith, is, long, more) in
     let at : slice_get u.stages (number - 1) ≡ Some Void = ap (λ (x : State). slice_get x.stages (number - 1)) gave.leads ∙ slice_get_at t.stages (number - 1) Void within in
-    let same : number ≡ front u = let same = idle.0 in omega (arith, is, committed, same) in
-    (closed, committed, inr (taken, record {
-      uncommitted = omega arith;
-      taken = let same = idle.0 in omega (arith, taken, committed, same);
-      at = ap (λ n. slice_get u.stages (n - 1)) (sym same) ∙ at;
-    }))
+    let same : number ≡ front u = let same = idle.0 in omega (arith, is, committed, same) in (
+      closed,
+      committed,
+      inr (
+        taken,
+        record {
+          uncommitted = omega arith;
+          taken = let same = idle.0 in omega (arith, taken, committed, same);
+          at = ap (λ n. slice_get u.stages (n - 1)) (sym same) ∙ at;
+        },
+      ),
+    )
 gives_up run s t u number false b idle took gave =
     let long : number - 1 < length s.stages = let is = took.may.2 in let more = took.may.1 in let all = b.all in omega (arith, is, more, all) in
     let committed : t.committed ≡ s.committed = ap (λ (x : State). x.committed) took.leads in
@@ -62,11 +66,11 @@ pub commits_next : (run : Run) (s t u : State) (answer : Commit) → IsIdle s �
 commits_next run s t u Applied idle gave (outcome, h) =
     ⊎_elim
     (λ (q : (s.taken ≡ length run.inputs) × (t ≡ s)).
-        let high = h.may.1.1.taken in
-        let taken : t.taken ≡ s.taken = ap (λ (x : State). x.taken) q.1 in
-        let committed = gave.1 in
-        let same = idle.0 in
-        absurd (omega (arith, high, taken, committed, same)))
+    let high = h.may.1.1.taken in
+    let taken : t.taken ≡ s.taken = ap (λ (x : State). x.taken) q.1 in
+    let committed = gave.1 in
+    let same = idle.0 in
+    absurd (omega (arith, high, taken, committed, same)))
     (λ (q : (t.taken ≡ s.taken + 1) × IsAt t (front t) Void). absurd (tried_and_void t (front t) h.may.1.0 h.may.1.1 q.1))
     gave.2
 commits_next run s t u Recomputed idle gave (outcome, h) =

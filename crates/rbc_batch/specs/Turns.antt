@@ -1,5 +1,5 @@
 -- Inputs that are taken, given up and committed one after another.
-use Rattle.std.specs.Prelude.{◌≡◌, ◌⊎◌, ℕ, ◌+◌, ◌<◌, Bool, true, false, length, Option, Some}
+use Rattle.std.specs.Prelude.{◌≡◌, ◌⊎◌, ◌+◌, ◌<◌, false, length}
 use Rattle.rbc_core.specs.declared.book.Commit.{Commit}
 use Rattle.rbc_core.specs.declared.book.Commit.TheVariants.{Applied, Recomputed, NotReady, Done, Failed}
 use Rattle.rbc_core.specs.declared.stage.Stage.TheVariants.{Void}

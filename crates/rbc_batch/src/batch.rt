@@ -3,9 +3,9 @@
 ghost use Rattle.std.specs.Prelude.{◌<◌, length, IfSome, IsErrOf};
 ghost use Rattle.rbc_batch.specs.Process.{Answers, IsUntouched, max_batch};
 
+use crate::output::render;
 use crate::parse::parse_batch;
 use crate::read::read_batch;
-use crate::output::render;
 use crate::run::run_inputs;
 use crate::write::write_text;
 use rbc_track::Track;

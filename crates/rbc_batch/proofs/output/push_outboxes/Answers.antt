@@ -12,7 +12,7 @@ one_more : (before : List ℕ) (boxes : List (ℕ × List Mail)) (i : ℕ) (one 
     → new ≡ old ++ outbox_lines one → new ≡ before ++ flat_map outbox_lines (take (i + 1) boxes)
 one_more before boxes i one old new there so_far now =
     let gathered = one_more_gathered outbox_lines boxes i one (slice_get_within boxes i one there) (flat_map outbox_lines (take i boxes)) (flat_map outbox_lines (take i boxes) ++ outbox_lines one) refl
-        (ap (λ (b : ℕ × List Mail). flat_map outbox_lines (take i boxes) ++ outbox_lines b) (sym (get_or_from_slice_get boxes i one one there))) in
+    (ap (λ (b : ℕ × List Mail). flat_map outbox_lines (take i boxes) ++ outbox_lines b) (sym (get_or_from_slice_get boxes i one one there))) in
     now ∙ ap (λ (text : List ℕ). text ++ outbox_lines one) so_far ∙ append_assoc before (flat_map outbox_lines (take i boxes)) (outbox_lines one) ∙ ap (λ (lines : List ℕ). before ++ lines) gathered
 
 pub loop-index-preserved : goal.loop-index-preserved
