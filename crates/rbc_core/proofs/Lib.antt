@@ -11,3 +11,4 @@ pub mod Laws
 pub mod Mails
 pub mod Facts
 pub mod WitnessEvents
+pub mod Spelled

@@ -79,7 +79,7 @@ impl Desk {
     }
 
     /// The engine (NID_ENGINE) and the messages of the outbox at an index below `outboxes`, in ascending order of the engine. None is
-    /// empty.
+    /// empty. Each message is what its bytes spell.
     pub fn outbox_at(&self, index: usize) -> (u32, &[Mail])
         requires { index < length self.now.outboxes }
         ensures outbox { slice_get self.now.outboxes index ≡ Some (result.0, result.1.now) }
@@ -89,9 +89,10 @@ impl Desk {
         (*engine, outbox.mails())
     }
 
-    /// The messages that were sent to an engine (NID_ENGINE), in order; none if it has no outbox.
+    /// The messages that were sent to an engine (NID_ENGINE), in order; none if it has no outbox. Each is what its bytes spell.
     pub fn outbox(&self, engine: u32) -> &[Mail]
-        ensures { result.now ≡ value_or [] self.now.outboxes engine }
+        ensures mails { result.now ≡ value_or [] self.now.outboxes engine }
+        ensures sendable { mails.AreSendable result.now }
     {
         outbox::mails_of(&self.outboxes, engine)
     }

@@ -1,7 +1,8 @@
 //! The messages that were sent to each engine.
 
 ghost use Rattle.std.specs.Prelude.{◌≡◌, ◌-◌, ◌≤◌, ℕ, List, [], ◌∷◌, ◌++◌, length, take, OnOk, OnErr};
-ghost use Rattle.ertms_codec.specs.ToTrain.{Fits};
+ghost use Rattle.ertms_codec.specs.ToTrain.{Fits, HoldsReference, Spells, fields_of, spelling_of};
+ghost use Rattle.ertms_codec.specs.Layout.{HoldValues};
 ghost use Rattle.rbc_maps.specs.Maps.{with_value, value_or};
 ghost use Rattle.rbc_rule.specs.Gathered as gathered;
 ghost use Rattle.rbc_core.specs.declared.outbox.Mail.{Mail};
@@ -37,7 +38,7 @@ impl Model for Outbox {
 
     ghost use Rattle.rbc_core.specs.Sendable.{AreSendable};
 
-    // The variables of each message are in their ranges, so that it can be written.
+    // Each message can be written, and is what its bytes spell.
     ghost invariant = { λ o. AreSendable o.mails.items };
 }
 
@@ -72,6 +73,7 @@ impl Outbox {
         ensures ok { OnOk result (self.new ≡ self.old ++ mail ∷ []) }
         ensures err { OnErr result (self.new ≡ self.old) }
     {
+        spells(mail.message);
         self.mails.push(mail)?;
         Ok(())
     }
@@ -80,12 +82,36 @@ impl Outbox {
 /// The messages in the outbox of an engine; none if it has no outbox.
 pub(crate) fn mails_of(outboxes: &[(u32, Outbox)], engine: u32) -> &[Mail]
     requires { AreOutboxes outboxes.now }
-    ensures { result.now ≡ value_or [] outboxes.now engine }
+    ensures mails { result.now ≡ value_or [] outboxes.now engine }
+    ensures sendable { AreSendable result.now }
 {
     match rbc_maps::value_of(outboxes, engine) {
         Some(outbox) => outbox.mails(),
         None => &[],
     }
+}
+
+/// Says in its contract that each variable of a message that fits has room for its value.
+fn has_room(message: ToTrain)
+    requires { Fits message }
+    ensures values { HoldValues (fields_of message) }
+    ensures reference { HoldsReference message }
+{
+    match message {
+        ToTrain::StopAt { .. } => {}
+        ToTrain::Stop { .. } => {}
+        ToTrain::Revoke { .. } => {}
+        ToTrain::Restrict { .. } => {}
+        ToTrain::Lift { .. } => {}
+    }
+}
+
+/// Says in its contract that a message that fits is what its own bytes spell.
+fn spells(message: ToTrain)
+    requires { Fits message }
+    ensures { Spells (spelling_of message) message }
+{
+    has_room(message);
 }
 
 /// Puts a message into its engine's outbox. An engine gets an outbox with its first message. Fails only for lack of
