@@ -293,11 +293,13 @@ applies run s old stage desk xs is b opened can at done void =
     let attempt = done.is_outcome.attempt in
     let there : slice_get s.stages s.committed ≡ Some (Tried attempt.0) = at ∙ ap Some attempt.1 in
     let now : AreNow attempt.0.notes s.desk.records = subst (λ (x : Stage Try). Judges s.desk.records x (Some true)) (same_item s.stages s.committed can.0 (Tried attempt.0) can.1 there) can.2 in
-    subst (λ (o : State). Commits run o Applied (record { desk = desk; stages = set xs s.committed Free; committed = s.committed + 1; taken = s.taken; recomputed = s.recomputed; closed = s.closed })) is
-    (done.outcome, record {
-      may = (opened, (attempt.0, front_at run s true (Tried attempt.0) b can there, now, attempt.2));
-      leads = λ i. record { desk = done.taken_over i; stages = (freed s xs void ∙ ap (λ n. set s.stages n Free) (front_index s)) i; committed = s.committed + 1; taken = s.taken; recomputed = s.recomputed; closed = s.closed };
-    })
+    subst (λ (o : State). Commits run o Applied (record { desk = desk; stages = set xs s.committed Free; committed = s.committed + 1; taken = s.taken; recomputed = s.recomputed; closed = s.closed })) is (
+      done.outcome,
+      record {
+        may = (opened, (attempt.0, front_at run s true (Tried attempt.0) b can there, now, attempt.2));
+        leads = λ i. record { desk = done.taken_over i; stages = (freed s xs void ∙ ap (λ n. set s.stages n Free) (front_index s)) i; committed = s.committed + 1; taken = s.taken; recomputed = s.recomputed; closed = s.closed };
+      },
+    )
 
 -- or computed here
 pub recomputes : (run : Run) (s old : State) (fresh : Bool) (stage : Stage Try) (desk : Standing) (xs : List (Stage Try)) → s ≡ old → IsBook run s → s.closed ≡ false → IsJudged s.stages s.committed s.desk.records (Some fresh)
@@ -305,8 +307,10 @@ pub recomputes : (run : Run) (s old : State) (fresh : Bool) (stage : Stage Try) 
     → Commits run old Recomputed (record { desk = desk; stages = set xs s.committed Free; committed = s.committed + 1; taken = s.taken; recomputed = s.recomputed + 1; closed = s.closed })
 recomputes run s old fresh stage desk xs is b opened can done void =
     let out = done.is_outcome in
-    subst (λ (o : State). Commits run o Recomputed (record { desk = desk; stages = set xs s.committed Free; committed = s.committed + 1; taken = s.taken; recomputed = s.recomputed + 1; closed = s.closed })) is
-    (done.outcome, record {
-      may = (opened, ready run s fresh b can, (out.input, out.is_input, out.right));
-      leads = λ i. record { desk = done.taken_over i; stages = (freed s xs void ∙ ap (λ n. set s.stages n Free) (front_index s)) i; committed = s.committed + 1; taken = s.taken; recomputed = s.recomputed + 1; closed = s.closed };
-    })
+    subst (λ (o : State). Commits run o Recomputed (record { desk = desk; stages = set xs s.committed Free; committed = s.committed + 1; taken = s.taken; recomputed = s.recomputed + 1; closed = s.closed })) is (
+      done.outcome,
+      record {
+        may = (opened, ready run s fresh b can, (out.input, out.is_input, out.right));
+        leads = λ i. record { desk = done.taken_over i; stages = (freed s xs void ∙ ap (λ n. set s.stages n Free) (front_index s)) i; committed = s.committed + 1; taken = s.taken; recomputed = s.recomputed + 1; closed = s.closed };
+      },
+    )

@@ -84,14 +84,14 @@ takes_back input boxes sent h =
     let one = mail input sent.message in
     let there : value_or [] after engine ≡ old ++ one ∷ [] = value_or-with [] engine (old ++ one ∷ []) boxes engine ∙ ap (λ b. cond b (old ++ one ∷ []) old) (eq-eqb engine engine refl) in
     same_boxes 0 (taken_back engine after) boxes keeps.ascending h.ascending keeps.filled h.filled (λ other.
-        taken_value engine after other
-        ∙ ap (λ (ms : List Mail). cond (eqb engine other) (take (length ms - 1) ms) (value_or [] after other)) there
-        ∙ ap (λ (ms : List Mail). cond (eqb engine other) ms (value_or [] after other)) (without_last old one)
-        ∙ ap (λ (ms : List Mail). cond (eqb engine other) old ms) (value_or-with [] engine (old ++ one ∷ []) boxes other)
-        ∙ (elim (eqb engine other) as (λ b. eqb engine other ≡ b → cond b old (cond b (old ++ one ∷ []) (value_or [] boxes other)) ≡ value_or [] boxes other) [
-          | true ↦ λ is. ap (value_or [] boxes) (eqb-true engine other is)
-          | false ↦ λ is. refl
-        ]) refl)
+    taken_value engine after other
+    ∙ ap (λ (ms : List Mail). cond (eqb engine other) (take (length ms - 1) ms) (value_or [] after other)) there
+    ∙ ap (λ (ms : List Mail). cond (eqb engine other) ms (value_or [] after other)) (without_last old one)
+    ∙ ap (λ (ms : List Mail). cond (eqb engine other) old ms) (value_or-with [] engine (old ++ one ∷ []) boxes other)
+    ∙ (elim (eqb engine other) as (λ b. eqb engine other ≡ b → cond b old (cond b (old ++ one ∷ []) (value_or [] boxes other)) ≡ value_or [] boxes other) [
+      | true ↦ λ is. ap (value_or [] boxes) (eqb-true engine other is)
+      | false ↦ λ is. refl
+    ]) refl)
 
 -- the last of some messages
 pub posted_last : (input : ℕ) (boxes : List (ℕ × List Mail)) (sent : List Sent) (n : ℕ) (one : Sent) → slice_get sent n ≡ Some one

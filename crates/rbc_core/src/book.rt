@@ -236,11 +236,7 @@ fn is_out<N: RunName>(stages: &Vec<Stage<Attempt<N>>>, number: u32) -> bool
 }
 
 /// Whether the next input is ready to be committed, and then whether by its attempt.
-fn judge<N: RunName>(
-    stages: &Vec<Stage<Attempt<N>>>,
-    front: usize,
-    desk: &Desk,
-) -> Option<bool>
+fn judge<N: RunName>(stages: &Vec<Stage<Attempt<N>>>, front: usize, desk: &Desk) -> Option<bool>
     requires { front < length stages.now.items }
     ensures { IsJudged stages.now.items front (record_in desk.now.records) result }
 {
@@ -252,10 +248,7 @@ fn judge<N: RunName>(
 }
 
 /// Takes the stage of an input out, which leaves it given up.
-fn taken_out<N: RunName>(
-    stages: &mut Vec<Stage<Attempt<N>>>,
-    front: usize,
-) -> Stage<Attempt<N>>
+fn taken_out<N: RunName>(stages: &mut Vec<Stage<Attempt<N>>>, front: usize) -> Stage<Attempt<N>>
     requires { front < length stages.old.items }
     ensures stage { slice_get stages.old.items front ≡ Some result }
     ensures void { stages.new.items ≡ set stages.old.items front Void }
