@@ -18,6 +18,7 @@ SHOWN = 10  # so many wrong ends are printed of each call
 TESTS = {
     "decide": ("rbc_rule_check", "decides_or_refuses"),
     "apply": ("rbc_rule_check", "applies_or_hands_back"),
+    "commit": ("rbc_core_check", "commits_or_keeps_the_desk"),
     "parse_batch": ("rbc_batch_check", "parses_or_gives_no_inputs"),
     "process": ("rbc_batch_check", "processes_or_writes_nothing"),
 }
