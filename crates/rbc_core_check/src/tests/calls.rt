@@ -16,7 +16,7 @@ use std::process::Abort;
 use std::test::Fail;
 
 /// A call of a book, with what it has to answer.
-#[derive(Clone, Copy, Debug, PartialEq, Eq)]
+#[derive(Clone, Copy)]
 pub(crate) enum Call {
     /// An input is taken, or there is none to take.
     Take(Option<u32>),
