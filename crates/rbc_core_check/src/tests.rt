@@ -1,8 +1,8 @@
 mod attempting;
+mod calls;
 mod refusals;
 mod rows;
 mod setting;
-mod steps;
 
 use std::fmt::Debug;
 use std::process::Abort;

@@ -26,7 +26,7 @@ use std::test::Fail;
 struct Refused;
 
 /// How the inputs are committed.
-#[derive(Clone, Copy, Debug, PartialEq, Eq)]
+#[derive(Clone, Copy)]
 enum Way {
     /// By their attempts.
     Attempts,

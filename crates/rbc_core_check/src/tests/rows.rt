@@ -1,24 +1,56 @@
 //! Runs worked by hand, with what they lead to.
 
 use super::same;
+use crate::tests::calls::{Call, run};
 use crate::tests::setting::{assert_outbox, enrol, revoked, stop, stopped};
-use crate::tests::steps::{Step, run};
 use ertms_codec::{FromTrain, write_to_train};
 use rbc_core::{Commit, Mail, Stats};
 use rbc_records::Key;
 use rbc_rule::{Input, Reply};
+use std::alloc::Global;
 use std::process::Abort;
 use std::test::Fail;
 
+/// An input is accepted; nobody is told anything.
 const DONE: Reply = Reply::Done(0);
 
+/// An input is accepted; one train is told something.
 const TOLD: Reply = Reply::Done(1);
 
-const APPLIED: Step = Step::Commit(Commit::Applied);
+const APPLIED: Call = Call::Commit(Commit::Applied);
 
-const RECOMPUTED: Step = Step::Commit(Commit::Recomputed);
+const RECOMPUTED: Call = Call::Commit(Commit::Recomputed);
 
-const AT_END: Step = Step::Commit(Commit::Done);
+const AT_END: Call = Call::Commit(Commit::Done);
+
+/// What a run leaves in which engine 7 alone is told something.
+#[derive(Clone, Copy)]
+struct Left<'a> {
+    taken: u32,
+    recomputed: u32,
+    results: &'a [Reply],
+    mails: &'a [Mail],
+}
+
+/// Runs inputs by these calls of a book, and asserts what is left.
+fn assert_left(
+    rt: &impl Abort,
+    alloc: Global,
+    inputs: &[Input],
+    calls: &[Call],
+    left: &Left<'_>,
+) -> Result<(), Fail> {
+    let (desk, stats) = run(rt, alloc, inputs, calls)?;
+    let counts = Stats {
+        taken: left.taken,
+        recomputed: left.recomputed,
+    };
+    same(rt, stats, counts);
+    same(rt, desk.results(), left.results);
+    same(rt, desk.outboxes(), 1);
+    assert_outbox(rt, &desk, 0, 7, left.mails);
+    Ok(())
+}
 
 /// Asserts the bytes of a message.
 fn assert_spelled(rt: &impl Abort, mail: &Mail, bytes: &[u8]) {
@@ -34,113 +66,113 @@ fn assert_spelled(rt: &impl Abort, mail: &Mail, bytes: &[u8]) {
 fn second_first(rt: HostRuntime) -> Result<(), Fail> {
     let alloc = rt.alloc();
     let inputs = [enrol(7), stop(alloc, 1)?];
-    let steps = [
-        Step::Take(Some(1)),
-        Step::Take(Some(2)),
-        Step::Take(None),
-        Step::Deposit(2, true),
-        Step::Commit(Commit::NotReady),
-        Step::Deposit(2, false),
-        Step::Void(2, false),
-        Step::Void(3, false),
-        Step::Void(0, false),
-        Step::Deposit(1, true),
+    let calls = [
+        Call::Take(Some(1)),
+        Call::Take(Some(2)),
+        Call::Take(None),
+        Call::Deposit(2, true),
+        Call::Commit(Commit::NotReady),
+        Call::Deposit(2, false),
+        Call::Void(2, false),
+        Call::Void(3, false),
+        Call::Void(0, false),
+        Call::Deposit(1, true),
         APPLIED,
         RECOMPUTED,
         AT_END,
     ];
-    let (desk, stats) = run(&rt, alloc, &inputs, &steps)?;
-    let counts = Stats {
+    let mail = stopped(2, 1, 0);
+    assert_spelled(&rt, &mail, b"\x10\x02\x80\x00\x00\x00\x5F\xFF\xFF\xE0");
+    let left = Left {
         taken: 2,
         recomputed: 1,
+        results: &[DONE, TOLD],
+        mails: &[mail],
     };
-    same(&rt, stats, counts);
-    same(&rt, desk.results(), [DONE, TOLD].as_slice());
-    same(&rt, desk.outboxes(), 1);
-    let mail = stopped(2, 1, 0);
-    assert_outbox(&rt, &desk, 0, 7, &[mail]);
-    assert_spelled(&rt, &mail, b"\x10\x02\x80\x00\x00\x00\x5F\xFF\xFF\xE0");
-    Ok(())
+    assert_left(&rt, alloc, &inputs, &calls, &left)
 }
 
-// the last input is attempted before the train leaves and comes again
+// the last input is attempted before the train leaves and comes again, which leaves each record as it was
 #[test]
 fn there_and_back(rt: HostRuntime) -> Result<(), Fail> {
     let alloc = rt.alloc();
     let leaving = Input::Withdraw { engine: 7 };
     let inputs = [enrol(7), leaving, enrol(7), stop(alloc, 1)?];
-    let steps = [
-        Step::Take(Some(1)),
-        Step::Deposit(1, true),
+    let calls = [
+        Call::Take(Some(1)),
+        Call::Deposit(1, true),
         APPLIED,
-        Step::Take(Some(2)),
-        Step::Take(Some(3)),
-        Step::Take(Some(4)),
-        Step::Deposit(4, true),
-        Step::Deposit(2, true),
+        Call::Take(Some(2)),
+        Call::Take(Some(3)),
+        Call::Take(Some(4)),
+        Call::Deposit(4, true),
+        Call::Deposit(2, true),
         APPLIED,
-        Step::Deposit(3, true),
+        Call::Deposit(3, true),
         APPLIED,
         APPLIED,
         AT_END,
     ];
-    let (desk, stats) = run(&rt, alloc, &inputs, &steps)?;
-    let counts = Stats {
+    let left = Left {
         taken: 4,
         recomputed: 0,
+        results: &[DONE, DONE, DONE, TOLD],
+        mails: &[stopped(4, 1, 0)],
     };
-    same(&rt, stats, counts);
-    same(&rt, desk.results(), [DONE, DONE, DONE, TOLD].as_slice());
-    same(&rt, desk.outboxes(), 1);
-    assert_outbox(&rt, &desk, 0, 7, &[stopped(4, 1, 0)]);
-    Ok(())
+    assert_left(&rt, alloc, &inputs, &calls, &left)
 }
 
-// stops take all 15 identifiers of engine 7; one more waits until the train acknowledges that the first one is revoked
-#[test]
-fn voided(rt: HostRuntime) -> Result<(), Fail> {
-    let alloc = rt.alloc();
+/// Stops take all 15 identifiers of engine 7; one more waits until the train acknowledges that the first one is revoked.
+fn one_waits(alloc: Global) -> Result<Vec<Input>, Fail> {
     let mut inputs = vec![in alloc; enrol(7)]?;
-    let mut results = vec![in alloc; DONE]?;
-    let mut mails = Vec::new(alloc);
-    for number in 1..=15u8 {
-        let stamp = u32::from(number);
-        inputs.push(stop(alloc, stamp)?)?;
-        results.push(TOLD)?;
-        mails.push(stopped(stamp + 1, stamp, number - 1))?;
+    for number in 1..=16 {
+        inputs.push(stop(alloc, number)?)?;
     }
-    inputs.push(stop(alloc, 16)?)?;
-    results.push(DONE)?;
     inputs.push(Input::Release { number: 1 })?;
-    results.push(TOLD)?;
-    let opened = revoked(18, 16, 0);
-    mails.push(opened)?;
     inputs.push(Input::Received(FromTrain::Ack {
         stamp: 1_000,
         engine: 7,
         acked: 16,
     }))?;
-    results.push(TOLD)?;
-    let told_late = stopped(19, 1_001, 0);
-    mails.push(told_late)?;
-    let mut steps = Vec::new(alloc);
-    for number in 1..=19 {
-        steps.push(Step::Take(Some(number)))?;
-        steps.push(Step::Void(number, true))?;
-        steps.push(RECOMPUTED)?;
+    Ok(inputs)
+}
+
+/// Each input is taken, given up and committed before the next.
+fn void_each(alloc: Global, count: u32) -> Result<Vec<Call>, Fail> {
+    let mut calls = Vec::new(alloc);
+    for number in 1..=count {
+        calls.push(Call::Take(Some(number)))?;
+        calls.push(Call::Void(number, true))?;
+        calls.push(RECOMPUTED)?;
     }
-    let (desk, stats) = run(&rt, alloc, &inputs, &steps)?;
-    let counts = Stats {
-        taken: 19,
-        recomputed: 19,
-    };
-    same(&rt, stats, counts);
-    same(&rt, desk.results(), results.as_slice());
-    same(&rt, desk.outboxes(), 1);
-    assert_outbox(&rt, &desk, 0, 7, &mails);
+    Ok(calls)
+}
+
+#[test]
+fn voided(rt: HostRuntime) -> Result<(), Fail> {
+    let alloc = rt.alloc();
+    let mut results = vec![in alloc; DONE]?;
+    let mut mails = Vec::new(alloc);
+    for number in 1..=15u8 {
+        let stamp = u32::from(number);
+        results.push(TOLD)?;
+        mails.push(stopped(stamp + 1, stamp, number - 1))?;
+    }
+    results.extend_from_slice(&[DONE, TOLD, TOLD])?;
+    let opened = revoked(18, 16, 0);
+    let told_late = stopped(19, 1_001, 0);
     assert_spelled(&rt, &opened, b"\x12\x02\x80\x00\x00\x04\x3F\xFF\xFF\xE0");
     assert_spelled(&rt, &told_late, b"\x10\x02\x80\x00\x00\xFA\x5F\xFF\xFF\xE0");
-    Ok(())
+    mails.extend_from_slice(&[opened, told_late])?;
+    let left = Left {
+        taken: 19,
+        recomputed: 19,
+        results: &results,
+        mails: &mails,
+    };
+    let inputs = one_waits(alloc)?;
+    let calls = void_each(alloc, 19)?;
+    assert_left(&rt, alloc, &inputs, &calls, &left)
 }
 
 // two engines, the higher one enrolled first; a book answers the same once it is at its end
@@ -148,24 +180,24 @@ fn voided(rt: HostRuntime) -> Result<(), Fail> {
 fn at_the_end(rt: HostRuntime) -> Result<(), Fail> {
     let alloc = rt.alloc();
     let inputs = [enrol(9), enrol(7), stop(alloc, 1)?];
-    let steps = [
-        Step::Absent(Key::Train(9)),
-        Step::Take(Some(1)),
-        Step::Take(Some(2)),
-        Step::Take(Some(3)),
-        Step::Void(1, true),
+    let calls = [
+        Call::Absent(Key::Train(9)),
+        Call::Take(Some(1)),
+        Call::Take(Some(2)),
+        Call::Take(Some(3)),
+        Call::Void(1, true),
         RECOMPUTED,
-        Step::Deposit(2, true),
+        Call::Deposit(2, true),
         APPLIED,
-        Step::Deposit(3, true),
+        Call::Deposit(3, true),
         APPLIED,
-        Step::Absent(Key::Limits),
+        Call::Absent(Key::Limits),
         AT_END,
-        Step::Take(None),
+        Call::Take(None),
         AT_END,
-        Step::Take(None),
+        Call::Take(None),
     ];
-    let (desk, _) = run(&rt, alloc, &inputs, &steps)?;
+    let (desk, _) = run(&rt, alloc, &inputs, &calls)?;
     same(&rt, desk.results(), [DONE, DONE, Reply::Done(2)].as_slice());
     same(&rt, desk.outboxes(), 2);
     let mail = stopped(3, 1, 0);

@@ -16,8 +16,8 @@ use std::process::Abort;
 use std::test::Fail;
 
 /// A call of a book, with what it has to answer.
-#[derive(Clone, Copy, Debug, PartialEq, Eq)]
-pub(crate) enum Step {
+#[derive(Clone, Copy)]
+pub(crate) enum Call {
     /// An input is taken, or there is none to take.
     Take(Option<u32>),
     /// Nothing stands under a key.
@@ -53,38 +53,38 @@ fn deposit<N: RunName>(
 }
 
 /// Makes a call, and asserts its answer.
-fn take_step<N: RunName>(
+fn make_call<N: RunName>(
     rt: &impl Abort,
     alloc: Global,
     track: &Track,
     inputs: &[Input],
     book: &mut Book<'_, N>,
-    step: Step,
+    call: Call,
 ) -> Result<(), Fail>
     requires track { track.now ≡ N.run.track }
     requires inputs { inputs.now ≡ N.run.inputs }
 {
-    match step {
-        Step::Take(wanted) => same(rt, book.take(), wanted),
-        Step::Absent(key) => assert!(rt; book.present(alloc, 1, key)?.is_none()),
-        Step::Deposit(number, wanted) => {
+    match call {
+        Call::Take(wanted) => same(rt, book.take(), wanted),
+        Call::Absent(key) => assert!(rt; book.present(alloc, 1, key)?.is_none()),
+        Call::Deposit(number, wanted) => {
             let kept = deposit(rt, alloc, track, inputs, book, number)?;
             same(rt, kept, wanted);
         }
-        Step::Void(number, wanted) => same(rt, book.void(number), wanted),
-        Step::Commit(wanted) => same(rt, book.commit(alloc, track), wanted),
+        Call::Void(number, wanted) => same(rt, book.void(number), wanted),
+        Call::Commit(wanted) => same(rt, book.commit(alloc, track), wanted),
     }
     Ok(())
 }
 
 /// Makes calls of a new book, and closes it. All inputs have to be committed then.
-fn take_steps<N: RunName>(
+fn make_calls<N: RunName>(
     rt: &impl Abort,
     alloc: Global,
     track: &Track,
     desk: Desk,
     inputs: &[Input],
-    steps: &[Step],
+    calls: &[Call],
 ) -> Result<(Desk, Stats), Fail>
     requires track { track.now ≡ N.run.track }
     requires desk { desk ≡ N.run.opening }
@@ -92,8 +92,8 @@ fn take_steps<N: RunName>(
     requires good { IsGoodRun N.run }
 {
     let mut book = Book::<N>::new(alloc, desk, inputs).ok().ok_or("memory")?;
-    for step in steps {
-        take_step(rt, alloc, track, inputs, &mut book, *step)?;
+    for call in calls {
+        make_call(rt, alloc, track, inputs, &mut book, *call)?;
     }
     same(rt, book.committed() as usize, inputs.len());
     let stats = book.stats();
@@ -105,11 +105,11 @@ pub(crate) fn run(
     rt: &impl Abort,
     alloc: Global,
     inputs: &[Input],
-    steps: &[Step],
+    calls: &[Call],
 ) -> Result<(Desk, Stats), Fail> {
     let track = track(alloc)?;
     assert!(rt; all_fit(inputs));
     let desk = Desk::new(alloc);
     assert!(rt; inputs.len() <= MAX_RESULTS - desk.results().len());
-    take_steps::<Brand>(rt, alloc, &track, desk, inputs, steps)
+    make_calls::<Brand>(rt, alloc, &track, desk, inputs, calls)
 }

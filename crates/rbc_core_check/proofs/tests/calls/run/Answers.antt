@@ -1,9 +1,9 @@
 use Rattle.std.proofs.Common.{rules}
 use Rattle.rbc_core.specs.Serial as serial
-use Rattle.rbc_core_check.proofs.tests.steps.run.Goals as goal
+use Rattle.rbc_core_check.proofs.tests.calls.run.Goals as goal
 
-pub take_steps-requires-clause-good : goal.take_steps-requires-clause-good
-take_steps-requires-clause-good g c = record {
+pub make_calls-requires-clause-good : goal.make_calls-requires-clause-good
+make_calls-requires-clause-good g c = record {
   track = c.in_ok-track.ensures;
   desk = serial.new_desk;
   holds = c.new-desk.ensures.new c.in_ok-track.track;
