@@ -89,6 +89,15 @@ fn nothing_is_noted_at_first(rt: HostRuntime) -> Result<(), Fail> {
     Ok(())
 }
 
+/// The record of engines, or that of a train with a stamp; none without a stamp.
+fn record(alloc: Global, key: Key, stamp: Option<u32>) -> Result<Option<Rec>, Fail> {
+    match (key, stamp) {
+        (_, None) => Ok(None),
+        (Key::Train(engine), Some(stamp)) => Ok(Some(train(alloc, engine, stamp)?)),
+        _ => Ok(Some(engines(alloc, &[7, 9])?)),
+    }
+}
+
 // a train that was not there has come and gone, a train that was there has another stamp, and then is gone
 #[test]
 fn notes_agree_with_a_store_that_has_what_was_read(rt: HostRuntime) -> Result<(), Fail> {
@@ -97,22 +106,17 @@ fn notes_agree_with_a_store_that_has_what_was_read(rt: HostRuntime) -> Result<()
     let mut store = PlainStore::new(alloc);
     same(&rt, notes.agree_with(&store), false);
     same(&rt, Notes::new(alloc).agree_with(&store), true);
-    let rec = engines(alloc, &[7, 9])?;
-    write(&rt, alloc, &mut store, Key::Roster, Some(rec))?;
-    let rec = train(alloc, 7, 20)?;
-    write(&rt, alloc, &mut store, Key::Train(7), Some(rec))?;
-    let rec = train(alloc, 8, 20)?;
-    write(&rt, alloc, &mut store, Key::Train(8), Some(rec))?;
-    same(&rt, notes.agree_with(&store), true);
-    let rec = train(alloc, 9, 20)?;
-    write(&rt, alloc, &mut store, Key::Train(9), Some(rec))?;
-    same(&rt, notes.agree_with(&store), false);
-    write(&rt, alloc, &mut store, Key::Train(9), None)?;
-    same(&rt, notes.agree_with(&store), true);
-    let rec = train(alloc, 7, 21)?;
-    write(&rt, alloc, &mut store, Key::Train(7), Some(rec))?;
-    same(&rt, notes.agree_with(&store), false);
-    write(&rt, alloc, &mut store, Key::Train(7), None)?;
-    same(&rt, notes.agree_with(&store), false);
+    for (key, stamp, wanted) in [
+        (Key::Roster, Some(0), false),
+        (Key::Train(7), Some(20), true),
+        (Key::Train(8), Some(20), true),
+        (Key::Train(9), Some(20), false),
+        (Key::Train(9), None, true),
+        (Key::Train(7), Some(21), false),
+        (Key::Train(7), None, false),
+    ] {
+        write(&rt, alloc, &mut store, key, record(alloc, key, stamp)?)?;
+        same(&rt, notes.agree_with(&store), wanted);
+    }
     Ok(())
 }
