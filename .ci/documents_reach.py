@@ -1,7 +1,8 @@
 """To which class a definition of specs/ belongs, by the contracts that are said with it.
 
 - believed: the contracts of the calls that the program makes (`is_called`). They are the rules, or formats (`is_rule`).
-- law: laws, and none of those contracts.
+- law: laws, and none of those contracts. To these belongs what a contract says beside a law's own statement (`STATEMENTS`): it is proved
+  of what the rest of the contract names.
 - boundary: contracts of functions that some crate gives away, and neither of those. They are proved to compose into the contracts of
   the program's calls.
 - code: private contracts and proofs alone.
@@ -25,6 +26,9 @@ UNCALLED_FUNCTIONS = {("rbc_batch", "render")}
 # where the rules stand; the rest of what has to be believed is formats
 RULES = {"rbc_place", "rbc_zones", "rbc_ids", "rbc_maps", "rbc_settle", "rbc_rule"}
 RULES_FILES = {("rbc_core", "Serial"), ("rbc_core", "outbox.rt")}
+
+# parts of contracts that need not be believed, since a law says as much of what the contract says beside them
+STATEMENTS = {("rbc_batch", "Process", "AreSaid")}
 
 CLASSES = ("believed", "law", "boundary")
 
@@ -105,12 +109,14 @@ class World:
         todo, reached = list(self.roots(part)), set()
         while todo:
             node = todo.pop()
-            if node not in reached:
+            if node not in reached and (part == "law" or node[1:] not in STATEMENTS):
                 reached.add(node)
                 todo.extend(self.next(node))
         return reached
 
     def roots(self, part):
+        if part == "law":
+            yield from (("definition", *statement) for statement in STATEMENTS)
         for crate in self.crates.values():
             for found in crate.source.functions:
                 if crate.is_given(found) and self.is_root(part, crate, found):

@@ -12,7 +12,7 @@ unwrap_or unwrap use usize var vec while
 
 # of antt, its tactics and the kit's std
 ANTT = """
-All Appends Dec Next abbrev args pair signed CLAUSE CallerLemmas Consumes FitsSigned IfNone IfOk IfSome IsAtEnd IsErrAnd IsFirstByte IsTrue Keeps STEP YieldsList absurd ap arith
+All Appends Dec Next Walk abbrev args pair signed CLAUSE CallerLemmas Consumes FitsSigned IfNone IfOk IfSome IsAtEnd IsErrAnd IsFirstByte IsTrue Keeps STEP YieldsList absurd ap arith
 at_drop_all at_drop_more bytes_eq c cc clap_on_literals cond drop elim ensures eq eqb find find_from_yields_List flat_map fold grind from_ from_residual
 holes ids length-drop zero-add insert_entry-new infixr inl inr insert_entry into_iter_items it loop ne_eqb no now of_z old omega on_ok_weaker opaque option_and_then option_copied
 option_map position_or_len proof proved record refl requires rules rw search shift simp slice_get slice_index subst suc sym take_all to_z tt
@@ -20,17 +20,17 @@ unfolding w16 was weaker where with_items xs zip
 """
 
 # of the kit's other crates
-PORTED = "anyhow clap hex indexmap itoa memchr thiserror toml"
+PORTED = "anyhow clap hex indexmap itoa memchr rayon thiserror toml"
 
 # of rt, and of the folders and files that it knows
 TOOL = """
-python3 Prelude ci must-fail check doc fail fmt lemma must plant program proofs specs src test tests tidy tries try version rt allocations rlib PID autogroup proc
+python3 Prelude ci must-fail check doc fail fmt lemma must plant program proofs specs src test tests tidy tries try version rt allocations rlib PID RLIMIT_AS autogroup proc
 """
 
 # of batches, outputs, tracks, texts of messages and command lines
 FORMATS = """
-CODE COUNT CRATE ENGINE FILE FROM FRONT HEX INPUT LENGTH LINE MODULE NAME NAME_tests NUMBER SPEED TO WAYS WORD bad both dispatch down em enrol
-fault group horizon lift line long memory out recv refused release restrict stop too track tsr unreadable up withdraw write
+CODE COUNT CRATE ENGINE FILE FROM FRONT HEX INPUT LENGTH LINE MODULE NAME NAME_tests NUMBER SPEED TO WAYS WORD bad be both dispatch down em enrol
+fault group horizon lift line long many memory out recv refused release restrict stop too track tsr unreadable up withdraw write
 """
 
 KNOWN = set(" ".join([RUST, ANTT, PORTED, TOOL, FORMATS]).split())

@@ -16,7 +16,7 @@ LONGEST_LINE = 3_000_000
 TRAINS = 2_000
 STOPS = 64
 SIZES = (10_000, 30_000, 100_000)
-MAX_BYTES = 16 * 2**20
+MAX_LINES = 100_000
 SHORTEST, LONGEST = 20, 60  # bytes of a line in the batch of full size, without its line feed
 
 
@@ -159,21 +159,13 @@ def full_line(random, engines):
 
 
 def full():
-    """A batch of MAX_BYTES in lines of SHORTEST to LONGEST bytes, which begins with the trains and
-    the stops."""
+    """A batch of MAX_LINES lines of SHORTEST to LONGEST bytes, which begins with the trains and the stops."""
     random = Random("full")
     engines = random.some_of(ENGINES, TRAINS)
     good = [b"enrol %010d %010d" % (engine, random.between(1, LONGEST_TRAIN)) for engine in engines]
     for i in range(STOPS):
         good.insert((i + 1) * (TRAINS // STOPS) + i, b"stop %010d %s" % (i + 1, segment(random)))
-    lines, left = [], MAX_BYTES
-    while left > 4 * (LONGEST + 1):
-        lines.append(good[len(lines)] if len(lines) < len(good) else full_line(random, engines))
-        left -= len(lines[-1]) + 1
-    for parts in range(-(-left // (LONGEST + 1)), 0, -1):
-        lines.append(noise(random, left // parts - 1))
-        left -= left // parts
-    return lines
+    return good + [full_line(random, engines) for _ in range(MAX_LINES - len(good))]
 
 
 def batches():
@@ -184,7 +176,7 @@ def batches():
     for size in SIZES:
         yield f"wrong-{size}", lambda size=size: ended(wrong(size))
     yield "full", lambda: ended(full())
-    yield "feeds", lambda: b"\n" * MAX_BYTES
+    yield "feeds", lambda: b"\n" * MAX_LINES
     yield "empty", lambda: b""
 
 

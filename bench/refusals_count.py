@@ -8,6 +8,7 @@ ended in another way than with the right answer or with the fault for want of me
 import collections
 import glob
 import os
+import re
 import subprocess
 import sys
 
@@ -28,7 +29,7 @@ OF_CALL = b"error: Refused"
 BESIDE = (b"error: AllocError", b"error: AllocFailed { .. }", b"error: OutOfMemory")
 
 # the line on standard error of the program, where memory was refused to it, and where it was to the reading of the track
-OF_PROGRAM = b"out of memory\n"
+OF_PROGRAM = re.compile(rb"out of memory( after \d+ inputs)?\n")
 OF_TRACK = b"track: OutOfMemory\n"
 
 Ended = collections.namedtuple("Ended", "status output errors was_refused")
@@ -70,7 +71,9 @@ def end_of_program(ended, expected):
         return "answered" if ended.output == expected and not ended.errors else None
     if ended.status != 1 or ended.output:
         return None
-    return {OF_PROGRAM: "refused", OF_TRACK: "beside"}.get(ended.errors)
+    if OF_PROGRAM.fullmatch(ended.errors):
+        return "refused"
+    return "beside" if ended.errors == OF_TRACK else None
 
 
 def count(name, words, text, refuse, end_of):

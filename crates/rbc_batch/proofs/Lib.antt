@@ -3,5 +3,5 @@ mod LineFits
 mod LineInputs
 mod LineWords
 mod Texts
-pub mod Books
 pub mod FirstPlaces
+mod Answering

@@ -2,4 +2,3 @@ pub mod BatchText
 pub mod Pieces
 pub mod OutputText
 pub mod Process
-pub mod Turns

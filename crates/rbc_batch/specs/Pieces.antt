@@ -1,5 +1,5 @@
--- What stands behind the first separator of a text.
-use Rattle.std.specs.Prelude.{ℕ, ◌+◌, List, [], ◌==◌, length, Option, Some, None}
+-- Pieces of a text, as slices: what stands behind its first separator, and all its pieces.
+use Rattle.std.specs.Prelude.{ℕ, ◌+◌, List, [], ◌==◌, length, map, Option, Some, None}
 use Rattle.std.specs.List.{slice_split}
 use denote.Ref.{Bor}
 
@@ -17,3 +17,7 @@ text_behind (Some text) = text.now
 abbrev pub length_left : Option (Bor (List ℕ)) → ℕ
 length_left None = 0
 length_left (Some text) = length text.now + 1
+
+-- the texts that slices show
+abbrev pub texts_of : List (Bor (List ℕ)) → List (List ℕ)
+texts_of slices = map (λ (slice : Bor (List ℕ)). slice.now) slices

@@ -1,5 +1,5 @@
 -- What is out after a batch.
-use Rattle.std.specs.Prelude.{◌≡◌, ◌≤◌, ℕ, List, Option, Result, Ok, Err, ◌++◌, codes, take, length, ⊤}
+use Rattle.std.specs.Prelude.{◌≡◌, ◌≤◌, ℕ, List, [], Option, Result, Ok, Err, ◌++◌, codes, take, length, ⊤}
 use Rattle.std.specs.Fmt.{decimal}
 use Rattle.std.specs.Io.KnownBytes.{Appends, Consumes, IsAtEnd, Keeps}
 use Rattle.rbc_track.specs.Plan.{Plan}
@@ -7,7 +7,13 @@ use Rattle.rbc_batch.specs.declared.batch.ProcessError.{ProcessError}
 use Rattle.rbc_batch.specs.declared.batch.ProcessError.TheVariants as fault
 use Rattle.rbc_rule.specs.declared.input.Input.{Input}
 use Rattle.rbc_batch.specs.BatchText.{AreInputsOf}
+use Rattle.rbc_core.specs.declared.book.Stats.{Stats}
 use Rattle.rbc_core.specs.Serial.{serial, new_desk}
+use Rattle.rbc_core.specs.Held.{Held, Holds, standing}
+use Rattle.rbc_core.specs.SaidMails.{AreSaidMails}
+use Rattle.rbc_engine.specs.declared.workers.RunError.{RunError}
+use Rattle.rbc_engine.specs.declared.workers.RunError.TheVariants.{Workers, TooManyInputs, OutOfMemory}
+use Rattle.rbc_engine.specs.Answers.{MayWork, max_inputs, fault_text as run_fault_text}
 use Rattle.rbc_batch.specs.OutputText.{output_of}
 
 -- a batch has at most so many bytes
@@ -29,14 +35,39 @@ pub record AreRead (old new : Option (List ℕ)) (inputs : List Input) : Type 0 
   pub short : length batch ≤ max_batch
   pub lines : AreInputsOf batch inputs
 
--- At Ok the output text of all that was read has been written, and nothing else; at a write fault exactly its first bytes;
--- at any other fault nothing.
-abbrev pub Answers : {E : Type 0} → Plan → Option (List ℕ) → Option (List ℕ) → Option (List ℕ) → Option (List ℕ) → Result E ProcessError → Type 0
-Answers plan read_old read_new old new (Ok done) = (inputs : List Input) × AreRead read_old read_new inputs × Appends old new (text_of plan inputs)
-Answers plan read_old read_new old new (Err (fault.Write sent)) = (inputs : List Input) × AreRead read_old read_new inputs × (sent ≤ length (text_of plan inputs)) × Appends old new (take sent (text_of plan inputs))
-Answers plan read_old read_new old new (Err fault.Read) = Keeps old new
-Answers plan read_old read_new old new (Err fault.TooLong) = Keeps old new
-Answers plan read_old read_new old new (Err fault.Memory) = Keeps old new
+-- each message of that text says what the rules give its train
+abbrev pub AreSaid : Plan → List Input → Type 0
+AreSaid plan inputs = AreSaidMails plan new_desk inputs [] (serial plan new_desk inputs).outboxes
+
+-- the inputs of a batch are not too many for one run
+abbrev pub AreFew : List Input → Type 0
+AreFew inputs = length inputs ≤ max_inputs
+
+-- every input was taken, and no more were computed again
+abbrev pub IsCounted : List Input → Stats → Type 0
+IsCounted inputs stats = (stats.taken ≡ length inputs) × (stats.recomputed ≤ stats.taken)
+
+-- a run of inputs from a new desk: the desk after it, and its counts; or why there is none
+abbrev pub IsRunOf : Plan → List Input → ℕ → Result (Held × Stats) RunError → Type 0
+IsRunOf plan inputs workers (Ok (held, stats)) = MayWork workers × AreFew inputs × Holds plan (standing held) (serial plan new_desk inputs) × AreSaid plan inputs × IsCounted inputs stats
+IsRunOf plan inputs workers (Err Workers) = ¬ (MayWork workers)
+IsRunOf plan inputs workers (Err TooManyInputs) = MayWork workers × ¬ (AreFew inputs)
+IsRunOf plan inputs workers (Err (OutOfMemory committed)) = MayWork workers × AreFew inputs × (committed ≤ length inputs)
+
+-- At Ok the output text of all that was read has been written, and nothing else; at a write fault exactly its first bytes; at any other
+-- fault nothing. A run is refused for the number of workers first, and then for the number of inputs.
+abbrev pub Answers : Plan → ℕ → Option (List ℕ) → Option (List ℕ) → Option (List ℕ) → Option (List ℕ) → Result Stats ProcessError → Type 0
+Answers plan workers read_old read_new old new (Ok stats) =
+    (inputs : List Input) × AreRead read_old read_new inputs × MayWork workers × AreFew inputs × Appends old new (text_of plan inputs) × AreSaid plan inputs × IsCounted inputs stats
+Answers plan workers read_old read_new old new (Err (fault.Write sent)) =
+    (inputs : List Input) × AreRead read_old read_new inputs × MayWork workers × AreFew inputs × (sent ≤ length (text_of plan inputs)) × Appends old new (take sent (text_of plan inputs)) × AreSaid plan inputs
+Answers plan workers read_old read_new old new (Err (fault.Run Workers)) = (inputs : List Input) × AreRead read_old read_new inputs × ¬ (MayWork workers) × Keeps old new
+Answers plan workers read_old read_new old new (Err (fault.Run TooManyInputs)) = (inputs : List Input) × AreRead read_old read_new inputs × MayWork workers × ¬ (AreFew inputs) × Keeps old new
+Answers plan workers read_old read_new old new (Err (fault.Run (OutOfMemory committed))) =
+    (inputs : List Input) × AreRead read_old read_new inputs × MayWork workers × AreFew inputs × (committed ≤ length inputs) × Keeps old new
+Answers plan workers read_old read_new old new (Err fault.Read) = Keeps old new
+Answers plan workers read_old read_new old new (Err fault.TooLong) = Keeps old new
+Answers plan workers read_old read_new old new (Err fault.Memory) = Keeps old new
 
 -- where nothing is written the writer is as it was
 abbrev pub IsUntouched : {E W : Type 0} → Result E ProcessError → W → W → Type 0
@@ -44,18 +75,21 @@ IsUntouched (Ok done) old new = ⊤
 IsUntouched (Err (fault.Write sent)) old new = ⊤
 IsUntouched (Err fault.Read) old new = new ≡ old
 IsUntouched (Err fault.TooLong) old new = new ≡ old
+IsUntouched (Err (fault.Run error)) old new = new ≡ old
 IsUntouched (Err fault.Memory) old new = new ≡ old
 
--- a fault before anything is written
+-- a fault of reading a batch
 abbrev pub IsBeforeWriting : ProcessError → Type 0
 IsBeforeWriting (fault.Write sent) = ⊥
 IsBeforeWriting fault.Read = ⊤
 IsBeforeWriting fault.TooLong = ⊤
+IsBeforeWriting (fault.Run error) = ⊥
 IsBeforeWriting fault.Memory = ⊤
 
 -- the text of a fault
 abbrev pub fault_text : ProcessError → List ℕ
 fault_text fault.Read = codes "read fault"
 fault_text fault.TooLong = codes "batch too long"
+fault_text (fault.Run error) = run_fault_text error
 fault_text fault.Memory = codes "out of memory"
 fault_text (fault.Write sent) = codes "write fault after " ++ decimal sent ++ codes " bytes"

@@ -1,18 +1,24 @@
 //! Processing a batch, from a reader to a writer.
 
 ghost use Rattle.std.specs.Prelude.{◌<◌, length, IfSome, IsErrOf};
-ghost use Rattle.rbc_batch.specs.Process.{Answers, IsUntouched, max_batch};
+ghost use Rattle.std.specs.List.{All};
+ghost use Rattle.rbc_rule.specs.Inputs.{Fits};
+ghost use Rattle.rbc_batch.specs.Process.{Answers, IsRunOf, IsUntouched, max_batch};
 
 use crate::output::render;
 use crate::parse::parse_batch;
 use crate::read::read_batch;
-use crate::run::run_inputs;
 use crate::write::write_text;
+use rbc_core::{Desk, Stats};
+use rbc_engine::{Gate, RunError, run};
+use rbc_rule::Input;
 use rbc_track::Track;
-use std::alloc::{AllocError, Global};
+use std::alloc::AllocError;
 use std::error::Error;
 use std::fmt;
 use std::io::{Read, Write};
+use std::sync::Wait;
+use std::thread::Threads;
 
 /// Why a batch was not processed.
 #[derive(Clone, Copy, Debug, PartialEq, Eq)]
@@ -21,7 +27,9 @@ pub enum ProcessError {
     Read,
     /// The batch has more than 16,777,216 bytes. Nothing was written.
     TooLong,
-    /// There was not enough memory. Nothing was written.
+    /// The run of the inputs was refused, or memory was refused to it. Nothing was written.
+    Run(RunError),
+    /// There was not enough memory before or after the run. Nothing was written.
     Memory,
     /// The writer failed, took no bytes, or was interrupted 1,000 times in all. Exactly the first `sent` bytes of the
     /// output text are out.
@@ -38,6 +46,7 @@ impl fmt::Display for ProcessError {
         match self {
             ProcessError::Read => write!(f, "read fault"),
             ProcessError::TooLong => write!(f, "batch too long"),
+            ProcessError::Run(error) => write!(f, "{error}"),
             ProcessError::Memory => write!(f, "out of memory"),
             ProcessError::Write { sent } => write!(f, "write fault after {sent} bytes"),
         }
@@ -57,27 +66,61 @@ impl From<AllocError> for ProcessError {
     }
 }
 
-/// Reads a batch to its end, runs its lines one after another on a track, from a new desk, and writes the output text.
-/// Nothing is written before the whole output is known.
+impl From<RunError> for ProcessError {
+    ghost use Rattle.std.specs.Prelude.{◌≡◌};
+    ghost use Rattle.rbc_batch.specs.declared.batch.ProcessError.TheVariants.{Run};
+
+    ghost from_gives = { λ error e. e ≡ Run error };
+
+    fn from(error: RunError) -> ProcessError {
+        ProcessError::Run(error)
+    }
+}
+
+/// Runs inputs on a track from a new desk, and returns the desk with the counts of the run.
+fn run_all<G: Gate + Sync>(
+    rt: &(impl AllocGlobal + Threads + Wait + Sync),
+    track: &Track,
+    inputs: &[Input],
+    workers: u8,
+    gate: &G,
+) -> Result<(Desk, Stats), RunError>
+    requires fit { All Fits inputs.now }
+    ensures { IsRunOf track.now inputs.now workers result }
+{
+    let mut desk = Desk::new(rt.alloc());
+    match run(rt, track, &mut desk, inputs, workers, gate) {
+        Ok(stats) => Ok((desk, stats)),
+        Err(error) => Err(error),
+    }
+}
+
+/// Reads a batch to its end, runs its lines on a track, from a new desk, by so many workers (1 to 16), and writes the output
+/// text: that of the lines run one after another. Nothing is written before the whole output is known.
 ///
 /// # Errors
 ///
 /// See [`ProcessError`]. If the bytes that the reader has left are known, `TooLong` means that there were more than
-/// 16,777,216 of them.
-pub fn process<R: Read, W: Write>(
-    rt: &impl AllocGlobal,
+/// 16,777,216 of them. The whole batch is read before the number of workers is looked at.
+pub fn process<R: Read, W: Write, G: Gate + Sync>(
+    rt: &(impl AllocGlobal + Threads + Wait + Sync),
     track: &Track,
     reader: &mut R,
     writer: &mut W,
-) -> Result<(), ProcessError>
-    ensures answers { Answers track.now (R.remaining reader.old) (R.remaining reader.new) (W.contents writer.old) (W.contents writer.new) result }
+    workers: u8,
+    gate: &G,
+) -> Result<Stats, ProcessError>
+    ensures answers { Answers track.now workers (R.remaining reader.old) (R.remaining reader.new) (W.contents writer.old) (W.contents writer.new) result }
     ensures too_long { IsErrOf result ProcessError.TooLong → IfSome (R.remaining reader.old) (λ batch. max_batch < length batch) }
     ensures untouched { IsUntouched result writer.old writer.new }
 {
     let alloc = rt.alloc();
     let batch = read_batch(alloc, reader)?;
     let inputs = parse_batch(rt, &batch)?;
-    let desk = run_inputs(alloc, track, &inputs)?;
+    let (desk, stats) = run_all(rt, track, &inputs, workers, gate)?;
     let text = render(alloc, &desk)?;
-    write_text(writer, &text).map_err(|sent| ProcessError::Write { sent: sent as u64 })
+    match write_text(writer, &text) {
+        Ok(()) => Ok(stats),
+        Err(sent) => Err(ProcessError::Write { sent: sent as u64 }),
+    }
 }

@@ -5,7 +5,6 @@ mod batch;
 mod output;
 mod parse;
 mod read;
-mod run;
 mod write;
 
 pub use batch::{ProcessError, process};

@@ -7,20 +7,25 @@ ghost use Rattle.rbc_rule.specs.declared.input.Input.TheVariants.{Bad};
 ghost use Rattle.std.specs.Option.{unwrap_or};
 ghost use Rattle.rbc_rule.specs.Inputs.{Fits};
 ghost use Rattle.rbc_batch.specs.BatchText.{Spelled, lines_of, decimal_of, segment_from, segment_of, segments_of, enrolment_from, enrolment_of, withdrawal_from, withdrawal_of, number_of, stop_from, stop_of, dirs_of, front_of, restriction_from, restriction_of, command_of, refusal_of, is_hex_word, line_of_hex, message_of, line_of, words_of, AreHeard, IsInput, AreInputs, AreInputsOf};
-ghost use Rattle.rbc_batch.specs.Pieces.{pieces_behind, text_behind};
+ghost use Rattle.rbc_batch.specs.Pieces.{pieces_behind, text_behind, texts_of};
 
 use ertms_codec::{DecodeError, read_from_train};
 use hex::FromHexError;
 use memchr::memchr;
+use rayon::prelude::*;
 use rbc_rule::{Input, Refusal, Segments};
 use rbc_zones::{Dirs, Segment};
 use std::alloc::{AllocError, Global};
+use std::thread::Threads;
 
 /// The greatest engine number (NID_ENGINE has 24 bits).
 const MAX_ENGINE: u32 = 16_777_215;
 
 /// The greatest length of a train, in units of 10 cm.
 const MAX_LENGTH: u32 = 40_000;
+
+/// From this number of lines on a batch is read in threads: for fewer they cost more than they give.
+const PARALLEL_FROM: usize = 10_000;
 
 /// The place of the first such byte.
 fn find_byte(text: &[u8], byte: u8) -> Option<usize>
@@ -374,20 +379,63 @@ fn input(alloc: Global, line: &[u8]) -> Result<Input, AllocError>
     }
 }
 
-/// Parses a batch into its inputs, one for each line. An empty line is an input too, a refusal. Fails only for lack of
-/// memory.
-pub fn parse_batch(rt: &impl AllocGlobal, text: &[u8]) -> Result<Vec<Input>, AllocError>
+/// The lines of a text. Fails only for lack of memory.
+fn lines(alloc: Global, text: &[u8]) -> Result<Vec<&[u8]>, AllocError>
+    ensures cut { IfOk result (λ lines. texts_of lines.items ≡ lines_of text.now) }
+    ensures few { IfOk result (λ lines. length lines.items ≤ length text.now) }
+{
+    let mut lines = Vec::new(alloc);
+    let mut rest = text;
+    while !rest.is_empty() {
+        let (line, behind) = first_line(rest);
+        lines.push(line)?;
+        rest = behind;
+    }
+    Ok(lines)
+}
+
+/// The inputs of lines, read one after another. Fails only for lack of memory.
+fn inputs_in_turn(alloc: Global, lines: &[&[u8]]) -> Result<Vec<Input>, AllocError>
+    ensures inputs { IfOk result (λ inputs. AreInputs (texts_of lines.now) inputs.items) }
+    ensures fit { IfOk result (λ inputs. All Fits inputs.items) }
+{
+    let mut inputs = Vec::with_capacity(alloc, lines.len())?;
+    for line in lines {
+        inputs.push(input(alloc, line)?)?;
+    }
+    Ok(inputs)
+}
+
+/// The inputs of lines, read in threads, in the order of the lines. Fails only for lack of memory.
+fn inputs_in_threads(
+    rt: &(impl Threads + Sync),
+    alloc: Global,
+    lines: &[&[u8]],
+) -> Result<Vec<Input>, AllocError>
+    ensures inputs { IfOk result (λ inputs. AreInputs (texts_of lines.now) inputs.items) }
+    ensures fit { IfOk result (λ inputs. All Fits inputs.items) }
+{
+    lines
+        .par_iter()
+        .map(|line| input(alloc, line))
+        .collect::<Result<Vec<_>, AllocError>>(rt, alloc)?
+}
+
+/// Parses a batch into its inputs, one for each line. An empty line is an input too, a refusal. Many lines are read in
+/// threads, each by itself. Fails only for lack of memory.
+pub fn parse_batch(
+    rt: &(impl AllocGlobal + Threads + Sync),
+    text: &[u8],
+) -> Result<Vec<Input>, AllocError>
     ensures inputs { IfOk result (λ inputs. AreInputsOf text.now inputs.items) }
     ensures fit { IfOk result (λ inputs. All Fits inputs.items) }
     ensures few { IfOk result (λ inputs. length inputs.items ≤ length text.now) }
 {
     let alloc = rt.alloc();
-    let mut inputs = Vec::new(alloc);
-    let mut rest = text;
-    while !rest.is_empty() {
-        let (line, behind) = first_line(rest);
-        inputs.push(input(alloc, line)?)?;
-        rest = behind;
+    let lines = lines(alloc, text)?;
+    if lines.len() < PARALLEL_FROM {
+        inputs_in_turn(alloc, &lines)
+    } else {
+        inputs_in_threads(rt, alloc, &lines)
     }
-    Ok(inputs)
 }

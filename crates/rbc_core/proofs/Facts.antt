@@ -31,7 +31,7 @@ module _ (s : State) (number : ℕ) (a : Try) (at : IsAt s number (Tried a)) whe
 
   -- the next input is committed, and it is this one or another
   after_front : (t : State) → t.committed ≡ s.committed + 1 → t.taken ≡ s.taken → t.stages ≡ with_stage s (front s) Free
-      → IsAt t number (Tried a) ⊎ ((number ≡ front s) × ((t.committed ≡ number) ⊎ (t.closed ≡ true)))
+      → IsAt t number (Tried a) ⊎ ((number ≡ front s) × ((t.committed ≡ number) ⊎ ((s.closed ≡ false) × (t.closed ≡ true))))
   after_front t committed taken stages =
       let low = at.uncommitted in
       let high = at.taken in
@@ -48,8 +48,8 @@ module _ (s : State) (number : ℕ) (a : Try) (at : IsAt s number (Tried a)) whe
       cases m n = elim (cases_lt m n) [ inl q ↦ inl q | inr q ↦ inr (omega (arith, q)) ]
 
 pub attempts_stay : AttemptsStay
-attempts_stay run s (Takes None) number a may at = inl at
-attempts_stay run s (Takes (Some taken)) number a may at =
+attempts_stay run s (Takes None) may number a at = inl at
+attempts_stay run s (Takes (Some taken)) may number a at =
     let low = at.uncommitted in
     let high = at.taken in
     let is = may.2 in
@@ -58,21 +58,21 @@ attempts_stay run s (Takes (Some taken)) number a may at =
       taken = omega (arith, high);
       at = kept_beside s number a at taken Out (λ e. absurd (omega (arith, e, is, high, low)));
     })
-attempts_stay run s (Reads other k found) number a may at = inl at
-attempts_stay run s (Deposits b true) number a may at = inl (record { uncommitted = at.uncommitted; taken = at.taken; at = kept_beside s number a at b.number (Tried b) (differ s number a at b.number may.1) })
-attempts_stay run s (Deposits b false) number a may at = inl at
-attempts_stay run s (Voids other true) number a may at = inl (record { uncommitted = at.uncommitted; taken = at.taken; at = kept_beside s number a at other Void (differ s number a at other may) })
-attempts_stay run s (Voids other false) number a may at = inl at
-attempts_stay run s (Applies outcome) number a may at = after_front s number a at (next s (Applies outcome)) refl refl refl
-attempts_stay run s (Recomputes outcome) number a may at = after_front s number a at (next s (Recomputes outcome)) refl refl refl
-attempts_stay run s Waits number a may at = inl at
-attempts_stay run s Ends number a may at = inl at
-attempts_stay run s (Fails true) number a may at = inl (record { uncommitted = at.uncommitted; taken = at.taken; at = at.at })
-attempts_stay run s (Fails false) number a may at =
+attempts_stay run s (Reads other k found) may number a at = inl at
+attempts_stay run s (Deposits b true) may number a at = inl (record { uncommitted = at.uncommitted; taken = at.taken; at = kept_beside s number a at b.number (Tried b) (differ s number a at b.number may.1) })
+attempts_stay run s (Deposits b false) may number a at = inl at
+attempts_stay run s (Voids other true) may number a at = inl (record { uncommitted = at.uncommitted; taken = at.taken; at = kept_beside s number a at other Void (differ s number a at other may) })
+attempts_stay run s (Voids other false) may number a at = inl at
+attempts_stay run s (Applies outcome) may number a at = after_front s number a at (next s (Applies outcome)) refl refl refl
+attempts_stay run s (Recomputes outcome) may number a at = after_front s number a at (next s (Recomputes outcome)) refl refl refl
+attempts_stay run s Waits may number a at = inl at
+attempts_stay run s Ends may number a at = inl at
+attempts_stay run s (Fails true) may number a at = inl (record { uncommitted = at.uncommitted; taken = at.taken; at = at.at })
+attempts_stay run s (Fails false) may number a at =
     let low = at.uncommitted in
     ⊎_elim
     (λ (later : front s < number). inl (record { uncommitted = low; taken = at.taken; at = kept_beside s number a at (front s) Void (λ e. absurd (omega (arith, e, later))) }))
-    (λ (now : number ≤ front s). inr (omega (arith, now, low), inr refl))
+    (λ (now : number ≤ front s). inr (omega (arith, now, low), inr (may.0, refl)))
     (elim (cases_lt (front s) number) [ inl q ↦ inl q | inr q ↦ inr (omega (arith, q)) ])
 
 -- what no write names stays
@@ -93,19 +93,19 @@ named_or_same writes records k = (elim (names writes k) as (λ b. names writes k
 ]) refl
 
 pub records_stay : RecordsStay
-records_stay run s (Takes None) k may = inl refl
-records_stay run s (Takes (Some number)) k may = inl refl
-records_stay run s (Reads number key found) k may = inl refl
-records_stay run s (Deposits a true) k may = inl refl
-records_stay run s (Deposits a false) k may = inl refl
-records_stay run s (Voids number true) k may = inl refl
-records_stay run s (Voids number false) k may = inl refl
-records_stay run s (Applies outcome) k may = named_or_same outcome.writes s.desk.records k
-records_stay run s (Recomputes outcome) k may = named_or_same outcome.writes s.desk.records k
-records_stay run s Waits k may = inl refl
-records_stay run s Ends k may = inl refl
-records_stay run s (Fails true) k may = inl refl
-records_stay run s (Fails false) k may = inl refl
+records_stay run s (Takes None) may k = inl refl
+records_stay run s (Takes (Some number)) may k = inl refl
+records_stay run s (Reads number key found) may k = inl refl
+records_stay run s (Deposits a true) may k = inl refl
+records_stay run s (Deposits a false) may k = inl refl
+records_stay run s (Voids number true) may k = inl refl
+records_stay run s (Voids number false) may k = inl refl
+records_stay run s (Applies outcome) may k = named_or_same outcome.writes s.desk.records k
+records_stay run s (Recomputes outcome) may k = named_or_same outcome.writes s.desk.records k
+records_stay run s Waits may k = inl refl
+records_stay run s Ends may k = inl refl
+records_stay run s (Fails true) may k = inl refl
+records_stay run s (Fails false) may k = inl refl
 
 pub closed_stays : ClosedStays
 closed_stays run s (Takes None) may closed = closed

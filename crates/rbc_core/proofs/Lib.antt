@@ -11,4 +11,5 @@ pub mod Laws
 pub mod Mails
 pub mod Facts
 pub mod WitnessEvents
+pub mod WitnessMails
 pub mod Spelled

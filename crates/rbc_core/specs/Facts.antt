@@ -1,5 +1,5 @@
 -- What one event leaves (own rule).
-use Rattle.std.specs.Prelude.{◌≡◌, ◌⊎◌, ℕ, Bool, true, List, Option, IsTrue}
+use Rattle.std.specs.Prelude.{◌≡◌, ◌⊎◌, ℕ, Bool, true, false, List, Option, IsTrue}
 use Rattle.std.specs.List.{list_any}
 use Rattle.rbc_records.specs.declared.record.Key.{Key}
 use Rattle.rbc_records.specs.declared.record.Rec.{Rec}
@@ -26,16 +26,26 @@ WritesTo Waits k = ⊥
 WritesTo Ends k = ⊥
 WritesTo (Fails keeps) k = ⊥
 
--- an attempt that was deposited stays, or its input is committed, or is lost where memory is refused as it was to be committed
-abbrev pub AttemptsStay : Type 0
-AttemptsStay =
-    (run : Run) (s : State) (event : Event) (number : ℕ) (a : Try) → May run s event → IsAt s number (Tried a)
-    → IsAt (next s event) number (Tried a) ⊎ ((number ≡ front s) × (((next s event).committed ≡ number) ⊎ ((next s event).closed ≡ true)))
+-- each attempt stays; or its input, the next one, is committed; or that is lost as the book is closed
+abbrev pub KeepsAttempts : State → State → Type 0
+KeepsAttempts s t =
+    (number : ℕ) (a : Try) → IsAt s number (Tried a)
+    → IsAt t number (Tried a) ⊎ ((number ≡ front s) × ((t.committed ≡ number) ⊎ ((s.closed ≡ false) × (t.closed ≡ true))))
 
 -- what stands under a key changes only where an input is committed whose writes name the key
-abbrev pub RecordsStay : Type 0
-RecordsStay = (run : Run) (s : State) (event : Event) (k : Key) → May run s event → ((next s event).desk.records k ≡ s.desk.records k) ⊎ WritesTo event k
+abbrev pub KeepsRecords : State → Event → State → Type 0
+KeepsRecords s event t = (k : Key) → (t.desk.records k ≡ s.desk.records k) ⊎ WritesTo event k
 
 -- a book that is closed stays closed
+abbrev pub KeepsClosed : State → State → Type 0
+KeepsClosed s t = s.closed ≡ true → t.closed ≡ true
+
+-- each event that may come keeps these
+abbrev pub AttemptsStay : Type 0
+AttemptsStay = (run : Run) (s : State) (event : Event) → May run s event → KeepsAttempts s (next s event)
+
+abbrev pub RecordsStay : Type 0
+RecordsStay = (run : Run) (s : State) (event : Event) → May run s event → KeepsRecords s event (next s event)
+
 abbrev pub ClosedStays : Type 0
-ClosedStays = (run : Run) (s : State) (event : Event) → May run s event → s.closed ≡ true → (next s event).closed ≡ true
+ClosedStays = (run : Run) (s : State) (event : Event) → May run s event → KeepsClosed s (next s event)

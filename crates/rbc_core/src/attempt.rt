@@ -69,17 +69,18 @@ impl<N: RunName> Attempt<N> {
         self.notes.agree_with(desk.store())
     }
 
-    /// What the input does where what was read stands.
-    pub(crate) fn into_outcome(self) -> Outcome
-        ensures outcome { result ≡ self.outcome }
+    /// What was read, and what the input does where that stands.
+    pub(crate) fn into_parts(self) -> (Notes, Outcome)
+        ensures notes { result.0 ≡ self.notes }
+        ensures outcome { result.1 ≡ self.outcome }
         ensures right { IsRightTry N.run self }
     {
         let Attempt {
             number: _,
-            notes: _,
+            notes,
             outcome,
             of: _,
         } = self;
-        outcome
+        (notes, outcome)
     }
 }

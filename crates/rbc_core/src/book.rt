@@ -15,6 +15,7 @@ ghost use Rattle.rbc_core.specs.Events.Event.{Takes, Reads, Deposits, Voids};
 use crate::attempt::Attempt;
 use crate::desk::{Desk, MAX_RESULTS};
 use crate::run_name::RunName;
+use crate::spent::Spent;
 use crate::stage::Stage;
 use rbc_records::{Key, Rec};
 use rbc_rule::{Input, Outcome, RuleFault};
@@ -56,6 +57,7 @@ pub struct Book<'a, N: RunName> {
     taken: u32,
     recomputed: u32,
     is_closed: bool,
+    spent: Spent,
 }
 
 impl<'a, N: RunName> Model for Book<'a, N> {
@@ -94,6 +96,7 @@ impl<'a, N: RunName> Book<'a, N> {
             taken: 0,
             recomputed: 0,
             is_closed: false,
+            spent: Spent::nothing(),
         })
     }
 
@@ -112,6 +115,7 @@ impl<'a, N: RunName> Book<'a, N> {
     /// A copy of the record that stands under a key now, or `None` if there is none; read for an input. Fails only for lack of memory.
     pub fn present(&self, alloc: Global, input: u32, key: Key) -> Result<Option<Rec>, AllocError>
         ensures event { IfOk result (λ found. Happens N.run (state_of self.now) (Reads input key found) (state_of self.now)) }
+        ensures book { IsBook N.run (state_of self.now) }
     {
         let _ = input;
         match self.desk.store().get(key) {
@@ -147,7 +151,8 @@ impl<'a, N: RunName> Book<'a, N> {
     }
 
     /// Commits the next input, in the order of the inputs: by its attempt if all that was read for it stands, and else by
-    /// computing it here. The track has to be that of the run.
+    /// computing it here. The track has to be that of the run. What it has no more use for is kept for `take_spent`, and freed by
+    /// a later commit where nobody takes it.
     pub fn commit(&mut self, alloc: Global, track: &Track) -> Commit
         requires { track.now ≡ N.run.track }
         ensures event { Commits N.run (state_of self.old) result (state_of self.new) }
@@ -165,7 +170,12 @@ impl<'a, N: RunName> Book<'a, N> {
             return Commit::NotReady;
         };
         let stage = taken_out(&mut self.stages, front);
-        if carry_out(alloc, track, inputs, front, stage, is_fresh, &mut self.desk).is_err() {
+        let turn = Turn {
+            front,
+            stage,
+            is_fresh,
+        };
+        if carry_out(alloc, track, inputs, turn, &mut self.desk, &mut self.spent).is_err() {
             self.is_closed = true;
             return Commit::Failed;
         }
@@ -176,6 +186,13 @@ impl<'a, N: RunName> Book<'a, N> {
         }
         self.recomputed += 1;
         Commit::Recomputed
+    }
+
+    /// Hands out what the last commit has no more use for, and what nobody took of the commits before. Takes no memory.
+    pub fn take_spent(&mut self) -> Spent
+        ensures { self.new ≡ self.old }
+    {
+        mem::replace(&mut self.spent, Spent::nothing())
     }
 
     /// How many inputs are committed.
@@ -212,6 +229,7 @@ impl<'a, N: RunName> Book<'a, N> {
             taken: _,
             recomputed: _,
             is_closed: _,
+            spent: _,
         } = self;
         desk
     }
@@ -256,51 +274,76 @@ fn taken_out<N: RunName>(stages: &mut Vec<Stage<Attempt<N>>>, front: usize) -> S
     mem::replace(&mut stages[front], Stage::Void)
 }
 
-/// The outcome of the next input: that of its attempt if it is fresh, and else as it is computed here. Fails only for lack of memory.
+/// The turn of an input: its index, how far it is, and whether it has an attempt that is fresh.
+#[derive(Drop)]
+struct Turn<N: RunName> {
+    front: usize,
+    stage: Stage<Attempt<N>>,
+    is_fresh: bool,
+}
+
+/// The outcome of the next input: that of its attempt if it is fresh, and else as it is computed here. Puts aside what is not needed
+/// of the attempt. Fails only for lack of memory.
 fn outcome_of<N: RunName>(
     alloc: Global,
     track: &Track,
     inputs: &[Input],
-    front: usize,
-    stage: Stage<Attempt<N>>,
-    is_fresh: bool,
+    turn: Turn<N>,
     desk: &mut Desk,
+    spent: &mut Spent,
 ) -> Result<Outcome, RuleFault>
     requires run { (track.now ≡ N.run.track) × (inputs.now ≡ N.run.inputs) × IsGoodRun N.run }
-    requires within { front < length inputs.now }
-    requires judged { Judges (record_in desk.old.records) stage (Some is_fresh) }
-    requires number { (a : Try) → stage ≡ Tried a → a.number ≡ front + 1 }
-    ensures outcome { IfOk result (λ outcome. IsOutcomeAt N.run front stage is_fresh (record_in desk.old.records) outcome) }
+    requires within { turn.front < length inputs.now }
+    requires judged { Judges (record_in desk.old.records) turn.stage (Some turn.is_fresh) }
+    requires number { (a : Try) → turn.stage ≡ Tried a → a.number ≡ turn.front + 1 }
+    ensures outcome { IfOk result (λ outcome. IsOutcomeAt N.run turn.front turn.stage turn.is_fresh (record_in desk.old.records) outcome) }
     ensures fit { IfOk result (λ outcome. AreSendable outcome.messages) }
     ensures memory { IfErr result (λ fault. IsMemoryOf N.run.track (record_in desk.old.records) fault) }
     ensures same { standing desk.new ≡ standing desk.old }
 {
-    match stage {
-        Stage::Tried(attempt) if is_fresh => Ok(attempt.into_outcome()),
-        _ => desk.decide(alloc, track, &inputs[front]),
+    let Turn {
+        front,
+        stage,
+        is_fresh,
+    } = turn;
+    if let Stage::Tried(attempt) = stage {
+        let (notes, outcome) = attempt.into_parts();
+        spent.keep_notes(notes);
+        if is_fresh {
+            return Ok(outcome);
+        }
+        spent.keep_stale(outcome);
     }
+    desk.decide(alloc, track, &inputs[front])
 }
 
-/// Does what the next input does. Fails only for lack of memory, and then changes nothing.
+/// Does what the next input does, and puts aside what is not needed any more. Fails only for lack of memory, and then changes nothing.
 fn carry_out<N: RunName>(
     alloc: Global,
     track: &Track,
     inputs: &[Input],
-    front: usize,
-    stage: Stage<Attempt<N>>,
-    is_fresh: bool,
+    turn: Turn<N>,
     desk: &mut Desk,
+    spent: &mut Spent,
 ) -> Result<(), RuleFault>
     requires run { (track.now ≡ N.run.track) × (inputs.now ≡ N.run.inputs) × IsGoodRun N.run }
-    requires within { front < length inputs.now }
-    requires judged { Judges (record_in desk.old.records) stage (Some is_fresh) }
-    requires number { (a : Try) → stage ≡ Tried a → a.number ≡ front + 1 }
+    requires within { turn.front < length inputs.now }
+    requires judged { Judges (record_in desk.old.records) turn.stage (Some turn.is_fresh) }
+    requires number { (a : Try) → turn.stage ≡ Tried a → a.number ≡ turn.front + 1 }
     requires room { length desk.old.results < MAX_RESULTS }
-    ensures done { OnOk result (IsCarriedOut N.run front stage is_fresh (standing desk.old) (standing desk.new)) }
+    ensures done { OnOk result (IsCarriedOut N.run turn.front turn.stage turn.is_fresh (standing desk.old) (standing desk.new)) }
     ensures memory { IfErr result (λ fault. IsMemoryOf N.run.track (record_in desk.old.records) fault) }
     ensures err { OnErr result (standing desk.new ≡ standing desk.old) }
 {
-    let outcome = outcome_of(alloc, track, inputs, front, stage, is_fresh, desk)?;
-    desk.take_over(alloc, outcome)?;
-    Ok(())
+    let outcome = outcome_of(alloc, track, inputs, turn, desk, spent)?;
+    match desk.take_over(alloc, outcome) {
+        Ok(left) => {
+            spent.keep_outcome(left);
+            Ok(())
+        }
+        Err(back) => {
+            spent.keep_outcome(back);
+            Err(RuleFault::OutOfMemory)
+        }
+    }
 }

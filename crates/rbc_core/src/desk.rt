@@ -4,6 +4,7 @@ ghost use Rattle.std.specs.Prelude.{◌≡◌, ◌+◌, ◌<◌, ◌≤◌, [], 
 ghost use Rattle.rbc_track.specs.Plan.{Plan};
 ghost use Rattle.rbc_maps.specs.Maps.{value_or};
 ghost use Rattle.rbc_records.specs.Notes.{record_in};
+ghost use Rattle.rbc_records.specs.Writes.{replaced};
 ghost use Rattle.rbc_rule.specs.Inputs.{Fits};
 ghost use Rattle.rbc_rule.specs.Gathered.{AreSendable};
 ghost use Rattle.rbc_core.specs.Serial as serial;
@@ -12,10 +13,10 @@ ghost use Rattle.rbc_core.specs.Books.{IsMemoryOf};
 ghost use Rattle.rbc_core.specs.Sendable as mails;
 
 use crate::outbox::{self, Mail, Outbox};
-use rbc_records::{PlainStore, apply};
+use rbc_records::{PlainStore, exchange};
 use rbc_rule::{Input, Outcome, Reply, RuleFault, decide};
 use rbc_track::Track;
-use std::alloc::{AllocError, Global};
+use std::alloc::Global;
 use std::marker::Model;
 
 /// The greatest number of results of a desk.
@@ -113,27 +114,46 @@ impl Desk {
         decide(alloc, track, input, &mut self.records)
     }
 
-    /// Takes an outcome over: its messages, its result and its writes. There has to be room for one more result. Fails only for
-    /// lack of memory, and then changes nothing.
-    pub(crate) fn take_over(&mut self, alloc: Global, outcome: Outcome) -> Result<(), AllocError>
+    /// Takes an outcome over: its messages, its result and its writes. There has to be room for one more result. Hands back what is
+    /// left of it, with the records that its writes replaced in their place. Fails only for lack of memory: then nothing is changed,
+    /// and the error hands the outcome back.
+    pub(crate) fn take_over(&mut self, alloc: Global, outcome: Outcome) -> Result<Outcome, Outcome>
         requires fit { AreSendable outcome.messages }
         requires room { length self.old.results < MAX_RESULTS }
         ensures ok { OnOk result (standing self.new ≡ after_outcome (standing self.old) outcome) }
+        ensures left { IfOk result (λ left. left ≡ record outcome { writes = replaced outcome.writes (record_in self.old.records) }) }
         ensures err { OnErr result (self.new ≡ self.old) }
+        ensures back { IfErr result (λ back. back ≡ outcome) }
     {
+        if self.results.reserve(1).is_err() {
+            return Err(outcome);
+        }
+        let number = self.results.len() as u32 + 1;
+        if outbox::post_all(alloc, &mut self.outboxes, number, &outcome.messages).is_err() {
+            return Err(outcome);
+        }
         let Outcome {
             result,
             writes,
             messages,
         } = outcome;
-        self.results.reserve(1)?;
-        let number = self.results.len() as u32 + 1;
-        outbox::post_all(alloc, &mut self.outboxes, number, &messages)?;
-        if apply(&mut self.records, writes).is_err() {
-            outbox::take_back_all(&mut self.outboxes, &messages, messages.len());
-            return Err(AllocError);
+        match exchange(&mut self.records, writes) {
+            Ok(writes) => {
+                self.results.push_reserved(result);
+                Ok(Outcome {
+                    result,
+                    writes,
+                    messages,
+                })
+            }
+            Err(writes) => {
+                outbox::take_back_all(&mut self.outboxes, &messages, messages.len());
+                Err(Outcome {
+                    result,
+                    writes,
+                    messages,
+                })
+            }
         }
-        self.results.push_reserved(result);
-        Ok(())
     }
 }

@@ -16,8 +16,9 @@ pub fn mails_law()
     ensures { EachRunSays }
 {}
 
-/// What one event leaves: an attempt that was deposited stays until its input is committed, or lost where memory was refused; what
-/// stands under a key changes only where an input is committed whose writes name it; and a book that is closed stays closed.
+/// What one event leaves: an attempt that was deposited stays until its input is committed, or lost where memory is refused, which
+/// closes the book; what stands under a key changes only where an input is committed whose writes name it; and a book that is
+/// closed stays closed.
 pub fn staying_law()
     ensures attempts { AttemptsStay }
     ensures records { RecordsStay }

@@ -7,6 +7,7 @@ mod desk;
 mod law;
 mod outbox;
 mod run_name;
+mod spent;
 mod stage;
 mod witnesses;
 
@@ -16,4 +17,5 @@ pub use desk::{Desk, MAX_RESULTS};
 pub use law::{event_law, mails_law, staying_law};
 pub use outbox::{Mail, Outbox};
 pub use run_name::RunName;
-pub use witnesses::event_law_witnesses;
+pub use spent::Spent;
+pub use witnesses::{event_law_witnesses, mails_law_witnesses, staying_law_witnesses};

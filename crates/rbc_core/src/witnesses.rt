@@ -1,10 +1,15 @@
-//! Worked cases of the law of events: lists of events that can come, and events that cannot.
+//! Worked cases of the laws: right ones, of which a law's statement holds, and wrong ones, of which it does not.
 
-ghost use Rattle.std.specs.Prelude.{◌≡◌, Some, true};
+ghost use Rattle.std.specs.Prelude.{◌≡◌, [], ◌∷◌, Some, None, true, false};
+ghost use Rattle.rbc_rule.specs.Witnesses.{stop_before, stop_now, revoke};
+ghost use Rattle.rbc_core.specs.Serial.{mail};
 ghost use Rattle.rbc_core.specs.Core.{opening};
 ghost use Rattle.rbc_core.specs.Events.{May, Follow};
 ghost use Rattle.rbc_core.specs.Events.Event.{Takes, Deposits, Applies, Waits, Ends};
-ghost use Rattle.rbc_core.specs.Witnesses.{two_inputs, enrolled, refused, first_try, computing_again, applying, failing, after_events, one_stale, second_first};
+ghost use Rattle.rbc_core.specs.Facts.{KeepsAttempts, KeepsRecords, KeepsClosed};
+ghost use Rattle.rbc_core.specs.Witnesses.{two_inputs, enrolled, refused, first_try, second_try, computing_again, applying, failing, after_events, one_stale, second_first};
+ghost use Rattle.rbc_core.specs.Witnesses.{both_tried, first_committed, first_lost, none_tried, second_gone, second_changed, engines_there, stops_there};
+ghost use Rattle.rbc_core.specs.Witnesses.{stop_told, stop_revoked, IsSaidThere, AreSaidThere};
 
 /// From a new desk train 7 is enrolled, and then comes a line that is no input.
 ///
@@ -28,4 +33,45 @@ pub fn event_law_witnesses()
     ensures done_too_soon { May two_inputs second_first Ends → ⊥ }
     ensures taken_twice { May two_inputs second_first (Takes (Some 1)) → ⊥ }
     ensures ready_yet_waiting { May two_inputs one_stale Waits → ⊥ }
+{}
+
+/// There are attempts at both of those inputs.
+///
+/// Right: the first is committed by its attempt, which leaves the second one and writes the engines and train 7; memory is refused,
+/// which closes the book and loses the first attempt; and a book that is closed stays so as the second is given up.
+///
+/// Wrong: the second attempt is gone, or another one, as the first is committed; the first is lost though the book was closed before;
+/// the engines change at a deposit, or as nothing is taken; the stops change though no write names them; the book is open again.
+pub fn staying_law_witnesses()
+    ensures second_stays { KeepsAttempts both_tried first_committed }
+    ensures lost_as_closed { KeepsAttempts both_tried first_lost }
+    ensures written { KeepsRecords both_tried (Applies enrolled) first_committed }
+    ensures still_closed { KeepsClosed first_lost none_tried }
+    ensures gone { KeepsAttempts both_tried second_gone → ⊥ }
+    ensures changed { KeepsAttempts both_tried second_changed → ⊥ }
+    ensures lost_though_closed { KeepsAttempts (record both_tried { closed = true }) first_lost → ⊥ }
+    ensures written_at_deposit { KeepsRecords both_tried (Deposits second_try true) engines_there → ⊥ }
+    ensures written_at_take { KeepsRecords both_tried (Takes None) engines_there → ⊥ }
+    ensures not_named { KeepsRecords both_tried (Applies enrolled) stops_there → ⊥ }
+    ensures opened_again { KeepsClosed first_lost both_tried → ⊥ }
+{}
+
+/// Train 7 stands 200 m beyond balise group 5, facing up. Stop 1 of 20000 to 21000 becomes active, and is released.
+///
+/// Right: mail 1 tells the train to stop before 20000, mail 2 revokes that, and the train's outbox has these two more.
+///
+/// Wrong: the stop is told by mail 2, or by mail 3; it is told to engine 8; the train is told to stop at once; another identifier is
+/// revoked; behind the two right mails is one that revokes another identifier; engine 8 has a mail; a mail of before is gone.
+pub fn mails_law_witnesses()
+    ensures told { IsSaidThere 7 stop_told }
+    ensures revoked { IsSaidThere 7 stop_revoked }
+    ensures both { AreSaidThere [] ((7, stop_told ∷ stop_revoked ∷ []) ∷ []) }
+    ensures other_number { IsSaidThere 7 (mail 2 (stop_before 1 0 10000)) → ⊥ }
+    ensures past_the_inputs { IsSaidThere 7 (mail 3 (stop_before 1 0 10000)) → ⊥ }
+    ensures other_train { IsSaidThere 8 stop_told → ⊥ }
+    ensures other_kind { IsSaidThere 7 (mail 1 (stop_now 1 0)) → ⊥ }
+    ensures other_identifier { IsSaidThere 7 (mail 2 (revoke 1)) → ⊥ }
+    ensures one_too_many { AreSaidThere [] ((7, stop_told ∷ stop_revoked ∷ mail 2 (revoke 1) ∷ []) ∷ []) → ⊥ }
+    ensures engine_8_told { AreSaidThere [] ((7, stop_told ∷ stop_revoked ∷ []) ∷ (8, stop_told ∷ []) ∷ []) → ⊥ }
+    ensures one_before_gone { AreSaidThere ((8, stop_told ∷ []) ∷ []) ((7, stop_told ∷ stop_revoked ∷ []) ∷ []) → ⊥ }
 {}

@@ -1,5 +1,7 @@
 pub mod Decoding
 pub mod Ending
 pub mod Fault
+pub mod Forms
 pub mod Running
+pub mod Witnesses
 pub mod Words

@@ -1,18 +1,33 @@
 -- What the words ask for.
-use Rattle.std.specs.Prelude.{◌≡◌, List, [], Option, Some, None, Result, MatchResult, if◌then◌else◌, true, codes}
+use Rattle.std.specs.Prelude.{◌≡◌, ℕ, List, [], ◌∷◌, Option, Some, None, Result, MatchResult, option_and_then, if◌then◌else◌, pos, true, codes}
+use Rattle.std.specs.Option.{option_map_or}
 use Rattle.std.specs.Str.{bytes_eq}
 use Rattle.clap.specs.Simple.{App, Shape, new_app, new_rule, on_top, subcommand_of, with_rule, with_subcommand}
-use Rattle.clap.specs.Walk.{Row, Text, first_of}
+use Rattle.clap.specs.Walk.{Row, Rule, Text, byte_or_zero, first_of, one_of}
 use Rattle.clap.specs.Words.{fault_of}
+use Rattle.clap.specs.declared.builder.value_parser.ValueParser.TheVariants as vp
 use Rattle.rbc_dispatch.specs.declared.ending.Ending.{Ending}
 use Rattle.rbc_dispatch.specs.declared.ending.Ending.TheVariants.{Fault}
 use Rattle.rbc_dispatch.specs.declared.fault.Fault.TheVariants.{OutOfMemory}
 use Rattle.rbc_dispatch.specs.declared.words.Task.{Task}
 use Rattle.rbc_dispatch.specs.declared.words.Task.TheVariants.{Run, Decode}
 
--- `run`, with the option that names the track file
+-- the option that names the track file
+abbrev pub track_rule : Rule
+track_rule = record (new_rule (codes "track")) { long = Some (codes "track"); value_names = 1; required = true }
+
+-- the option that says how many workers there are: a number up to 255, which is 1 by default
+abbrev pub workers_rule : Rule
+workers_rule = record (new_rule (codes "workers")) {
+  long = Some (codes "workers");
+  value_names = 1;
+  parser = Some (vp.Signed (pos 0) (pos 255));
+  defaults = codes "1" ∷ [];
+}
+
+-- `run`, with both options
 abbrev pub run_shape : Shape
-run_shape = (with_rule (new_app (codes "run")) (record (new_rule (codes "track")) { long = Some (codes "track"); value_names = 1; required = true })).top
+run_shape = (with_rule (with_rule (new_app (codes "run")) track_rule) workers_rule).top
 
 -- `decode`, with one word after it
 abbrev pub decode_shape : Shape
@@ -35,14 +50,24 @@ Finding = Option (Text × List Row)
 abbrev pub finding_in : List Text → Finding
 finding_in words = subcommand_of command_line words
 
+-- what was found for the arguments of the subcommand of this name
+abbrev pub found_after : Text → Finding → Option (List Row)
+found_after name None = None
+found_after name (Some p) = if bytes_eq p.0 name then Some p.1 else None
+
 -- the word that an argument was given after the subcommand of this name
 abbrev pub word_after : Text → Text → Finding → Option Text
-word_after name id None = None
-word_after name id (Some p) = if bytes_eq p.0 name then first_of id p.1 else None
+word_after name id found = option_and_then (first_of id) (found_after name found)
 
--- words without a fault that ask for the batch, on the track in the file of this name
-abbrev pub AsksToRun : Text → List Text → Type 0
-AsksToRun file words = (fault_of command_line words ≡ []) × (word_after (codes "run") (codes "track") (finding_in words) ≡ Some file)
+-- the number that an argument was given after the subcommand of this name, or 0 where it was given none
+abbrev pub number_after : Text → Text → Finding → ℕ
+number_after name id found = option_map_or byte_or_zero (option_and_then (one_of id) (found_after name found)) 0
+
+-- words without a fault that ask for the batch, on the track in the file of this name, with so many workers
+abbrev pub AsksToRun : Text → ℕ → List Text → Type 0
+AsksToRun file workers words = (fault_of command_line words ≡ [])
+    × (word_after (codes "run") (codes "track") (finding_in words) ≡ Some file)
+    × (number_after (codes "run") (codes "workers") (finding_in words) ≡ workers)
 
 -- words without a fault that ask for the text of the message that this word stands for
 abbrev pub AsksToDecode : Text → List Text → Type 0
@@ -50,21 +75,22 @@ AsksToDecode word words = (fault_of command_line words ≡ []) × (word_after (c
 
 -- the task is what was found
 abbrev pub IsFound : Finding → Task → Type 0
-IsFound found (Run track) = word_after (codes "run") (codes "track") found ≡ Some track.now
+IsFound found (Run track workers) = (word_after (codes "run") (codes "track") found ≡ Some track.now)
+    × (number_after (codes "run") (codes "workers") found ≡ workers)
 IsFound found (Decode hex) = word_after (codes "decode") (codes "HEX") found ≡ Some hex.now
 
 -- no word was found for either task
 abbrev pub IsNoTask : Finding → Type 0
 IsNoTask found = (word_after (codes "run") (codes "track") found ≡ None) × (word_after (codes "decode") (codes "HEX") found ≡ None)
 
--- the task is the batch, on the track in the file of this name
-abbrev pub IsRunOn : Text → Task → Type 0
-IsRunOn file (Run track) = track.now ≡ file
-IsRunOn file (Decode hex) = ⊥
+-- the task is the batch, on the track in the file of this name, with so many workers
+abbrev pub IsRunOn : Text → ℕ → Task → Type 0
+IsRunOn file workers (Run track number) = (track.now ≡ file) × (number ≡ workers)
+IsRunOn file workers (Decode hex) = ⊥
 
 -- the task is the text of the message that this word stands for
 abbrev pub IsDecode : Text → Task → Type 0
-IsDecode word (Run track) = ⊥
+IsDecode word (Run track number) = ⊥
 IsDecode word (Decode hex) = hex.now ≡ word
 
 -- the words are taken for a task, unless memory runs out

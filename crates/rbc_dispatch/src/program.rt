@@ -13,18 +13,21 @@ use crate::fault::Fault;
 use crate::words;
 use crate::words::Task;
 use rbc_batch::process;
+use rbc_engine::OpenGate;
 use rbc_track::track_from_toml;
 use std::env::Env;
 use std::fs;
 use std::io::{Read, Write};
 use std::process::ExitCode;
 use std::rt::Files;
+use std::sync::Wait;
+use std::thread::Threads;
 
 /// Does what the words of the process ask for, and returns the exit status. `output` should have no
 /// buffer of its own, so that what a write fault counts is what went out.
 pub fn run<R, I, O, E>(rt: &R, input: &mut I, output: &mut O, errors: &mut E) -> ExitCode
 where
-    R: AllocGlobal + Env + Files,
+    R: AllocGlobal + Env + Files + Threads + Wait + Sync,
     I: Read,
     O: Write,
     E: Write,
@@ -59,13 +62,13 @@ where
 /// streams untouched.
 fn perform<R, I, O>(rt: &R, words: &[String], input: &mut I, output: &mut O) -> Result<(), Ending>
 where
-    R: AllocGlobal + Files,
+    R: AllocGlobal + Files + Threads + Wait + Sync,
     I: Read,
     O: Write,
-    ensures run { (file : List ℕ) → AsksToRun file (map string_bytes words.now)
-        → AtTask (Runs (I.remaining input.old) (I.remaining input.new)
+    ensures run { (file : List ℕ) (workers : ℕ) → AsksToRun file workers (map string_bytes words.now)
+        → AtTask (Runs workers (I.remaining input.old) (I.remaining input.new)
         (O.contents output.old) (O.contents output.new)) result }
-    ensures keeps { (file : List ℕ) → AsksToRun file (map string_bytes words.now)
+    ensures keeps { (file : List ℕ) (workers : ℕ) → AsksToRun file workers (map string_bytes words.now)
         → AtTask (λ r. Keeps r input.old input.new output.old output.new) result }
     ensures decode { (word : List ℕ) → AsksToDecode word (map string_bytes words.now)
         → AtTask (Decodes word (O.contents output.old) (O.contents output.new)) result }
@@ -76,23 +79,29 @@ where
         → (input.new ≡ input.old) × (output.new ≡ output.old) }
 {
     match words::parse(rt.alloc(), words)? {
-        Task::Run { track } => Ok(run_file(rt, track, input, output)?),
+        Task::Run { track, workers } => Ok(run_file(rt, track, workers, input, output)?),
         Task::Decode(word) => Ok(decode(rt.alloc(), word, output)?),
     }
 }
 
-/// Does a batch on the track in a file. The track is known before anything of the batch is read.
-fn run_file<R, I, O>(rt: &R, file: &str, input: &mut I, output: &mut O) -> Result<(), Fault>
+/// Does a batch by so many workers on the track in a file. The track is known before anything of the batch is read.
+fn run_file<R, I, O>(
+    rt: &R,
+    file: &str,
+    workers: u8,
+    input: &mut I,
+    output: &mut O,
+) -> Result<(), Fault>
 where
-    R: AllocGlobal + Files,
+    R: AllocGlobal + Files + Threads + Wait + Sync,
     I: Read,
     O: Write,
-    ensures runs { Runs (I.remaining input.old) (I.remaining input.new)
+    ensures runs { Runs workers (I.remaining input.old) (I.remaining input.new)
         (O.contents output.old) (O.contents output.new) result }
     ensures keeps { Keeps result input.old input.new output.old output.new }
 {
     let text = track_text(rt, file)?;
-    run_on(rt, text.as_str(), input, output)
+    run_on(rt, text.as_str(), workers, input, output)
 }
 
 /// The text of a track file. The error is `OutOfMemory` or `TrackUnreadable`.
@@ -105,16 +114,24 @@ fn track_text<R: AllocGlobal + Files>(rt: &R, file: &str) -> Result<String, Faul
     }
 }
 
-/// Does a batch on the track that a text is. The track is known before anything of the batch is read.
-fn run_on<R, I, O>(rt: &R, text: &str, input: &mut I, output: &mut O) -> Result<(), Fault>
+/// Does a batch by so many workers on the track that a text is. The track is known before anything of the batch is
+/// read. The counts of the run are dropped.
+fn run_on<R, I, O>(
+    rt: &R,
+    text: &str,
+    workers: u8,
+    input: &mut I,
+    output: &mut O,
+) -> Result<(), Fault>
 where
-    R: AllocGlobal,
+    R: AllocGlobal + Threads + Wait + Sync,
     I: Read,
     O: Write,
-    ensures runs { RunsOn text.now (I.remaining input.old) (I.remaining input.new)
+    ensures runs { RunsOn text.now workers (I.remaining input.old) (I.remaining input.new)
         (O.contents output.old) (O.contents output.new) result }
     ensures keeps { Keeps result input.old input.new output.old output.new }
 {
     let track = track_from_toml(rt.alloc(), text)?;
-    Ok(process(rt, &track, input, output)?)
+    let _stats = process(rt, &track, input, output, workers, &OpenGate)?;
+    Ok(())
 }

@@ -1,33 +1,89 @@
-//! Runs golden batches, whose outputs an independent model of the rules has given, and says of each
-//! whether the output is right.
+//! Runs golden batches by 1, 2 and 16 workers. An independent model of the rules has given their outputs; says of each batch whether
+//! every output is right.
+//!
+//! `rbc_golden RUNS` runs each batch so many times by each number of workers, once if no number is given. If there are more runs than
+//! one, it says on standard error how many inputs of a batch were computed again.
 #![tactic(auto)]
 
 use anyhow::{Context, Result};
 use rbc_batch::process;
-use rbc_track::track_from_toml;
+use rbc_engine::OpenGate;
+use rbc_track::{Track, track_from_toml};
+use std::env;
 use std::fs;
 use std::rt::Files;
+use std::sync::Wait;
+use std::thread::Threads;
 
-/// Whether the batch of a case has the output that is wanted, on the track of a file.
-fn is_right<R: Files + AllocGlobal>(rt: &R, case: &str, track: &str) -> Result<bool> {
-    let track = track_from_toml(rt.alloc(), &fs::read_to_string(rt, track)?)?;
-    let batch = fs::read(rt, format!(in rt.alloc(); "{case}.batch")?)?;
-    let wanted = fs::read(rt, format!(in rt.alloc(); "{case}.expected")?)?;
+/// A batch on a track, and the output that is wanted.
+#[derive(Drop)]
+struct Case {
+    track: Track,
+    batch: Vec<u8>,
+    wanted: Vec<u8>,
+}
+
+/// What came of several runs: whether every output was right, and how many inputs were computed again.
+#[derive(Clone, Copy)]
+struct Tally {
+    is_right: bool,
+    recomputed: u64,
+}
+
+/// Reads a case, whose track is in a file of its own.
+fn case_of<R: Files + AllocGlobal>(rt: &R, case: &str, track: &str) -> Result<Case> {
+    Ok(Case {
+        track: track_from_toml(rt.alloc(), &fs::read_to_string(rt, track)?)?,
+        batch: fs::read(rt, format!(in rt.alloc(); "{case}.batch")?)?,
+        wanted: fs::read(rt, format!(in rt.alloc(); "{case}.expected")?)?,
+    })
+}
+
+/// Runs a case by so many workers, and adds what came of it.
+fn run_by<R>(rt: &R, case: &Case, workers: u8, tally: Tally) -> Result<Tally>
+where
+    R: AllocGlobal + Threads + Wait + Sync,
+{
     let mut written = Vec::new(rt.alloc());
-    process(rt, &track, &mut batch.as_slice(), &mut written)?;
-    Ok(written.as_slice() == wanted.as_slice())
+    let mut reader = case.batch.as_slice();
+    let stats = process(rt, &case.track, &mut reader, &mut written, workers, &OpenGate)?;
+    Ok(Tally {
+        is_right: tally.is_right && written.as_slice() == case.wanted.as_slice(),
+        recomputed: tally.recomputed.saturating_add(u64::from(stats.recomputed)),
+    })
+}
+
+/// Runs a case so many times by each number of workers.
+fn run_case<R>(rt: &R, case: &Case, runs: u32) -> Result<Tally>
+where
+    R: AllocGlobal + Threads + Wait + Sync,
+{
+    let mut tally = Tally {
+        is_right: true,
+        recomputed: 0,
+    };
+    for _ in 0..runs {
+        tally = run_by(rt, case, 1, tally)?;
+        tally = run_by(rt, case, 2, tally)?;
+        tally = run_by(rt, case, 16, tally)?;
+    }
+    Ok(tally)
 }
 
 fn main(rt: HostRuntime) -> Result<()> {
+    let runs = match env::args(&rt)?.nth(1) {
+        Some(word) => word.parse::<u32>().context("a number of runs")?,
+        None => 1,
+    };
     let cases = fs::read_to_string(&rt, "cases.txt")?;
     for line in cases.lines() {
-        let (case, track) = line.split_once(' ').context("a case and its track")?;
-        let answer = if is_right(&rt, case, track)? {
-            "right"
-        } else {
-            "wrong"
-        };
-        println!(rt; "{case} on {track} {answer}")?;
+        let (name, track) = line.split_once(' ').context("a case and its track")?;
+        let tally = run_case(&rt, &case_of(&rt, name, track)?, runs)?;
+        let answer = if tally.is_right { "right" } else { "wrong" };
+        println!(rt; "{name} on {track} {answer}")?;
+        if runs > 1 {
+            eprintln!(rt; "{} inputs computed again", tally.recomputed)?;
+        }
     }
     Ok(())
 }

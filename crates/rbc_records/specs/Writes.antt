@@ -12,3 +12,8 @@ write_over write records k = if same_key k write.0 then write.1 else records k
 abbrev pub written : List (Key × Option Rec) → (Key → Option Rec) → Key → Option Rec
 written [] records k = records k
 written (write ∷ writes) records k = written writes (write_over write records) k
+
+-- under the key of each write, what stood there just before that write
+abbrev pub replaced : List (Key × Option Rec) → (Key → Option Rec) → List (Key × Option Rec)
+replaced [] records = []
+replaced (write ∷ writes) records = (write.0, records write.0) ∷ replaced writes (write_over write records)

@@ -10,5 +10,5 @@ mod writes;
 pub use notes::Notes;
 pub use reader::{ReadFault, Reader};
 pub use record::{Key, Rec, same_record};
-pub use store::{PlainStore, apply};
+pub use store::{PlainStore, apply, exchange};
 pub use writes::Writes;

@@ -1,10 +1,10 @@
 //! A store of all records.
 
-ghost use Rattle.std.specs.Prelude.{◌≡◌, ℕ, ◌+◌, ◌<◌, ◌≤◌, [], OnOk, OnErr, IfErr, IsOk, option_copied};
+ghost use Rattle.std.specs.Prelude.{◌≡◌, ℕ, ◌+◌, ◌<◌, ◌≤◌, [], OnOk, OnErr, IfOk, IfErr, IsOk, option_copied};
 ghost use Rattle.indexmap.specs.IndexMap.{spare};
 ghost use Rattle.rbc_records.specs.declared.record.Key.{Key};
 ghost use Rattle.rbc_records.specs.Notes.{record_in};
-ghost use Rattle.rbc_records.specs.Writes.{written, write_over};
+ghost use Rattle.rbc_records.specs.Writes.{written, write_over, replaced};
 
 use crate::reader::{ReadFault, Reader};
 use crate::record::{Key, Rec};
@@ -71,20 +71,35 @@ impl Reader for PlainStore {
     }
 }
 
-/// Does one write. There has to be room for one more record.
-fn write_one(records: &mut IndexMap<Key, Rec>, key: Key, rec: Option<Rec>)
+/// Does one write, and returns the record that stood under its key. There has to be room for one more record.
+fn write_one(records: &mut IndexMap<Key, Rec>, key: Key, rec: Option<Rec>) -> Option<Rec>
     requires { 0 < spare records.old }
     ensures records { (k : Key) → record_in records.new.entries k ≡ write_over (key, rec) (record_in records.old.entries) k }
+    ensures replaced { result ≡ record_in records.old.entries key }
     ensures room { spare records.old ≤ spare records.new + 1 }
 {
     match rec {
-        Some(rec) => {
-            let _ = records.insert(key, rec);
-        }
-        None => {
-            let _ = records.swap_remove(&key);
-        }
+        Some(rec) => records.insert(key, rec).unwrap(),
+        None => records.swap_remove(&key),
     }
+}
+
+/// Does the writes, one after another, and hands back under each key what stood there just before. Fails only for lack of
+/// memory: the store is then unchanged, and the error hands the writes back.
+pub fn exchange(store: &mut PlainStore, mut writes: Writes) -> Result<Writes, Writes>
+    ensures ok { OnOk result ((k : Key) → record_in store.new k ≡ written writes (record_in store.old) k) }
+    ensures replaced { IfOk result (λ old. old ≡ replaced writes (record_in store.old)) }
+    ensures err { OnErr result (store.new ≡ store.old) }
+    ensures back { IfErr result (λ back. back ≡ writes) }
+{
+    if store.records.reserve(writes.len()).is_err() {
+        return Err(writes);
+    }
+    for index in 0..writes.len() {
+        let (key, rec) = &mut writes.all[index];
+        *rec = write_one(&mut store.records, *key, rec.take());
+    }
+    Ok(writes)
 }
 
 /// Does the writes, one after another. Fails only for lack of memory: the store is then unchanged, and the error hands the
@@ -94,11 +109,6 @@ pub fn apply(store: &mut PlainStore, writes: Writes) -> Result<(), Writes>
     ensures err { OnErr result (store.new ≡ store.old) }
     ensures back { IfErr result (λ back. back ≡ writes) }
 {
-    if store.records.reserve(writes.len()).is_err() {
-        return Err(writes);
-    }
-    for (key, rec) in writes.all {
-        write_one(&mut store.records, key, rec);
-    }
+    let _ = exchange(store, writes)?;
     Ok(())
 }

@@ -5,6 +5,7 @@
 use super::same;
 use rbc_batch::parse_batch;
 use std::process::Abort;
+use std::thread::Threads;
 
 /// The position of most messages.
 const POSITION: &str =
@@ -28,7 +29,7 @@ pub(super) fn joined<R: Abort + AllocGlobal>(rt: &R, pieces: &[&str]) -> String 
 }
 
 /// Asserts which inputs a text has: their texts, one a line.
-fn assert_inputs<R: Abort + AllocGlobal>(rt: &R, text: &str, wanted: &str) {
+fn assert_inputs<R: Abort + AllocGlobal + Threads + Sync>(rt: &R, text: &str, wanted: &str) {
     let inputs = parse_batch(rt, text.as_bytes()).expect(rt, "memory");
     let mut written = String::new(rt.alloc());
     for input in &inputs {
@@ -38,12 +39,12 @@ fn assert_inputs<R: Abort + AllocGlobal>(rt: &R, text: &str, wanted: &str) {
 }
 
 /// Asserts that a text is one line, which is this input.
-fn assert_input<R: Abort + AllocGlobal>(rt: &R, text: &str, wanted: &str) {
+fn assert_input<R: Abort + AllocGlobal + Threads + Sync>(rt: &R, text: &str, wanted: &str) {
     assert_inputs(rt, text, &joined(rt, &[wanted, "\n"]));
 }
 
 /// Asserts which input each line of a table is: `LINE => INPUT`.
-fn assert_lines<R: Abort + AllocGlobal>(rt: &R, table: &str) {
+fn assert_lines<R: Abort + AllocGlobal + Threads + Sync>(rt: &R, table: &str) {
     for row in table.lines() {
         let (line, input) = row.split_once(" => ").expect(rt, "an input");
         assert_input(rt, line, input);
@@ -51,14 +52,14 @@ fn assert_lines<R: Abort + AllocGlobal>(rt: &R, table: &str) {
 }
 
 /// Asserts that each text of a table is one line, which is bad with this code.
-fn assert_bad<R: Abort + AllocGlobal>(rt: &R, code: &str, texts: &str) {
+fn assert_bad<R: Abort + AllocGlobal + Threads + Sync>(rt: &R, code: &str, texts: &str) {
     for text in texts.split('|') {
         assert_inputs(rt, text, &joined(rt, &["Bad(", code, ")\n"]));
     }
 }
 
 /// Asserts that each form of a table is a bad line, whichever word of the other table stands in the place of its `_`.
-fn assert_bad_words<R: Abort + AllocGlobal>(rt: &R, forms: &str, words: &str) {
+fn assert_bad_words<R: Abort + AllocGlobal + Threads + Sync>(rt: &R, forms: &str, words: &str) {
     for word in words.split('|') {
         for form in forms.split('|') {
             let (before, behind) = form.split_once('_').expect(rt, "a place");
@@ -84,6 +85,21 @@ fn reads_line_by_line(rt: HostRuntime) {
     assert_inputs(&rt, "\nlift 3\n\n", "Bad(1)\nLift { number: 3 }\nBad(1)\n");
     let text = "lift 3\r\nrecv 01\nrecv 0\nlift 3";
     assert_inputs(&rt, text, "Bad(1)\nBad(3)\nBad(2)\nLift { number: 3 }\n");
+}
+
+#[test]
+fn reads_many_lines_in_order(rt: HostRuntime) {
+    let mut text = String::new(rt.alloc());
+    let mut wanted = String::new(rt.alloc());
+    for number in 0..5_000u32 {
+        writeln!(text, "release {number}\n\nrecv 01\nstop {number} 1:5-5").expect(&rt, "memory");
+        let segments = "Segments { all: [Segment { line: 1, from: 5, to: 5 }] }";
+        writeln!(wanted, "Release {{ number: {number} }}\nBad(1)\nBad(3)").expect(&rt, "memory");
+        writeln!(wanted, "Stop {{ number: {number}, segments: {segments} }}").expect(&rt, "memory");
+    }
+    text.push_str("lift").expect(&rt, "memory");
+    wanted.push_str("Bad(1)\n").expect(&rt, "memory");
+    assert_inputs(&rt, &text, &wanted);
 }
 
 #[test]
@@ -196,7 +212,7 @@ fn refuses_other_spaces(rt: HostRuntime) {
 }
 
 /// Asserts what a message is read as, alone and before another line.
-fn assert_message<R: Abort + AllocGlobal>(rt: &R, hex: &str, input: &str) {
+fn assert_message<R: Abort + AllocGlobal + Threads + Sync>(rt: &R, hex: &str, input: &str) {
     assert_input(rt, &joined(rt, &["recv ", hex]), input);
     let lines = joined(rt, &["recv ", hex, "\nlift 3\n"]);
     let inputs = joined(rt, &[input, "\nLift { number: 3 }\n"]);
@@ -204,7 +220,12 @@ fn assert_message<R: Abort + AllocGlobal>(rt: &R, hex: &str, input: &str) {
 }
 
 /// Asserts that messages are reports of engine 7 with this stamp and position.
-fn assert_reports<R: Abort + AllocGlobal>(rt: &R, stamp: &str, position: &str, messages: &str) {
+fn assert_reports<R: Abort + AllocGlobal + Threads + Sync>(
+    rt: &R,
+    stamp: &str,
+    position: &str,
+    messages: &str,
+) {
     let pieces = [
         "Received(Report { stamp: ",
         stamp,
@@ -236,7 +257,7 @@ fn reads_reports(rt: HostRuntime) {
 }
 
 /// Asserts that a message is the answer of engine 7 that it rejects the stop with this identifier.
-fn assert_rejects<R: Abort + AllocGlobal>(rt: &R, hex: &str, id: &str) {
+fn assert_rejects<R: Abort + AllocGlobal + Threads + Sync>(rt: &R, hex: &str, id: &str) {
     let before = [
         "Received(StopAck { stamp: 2000, engine: 7, id: ",
         id,

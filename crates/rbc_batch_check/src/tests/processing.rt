@@ -2,10 +2,14 @@
 
 use super::same;
 use rbc_batch::{ProcessError, process};
+use rbc_core::Stats;
+use rbc_engine::{OpenGate, RunError};
 use rbc_track::{Track, track_from_toml};
 use std::io;
 use std::io::{ErrorKind, Read, Write};
 use std::process::Abort;
+use std::sync::Wait;
+use std::thread::Threads;
 
 /// Two lines, of 300,000 and of 3,000,000 units of 10 cm.
 const TRACK: &str = "horizon = 100000
@@ -19,17 +23,40 @@ fn track<R: Abort + AllocGlobal>(rt: &R) -> Track {
     track_from_toml(rt.alloc(), TRACK).expect(rt, "a good track")
 }
 
-/// The output text of a batch on a track.
-pub(super) fn output_on<R: Abort + AllocGlobal>(rt: &R, track: &str, batch: &[u8]) -> Vec<u8> {
+/// The output text of a batch on a track, by so many workers. One worker computes nothing twice.
+fn output_by<R>(rt: &R, track: &Track, batch: &[u8], workers: u8) -> Vec<u8>
+where
+    R: Abort + AllocGlobal + Threads + Wait + Sync,
+{
     let mut written = Vec::new(rt.alloc());
     let mut reader = batch;
-    let track = track_from_toml(rt.alloc(), track).expect(rt, "a good track");
-    process(rt, &track, &mut reader, &mut written).expect(rt, "an output");
+    let stats = process(rt, track, &mut reader, &mut written, workers, &OpenGate).expect(
+        rt,
+        "an output",
+    );
+    assert!(rt; stats.recomputed == 0 || workers > 1);
     written
 }
 
+/// The output text of a batch on a track, which is the same by 1, 2 and 16 workers.
+pub(super) fn output_on<R>(rt: &R, track: &str, batch: &[u8]) -> Vec<u8>
+where
+    R: Abort + AllocGlobal + Threads + Wait + Sync,
+{
+    let track = track_from_toml(rt.alloc(), track).expect(rt, "a good track");
+    let alone = output_by(rt, &track, batch, 1);
+    let by_two = output_by(rt, &track, batch, 2);
+    let by_many = output_by(rt, &track, batch, 16);
+    same(rt, by_two.as_slice(), alone.as_slice());
+    same(rt, by_many.as_slice(), alone.as_slice());
+    alone
+}
+
 /// The output text of a batch.
-fn output<R: Abort + AllocGlobal>(rt: &R, batch: &[u8]) -> Vec<u8> {
+fn output<R>(rt: &R, batch: &[u8]) -> Vec<u8>
+where
+    R: Abort + AllocGlobal + Threads + Wait + Sync,
+{
     output_on(rt, TRACK, batch)
 }
 
@@ -181,13 +208,13 @@ fn fails_where_the_reader_fails(rt: HostRuntime) {
                 kind,
             };
             let mut written = Vec::new(rt.alloc());
-            let result = process(&rt, &track(&rt), &mut reader, &mut written);
+            let result = process(&rt, &track(&rt), &mut reader, &mut written, 1, &OpenGate);
             let calls = reader.calls;
             if kind == ErrorKind::Other && fails_at <= calls {
                 same(&rt, result, Err(ProcessError::Read));
                 same(&rt, written.len(), 0);
             } else {
-                same(&rt, result, Ok(()));
+                same(&rt, result.is_ok(), true);
                 same(&rt, written.as_slice(), whole.as_slice());
             }
         }
@@ -222,12 +249,12 @@ impl Write for Interrupted {
 fn gives_up_on_endless_interruptions(rt: HostRuntime) {
     let mut reader = Interrupted { calls: 0 };
     let mut written = Vec::new(rt.alloc());
-    let result = process(&rt, &track(&rt), &mut reader, &mut written);
+    let result = process(&rt, &track(&rt), &mut reader, &mut written, 1, &OpenGate);
     same(&rt, result, Err(ProcessError::Read));
     same(&rt, (reader.calls, written.len()), (20_000_000, 0));
     let mut text = b"enrol 7 2000".as_slice();
     let mut writer = Interrupted { calls: 0 };
-    let result = process(&rt, &track(&rt), &mut text, &mut writer);
+    let result = process(&rt, &track(&rt), &mut text, &mut writer, 1, &OpenGate);
     same(&rt, result, Err(ProcessError::Write { sent: 0 }));
     same(&rt, writer.calls, 1_000);
 }
@@ -281,13 +308,13 @@ fn counts_what_is_out_where_the_writer_fails(rt: HostRuntime) {
                 fails,
                 interrupts: false,
             };
-            let result = process(&rt, &track(&rt), &mut reader, &mut writer);
+            let result = process(&rt, &track(&rt), &mut reader, &mut writer, 1, &OpenGate);
             if room < whole.len() {
                 let sent = room as u64;
                 same(&rt, result, Err(ProcessError::Write { sent }));
                 same(&rt, writer.taken.as_slice(), &whole[..room]);
             } else {
-                same(&rt, result, Ok(()));
+                same(&rt, result.is_ok(), true);
                 same(&rt, writer.taken.as_slice(), whole.as_slice());
             }
         }
@@ -299,10 +326,36 @@ fn takes_the_longest_batch_and_none_longer(rt: HostRuntime) {
     let longer = vec![in rt.alloc(); b'x'; 16_777_217].expect(&rt, "memory");
     let mut reader = longer.as_slice();
     let mut written = Vec::new(rt.alloc());
-    let result = process(&rt, &track(&rt), &mut reader, &mut written);
+    let result = process(&rt, &track(&rt), &mut reader, &mut written, 1, &OpenGate);
     same(&rt, result, Err(ProcessError::TooLong));
     same(&rt, written.len(), 0);
     same(&rt, longer.len(), 16_777_217);
     let written = output(&rt, &longer[1..]);
     same(&rt, written.as_slice(), b"1 refused 1\n".as_slice());
+}
+
+// The batch is read before the workers are looked at, and these before the number of its lines.
+#[test]
+fn refuses_a_run(rt: HostRuntime) {
+    let mut lines = vec![in rt.alloc(); b'\n'; 100_001].expect(&rt, "memory");
+    let track = track(&rt);
+    let mut written = Vec::new(rt.alloc());
+    for (workers, fault) in [
+        (0, RunError::Workers),
+        (17, RunError::Workers),
+        (16, RunError::TooManyInputs),
+    ] {
+        let mut reader = lines.as_slice();
+        let result = process(&rt, &track, &mut reader, &mut written, workers, &OpenGate);
+        same(&rt, result, Err(ProcessError::Run(fault)));
+        same(&rt, (reader.len(), written.len()), (0, 0));
+    }
+    let _ = lines.pop();
+    let mut reader = lines.as_slice();
+    let result = process(&rt, &track, &mut reader, &mut written, 16, &OpenGate);
+    let wanted = Stats {
+        taken: 100_000,
+        recomputed: 0,
+    };
+    same(&rt, result, Ok(wanted));
 }

@@ -6,12 +6,15 @@
 use super::same;
 use ertms_codec::{FromTrain, Position};
 use rbc_batch::{ProcessError, parse_batch, process};
+use rbc_engine::{OpenGate, RunError};
 use rbc_rule::Input;
 use rbc_track::{Track, track_from_toml};
 use rbc_zones::{Dirs, Segment};
 use std::alloc::Global;
 use std::process::Abort;
+use std::sync::Wait;
 use std::test::Fail;
+use std::thread::Threads;
 
 /// Line 0 is 30 km long and has balise group 5 at 1 km, whose nominal direction is up.
 const TRACK: &str = "horizon = 100000
@@ -147,21 +150,22 @@ fn ending(refused: bool) -> Result<(), Fail> {
 
 /// Does a batch, and asserts that its whole output text was written, or that memory was refused and nothing was written. Tells
 /// whether it was refused.
-fn process_once<R: Abort + AllocGlobal>(
-    rt: &R,
-    track: &Track,
-    batch: &str,
-    output: &str,
-    written: &mut Vec<u8>,
-) -> bool {
+fn process_once<R>(rt: &R, track: &Track, batch: &str, output: &str, written: &mut Vec<u8>) -> bool
+where
+    R: Abort + AllocGlobal + Threads + Wait + Sync,
+{
     let mut reader = batch.as_bytes();
-    match process(rt, track, &mut reader, written) {
-        Ok(()) => {
+    match process(rt, track, &mut reader, written, 1, &OpenGate) {
+        Ok(_) => {
             same(rt, written.as_slice(), output.as_bytes());
             false
         }
         Err(fault) => {
-            same(rt, fault, ProcessError::Memory);
+            let is_memory = matches!(
+                fault,
+                ProcessError::Memory | ProcessError::Run(RunError::OutOfMemory { .. })
+            );
+            same(rt, is_memory, true);
             same(rt, written.len(), 0);
             true
         }
@@ -297,7 +301,11 @@ fn full_lines(alloc: Global) -> Result<Vec<Line>, Fail> {
 }
 
 /// Parses a batch, and asserts that its inputs are these, or that memory was refused. Tells whether it was refused.
-fn parse_once<R: Abort + AllocGlobal>(rt: &R, batch: &str, lines: &[Line]) -> bool {
+fn parse_once<R: Abort + AllocGlobal + Threads + Sync>(
+    rt: &R,
+    batch: &str,
+    lines: &[Line],
+) -> bool {
     match parse_batch(rt, batch.as_bytes()) {
         Ok(inputs) => {
             same(rt, inputs.len(), lines.len());
@@ -311,7 +319,11 @@ fn parse_once<R: Abort + AllocGlobal>(rt: &R, batch: &str, lines: &[Line]) -> bo
 }
 
 /// Parses a batch, and once more where memory was refused. Tells whether it was refused.
-fn parse_twice<R: Abort + AllocGlobal>(rt: &R, batch: &str, lines: &[Line]) -> bool {
+fn parse_twice<R: Abort + AllocGlobal + Threads + Sync>(
+    rt: &R,
+    batch: &str,
+    lines: &[Line],
+) -> bool {
     let refused = parse_once(rt, batch, lines);
     if refused {
         assert!(rt; !parse_once(rt, batch, lines), "{batch}");

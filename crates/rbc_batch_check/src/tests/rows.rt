@@ -4,6 +4,8 @@ use super::parsing::joined;
 use super::processing::output_on;
 use super::same;
 use std::process::Abort;
+use std::sync::Wait;
+use std::thread::Threads;
 
 /// Line 0 is 30 km long and has balise group 5 at 1 km, nominally up, and 6 at 20 km, nominally down; line 1 is 300 km long
 /// and has balise group 7 at its beginning.
@@ -65,7 +67,10 @@ fn line_of(word: &str) -> &str {
 }
 
 /// Asserts the output text of a batch, in which a name above may stand for its line.
-fn assert_output<R: Abort + AllocGlobal>(rt: &R, batch: &str, wanted: &str) {
+fn assert_output<R>(rt: &R, batch: &str, wanted: &str)
+where
+    R: Abort + AllocGlobal + Threads + Wait + Sync,
+{
     let mut text = String::new(rt.alloc());
     for word in batch.lines() {
         let line = line_of(word);

@@ -28,7 +28,12 @@ pub(crate) enum Call {
     Void(u32, bool),
     /// The next input is committed.
     Commit(Commit),
+    /// What commits have no more use for is taken: whether there is anything.
+    TakeSpent(bool),
 }
+
+/// What is taken where no commit has left anything.
+const NOTHING: &str = "Spent { notes: None, stale: None, outcome: None }";
 
 /// Makes an attempt at an input, and deposits it.
 fn deposit<N: RunName>(
@@ -73,6 +78,16 @@ fn make_call<N: RunName>(
         }
         Call::Void(number, wanted) => same(rt, book.void(number), wanted),
         Call::Commit(wanted) => same(rt, book.commit(alloc, track), wanted),
+        Call::TakeSpent(wanted) => {
+            let stats = book.stats();
+            let spent = book.take_spent();
+            same(rt, book.stats(), stats);
+            same(
+                rt,
+                format!(in alloc; "{spent:?}")?.as_str() != NOTHING,
+                wanted,
+            );
+        }
     }
     Ok(())
 }

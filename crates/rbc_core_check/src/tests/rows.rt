@@ -77,9 +77,14 @@ fn second_first(rt: HostRuntime) -> Result<(), Fail> {
         Call::Void(3, false),
         Call::Void(0, false),
         Call::Deposit(1, true),
+        Call::TakeSpent(false),
         APPLIED,
+        Call::TakeSpent(true),
+        Call::TakeSpent(false),
         RECOMPUTED,
         AT_END,
+        Call::TakeSpent(true),
+        Call::TakeSpent(false),
     ];
     let mail = stopped(2, 1, 0);
     assert_spelled(&rt, &mail, b"\x10\x02\x80\x00\x00\x00\x5F\xFF\xFF\xE0");

@@ -6,7 +6,7 @@ use super::same;
 use crate::tests::setting::{
     assert_engines, engines, limits, limits_in, stops, stops_in, train, train_in,
 };
-use rbc_records::{Key, PlainStore, Reader, Rec, Writes, apply, same_record};
+use rbc_records::{Key, PlainStore, Reader, Rec, Writes, apply, exchange, same_record};
 use std::alloc::Global;
 use std::process::Abort;
 use std::test::Fail;
@@ -142,6 +142,34 @@ fn the_last_write_for_a_key_counts(rt: HostRuntime) -> Result<(), Fail> {
     assert!(rt; apply(&mut store, writes).is_ok());
     assert_engines(&rt, store.get(Key::Roster), &[2, 3]);
     same(&rt, stamp(&store, 1), None);
+    same(&rt, stamp(&store, 2), Some((2, 20)));
+    Ok(())
+}
+
+/// The key of the write at an index, and the stamp of its train.
+fn stamp_at(writes: &Writes, index: usize) -> Option<(Key, Option<u32>)> {
+    if index >= writes.len() {
+        return None;
+    }
+    let (key, rec) = writes.at(index);
+    Some((key, train_in(rec).map(|train| train.stamp)))
+}
+
+// a record is replaced, one is put where none was, and the first of the new ones is removed
+#[test]
+fn what_writes_replace_is_handed_back(rt: HostRuntime) -> Result<(), Fail> {
+    let mut store = full(&rt, rt.alloc())?;
+    let mut writes = Writes::new(rt.alloc());
+    writes.set(Key::Train(1), Some(train(rt.alloc(), 1, 11)?))?;
+    writes.set(Key::Train(3), Some(train(rt.alloc(), 3, 30)?))?;
+    writes.set(Key::Train(1), None)?;
+    let replaced = exchange(&mut store, writes).ok().ok_or("memory")?;
+    same(&rt, replaced.len(), 3);
+    same(&rt, stamp_at(&replaced, 0), Some((Key::Train(1), Some(10))));
+    same(&rt, stamp_at(&replaced, 1), Some((Key::Train(3), None)));
+    same(&rt, stamp_at(&replaced, 2), Some((Key::Train(1), Some(11))));
+    same(&rt, stamp(&store, 1), None);
+    same(&rt, stamp(&store, 3), Some((3, 30)));
     same(&rt, stamp(&store, 2), Some((2, 20)));
     Ok(())
 }

@@ -1,10 +1,10 @@
-use Rattle.std.proofs.Common.{◌≡◌, length, arith}
-use Rattle.std.proofs.lemmas.Bool.Decides.{nat_tests}
-use Rattle.rbc_batch.proofs.LineInputs.{all_read}
+use Rattle.rbc_batch.proofs.LineInputs.{as_few}
 use Rattle.rbc_batch.proofs.parse.parse_batch.Goals as goal
 
--- nothing is left
-pub returns-clause-inputs : goal.returns-clause-inputs
-returns-clause-inputs g c =
-    let none : length c.loop-rest.rest.now ≡ 0 = grind (arith, nat_tests, c.is_empty.ensures, c.loop-rest-test.false) in
-    all_read c.args.text.now c.loop-rest.rest.now c.loop-rest.inputs.items none c.loop-rest.invariant.onward
+pub returns-then-len-lt-PARALLEL_FROM-clause-few : goal.returns-then-len-lt-PARALLEL_FROM-clause-few
+returns-then-len-lt-PARALLEL_FROM-clause-few g c =
+    as_few c.args.text.now c.in_ok-lines.lines.items c.inputs_in_turn.result c.in_ok-lines.ensures.few (rw c.deref.ensures.value at c.inputs_in_turn.ensures.inputs)
+
+pub returns-clause-few : goal.returns-clause-few
+returns-clause-few g c =
+    as_few c.args.text.now c.in_ok-lines.lines.items c.inputs_in_threads.result c.in_ok-lines.ensures.few (rw c.deref-else-len-lt-PARALLEL_FROM.ensures.value at c.inputs_in_threads.ensures.inputs)

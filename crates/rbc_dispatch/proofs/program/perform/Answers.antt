@@ -1,7 +1,29 @@
-use Rattle.std.proofs.Common.{subst}
+use Rattle.std.proofs.Common.{subst, ℕ, Err, inr, refl}
+use Rattle.rbc_dispatch.proofs.Ends.{at_handed_on, at_want_of_memory}
+use Rattle.rbc_dispatch.specs.Decoding.{Decodes}
+use Rattle.rbc_dispatch.specs.Running.{Runs}
 use Rattle.rbc_dispatch.specs.Words.{IsDecode, IsRunOn}
 use Rattle.rbc_dispatch.specs.declared.words.Task.{Task}
 use Rattle.rbc_dispatch.proofs.program.perform.Goals as goal
+
+-- words that ask for a task were not taken only for want of memory
+
+pub returns-in_err-track-clause-run : goal.returns-in_err-track-clause-run
+returns-in_err-track-clause-run g c = λ file workers asked.
+    at_want_of_memory _ (Runs {E = Unit {0}} workers _ _ _ _) _ c.from_residual.ensures.1 (c.in_err-track.ensures.run file workers asked) (inr (inr refl))
+
+pub returns-in_err-track-clause-decode : goal.returns-in_err-track-clause-decode
+returns-in_err-track-clause-decode g c = λ word asked.
+    at_want_of_memory _ (Decodes {E = Unit {0}} word _ _) _ c.from_residual.ensures.1 (c.in_err-track.ensures.decode word asked) tt
+
+-- the batch is done by as many workers as the words ask for
+
+pub returns-in_err-run_file-in-Run-clause-run : goal.returns-in_err-run_file-in-Run-clause-run
+returns-in_err-run_file-in-Run-clause-run g c = λ file workers asked.
+    let taken = subst (λ (task : Task). IsRunOn file workers task) c.in-Run.is (c.in_ok-track.ensures.run file workers asked) in
+    at_handed_on _ (Runs {E = Unit {0}} workers _ _ _ _) c.in_err-run_file-in-Run.field-0.0 c.from_residual-in_err-run_file-in-Run.ensures.1
+    (subst (λ (n : ℕ). Runs {E = Unit {0}} n (g.I.Read.remaining c.args.input.now) (g.I.Read.remaining c.run_file.new.input)
+    (g.O.Write.contents c.args.output.now) (g.O.Write.contents c.run_file.new.output) (Err c.in_err-run_file-in-Run.field-0.0)) taken.1 c.in_err-run_file-in-Run.ensures.runs)
 
 -- words that ask for one task were not taken for the other
 
@@ -22,17 +44,17 @@ returns-in_ok-run_file-in-Run-clause-unread g c = λ word asked.
     absurd (subst (λ (task : Task). IsDecode word task) c.in-Run.is (c.in_ok-track.ensures.decode word asked))
 
 pub returns-in_err-decode-in-Decode-clause-run : goal.returns-in_err-decode-in-Decode-clause-run
-returns-in_err-decode-in-Decode-clause-run g c = λ file asked.
-    absurd (subst (λ (task : Task). IsRunOn file task) c.in-Decode.is (c.in_ok-track.ensures.run file asked))
+returns-in_err-decode-in-Decode-clause-run g c = λ file workers asked.
+    absurd (subst (λ (task : Task). IsRunOn file workers task) c.in-Decode.is (c.in_ok-track.ensures.run file workers asked))
 
 pub returns-in_err-decode-in-Decode-clause-keeps : goal.returns-in_err-decode-in-Decode-clause-keeps
-returns-in_err-decode-in-Decode-clause-keeps g c = λ file asked.
-    absurd (subst (λ (task : Task). IsRunOn file task) c.in-Decode.is (c.in_ok-track.ensures.run file asked))
+returns-in_err-decode-in-Decode-clause-keeps g c = λ file workers asked.
+    absurd (subst (λ (task : Task). IsRunOn file workers task) c.in-Decode.is (c.in_ok-track.ensures.run file workers asked))
 
 pub returns-in_ok-decode-in-Decode-clause-run : goal.returns-in_ok-decode-in-Decode-clause-run
-returns-in_ok-decode-in-Decode-clause-run g c = λ file asked.
-    absurd (subst (λ (task : Task). IsRunOn file task) c.in-Decode.is (c.in_ok-track.ensures.run file asked))
+returns-in_ok-decode-in-Decode-clause-run g c = λ file workers asked.
+    absurd (subst (λ (task : Task). IsRunOn file workers task) c.in-Decode.is (c.in_ok-track.ensures.run file workers asked))
 
 pub returns-in_ok-decode-in-Decode-clause-keeps : goal.returns-in_ok-decode-in-Decode-clause-keeps
-returns-in_ok-decode-in-Decode-clause-keeps g c = λ file asked.
-    absurd (subst (λ (task : Task). IsRunOn file task) c.in-Decode.is (c.in_ok-track.ensures.run file asked))
+returns-in_ok-decode-in-Decode-clause-keeps g c = λ file workers asked.
+    absurd (subst (λ (task : Task). IsRunOn file workers task) c.in-Decode.is (c.in_ok-track.ensures.run file workers asked))

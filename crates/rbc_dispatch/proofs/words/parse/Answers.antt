@@ -1,17 +1,18 @@
-use Rattle.std.proofs.Common.{refl, sym, ap, subst, ◌∙◌, ◌≡◌, List, [], Option, Some, None, Bool, true, false, Result, Ok, Err, inl, inr, map, unwrap_or, codes, string_bytes}
+use Rattle.std.proofs.Common.{refl, sym, ap, subst, ◌∙◌, ◌≡◌, List, [], Option, Some, None, Bool, true, false, Result, Ok, Err, inl, inr, map, unwrap_or, ℕ, option_and_then, codes, string_bytes}
 use Rattle.std.specs.Prelude.{if◌then◌else◌}
 use Rattle.std.specs.Result.{IsErrAnd}
 use Rattle.std.specs.Str.{bytes_eq}
 use Rattle.std.proofs.lemmas.Slice.Eq.{bytes_eq-Decides}
 use Rattle.clap.specs.Kinds.{HasKind}
 use Rattle.clap.specs.Simple.{subcommand_of}
+use Rattle.clap.specs.Walk.{Row, first_of}
 use Rattle.clap.specs.Words.{App, HasMatchesOf, Text, fault_of, is_simple, is_simple_and_free, subcommand_rows_of}
 use Rattle.clap.specs.declared.error.Error.{Error}
 use Rattle.clap.specs.declared.error.kind.ErrorKind.{ErrorKind}
 use Rattle.clap.specs.declared.parser.matches.ArgMatches.{ArgMatches}
 use Rattle.clap.proofs.OnLiterals.{clap_on_literals}
 use Rattle.rbc_dispatch.specs.Ending.{ending_of}
-use Rattle.rbc_dispatch.specs.Words.{Finding, IsDecode, IsFound, IsRunOn, IsTakenFor, IsWantOfMemory, command_line, finding_in, word_after}
+use Rattle.rbc_dispatch.specs.Words.{Finding, IsDecode, IsFound, IsRunOn, IsTakenFor, IsWantOfMemory, command_line, finding_in, number_after, word_after}
 use Rattle.rbc_dispatch.specs.declared.ending.Ending.{Ending}
 use Rattle.rbc_dispatch.specs.declared.words.Task.{Task}
 use Rattle.rbc_dispatch.specs.declared.words.Task.TheVariants.{Run, Decode}
@@ -35,16 +36,16 @@ found_here : (app : App) (words : List Text) (m : ArgMatches) → app ≡ comman
 found_here app words m same says = (says (ap is_simple same ∙ line_is_simple)).1 ∙ ap (λ (a : App). subcommand_of a words) same
 
 -- one subcommand is found, and not both
-chosen : (b : Bool) (o : Option Text) (a : Text) → (if b then o else None) ≡ Some a → b ≡ true
-chosen true o a is = refl
-chosen false o a is = cc
+chosen : (b : Bool) (rows : List Row) (f : List Row → Option Text) (a : Text) → option_and_then f (if b then Some rows else None) ≡ Some a → b ≡ true
+chosen true rows f a is = refl
+chosen false rows f a is = cc
 
 not_both : (found : Finding) (file hex : Text) → word_after (codes "run") (codes "track") found ≡ Some file
     → word_after (codes "decode") (codes "HEX") found ≡ Some hex → ⊥
 not_both None file hex run decode = cc
 not_both (Some p) file hex run decode =
-    let name : p.0 ≡ codes "run" = (bytes_eq-Decides p.0 (codes "run")).0 (chosen _ _ file run) in
-    let other : bytes_eq p.0 (codes "decode") ≡ true = chosen _ _ hex decode in
+    let name : p.0 ≡ codes "run" = (bytes_eq-Decides p.0 (codes "run")).0 (chosen _ p.1 (first_of (codes "track")) file run) in
+    let other : bytes_eq p.0 (codes "decode") ≡ true = chosen _ p.1 (first_of (codes "HEX")) hex decode in
     let bad : false ≡ true = subst (λ (n : Text). bytes_eq n (codes "decode") ≡ true) name other in
     cc
 
@@ -52,14 +53,14 @@ not_both (Some p) file hex run decode =
 some_now : (a b : Text) → Some a ≡ Some b → a ≡ b
 some_now a b same = ap (λ (o : Option Text). unwrap_or o []) same
 
-run_found : (found : Finding) (task : Task) → IsFound found task → (file : Text)
-    → word_after (codes "run") (codes "track") found ≡ Some file → IsRunOn file task
-run_found found (Run track) is file asked = some_now _ _ (sym is ∙ asked)
-run_found found (Decode hex) is file asked = not_both found file hex.now asked is
+run_found : (found : Finding) (task : Task) → IsFound found task → (file : Text) (workers : ℕ)
+    → word_after (codes "run") (codes "track") found ≡ Some file → number_after (codes "run") (codes "workers") found ≡ workers → IsRunOn file workers task
+run_found found (Run track number) is file workers asked count = (some_now _ _ (sym is.0 ∙ asked), sym is.1 ∙ count)
+run_found found (Decode hex) is file workers asked count = not_both found file hex.now asked is
 
 decode_found : (found : Finding) (task : Task) → IsFound found task → (word : Text)
     → word_after (codes "decode") (codes "HEX") found ≡ Some word → IsDecode word task
-decode_found found (Run track) is word asked = not_both found track.now word is asked
+decode_found found (Run track number) is word asked = not_both found track.now word is.0 asked
 decode_found found (Decode hex) is word asked = some_now _ _ (sym is ∙ asked)
 
 -- words without a fault are not taken only where memory runs out
@@ -80,10 +81,10 @@ returns-in-Some-clause-task c =
     subst (λ (f : Finding). IsFound f c.in-Some.task) (found_here _ words _ c.in_ok-command.ensures c.in_ok-matches.ensures.matches) c.in-Some.ensures.found
 
 pub returns-in-Some-clause-run : goal.returns-in-Some-clause-run
-returns-in-Some-clause-run c = λ file asked.
+returns-in-Some-clause-run c = λ file workers asked.
     let words = map string_bytes c.args.words.now in
     let found = found_here _ words _ c.in_ok-command.ensures c.in_ok-matches.ensures.matches in
-    run_found (finding_in words) _ (subst (λ (f : Finding). IsFound f c.in-Some.task) found c.in-Some.ensures.found) file asked.1
+    run_found (finding_in words) _ (subst (λ (f : Finding). IsFound f c.in-Some.task) found c.in-Some.ensures.found) file workers asked.1 asked.2
 
 pub returns-in-Some-clause-decode : goal.returns-in-Some-clause-decode
 returns-in-Some-clause-decode c = λ word asked.
@@ -92,10 +93,10 @@ returns-in-Some-clause-decode c = λ word asked.
     decode_found (finding_in words) _ (subst (λ (f : Finding). IsFound f c.in-Some.task) found c.in-Some.ensures.found) word asked.1
 
 pub returns-in_err-matches-clause-run : goal.returns-in_err-matches-clause-run
-returns-in_err-matches-clause-run c = λ file asked.
+returns-in_err-matches-clause-run c = λ file workers asked.
     let e = c.in_err-matches.field-0.0 in
     let kinds = kinds_here _ (map string_bytes c.args.words.now) (λ ks. HasKind ks e) c.in_ok-command.ensures c.in_err-matches.ensures.kinds in
-    only_memory _ (IsRunOn file) (ending_of e) c.from_residual-in_err-matches.ensures.1 (memory_alone e (subst (λ (ks : List ErrorKind). HasKind ks e) asked.0 kinds))
+    only_memory _ (IsRunOn file workers) (ending_of e) c.from_residual-in_err-matches.ensures.1 (memory_alone e (subst (λ (ks : List ErrorKind). HasKind ks e) asked.0 kinds))
 
 pub returns-in_err-matches-clause-decode : goal.returns-in_err-matches-clause-decode
 returns-in_err-matches-clause-decode c = λ word asked.

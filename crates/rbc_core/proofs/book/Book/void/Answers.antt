@@ -1,5 +1,4 @@
 use Rattle.std.proofs.Common.{◌-◌, refl, ap}
-use Rattle.rbc_core.specs.declared.stage.Stage.TheVariants.{Void}
 use Rattle.rbc_core.specs.Books.{state_of}
 use Rattle.rbc_core.proofs.Books.{keeps, voids}
 use Rattle.rbc_core.proofs.book.Book.void.Goals as goal
@@ -9,7 +8,7 @@ invariant_of-self g c =
     let i = c.self.invariant in
     let out = c.if-not-is_out.ensures.0 refl in
     let turn = i.1.stages (c.args.number - 1) _ out.1 in
-    (i.0, keeps _ _ _ Void i.1 (turn.0, turn.1))
+    (i.0, keeps _ _ _ _ i.1 (turn.0, turn.1))
 
 pub returns : goal.returns
 returns g c = voids g.N.RunName.run _ _ c.args.number (ap state_of c.self.view_is) c.self.invariant.1 (c.if-not-is_out.ensures.0 refl)

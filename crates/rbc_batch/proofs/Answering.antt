@@ -1,0 +1,46 @@
+-- A run from a new desk, and what is written of it.
+use Rattle.std.proofs.Common.{◌≡◌, ℕ, ◌≤◌, List, [], length, take, Option, Ok, Err, ap, ◌∙◌, subst, arith}
+use Rattle.std.specs.Io.KnownBytes.{Appends}
+use Rattle.std.proofs.lemmas.List.{take_all}
+use Rattle.rbc_track.specs.Plan.{Plan}
+use Rattle.rbc_rule.specs.declared.input.Input.{Input}
+use Rattle.rbc_rule.specs.declared.outcome.Reply.{Reply}
+use Rattle.rbc_core.specs.declared.book.Stats.{Stats}
+use Rattle.rbc_core.specs.declared.outbox.Mail.{Mail}
+use Rattle.rbc_core.specs.Serial.{serial, new_desk}
+use Rattle.rbc_core.specs.Held.{Held, Holds, standing}
+use Rattle.rbc_core.specs.SaidMails.{AreSaidMails}
+use Rattle.rbc_engine.specs.declared.workers.RunError.{RunError}
+use Rattle.rbc_engine.specs.declared.workers.RunError.TheVariants.{Workers, TooManyInputs, OutOfMemory}
+use Rattle.rbc_engine.specs.Answers.{IsRun}
+use Rattle.rbc_batch.specs.declared.batch.ProcessError.TheVariants as fault
+use Rattle.rbc_batch.specs.OutputText.{output_of}
+use Rattle.rbc_batch.specs.Process.{AreRead, Answers, IsRunOf, text_of}
+
+-- it came to its end
+pub ran : (plan : Plan) (held new : Held) (inputs : List Input) (workers : ℕ) (stats : Stats) → Holds plan (standing held) new_desk
+    → IsRun (record { track = plan; opening = held; inputs = inputs }) workers (Ok stats) new → IsRunOf plan inputs workers (Ok (new, stats))
+ran plan held new inputs workers stats opening h =
+    let all : take (length inputs) inputs ≡ inputs = take_all (length inputs) inputs (omega arith) in
+    let is : Holds plan (standing new) (serial plan new_desk inputs) = subst (λ (xs : List Input). Holds plan (standing new) (serial plan new_desk xs)) all (h.2.0.0 new_desk opening) in
+    let said = subst (λ (xs : List Input). AreSaidMails plan new_desk xs held.outboxes new.outboxes) all (h.2.0.1 new_desk opening) in
+    let said_new = subst (λ (boxes : List (ℕ × List Mail)). AreSaidMails plan new_desk inputs boxes new.outboxes) opening.outboxes said in
+    (h.0, h.1.0, is, subst (λ (boxes : List (ℕ × List Mail)). AreSaidMails plan new_desk inputs [] boxes) is.outboxes said_new, (h.2.1, h.2.2))
+
+-- it was refused, or memory was refused
+pub ran_not : (plan : Plan) (held new : Held) (inputs : List Input) (workers : ℕ) (error : RunError) → Holds plan (standing held) new_desk
+    → IsRun (record { track = plan; opening = held; inputs = inputs }) workers (Err error) new → IsRunOf plan inputs workers (Err error)
+ran_not plan held new inputs workers Workers opening h = h.0
+ran_not plan held new inputs workers TooManyInputs opening h =
+    let none : length held.results ≡ 0 = ap (λ (xs : List Reply). length xs) opening.results in
+    (h.0, λ few. h.1 (few, omega (arith, few, none)))
+ran_not plan held new inputs workers (OutOfMemory committed) opening h = (h.0, h.1.0, h.2.1)
+
+-- the first bytes of the text are out
+pub wrote_part : (plan : Plan) (workers : ℕ) (read_old read_new old new : Option (List ℕ)) (inputs : List Input) (held : Held) (stats : Stats) (text : List ℕ) (sent : ℕ)
+    → AreRead read_old read_new inputs → IsRunOf plan inputs workers (Ok (held, stats)) → text ≡ output_of held.results held.outboxes → sent ≤ length text → Appends old new (take sent text)
+    → Answers plan workers read_old read_new old new (Err (fault.Write sent))
+wrote_part plan workers read_old read_new old new inputs held stats text sent read ran is few out =
+    let desk = serial plan new_desk inputs in
+    let same : text ≡ text_of plan inputs = is ∙ (ap (λ (xs : List Reply). output_of xs held.outboxes) ran.2.results ∙ ap (λ (boxes : List (ℕ × List Mail)). output_of desk.results boxes) ran.2.outboxes) in
+    (inputs, read, ran.0, ran.1, subst (λ (t : List ℕ). sent ≤ length t) same few, subst (λ (t : List ℕ). Appends old new (take sent t)) same out, ran.3)

@@ -1,0 +1,4 @@
+mod Ends
+mod Findings
+mod Forms
+mod WitnessWords

@@ -1,0 +1,56 @@
+-- What a run by several workers leaves (own rule).
+use Rattle.std.specs.Prelude.{◌≡◌, ℕ, ◌+◌, ◌≤◌, List, ◌++◌, codes, length, Result, Ok, Err}
+use Rattle.std.specs.Fmt.{decimal}
+use Rattle.rbc_track.specs.Plan.{Plan}
+use Rattle.rbc_core.specs.declared.book.Stats.{Stats}
+use Rattle.rbc_core.specs.Serial.{Desk}
+use Rattle.rbc_core.specs.Held.{Held, Holds, standing, max_results}
+use Rattle.rbc_core.specs.Runs.{Run, IsSerialRun}
+use Rattle.rbc_core.specs.SaidMails.{IsSaidSince}
+use Rattle.rbc_engine.specs.declared.workers.RunError.{RunError}
+use Rattle.rbc_engine.specs.declared.workers.RunError.TheVariants.{Workers, TooManyInputs, OutOfMemory}
+
+-- at most so many workers
+abbrev pub max_workers : ℕ
+max_workers = 16
+
+-- at most so many inputs in one run
+abbrev pub max_inputs : ℕ
+max_inputs = 100000
+
+-- a run on this track can begin from what is held: it is a desk of the rules, with a well-formed world
+abbrev pub IsOpening : Plan → Held → Type 0
+IsOpening track held = (desk : Desk) × Holds track (standing held) desk
+
+-- so many can work
+abbrev pub MayWork : ℕ → Type 0
+MayWork workers = (1 ≤ workers) × (workers ≤ max_workers)
+
+-- the inputs are not too many, and there is room for their results
+abbrev pub AreFew : Run → Type 0
+AreFew run = (length run.inputs ≤ max_inputs) × (length run.opening.results + length run.inputs ≤ max_results)
+
+-- what is held is the desk of the rules applied to so many first inputs, one after another, and each mail that it has more than before
+-- says what the rules give its train
+abbrev pub IsDeskAfter : Run → ℕ → Held → Type 0
+IsDeskAfter run count held = IsSerialRun run count (standing held) × IsSaidSince run count held.outboxes
+
+-- what a run that was not refused leaves: every input is done, or memory was refused after the first of them
+abbrev pub IsFinished : Run → Result Stats RunError → Held → Type 0
+IsFinished run (Ok stats) new = IsDeskAfter run (length run.inputs) new × (stats.taken ≡ length run.inputs) × (stats.recomputed ≤ stats.taken)
+IsFinished run (Err (OutOfMemory committed)) new = IsDeskAfter run committed new × (committed ≤ length run.inputs)
+IsFinished run (Err Workers) new = ⊥
+IsFinished run (Err TooManyInputs) new = ⊥
+
+-- what a run by so many workers leaves, by its answer: refused for the workers, refused for the inputs, or not refused
+abbrev pub IsRun : Run → ℕ → Result Stats RunError → Held → Type 0
+IsRun run workers (Ok stats) new = MayWork workers × AreFew run × IsFinished run (Ok stats) new
+IsRun run workers (Err Workers) new = ¬ (MayWork workers) × (new ≡ run.opening)
+IsRun run workers (Err TooManyInputs) new = MayWork workers × ¬ (AreFew run) × (new ≡ run.opening)
+IsRun run workers (Err (OutOfMemory committed)) new = MayWork workers × AreFew run × IsFinished run (Err (OutOfMemory committed)) new
+
+-- the text of a fault
+abbrev pub fault_text : RunError → List ℕ
+fault_text Workers = codes "workers must be 1 to 16"
+fault_text TooManyInputs = codes "too many inputs"
+fault_text (OutOfMemory committed) = codes "out of memory after " ++ decimal committed ++ codes " inputs"

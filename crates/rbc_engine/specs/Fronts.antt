@@ -1,0 +1,27 @@
+-- The next input of a book that no worker has any more.
+use Rattle.std.specs.Prelude.{◌≡◌, ◌+◌, ◌<◌, false, length}
+use Rattle.rbc_core.specs.declared.book.Commit.{Commit}
+use Rattle.rbc_core.specs.declared.book.Commit.TheVariants.{Applied, Recomputed, NotReady, Done, Failed}
+use Rattle.rbc_core.specs.declared.stage.Stage.TheVariants.{Void}
+use Rattle.rbc_core.specs.Runs.{Run}
+use Rattle.rbc_core.specs.Core.{State, IsAt, IsReady, front}
+use Rattle.rbc_core.specs.Books.{IsBook}
+
+-- there is a next input, and it is neither attempted nor given up
+pub record IsWaiting (run : Run) (s : State) : Type 0 where
+  pub book : IsBook run s
+  pub unclosed : s.closed ≡ false
+  pub more : s.committed < length run.inputs
+  pub unready : ¬ (IsReady s)
+
+-- it is given up, and still the next
+abbrev pub IsGivenUp : State → State → Type 0
+IsGivenUp s t = (t.closed ≡ false) × (t.committed ≡ s.committed) × IsAt t (front t) Void
+
+-- the next input is committed, there is none, or memory was refused
+abbrev pub IsNext : Run → State → Commit → State → Type 0
+IsNext run s Applied t = (s.committed < length run.inputs) × (t.committed ≡ s.committed + 1)
+IsNext run s Recomputed t = (s.committed < length run.inputs) × (t.committed ≡ s.committed + 1)
+IsNext run s NotReady t = ⊥
+IsNext run s Done t = t.committed ≡ length run.inputs
+IsNext run s Failed t = Unit

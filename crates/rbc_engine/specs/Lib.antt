@@ -1,0 +1,4 @@
+pub mod Reading
+pub mod Facts
+pub mod Fronts
+pub mod Answers

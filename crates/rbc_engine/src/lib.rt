@@ -1,0 +1,11 @@
+//! Workers that attempt many inputs of a run at once. What they leave is as if one had done the inputs one after another.
+#![tactic(auto)]
+
+mod gate;
+mod job;
+mod recorder;
+mod workers;
+
+pub use gate::{Gate, OpenGate};
+pub use recorder::Recorder;
+pub use workers::{MAX_INPUTS, MAX_WORKERS, RunError, run};

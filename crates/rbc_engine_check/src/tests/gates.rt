@@ -1,0 +1,80 @@
+//! A gate that holds a worker.
+
+use rbc_engine::Gate;
+use rbc_records::Key;
+use std::sync::atomic::{AtomicBool, Ordering};
+use std::thread;
+use std::time::{Clock, Duration};
+
+/// How many milliseconds a worker is held at most.
+const TURNS: u32 = 10_000;
+
+/// A moment in the attempt at an input, by the number of the input.
+#[derive(Clone, Copy, Debug, PartialEq, Eq)]
+pub(super) enum Moment {
+    BeforeRule(u32),
+    BeforeDeposit(u32),
+    AfterDeposit(u32),
+}
+
+/// Holds the worker that comes to one moment until some worker has come to another one, but not for ever.
+#[derive(Drop)]
+pub(super) struct Hold<'a, R> {
+    rt: &'a R,
+    held: Moment,
+    until: Moment,
+    has_come: AtomicBool,
+    was_late: AtomicBool,
+}
+
+impl<'a, R: Clock> Hold<'a, R> {
+    pub(super) fn new(rt: &'a R, held: Moment, until: Moment) -> Self {
+        Hold {
+            rt,
+            held,
+            until,
+            has_come: AtomicBool::new(false),
+            was_late: AtomicBool::new(false),
+        }
+    }
+
+    /// Whether both moments came, and the second in time.
+    pub(super) fn was_passed(&self) -> bool {
+        self.has_come.load(Ordering::SeqCst) && !self.was_late.load(Ordering::SeqCst)
+    }
+
+    fn wait(&self) {
+        for _ in 0..TURNS {
+            if self.has_come.load(Ordering::SeqCst) {
+                return;
+            }
+            thread::sleep(self.rt, Duration::from_millis(1));
+        }
+        self.was_late.store(true, Ordering::SeqCst);
+    }
+
+    fn pass(&self, moment: Moment) {
+        if moment == self.until {
+            self.has_come.store(true, Ordering::SeqCst);
+        }
+        if moment == self.held {
+            self.wait();
+        }
+    }
+}
+
+impl<'a, R: Clock> Gate for Hold<'a, R> {
+    fn before_rule(&self, input: u32) {
+        self.pass(Moment::BeforeRule(input));
+    }
+
+    fn after_read(&self, _input: u32, _key: Key) {}
+
+    fn before_deposit(&self, input: u32) {
+        self.pass(Moment::BeforeDeposit(input));
+    }
+
+    fn after_deposit(&self, input: u32) {
+        self.pass(Moment::AfterDeposit(input));
+    }
+}

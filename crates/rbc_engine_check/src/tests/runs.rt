@@ -1,0 +1,248 @@
+//! Runs by several workers. What they leave is given from outside.
+
+ghost use Rattle.rbc_engine.specs.Answers.{IsOpening};
+
+use super::gates::{Hold, Moment};
+use super::same;
+use rbc_batch::{parse_batch, process, render};
+use rbc_core::{Desk, Stats};
+use rbc_engine::{Gate, OpenGate, RunError, run};
+use rbc_track::{Track, track_from_toml};
+use std::alloc::Global;
+use std::process::Abort;
+use std::sync::Wait;
+use std::thread::Threads;
+
+/// Line 0 is 30 km long.
+const TRACK: &str = "horizon = 100000
+[[line]]
+length = 300000
+";
+
+/// One train is stopped.
+const ENROL_AND_STOP: &str = "enrol 7 2000\nstop 1 0:0-10\n";
+
+/// What it gives.
+const STOPPED: &str = "1 ok 0\n2 ok 1\n7 2 1002800000005FFFFFE0\n";
+
+fn track<R: Abort + AllocGlobal>(rt: &R) -> Track {
+    track_from_toml(rt.alloc(), TRACK).expect(rt, "a good track")
+}
+
+/// Asserts what comes of a batch, by so many workers.
+fn assert_answers<R, G>(rt: &R, batch: &str, workers: u8, gate: &G, text: &str) -> Stats
+where
+    R: Abort + AllocGlobal + Threads + Wait + Sync,
+    G: Gate + Sync,
+{
+    let mut written = Vec::new(rt.alloc());
+    let mut reader = batch.as_bytes();
+    let stats = process(rt, &track(rt), &mut reader, &mut written, workers, gate);
+    same(rt, written.as_slice(), text.as_bytes());
+    stats.expect(rt, "an output")
+}
+
+/// A new desk, from which a run on any track can begin.
+fn new_desk(alloc: Global, track: &Track) -> Desk
+    ensures { IsOpening track.now result }
+{
+    let _ = track;
+    Desk::new(alloc)
+}
+
+/// Runs the lines of a batch on a desk.
+fn run_lines<R, G>(
+    rt: &R,
+    track: &Track,
+    desk: &mut Desk,
+    batch: &str,
+    workers: u8,
+    gate: &G,
+) -> Result<Stats, RunError>
+where
+    R: Abort + AllocGlobal + Threads + Wait + Sync,
+    G: Gate + Sync,
+    requires { IsOpening track.now desk.old }
+    ensures { IsOpening track.now desk.new }
+{
+    let inputs = parse_batch(rt, batch.as_bytes()).expect(rt, "memory");
+    run(rt, track, desk, &inputs, workers, gate)
+}
+
+/// The output text of a desk.
+fn assert_desk<R: Abort + AllocGlobal>(rt: &R, desk: &Desk, text: &str) {
+    let written = render(rt.alloc(), desk).expect(rt, "memory");
+    same(rt, written.as_slice(), text.as_bytes());
+}
+
+// The second input reads what the first one writes, and is deposited before it: it is computed again.
+#[test]
+fn computes_again_what_went_stale(rt: HostRuntime) {
+    let gate = Hold::new(&rt, Moment::BeforeDeposit(1), Moment::AfterDeposit(2));
+    let stats = assert_answers(&rt, ENROL_AND_STOP, 2, &gate, STOPPED);
+    let wanted = Stats {
+        taken: 2,
+        recomputed: 1,
+    };
+    same(&rt, stats, wanted);
+    same(&rt, gate.was_passed(), true);
+}
+
+// The second enrolment is deposited after the stop, which has read that there is no such train.
+#[test]
+fn commits_in_the_order_of_the_inputs(rt: HostRuntime) {
+    let gate = Hold::new(&rt, Moment::BeforeDeposit(2), Moment::AfterDeposit(3));
+    let batch = "enrol 7 2000\nenrol 8 2000\nstop 1 0:0-10\n";
+    let text = "1 ok 0
+2 ok 0
+3 ok 2
+7 3 1002800000005FFFFFE0
+8 3 1002800000005FFFFFE0
+";
+    let stats = assert_answers(&rt, batch, 2, &gate, text);
+    same(&rt, stats.taken, 3);
+    assert!(rt; stats.recomputed == 1 || stats.recomputed == 2);
+    same(&rt, gate.was_passed(), true);
+}
+
+// Two trains acknowledge at once, and neither reads what the other writes: nothing is computed again. The run goes on from the desk that
+// an earlier one left.
+#[test]
+fn applies_what_is_apart(rt: HostRuntime) {
+    let alloc = rt.alloc();
+    let track = track(&rt);
+    let mut desk = new_desk(alloc, &track);
+    let first = "enrol 7 2000\nenrol 8 2000\nstop 1 0:0-10\nrelease 1\n";
+    let begun = run_lines(&rt, &track, &mut desk, first, 1, &OpenGate);
+    let wanted = Stats {
+        taken: 4,
+        recomputed: 0,
+    };
+    same(&rt, begun, Ok(wanted));
+    let gate = Hold::new(&rt, Moment::BeforeDeposit(1), Moment::AfterDeposit(2));
+    let second = "recv 9203800000FA000001C000000080\nrecv 9203800000FA0000020000000080\n";
+    let stats = run_lines(&rt, &track, &mut desk, second, 2, &gate);
+    let wanted = Stats {
+        taken: 2,
+        recomputed: 0,
+    };
+    same(&rt, stats, Ok(wanted));
+    same(&rt, gate.was_passed(), true);
+    let text = "1 ok 0
+2 ok 0
+3 ok 2
+4 ok 2
+5 ok 0
+6 ok 0
+7 3 1002800000005FFFFFE0
+7 4 120280000000BFFFFFE0
+8 3 1002800000005FFFFFE0
+8 4 120280000000BFFFFFE0
+";
+    assert_desk(&rt, &desk, text);
+}
+
+/// So many lines of the batch in which a train is told 16 stops, has no identifier for the last one, and gets one back.
+fn stops<R: Abort + AllocGlobal>(rt: &R, from: usize, count: usize) -> String {
+    let mut batch = String::new(rt.alloc());
+    batch.push_str("enrol 7 2000\n").expect(rt, "memory");
+    for number in 1..=16u32 {
+        writeln!(batch, "stop {number} 0:0-10").expect(rt, "memory");
+    }
+    batch
+        .push_str("release 1\nrecv 9203800000FA000001C000000400\n")
+        .expect(rt, "memory");
+    let mut part = String::new(rt.alloc());
+    for line in batch.lines().skip(from).take(count) {
+        writeln!(part, "{line}").expect(rt, "memory");
+    }
+    part
+}
+
+/// The mails of its end: the first stop is revoked, and the last one told.
+const LAST: &str = "7 16 100280000003DFFFFFFC
+7 18 1202800000043FFFFFE0
+7 19 1002800000FA5FFFFFE0
+";
+
+// A run of all lines leaves what two runs of their parts leave.
+#[test]
+fn goes_on_from_the_desk_of_an_earlier_run(rt: HostRuntime) {
+    let alloc = rt.alloc();
+    let track = track(&rt);
+    for workers in [1, 2, 16] {
+        let mut whole = new_desk(alloc, &track);
+        let stats = run_lines(
+            &rt,
+            &track,
+            &mut whole,
+            &stops(&rt, 0, 19),
+            workers,
+            &OpenGate,
+        );
+        same(&rt, stats.ok().map(|stats| stats.taken), Some(19));
+        let mut parts = new_desk(alloc, &track);
+        let first = run_lines(
+            &rt,
+            &track,
+            &mut parts,
+            &stops(&rt, 0, 9),
+            workers,
+            &OpenGate,
+        );
+        let second = run_lines(
+            &rt,
+            &track,
+            &mut parts,
+            &stops(&rt, 9, 10),
+            workers,
+            &OpenGate,
+        );
+        same(&rt, (first.is_ok(), second.is_ok()), (true, true));
+        let text = render(alloc, &whole).expect(&rt, "memory");
+        same(&rt, text.ends_with(LAST.as_bytes()), true);
+        let of_parts = render(alloc, &parts).expect(&rt, "memory");
+        same(&rt, of_parts.as_slice(), text.as_slice());
+    }
+}
+
+// One worker takes each input after all before it are committed.
+#[test]
+fn computes_nothing_twice_alone(rt: HostRuntime) {
+    let track = track(&rt);
+    let mut desk = new_desk(rt.alloc(), &track);
+    let stats = run_lines(&rt, &track, &mut desk, &stops(&rt, 0, 10), 1, &OpenGate);
+    let wanted = Stats {
+        taken: 10,
+        recomputed: 0,
+    };
+    same(&rt, stats, Ok(wanted));
+    let text = render(rt.alloc(), &desk).expect(&rt, "memory");
+    same(&rt, text.ends_with(b"7 10 1002800000025FFFFFF0\n"), true);
+    let none = run_lines(&rt, &track, &mut desk, "", 16, &OpenGate);
+    let wanted = Stats {
+        taken: 0,
+        recomputed: 0,
+    };
+    same(&rt, none, Ok(wanted));
+}
+
+// The workers are looked at before the inputs, and a refused run leaves the desk.
+#[test]
+fn refuses_too_many(rt: HostRuntime) {
+    let track = track(&rt);
+    let mut desk = new_desk(rt.alloc(), &track);
+    let begun = run_lines(&rt, &track, &mut desk, ENROL_AND_STOP, 16, &OpenGate);
+    same(&rt, begun.is_ok(), true);
+    let mut long = String::new(rt.alloc());
+    for _ in 0..100_001 {
+        long.push('\n').expect(&rt, "memory");
+    }
+    let by_none = run_lines(&rt, &track, &mut desk, &long, 0, &OpenGate);
+    same(&rt, by_none, Err(RunError::Workers));
+    let by_17 = run_lines(&rt, &track, &mut desk, &long, 17, &OpenGate);
+    same(&rt, by_17, Err(RunError::Workers));
+    let refused = run_lines(&rt, &track, &mut desk, &long, 16, &OpenGate);
+    same(&rt, refused, Err(RunError::TooManyInputs));
+    assert_desk(&rt, &desk, STOPPED);
+}
