@@ -9,11 +9,10 @@ use anyhow::{Context, Result};
 use rbc_batch::process;
 use rbc_engine::OpenGate;
 use rbc_track::{Track, track_from_toml};
-use std::env;
-use std::fs;
 use std::rt::Files;
 use std::sync::Wait;
 use std::thread::Threads;
+use std::{env, fs};
 
 /// A batch on a track, and the output that is wanted.
 #[derive(Drop)]
@@ -46,7 +45,14 @@ where
 {
     let mut written = Vec::new(rt.alloc());
     let mut reader = case.batch.as_slice();
-    let stats = process(rt, &case.track, &mut reader, &mut written, workers, &OpenGate)?;
+    let stats = process(
+        rt,
+        &case.track,
+        &mut reader,
+        &mut written,
+        workers,
+        &OpenGate,
+    )?;
     Ok(Tally {
         is_right: tally.is_right && written.as_slice() == case.wanted.as_slice(),
         recomputed: tally.recomputed.saturating_add(u64::from(stats.recomputed)),
