@@ -16,5 +16,7 @@ pub mod Stamps
 pub mod Keeps
 pub mod NothingLeft
 pub mod NumberLists
+pub mod NumberCopies
+pub mod Merging
 pub mod Judging
 pub mod WitnessTrains

@@ -17,12 +17,12 @@ and_true : (a b : Bool) → a ≡ true → (a && b) ≡ b
 and_true true b e = refl
 and_true false b e = absurd (let bad : false ≡ true = e in cc)
 
-rising : (least x : ℕ) (xs : List ℕ) → rises_from least (x ∷ xs) ≡ true → (least ≤ x) × (rises_from (x + 1) xs ≡ true)
+pub rising : (least x : ℕ) (xs : List ℕ) → rises_from least (x ∷ xs) ≡ true → (least ≤ x) × (rises_from (x + 1) xs ≡ true)
 rising least x xs rises =
     let parts = and_parts (leb least x) (rises_from (x + 1) xs) rises in
     (leb-true least x parts.0, parts.1)
 
-rises-cons : (least x : ℕ) (xs : List ℕ) → least ≤ x → rises_from (x + 1) xs ≡ true → rises_from least (x ∷ xs) ≡ true
+pub rises-cons : (least x : ℕ) (xs : List ℕ) → least ≤ x → rises_from (x + 1) xs ≡ true → rises_from least (x ∷ xs) ≡ true
 rises-cons least x xs above rises = and_from (leb least x) (rises_from (x + 1) xs) (le-leb least x above) rises
 
 -- each number is at or above the lower bound

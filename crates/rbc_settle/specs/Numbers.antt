@@ -1,5 +1,5 @@
 -- Ascending lists of numbers, each of them once (own rule).
-use Rattle.std.specs.Prelude.{ℕ, Bool, ◌==◌, not, nat_lt, if◌then◌else◌, List, [], ◌∷◌, IsTrue}
+use Rattle.std.specs.Prelude.{ℕ, Bool, ◌≡◌, ◌==◌, ◌||◌, not, nat_lt, if◌then◌else◌, List, [], ◌∷◌, IsTrue}
 use Rattle.std.specs.List.{list_any, filter}
 use Rattle.rbc_maps.specs.Maps.{rises_from}
 
@@ -19,3 +19,7 @@ with_number n (first ∷ rest) = if nat_lt n first then n ∷ first ∷ rest els
 -- the list without a number
 abbrev pub without_number : ℕ → List ℕ → List ℕ
 without_number n numbers = filter (λ other. not (other == n)) numbers
+
+-- a list has the numbers of both lists, and no other
+abbrev pub IsUnion : List ℕ → List ℕ → List ℕ → Type 0
+IsUnion both one other = (n : ℕ) → has_number both n ≡ has_number one n || has_number other n

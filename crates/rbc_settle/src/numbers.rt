@@ -1,8 +1,8 @@
 //! Ascending lists of numbers.
 
-ghost use Rattle.std.specs.Prelude.{◌≡◌, ◌↔◌, ◌<◌, nat_le, false, [], length, Some, IsTrue, IfOk, OnOk, OnErr, slice_get};
+ghost use Rattle.std.specs.Prelude.{◌≡◌, ◌↔◌, ◌<◌, ◌≤◌, ◌+◌, nat_le, false, [], length, Some, IsTrue, IfOk, OnOk, OnErr, slice_get};
 ghost use Rattle.std.specs.List.{position_or_len};
-ghost use Rattle.rbc_settle.specs.Numbers.{AreNumbers, has_number, with_number, without_number};
+ghost use Rattle.rbc_settle.specs.Numbers.{AreNumbers, has_number, with_number, without_number, IsUnion};
 
 use std::alloc::{AllocError, Global};
 use std::marker::Model;
@@ -98,6 +98,59 @@ impl Numbers {
         Ok(Numbers {
             all: Vec::from_slice(alloc, self.all.as_slice())?,
         })
+    }
+
+    /// Copies the list with one more number, which the list must not have; fails only for lack of
+    /// memory. The copy takes memory once, and only for its numbers.
+    pub fn copy_with(&self, alloc: Global, n: u32) -> Result<Self, AllocError>
+        requires { has_number self.now n ≡ false }
+        ensures { IfOk result (λ copy. copy ≡ with_number n self.now) }
+    {
+        let at = self.index_of(n);
+        let mut all = Vec::with_capacity(alloc, self.all.len() + 1)?;
+        all.extend_from_slice(&self.all[..at])?;
+        all.push(n)?;
+        all.extend_from_slice(&self.all[at..])?;
+        Ok(Numbers { all })
+    }
+
+    /// Copies the list without a number, which it may lack; fails only for lack of memory. The copy
+    /// takes memory once, and only for its numbers.
+    pub fn copy_without(&self, alloc: Global, n: u32) -> Result<Self, AllocError>
+        ensures { IfOk result (λ copy. copy ≡ without_number n self.now) }
+    {
+        if !self.has(n) {
+            return self.copy(alloc);
+        }
+        let at = self.index_of(n);
+        let mut all = Vec::with_capacity(alloc, self.all.len() - 1)?;
+        all.extend_from_slice(&self.all[..at])?;
+        all.extend_from_slice(&self.all[at + 1..])?;
+        Ok(Numbers { all })
+    }
+
+    /// Makes the list of the numbers of both lists; fails only for lack of memory. It takes memory
+    /// once, for as many numbers as both lists have together, and time by their lengths.
+    pub fn union(&self, alloc: Global, other: &Self) -> Result<Self, AllocError>
+        ensures union { IfOk result (λ both. IsUnion both self.now other.now) }
+        ensures few { IfOk result (λ both. length both ≤ length self.now + length other.now) }
+        ensures sound { IfOk result (λ both. AreNumbers both) }
+    {
+        let mut all = Vec::with_capacity(alloc, self.all.len() + other.all.len())?;
+        let (mut i, mut j) = (0, 0);
+        while i < self.all.len() && j < other.all.len() {
+            let (ours, theirs) = (self.all[i], other.all[j]);
+            all.push(ours.min(theirs))?;
+            if ours <= theirs {
+                i += 1;
+            }
+            if theirs <= ours {
+                j += 1;
+            }
+        }
+        all.extend_from_slice(&self.all[i..])?;
+        all.extend_from_slice(&other.all[j..])?;
+        Ok(Numbers { all })
     }
 
     /// Whether both lists have the same numbers. Takes no memory.

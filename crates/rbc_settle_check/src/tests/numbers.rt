@@ -97,3 +97,92 @@ fn a_copy_stays_as_it_was(rt: HostRuntime) -> Result<(), Fail> {
     assert_numbers(&rt, &copy, &[1, 3, 5, 9]);
     Ok(())
 }
+
+/// Asserts which numbers a copy of a list with one more number has, which the list must not have.
+fn assert_copy_with(
+    rt: &impl Abort,
+    alloc: Global,
+    numbers: &Numbers,
+    n: u32,
+    want: &[u32],
+) -> Result<(), Fail> {
+    assert!(rt; !numbers.has(n));
+    assert_numbers(rt, &numbers.copy_with(alloc, n)?, want);
+    Ok(())
+}
+
+#[test]
+fn a_copy_has_one_number_more(rt: HostRuntime) -> Result<(), Fail> {
+    let numbers = four(&rt, rt.alloc())?;
+    for (n, want) in [
+        (0, [0, 1, 3, 5, 9]),
+        (2, [1, 2, 3, 5, 9]),
+        (8, [1, 3, 5, 8, 9]),
+        (u32::MAX, [1, 3, 5, 9, u32::MAX]),
+    ] {
+        assert_copy_with(&rt, rt.alloc(), &numbers, n, &want)?;
+    }
+    assert_copy_with(&rt, rt.alloc(), &Numbers::new(rt.alloc()), 7, &[7])?;
+    assert_numbers(&rt, &numbers, &[1, 3, 5, 9]);
+    Ok(())
+}
+
+/// Asserts which numbers a copy of 1, 3, 5 and 9 without one of them has.
+fn assert_copy_without(rt: &impl Abort, alloc: Global, n: u32, want: &[u32]) -> Result<(), Fail> {
+    let numbers = four(rt, alloc)?;
+    assert_numbers(rt, &numbers.copy_without(alloc, n)?, want);
+    assert_numbers(rt, &numbers, &[1, 3, 5, 9]);
+    Ok(())
+}
+
+#[test]
+fn a_copy_lacks_a_number(rt: HostRuntime) -> Result<(), Fail> {
+    for (n, want) in [(1, [3, 5, 9]), (3, [1, 5, 9]), (9, [1, 3, 5])] {
+        assert_copy_without(&rt, rt.alloc(), n, &want)?;
+    }
+    for n in [0, 4, 10] {
+        assert_copy_without(&rt, rt.alloc(), n, &[1, 3, 5, 9])?;
+    }
+    Ok(())
+}
+
+/// Makes a list of some numbers.
+fn made(alloc: Global, all: &[u32]) -> Result<Numbers, AllocError> {
+    let mut numbers = Numbers::new(alloc);
+    for n in all {
+        let _ = add(&mut numbers, *n)?;
+    }
+    Ok(numbers)
+}
+
+/// Asserts which numbers the union of two lists has, in either order of them.
+fn assert_union(
+    rt: &impl Abort,
+    alloc: Global,
+    one: &[u32],
+    other: &[u32],
+    want: &[u32],
+) -> Result<(), Fail> {
+    let one = made(alloc, one)?;
+    let other = made(alloc, other)?;
+    assert_numbers(rt, &one.union(alloc, &other)?, want);
+    assert_numbers(rt, &other.union(alloc, &one)?, want);
+    Ok(())
+}
+
+#[test]
+fn a_union_has_the_numbers_of_both(rt: HostRuntime) -> Result<(), Fail> {
+    let alloc = rt.alloc();
+    assert_union(
+        &rt,
+        alloc,
+        &[1, 3, 5, 9],
+        &[3, 4, 9, 12],
+        &[1, 3, 4, 5, 9, 12],
+    )?;
+    assert_union(&rt, alloc, &[1, 3], &[1, 3], &[1, 3])?;
+    assert_union(&rt, alloc, &[2, 7], &[], &[2, 7])?;
+    assert_union(&rt, alloc, &[], &[], &[])?;
+    assert_union(&rt, alloc, &[0, 8], &[5, u32::MAX], &[0, 5, 8, u32::MAX])?;
+    assert_union(&rt, alloc, &[1, 2], &[3, 4], &[1, 2, 3, 4])
+}
