@@ -1,19 +1,11 @@
 -- Notes that grow at their end, and what is looked up in them.
-use Rattle.std.proofs.Common.{◌≡◌, refl, sym, ap, ◌∙◌, List, [], ◌∷◌, ◌++◌, Option, Some, None, is_some, Bool, true, false, ◌||◌, cond, arith}
-use Rattle.std.proofs.lemmas.Bool.Decides.{nat_tests}
+use Rattle.std.proofs.Common.{◌≡◌, refl, sym, ap, ◌∙◌, List, [], ◌∷◌, ◌++◌, Option, Some, None, is_some, Bool, true, false, ◌||◌, cond}
 use Rattle.std.specs.Map.{lookup}
-use Rattle.rbc_records.proofs.Keys.{eq_is, same_key_sym}
+use Rattle.rbc_records.proofs.Keys.{eq_is, same_key_sym, same_key_own}
 use Rattle.rbc_records.specs.declared.record.Key.{Key}
-use Rattle.rbc_records.specs.declared.record.Key.TheVariants as key
 use Rattle.rbc_records.specs.declared.record.Rec.{Rec}
 use Rattle.rbc_records.specs.contracts.record.KeyPartialEq.TheImpl.{eq-value}
 use Rattle.rbc_records.specs.Notes.{Part, Learns, IsNotedOnce, note_in, is_noted, same_key}
-
-same_key_self : (k : Key) → same_key k k ≡ true
-same_key_self key.Roster = refl
-same_key_self (key.Train a) = grind (arith, nat_tests)
-same_key_self key.Stops = refl
-same_key_self key.Limits = refl
 
 noted_more : (notes : List (Key × Option Rec)) (more : Key × Option Rec) (k : Key) → is_noted notes k ≡ true → is_noted (notes ++ more ∷ []) k ≡ true
 noted_more [] more k h = cc
@@ -24,7 +16,7 @@ noted_more (note ∷ notes) more k h = by (same_key k note.0) (is_noted notes k)
     by false c h rest = rest h
 
 noted_last : (notes : List (Key × Option Rec)) (k : Key) (rec : Option Rec) → is_noted (notes ++ (k, rec) ∷ []) k ≡ true
-noted_last [] k rec = ap (λ b. b || false) (same_key_self k)
+noted_last [] k rec = ap (λ b. b || false) (same_key_own k)
 noted_last (note ∷ notes) k rec = by (same_key k note.0) (noted_last notes k rec)
   where
     by : (b : Bool) → is_noted (notes ++ (k, rec) ∷ []) k ≡ true → (b || is_noted (notes ++ (k, rec) ∷ []) k) ≡ true

@@ -1,5 +1,5 @@
 -- What is known when records are read one at a time (own rule).
-use Rattle.std.specs.Prelude.{◌≡◌, ℕ, ◌+◌, Bool, true, false, List, [], ◌∷◌, Option, Some, None, Result, Ok, Err, ◌==◌, if◌then◌else◌, IsTrue}
+use Rattle.std.specs.Prelude.{◌≡◌, ℕ, ◌+◌, Bool, true, false, List, [], ◌∷◌, Option, Some, None, Result, Ok, Err, ◌==◌, ◌&&◌, if◌then◌else◌, IsTrue}
 use Rattle.std.specs.List.{list_any, All}
 use Rattle.rbc_records.specs.declared.record.Key.{Key}
 use Rattle.rbc_records.specs.declared.record.Key.TheVariants as key
@@ -7,13 +7,18 @@ use Rattle.rbc_records.specs.declared.record.Rec.{Rec}
 use Rattle.rbc_records.specs.declared.reader.ReadFault.{ReadFault}
 use Rattle.rbc_records.specs.declared.reader.ReadFault.TheVariants as fault
 
+-- a key as its kind and its number
+abbrev pub kind_and_number : Key → ℕ × ℕ
+kind_and_number key.Roster = (0, 0)
+kind_and_number (key.Train engine) = (1, engine)
+kind_and_number key.Stops = (2, 0)
+kind_and_number key.Limits = (3, 0)
+kind_and_number (key.Line line) = (4, line)
+kind_and_number key.Unplaced = (5, 0)
+
 -- whether two keys are the same
 abbrev pub same_key : Key → Key → Bool
-same_key key.Roster key.Roster = true
-same_key (key.Train a) (key.Train b) = a == b
-same_key key.Stops key.Stops = true
-same_key key.Limits key.Limits = true
-same_key _ _ = false
+same_key a b = (kind_and_number a).0 == (kind_and_number b).0 && (kind_and_number a).1 == (kind_and_number b).1
 
 -- either all records, so that every key is known; or what was read under some keys, a record or that there is none
 pub data Notes : Type 0 where

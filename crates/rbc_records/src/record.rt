@@ -17,12 +17,16 @@ pub enum Key {
     Stops,
     /// The temporary speed restrictions.
     Limits,
+    /// The engines of the trains that are placed on the line with this number.
+    Line(u8),
+    /// The engines of the trains that have no place.
+    Unplaced,
 }
 
 /// A record.
 #[derive(Debug, Drop)]
 pub enum Rec {
-    /// The numbers of the enrolled engines, ascending.
+    /// Numbers of engines, ascending.
     Engines(Numbers),
     /// What is known of one train.
     Train(TrainRec),

@@ -9,11 +9,13 @@ use std::process::Abort;
 use std::test::Fail;
 
 /// The keys that are noted, in turn, and whether there was a record.
-const READ: [(Key, bool); 4] = [
+const READ: [(Key, bool); 6] = [
     (Key::Train(9), false),
     (Key::Roster, true),
     (Key::Train(7), true),
     (Key::Limits, false),
+    (Key::Line(3), true),
+    (Key::Unplaced, false),
 ];
 
 /// Notes what was read under a key for the first time.
@@ -23,15 +25,19 @@ fn note(rt: &impl Abort, notes: &mut Notes, key: Key, rec: Option<Rec>) -> Resul
     Ok(())
 }
 
-/// Notes of engines 7 and 9, of train 7 with stamp 20, that there is no train 9 and that there are no restrictions.
+/// Notes of engines 7 and 9, of train 7 with stamp 20 and of engine 9 on line 3; and that there are
+/// no train 9, no restrictions and no list of engines without a place.
 fn noted(rt: &impl Abort, alloc: Global) -> Result<Notes, Fail> {
     let mut notes = Notes::new(alloc);
     note(rt, &mut notes, Key::Train(9), None)?;
-    let engines = engines(alloc, &[7, 9])?;
-    note(rt, &mut notes, Key::Roster, Some(engines))?;
+    let enrolled = engines(alloc, &[7, 9])?;
+    note(rt, &mut notes, Key::Roster, Some(enrolled))?;
     let train = train(alloc, 7, 20)?;
     note(rt, &mut notes, Key::Train(7), Some(train))?;
     note(rt, &mut notes, Key::Limits, None)?;
+    let on_line = engines(alloc, &[9])?;
+    note(rt, &mut notes, Key::Line(3), Some(on_line))?;
+    note(rt, &mut notes, Key::Unplaced, None)?;
     Ok(notes)
 }
 
@@ -61,6 +67,7 @@ fn notes_stand_in_the_order_of_reading(rt: HostRuntime) -> Result<(), Fail> {
     same(&rt, at(&notes, READ.len()), None);
     same(&rt, under(&notes, Key::Stops), None);
     same(&rt, under(&notes, Key::Train(8)), None);
+    same(&rt, under(&notes, Key::Line(4)), None);
     Ok(())
 }
 
@@ -72,7 +79,9 @@ fn each_note_is_what_was_read(rt: HostRuntime) -> Result<(), Fail> {
     let train = notes.get(Key::Train(7)).expect(&rt, "train 7");
     let train = train_in(train).expect(&rt, "a train");
     same(&rt, (train.engine, train.stamp), (7, 20));
-    assert!(rt; notes.len() == 4);
+    let on_line = notes.get(Key::Line(3)).expect(&rt, "line 3");
+    assert_engines(&rt, on_line, &[9]);
+    assert!(rt; notes.len() == READ.len());
     assert_engines(&rt, notes.at(1).1, &[7, 9]);
     let train = train_in(notes.at(2).1).expect(&rt, "a train");
     same(&rt, (train.engine, train.stamp), (7, 20));
@@ -89,16 +98,19 @@ fn nothing_is_noted_at_first(rt: HostRuntime) -> Result<(), Fail> {
     Ok(())
 }
 
-/// The record of engines, or that of a train with a stamp; none without a stamp.
+/// The record of engines, that of an engine on a line, or that of a train with a stamp; none without
+/// a stamp.
 fn record(alloc: Global, key: Key, stamp: Option<u32>) -> Result<Option<Rec>, Fail> {
     match (key, stamp) {
         (_, None) => Ok(None),
         (Key::Train(engine), Some(stamp)) => Ok(Some(train(alloc, engine, stamp)?)),
+        (Key::Line(_), _) => Ok(Some(engines(alloc, &[9])?)),
         _ => Ok(Some(engines(alloc, &[7, 9])?)),
     }
 }
 
-// a train that was not there has come and gone, a train that was there has another stamp, and then is gone
+// the engine on line 3 comes after the same one on line 4; a list and a train that were not there have
+// come and gone; a train that was there has another stamp, and then is gone
 #[test]
 fn notes_agree_with_a_store_that_has_what_was_read(rt: HostRuntime) -> Result<(), Fail> {
     let alloc = rt.alloc();
@@ -108,7 +120,11 @@ fn notes_agree_with_a_store_that_has_what_was_read(rt: HostRuntime) -> Result<()
     same(&rt, Notes::new(alloc).agree_with(&store), true);
     for (key, stamp, wanted) in [
         (Key::Roster, Some(0), false),
-        (Key::Train(7), Some(20), true),
+        (Key::Train(7), Some(20), false),
+        (Key::Line(4), Some(0), false),
+        (Key::Line(3), Some(0), true),
+        (Key::Unplaced, Some(0), false),
+        (Key::Unplaced, None, true),
         (Key::Train(8), Some(20), true),
         (Key::Train(9), Some(20), false),
         (Key::Train(9), None, true),

@@ -11,13 +11,16 @@ use std::alloc::Global;
 use std::process::Abort;
 use std::test::Fail;
 
-/// A key of each kind, and the least and the greatest of a train.
-const KEYS: [Key; 5] = [
+/// A key of each kind, and the least and the greatest of a train and of a line.
+const KEYS: [Key; 8] = [
     Key::Roster,
     Key::Train(0),
     Key::Train(u32::MAX),
     Key::Stops,
     Key::Limits,
+    Key::Line(0),
+    Key::Line(u8::MAX),
+    Key::Unplaced,
 ];
 
 /// Does one write.
@@ -34,7 +37,8 @@ pub(super) fn write(
     Ok(())
 }
 
-/// A store of engines 1 and 2, of both trains with stamps 10 and 20, of stop 8 and of restriction 9.
+/// A store of engines 1 and 2, of both trains with stamps 10 and 20, of stop 8, of restriction 9, of
+/// engine 1 on line 3, of engine 2 on line 4, and of a list of no engines without a place.
 fn full(rt: &impl Abort, alloc: Global) -> Result<PlainStore, Fail> {
     let mut writes = Writes::new(alloc);
     writes.set(Key::Train(1), Some(train(alloc, 1, 10)?))?;
@@ -42,6 +46,9 @@ fn full(rt: &impl Abort, alloc: Global) -> Result<PlainStore, Fail> {
     writes.set(Key::Train(2), Some(train(alloc, 2, 20)?))?;
     writes.set(Key::Limits, Some(limits(rt, alloc, &[9])?))?;
     writes.set(Key::Roster, Some(engines(alloc, &[1, 2])?))?;
+    writes.set(Key::Line(3), Some(engines(alloc, &[1])?))?;
+    writes.set(Key::Unplaced, Some(engines(alloc, &[])?))?;
+    writes.set(Key::Line(4), Some(engines(alloc, &[2])?))?;
     let mut store = PlainStore::new(alloc);
     assert!(rt; apply(&mut store, writes).is_ok());
     Ok(store)
@@ -66,6 +73,9 @@ fn last_limit(store: &PlainStore) -> Option<u32> {
 /// Asserts what is in the full store apart from its first train.
 fn assert_others(rt: &impl Abort, store: &PlainStore) {
     assert_engines(rt, store.get(Key::Roster), &[1, 2]);
+    assert_engines(rt, store.get(Key::Line(3)), &[1]);
+    assert_engines(rt, store.get(Key::Line(4)), &[2]);
+    assert_engines(rt, store.get(Key::Unplaced), &[]);
     same(rt, stamp(store, 2), Some((2, 20)));
     same(rt, stamp(store, 3), None);
     same(rt, last_stop(store), Some(8));
@@ -91,7 +101,8 @@ fn an_empty_store_has_nothing(rt: HostRuntime) -> Result<(), Fail> {
     Ok(())
 }
 
-// a removal, one of what is not there any more, and a new record: each changes what is under its key, and nothing else
+// a removal, one of what is not there any more, and a new record: each changes what is under its key,
+// and nothing else; so does a removal of what is kept of a line beside another
 #[test]
 fn a_write_changes_its_key_alone(rt: HostRuntime) -> Result<(), Fail> {
     let mut store = full(&rt, rt.alloc())?;
@@ -105,10 +116,13 @@ fn a_write_changes_its_key_alone(rt: HostRuntime) -> Result<(), Fail> {
     write(&rt, rt.alloc(), &mut store, Key::Train(1), Some(rec))?;
     same(&rt, stamp(&store, 1), Some((1, 11)));
     assert_others(&rt, &store);
+    write(&rt, rt.alloc(), &mut store, Key::Line(4), None)?;
+    assert!(rt; store.get(Key::Line(4)).is_none());
+    assert_engines(&rt, store.get(Key::Line(3)), &[1]);
     Ok(())
 }
 
-// one of each kind, a second train, and a key without a record: none is the same as another
+// one of each kind, a second train, a second line, and a key without a record: none is the same as another
 #[test]
 fn a_record_is_the_same_as_itself_alone(rt: HostRuntime) -> Result<(), Fail> {
     let store = full(&rt, rt.alloc())?;
@@ -119,6 +133,9 @@ fn a_record_is_the_same_as_itself_alone(rt: HostRuntime) -> Result<(), Fail> {
         Key::Train(3),
         Key::Stops,
         Key::Limits,
+        Key::Line(3),
+        Key::Line(4),
+        Key::Unplaced,
     ];
     for key in keys {
         for other in keys {
