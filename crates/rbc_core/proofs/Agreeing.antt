@@ -7,6 +7,7 @@ use Rattle.rbc_track.specs.Plan.{Plan}
 use Rattle.rbc_records.specs.declared.record.Key.{Key}
 use Rattle.rbc_records.specs.declared.record.Key.TheVariants as key
 use Rattle.rbc_records.specs.declared.record.Rec.{Rec}
+use Rattle.rbc_records.proofs.Keys.{same_key_is}
 use Rattle.rbc_records.specs.Notes.{Part, same_key, note_in, is_noted, AreNow}
 use Rattle.rbc_rule.specs.declared.input.Input.{Input}
 use Rattle.rbc_rule.specs.declared.outcome.Outcome.{Outcome}
@@ -18,23 +19,12 @@ use Rattle.rbc_core.specs.Runs.{Run, IsInput}
 use Rattle.rbc_core.specs.Core.{Try, IsRightTry}
 use Rattle.rbc_core.specs.Books.{Judges, IsOutcomeAt}
 
--- keys that pass the test are equal
-same_key-equal : (a b : Key) → same_key a b ≡ true → a ≡ b
-same_key-equal key.Roster key.Roster h = refl
-same_key-equal (key.Train a) (key.Train b) h = λ i. key.Train (equal a b h i)
-  where
-    equal : (a b : ℕ) → (a == b) ≡ true → a ≡ b
-    equal a b h = grind (arith, nat_tests)
-same_key-equal key.Stops key.Stops h = refl
-same_key-equal key.Limits key.Limits h = refl
-same_key-equal _ _ h = cc
-
 -- where each note is what stands there, a key that is noted has what was noted
 noted_now : (records : Key → Option Rec) (notes : List (Key × Option Rec)) (k : Key) → AreNow notes records → is_noted notes k ≡ true → note_in notes k ≡ records k
 noted_now records [] k now known = absurd (cc known)
 noted_now records (note ∷ notes) k now known =
     (elim (same_key k note.0) as (λ b. same_key k note.0 ≡ b → (b || is_noted notes k) ≡ true → cond b note.1 (note_in notes k) ≡ records k) [
-      | true ↦ λ is h. sym (ap records (same_key-equal k note.0 is) ∙ All-head (λ (n : Key × Option Rec). records n.0 ≡ n.1) note notes now)
+      | true ↦ λ is h. sym (ap records (same_key_is k note.0 is) ∙ All-head (λ (n : Key × Option Rec). records n.0 ≡ n.1) note notes now)
       | false ↦ λ is h. noted_now records notes k (All-tail (λ (n : Key × Option Rec). records n.0 ≡ n.1) note notes now) h
     ]) refl known
 

@@ -88,6 +88,8 @@ enrol_step = record { after = after; answer = refl; sent = λ engine. no_message
         is_seven (eqb engine 7) (new_train 7 2000 0) ∙ ap (λ b. option_map rec.Train (cond b (Some (new_train 7 2000 0)) None)) (eqb_turned engine 7)
     after key.Stops = refl
     after key.Limits = refl
+    after (key.Line line) = refl
+    after key.Unplaced = refl
 
 pub right_first : IsRightTry two_inputs first_try
 right_first = record {

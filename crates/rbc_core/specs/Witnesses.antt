@@ -28,7 +28,11 @@ two_inputs = record { track = track_a; opening = record { records = []; results 
 
 -- what the first does where nobody is enrolled and nothing was ever active, and what the second does
 abbrev pub enrolled : Outcome
-enrolled = record { result = Done 0; writes = (key.Roster, Some (rec.Engines (7 ∷ []))) ∷ (key.Train 7, Some (rec.Train (new_train 7 2000 0))) ∷ []; messages = [] }
+enrolled = record {
+  result = Done 0;
+  writes = (key.Roster, Some (rec.Engines (7 ∷ []))) ∷ (key.Train 7, Some (rec.Train (new_train 7 2000 0))) ∷ (key.Unplaced, Some (rec.Engines (7 ∷ []))) ∷ [];
+  messages = [];
+}
 
 abbrev pub refused : Outcome
 refused = record { result = Refused 1; writes = []; messages = [] }
@@ -83,7 +87,11 @@ both_tried = let s = opening two_inputs in record s { stages = Tried first_try �
 
 -- the desk with train 7 enrolled
 abbrev pub enrolled_desk : Held
-enrolled_desk = record { records = (key.Roster, rec.Engines (7 ∷ [])) ∷ (key.Train 7, rec.Train (new_train 7 2000 0)) ∷ []; results = Done 0 ∷ []; outboxes = [] }
+enrolled_desk = record {
+  records = (key.Roster, rec.Engines (7 ∷ [])) ∷ (key.Train 7, rec.Train (new_train 7 2000 0)) ∷ (key.Unplaced, rec.Engines (7 ∷ [])) ∷ [];
+  results = Done 0 ∷ [];
+  outboxes = [];
+}
 
 -- the first is committed by its attempt
 abbrev pub first_committed : State

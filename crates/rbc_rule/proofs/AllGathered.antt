@@ -159,16 +159,16 @@ module _ {V A : Type 0} (g : V → List A) where
   abbrev pub found_in : List (ℕ × V) → ℕ → List A
   found_in pairs key = option_map_or g (value_of pairs key) []
 
-  AreOwn : List (ℕ × V) → List (ℕ × V) → Type 0
+  abbrev pub AreOwn : List (ℕ × V) → List (ℕ × V) → Type 0
   AreOwn all pairs = AllByRecursion (λ pair. value_of all pair.0 ≡ Some pair.1) pairs
 
   each_found : (all pairs : List (ℕ × V)) → AreOwn all pairs → flat_map (found_in all) (keys pairs) ≡ flat_map (λ (pair : ℕ × V). g pair.1) pairs
-  unfolding AreOwn
+
   each_found all [] own = refl
   each_found all (pair ∷ pairs) own = λ i. option_map_or g (own.0 i) [] ++ each_found all pairs own.1 i
 
   own_later : (least : ℕ) (first : ℕ × V) (all pairs : List (ℕ × V)) → first.0 < least → rises_from least (keys pairs) ≡ true → AreOwn all pairs → AreOwn (first ∷ all) pairs
-  unfolding AreOwn
+
   own_later least first all [] below rises own = tt
   own_later least first all (pair ∷ pairs) below rises own =
       let parts = and_parts (leb least pair.0) (rises_from (pair.0 + 1) (keys pairs)) rises in
@@ -176,8 +176,8 @@ module _ {V A : Type 0} (g : V → List A) where
       let other : eqb first.0 pair.0 ≡ false = ne_eqb first.0 pair.0 (λ same. absurd (omega (arith, same, above, below))) in
       (ap (λ b. cond b (Some first.1) (value_of all pair.0)) other ∙ own.0, own_later (pair.0 + 1) first all pairs (omega (arith, above, below)) parts.1 own.1)
 
-  own_all : (least : ℕ) (pairs : List (ℕ × V)) → rises_from least (keys pairs) ≡ true → AreOwn pairs pairs
-  unfolding AreOwn
+  pub own_all : (least : ℕ) (pairs : List (ℕ × V)) → rises_from least (keys pairs) ≡ true → AreOwn pairs pairs
+
   own_all least [] rises = tt
   own_all least (pair ∷ pairs) rises =
       let rest = rest_rises least pair pairs rises in

@@ -1,6 +1,8 @@
 -- The step of an input that changes the stops or the restrictions: each train is settled, and one more record is written.
 use Rattle.std.proofs.Common.{◌≡◌, ℕ, suc, ◌+◌, ◌≤◌, Bool, true, false, not, cond, eqb, leb, List, [], ◌∷◌, ◌++◌, map, length, flat_map, Option, Some, None, option_map, Result, Ok, Err, All, refl, sym, ap, subst, ◌∙◌, arith, zero-add}
 use Rattle.std.specs.List.{AllByRecursion}
+use Rattle.std.specs.Option.{option_map_or}
+use Rattle.rbc_place.specs.Placing.{Place}
 use Rattle.std.proofs.lemmas.Bool.{and_parts, leb-true}
 use Rattle.std.proofs.lemmas.Bool.Decides.{nat_tests}
 use Rattle.std.proofs.lemmas.List.Elements.{recursion_from_All, All-weaker, All-head}
@@ -26,13 +28,15 @@ use Rattle.rbc_rule.specs.declared.outcome.Reply.TheVariants.{Done}
 use Rattle.rbc_rule.specs.World.{World}
 use Rattle.rbc_rule.specs.Effect.{effect, then_do, with_next, with_less, after_adding, stops_after, limits_after, after_removing, forget_all}
 use Rattle.rbc_rule.specs.Step.{settled_trains, settle_all, sent_to, count_sent}
-use Rattle.rbc_rule.specs.Records.{engines_record, record_of}
+use Rattle.rbc_rule.specs.Records.{engines_record, engines_listed, list_of, record_of}
 use Rattle.rbc_rule.specs.WellFormed.{IsGoodTrain, IsWellFormed}
 use Rattle.rbc_rule.specs.Right.{IsStep, messages_to}
-use Rattle.rbc_rule.specs.Gathered.{forgotten, is_forced_by, is_same, settled_train, write_of, sent_of, write_at, sent_at, writes_of, all_sent, settled_outcome}
+use Rattle.rbc_rule.specs.Gathered.{forgotten, is_forced_by, is_same, settled_train, write_at, sent_at, writes_of, all_sent, settled_outcome, IsEnough}
 use Rattle.rbc_rule.proofs.WorldMaps.{keys-map, value_of-map}
 use Rattle.rbc_rule.proofs.WorldSettling.{settled_same, taken}
-use Rattle.rbc_rule.proofs.AllGathered.{written-append, changed, changes_stay, changes_at, changed_records, messages_at, messages_count, each_key}
+use Rattle.rbc_rule.proofs.AllGathered.{written-append, changed, changes_stay, changes_at, changed_records, messages_at, messages_count}
+use Rattle.rbc_rule.proofs.Listed.{listed_map}
+use Rattle.rbc_rule.proofs.SettledPlaces.{settled_train_place}
 use Rattle.rbc_rule.specs.Bounds.{max_stops, max_limits}
 use Rattle.rbc_rule.specs.Codes.{code_of}
 use Rattle.rbc_rule.specs.declared.refuse.Refusal.TheVariants.{NumberUsed, BadArea, TooManyActive, NoSuchNumber}
@@ -75,7 +79,7 @@ map_twice : {A B C : Type 0} (f : A → B) (g : B → C) (pairs : List (ℕ × A
 map_twice f g [] = refl
 map_twice {C = C} f g (pair ∷ pairs) = ap (λ (rest : List (ℕ × C)). (pair.0, g (f pair.1)) ∷ rest) (map_twice f g pairs)
 
-own_engines : (plan : Plan) (w : World) → IsWellFormed plan w → AllByRecursion (λ train. train.1.engine ≡ train.0) w.trains
+pub own_engines : (plan : Plan) (w : World) → IsWellFormed plan w → AllByRecursion (λ train. train.1.engine ≡ train.0) w.trains
 own_engines plan w well =
     let P : ℕ × TrainRec → Type 0 = λ train. train.1.engine ≡ train.0 in
     let own : (train : ℕ × TrainRec) → IsGoodTrain plan w.stops w.limits train → P train = λ train h. h.engine in
@@ -93,6 +97,12 @@ module _ (plan : Plan) (stops : Stops) (limits : Limits) (released : Option ℕ)
 
   other_after : (base : Key → Option Rec) (k : Key) → ((engine : ℕ) → same_key k (key.Train engine) ≡ false) → written (writes_of plan stops limits released trains) base k ≡ base k
   other_after base k other = changes_stay (is_same plan stops limits released) (settled_train plan stops limits released) trains base k other
+
+  listed_after : (list : Key) → engines_listed list (settled_trains plan stops limits (forgotten_by released trains)) ≡ engines_listed list trains
+  listed_after list =
+      ap (engines_listed list) settles
+      ∙ listed_map (λ (train : TrainRec). same_key list (list_of train)) (settled_train plan stops limits released)
+      (λ train. ap (λ place. same_key list (option_map_or (λ (p : Place). key.Line p.line) place key.Unplaced)) (settled_train_place plan stops limits released train)) trains
 
   count_after : length (all_sent plan stops limits released trains) ≡ count_sent (sent_to plan stops limits (forgotten_by released trains))
   count_after =
@@ -146,6 +156,14 @@ module _ (plan : Plan) (input : Input) (w : World) (released : Option ℕ) (well
       after key.Limits =
           written-append (writes_of plan stops w.limits released w.trains) _ (record_of w) key.Limits
           ∙ other_after plan stops w.limits released w.trains (record_of w) key.Limits (λ engine. refl)
+      after (key.Line line) =
+          written-append (writes_of plan stops w.limits released w.trains) _ (record_of w) (key.Line line)
+          ∙ other_after plan stops w.limits released w.trains (record_of w) (key.Line line) (λ engine. refl)
+          ∙ ap engines_record (sym (listed_after plan stops w.limits released w.trains (key.Line line)))
+      after key.Unplaced =
+          written-append (writes_of plan stops w.limits released w.trains) _ (record_of w) key.Unplaced
+          ∙ other_after plan stops w.limits released w.trains (record_of w) key.Unplaced (λ engine. refl)
+          ∙ ap engines_record (sym (listed_after plan stops w.limits released w.trains key.Unplaced))
 
   -- with other restrictions
   limits_step : (limits : Limits) → outcome ≡ settled_outcome plan w.stops limits released w.trains key.Limits (rec.Limits limits)
@@ -174,6 +192,14 @@ module _ (plan : Plan) (input : Input) (w : World) (released : Option ℕ) (well
       after key.Limits =
           written-append (writes_of plan w.stops limits released w.trains) _ (record_of w) key.Limits
           ∙ ap (λ b. cond b None (Some (rec.Limits limits))) (sym above)
+      after (key.Line line) =
+          written-append (writes_of plan w.stops limits released w.trains) _ (record_of w) (key.Line line)
+          ∙ other_after plan w.stops limits released w.trains (record_of w) (key.Line line) (λ engine. refl)
+          ∙ ap engines_record (sym (listed_after plan w.stops limits released w.trains (key.Line line)))
+      after key.Unplaced =
+          written-append (writes_of plan w.stops limits released w.trains) _ (record_of w) key.Unplaced
+          ∙ other_after plan w.stops limits released w.trains (record_of w) key.Unplaced (λ engine. refl)
+          ∙ ap engines_record (sym (listed_after plan w.stops limits released w.trains key.Unplaced))
 
 -- ---- the last number is above 0
 
@@ -273,15 +299,12 @@ module _ (plan : Plan) (w : World) (number : ℕ) (old : Limits) (old_is : old �
 
 -- ---- what was gathered, by engines
 
--- the outcome of what was gathered from the trains that are enrolled, of the engines that were read
+-- the outcome of what was gathered from the trains of engines that are enough
 pub gathered_outcome : (plan : Plan) (stops : Stops) (limits : Limits) (released : Option ℕ) (w : World) (k : Key) (new : Rec) (outcome : Outcome) (made after : List (Key × Option Rec)) (sent : List Sent) (engines : List ℕ)
-    → IsWellFormed plan w
     → outcome ≡ record { result = Done (length sent); writes = after; messages = sent } → after ≡ made ++ (k, Some new) ∷ []
-    → made ≡ flat_map (write_at plan stops limits released w.trains) engines → sent ≡ flat_map (sent_at plan stops limits released w.trains) engines → engines ≡ keys w.trains
+    → made ≡ flat_map (write_at plan stops limits released w.trains) engines → sent ≡ flat_map (sent_at plan stops limits released w.trains) engines → IsEnough plan stops limits released w.trains engines
     → outcome ≡ settled_outcome plan stops limits released w.trains k new
-gathered_outcome plan stops limits released w k new outcome made after sent engines well is after_is made_is sent_is engines_are =
-    let made_now : made ≡ writes_of plan stops limits released w.trains =
-    made_is ∙ ap (flat_map (write_at plan stops limits released w.trains)) engines_are ∙ each_key (write_of plan stops limits released) w.trains well.ascending in
-    let sent_now : sent ≡ all_sent plan stops limits released w.trains =
-    sent_is ∙ ap (flat_map (sent_at plan stops limits released w.trains)) engines_are ∙ each_key (sent_of plan stops limits released) w.trains well.ascending in
+gathered_outcome plan stops limits released w k new outcome made after sent engines is after_is made_is sent_is enough =
+    let made_now : made ≡ writes_of plan stops limits released w.trains = made_is ∙ enough.writes in
+    let sent_now : sent ≡ all_sent plan stops limits released w.trains = sent_is ∙ enough.sent in
     is ∙ (λ i. record { result = Done (length (sent_now i)); writes = (after_is ∙ ap (λ xs. xs ++ (k, Some new) ∷ []) made_now) i; messages = sent_now i })

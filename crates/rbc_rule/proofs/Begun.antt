@@ -39,6 +39,21 @@ module _ {V : Type 0} where
       by false true false e = record { above = above_last old.last number e; next = refl }
       by false false c e = tt
 
+  IsGoodIfAdded : Bool → Result (Numbered V) ℕ → Type 0
+  IsGoodIfAdded is_good (Ok new) = is_good ≡ true
+  IsGoodIfAdded is_good (Err code) = Unit
+
+  -- what was added is good
+  pub adding_good : (most : ℕ) (is_good : Bool) (number : ℕ) (value : V) (old new : Numbered V) → Ok new ≡ after_adding most is_good number value old → is_good ≡ true
+  unfolding IsGoodIfAdded
+  adding_good most is_good number value old new is = subst (IsGoodIfAdded is_good) (sym is) (by (leb number old.last) is_good (leb most (length old.active)) refl)
+    where
+      by : (a b c : Bool) → is_good ≡ b → IsGoodIfAdded is_good (cond a (Err (code_of NumberUsed)) (cond b (cond c (Err (code_of TooManyActive)) (Ok (with_next number value old))) (Err (code_of BadArea))))
+      by true b c e = tt
+      by false true true e = tt
+      by false true false e = e
+      by false false c e = tt
+
   IsEnded : ℕ → Numbered V → Result (Numbered V) ℕ → Type 0
   IsEnded number old (Ok new) = new ≡ with_less number old
   IsEnded number old (Err code) = Unit
@@ -47,6 +62,19 @@ module _ {V : Type 0} where
   unfolding IsEnded
   removing_ends number old new is =
       subst (IsEnded number old) (sym is) (elim (has old.active number) as (λ b. IsEnded number old (cond b (Ok (with_less number old)) (Err (code_of NoSuchNumber)))) [ true ↦ refl | false ↦ tt ])
+
+  IsThereIfRemoved : ℕ → Numbered V → Result (Numbered V) ℕ → Type 0
+  IsThereIfRemoved number old (Ok new) = has old.active number ≡ true
+  IsThereIfRemoved number old (Err code) = Unit
+
+  -- what was removed was there
+  pub removing_there : (number : ℕ) (old new : Numbered V) → Ok new ≡ after_removing number old → has old.active number ≡ true
+  unfolding IsThereIfRemoved
+  removing_there number old new is = subst (IsThereIfRemoved number old) (sym is) (by (has old.active number) refl)
+    where
+      by : (b : Bool) → has old.active number ≡ b → IsThereIfRemoved number old (cond b (Ok (with_less number old)) (Err (code_of NoSuchNumber)))
+      by true e = e
+      by false e = tt
 
   -- ---- what is active under the number from then on
 

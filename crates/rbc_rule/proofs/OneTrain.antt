@@ -1,7 +1,8 @@
 -- The step of an input of one train: every other train is settled already.
-use Rattle.std.proofs.Common.{◌≡◌, ℕ, ◌<◌, ◌≤◌, Bool, true, false, cond, eqb, leb, List, [], ◌∷◌, length, Option, Some, None, option_map, Result, Ok, Err, refl, sym, ap, subst, ◌∙◌, arith, zero-add, max}
+use Rattle.std.proofs.Common.{◌≡◌, ◌⊎◌, ℕ, ◌<◌, ◌≤◌, ◌++◌, Bool, true, false, cond, eqb, leb, List, [], ◌∷◌, length, Option, Some, None, Result, Ok, Err, refl, sym, ap, subst, ◌∙◌, arith, zero-add, max}
 use Rattle.std.proofs.lemmas.Bool.{le-leb, eqb-true}
-use Rattle.std.specs.List.{AllByRecursion}
+use Rattle.std.specs.List.{AllByRecursion, All}
+use Rattle.std.specs.Option.{option_map_or}
 use Rattle.std.proofs.lemmas.List.Elements.{recursion_from_All, All-weaker}
 use Rattle.std.proofs.lemmas.Bool.Decides.{nat_tests}
 use Rattle.rbc_track.specs.Plan.{Plan}
@@ -12,9 +13,11 @@ use Rattle.rbc_ids.specs.declared.slot.StampAck.{StampAck}
 use Rattle.rbc_ids.specs.declared.slot.StampAck.TheVariants as stamp_ack
 use Rattle.rbc_ids.specs.declared.slot.IdAck.{IdAck}
 use Rattle.rbc_ids.specs.declared.slot.IdAck.TheVariants as id_ack
-use Rattle.rbc_maps.specs.Maps.{has, value_or, value_of, with_value, without, keys, rises_from}
+use Rattle.rbc_place.specs.Placing.{Place}
+use Rattle.rbc_maps.proofs.MapValues.{value_of-absent}
+use Rattle.rbc_maps.specs.Maps.{has, value_or, value_of, with_value, without, keys}
 use Rattle.rbc_settle.specs.declared.train.TrainRec.{TrainRec}
-use Rattle.rbc_settle.specs.Numbers.{has_number, with_number, without_number}
+use Rattle.rbc_settle.specs.Numbers.{has_number}
 use Rattle.rbc_settle.specs.Trains.{new_train}
 use Rattle.rbc_settle.specs.Settling.{Stops, Limits, settled, messages_of}
 use Rattle.rbc_records.specs.declared.record.Key.{Key}
@@ -27,50 +30,22 @@ use Rattle.rbc_rule.specs.declared.input.Input.TheVariants.{Enrol, Withdraw, Rec
 use Rattle.rbc_rule.specs.World.{World}
 use Rattle.rbc_rule.specs.Effect.{effect, unknown_stamp, is_too_high, raised, placed, limits_acked, stops_acked, acknowledged, stop_acked, answered, told_by, stamp_of, engine_of, heard, without_train, then_do, heard_from}
 use Rattle.rbc_rule.specs.Step.{settled_trains, sent_to, count_sent}
-use Rattle.rbc_rule.specs.Records.{engines_record, record_of}
+use Rattle.rbc_rule.specs.Records.{list_of, record_of}
 use Rattle.rbc_rule.specs.WellFormed.{IsGoodTrain, IsWellFormed}
-use Rattle.rbc_rule.specs.Right.{IsStep, messages_to}
+use Rattle.rbc_rule.specs.Right.{IsStep, IsChange, IsOfSender, messages_to}
+use Rattle.rbc_rule.specs.Lists.{engines_at, moves}
 use Rattle.rbc_rule.specs.Gathered.{to_engine, enrolled_outcome, withdrawn_outcome, heard_outcome}
-use Rattle.rbc_rule.proofs.WorldMaps.{eqb_turned, keys-new, keys-old, keys-without, value_of-with_value, value_of-without, map-with_value, has_keys, length_keys, has_value}
+use Rattle.rbc_rule.proofs.WorldMaps.{map-with_value, has_keys, length_keys, has_value}
+use Rattle.rbc_rule.proofs.Moved.{enrolled_records, withdrawn_records, heard_records}
+use Rattle.rbc_rule.proofs.EachChanges.{enrol_changes}
+use Rattle.rbc_rule.proofs.Engines.{stands_in, unplaced_has, IsTrainList, train_list_has}
+use Rattle.rbc_records.specs.Notes.{same_key}
+use Rattle.rbc_records.proofs.Keys.{same_key_sym}
+use Rattle.rbc_rule.proofs.SettledPlaces.{settled_place}
 use Rattle.rbc_rule.proofs.WorldSettling.{map-done, sent-done, count-done, done-without, sent-with, count-with, trains_done, messages_to-engine, taken}
 use Rattle.rbc_rule.specs.Bounds.{max_trains}
 use Rattle.rbc_rule.specs.Codes.{code_of}
 use Rattle.rbc_rule.specs.declared.refuse.Refusal.TheVariants.{AlreadyEnrolled, TooManyTrains, StopsOutstanding, StampTooHigh}
-
--- ---- records
-
-map_either : {A B : Type 0} (f : A → B) (b : Bool) (x y : Option A) → cond b (option_map f x) (option_map f y) ≡ option_map f (cond b x y)
-map_either f true x y = refl
-map_either f false x y = refl
-
--- what stands under a train's key, of the record that is written under another's
-train_written : (k engine : ℕ) (new old : Option TrainRec) → cond (eqb k engine) (option_map rec.Train new) (option_map rec.Train old) ≡ option_map rec.Train (cond (eqb engine k) new old)
-train_written k engine new old = ap (λ b. cond b (option_map rec.Train new) (option_map rec.Train old)) (eqb_turned k engine) ∙ map_either rec.Train (eqb engine k) new old
-
-module _ (w : World) (engine : ℕ) (train : TrainRec) where
-  enrolled_records : has w.trains engine ≡ false → (k : Key)
-      → written ((key.Roster, engines_record (with_number engine (keys w.trains))) ∷ (key.Train engine, Some (rec.Train train)) ∷ []) (record_of w) k ≡ record_of (record w { trains = with_value engine train w.trains }) k
-  enrolled_records new key.Roster = ap engines_record (sym (keys-new engine train w.trains new))
-  enrolled_records new (key.Train k) =
-      train_written k engine (Some train) (value_of w.trains k) ∙ ap (option_map rec.Train) (sym (value_of-with_value engine train w.trains k))
-  enrolled_records new key.Stops = refl
-  enrolled_records new key.Limits = refl
-
-  heard_records : rises_from 0 (keys w.trains) ≡ true → has w.trains engine ≡ true → (k : Key)
-      → written ((key.Train engine, Some (rec.Train train)) ∷ []) (record_of w) k ≡ record_of (record w { trains = with_value engine train w.trains }) k
-  heard_records rises there key.Roster = ap engines_record (sym (keys-old engine 0 train w.trains rises there))
-  heard_records rises there (key.Train k) =
-      train_written k engine (Some train) (value_of w.trains k) ∙ ap (option_map rec.Train) (sym (value_of-with_value engine train w.trains k))
-  heard_records rises there key.Stops = refl
-  heard_records rises there key.Limits = refl
-
-withdrawn_records : (w : World) (engine : ℕ) (k : Key)
-    → written ((key.Roster, engines_record (without_number engine (keys w.trains))) ∷ (key.Train engine, None) ∷ []) (record_of w) k ≡ record_of (record w { trains = without engine w.trains }) k
-withdrawn_records w engine key.Roster = ap engines_record (sym (keys-without engine w.trains))
-withdrawn_records w engine (key.Train k) =
-    train_written k engine None (value_of w.trains k) ∙ ap (option_map rec.Train) (sym (value_of-without engine w.trains k))
-withdrawn_records w engine key.Stops = refl
-withdrawn_records w engine key.Limits = refl
 
 -- ---- worlds in which one train changes
 
@@ -98,14 +73,15 @@ below : (most n : ℕ) → n < most → leb most n ≡ false
 below most n lt = grind (arith, nat_tests)
 
 enrol_is_step : (plan : Plan) (w : World) (engine train_length : ℕ) → IsWellFormed plan w → has w.trains engine ≡ false → leb max_trains (length w.trains) ≡ false → (outcome : Outcome)
-    → outcome ≡ enrolled_outcome plan w.stops w.limits engine train_length (keys w.trains) → IsStep plan (Enrol engine train_length) w outcome.result outcome.writes outcome.messages
+    → outcome ≡ enrolled_outcome plan w.stops w.limits engine train_length (keys w.trains) (engines_at w key.Unplaced) → IsStep plan (Enrol engine train_length) w outcome.result outcome.writes outcome.messages
 enrol_is_step plan w engine train_length well new room outcome is =
     let train = new_train engine train_length 0 in
     let P : Outcome → Type 0 = λ o. IsStep plan (Enrol engine train_length) w o.result o.writes o.messages in
+    let unplaced : list_of (settled plan w.stops w.limits train) ≡ key.Unplaced = ap (λ place. option_map_or (λ (p : Place). key.Line p.line) place key.Unplaced) (settled_place plan w.stops w.limits train) in
     subst P (sym is)
     (taken plan (Enrol engine train_length) w (record w { trains = with_value engine train w.trains }) _ _ _
     (λ i. then_do (λ trains. record w { trains = trains }) (cond (new i) (Err (code_of AlreadyEnrolled)) (cond (room i) (Err (code_of TooManyTrains)) (Ok (with_value engine train w.trains)))))
-    (λ k. enrolled_records w engine (settled plan w.stops w.limits train) new k ∙ ap (λ trains. record_of (record w { trains = trains }) k) (sym (settled_with plan w well engine train)))
+    (λ k. enrolled_records w engine (settled plan w.stops w.limits train) well.ascending new unplaced k ∙ ap (λ trains. record_of (record w { trains = trains }) k) (sym (settled_with plan w well engine train)))
     (ap Done (count_with plan w well engine train))
     (sent_with plan w well engine train))
 
@@ -125,11 +101,25 @@ module _ (plan : Plan) (w : World) (engine train_length : ℕ) (engines : List �
       let many : leb max_trains (length w.trains) ≡ true = le-leb max_trains (length w.trains) (let count = how_many in omega (arith, count)) in
       λ i. then_do (λ trains. record w { trains = trains }) (cond (enrolled_already found false is new i) (Err (code_of AlreadyEnrolled)) (cond (many i) (Err (code_of TooManyTrains)) (Ok (with_value engine (new_train engine train_length 0) w.trains))))
 
-  pub enrol_right : (stops : Stops) (limits : Limits) (outcome : Outcome) (found : Bool) → outcome ≡ enrolled_outcome plan stops limits engine train_length engines → stops ≡ w.stops → limits ≡ w.limits
-      → IsWellFormed plan w → found ≡ has_number engines engine → found ≡ false → length engines < max_trains → IsStep plan (Enrol engine train_length) w outcome.result outcome.writes outcome.messages
-  enrol_right stops limits outcome found is stops_are limits_are well found_is new few =
+  pub enrol_right : (stops : Stops) (limits : Limits) (unplaced : List ℕ) (outcome : Outcome) (found : Bool) → outcome ≡ enrolled_outcome plan stops limits engine train_length engines unplaced
+      → stops ≡ w.stops → limits ≡ w.limits → unplaced ≡ engines_at w key.Unplaced → IsWellFormed plan w → found ≡ has_number engines engine → found ≡ false → length engines < max_trains
+      → IsStep plan (Enrol engine train_length) w outcome.result outcome.writes outcome.messages
+  enrol_right stops limits unplaced outcome found is stops_are limits_are unplaced_are well found_is new few =
       enrol_is_step plan w engine train_length well (enrolled_already found false found_is new) (below max_trains (length w.trains) (let count = how_many in omega (arith, count))) outcome
-      (is ∙ (λ i. enrolled_outcome plan (stops_are i) (limits_are i) engine train_length (engines_are i)))
+      (is ∙ (λ i. enrolled_outcome plan (stops_are i) (limits_are i) engine train_length (engines_are i) (unplaced_are i)))
+
+  pub enrol_each_changes : (stops : Stops) (limits : Limits) (unplaced : List ℕ) (outcome : Outcome) (found : Bool) → outcome ≡ enrolled_outcome plan stops limits engine train_length engines unplaced
+      → stops ≡ w.stops → limits ≡ w.limits → unplaced ≡ engines_at w key.Unplaced → found ≡ has_number engines engine → found ≡ false
+      → All (λ write. IsChange w write ⊎ IsOfSender (Enrol engine train_length) write.0) outcome.writes
+  enrol_each_changes stops limits unplaced outcome found is stops_are limits_are unplaced_are found_is new =
+      enrol_changes plan w engine train_length (enrolled_already found false found_is new) outcome
+      (is ∙ (λ i. enrolled_outcome plan (stops_are i) (limits_are i) engine train_length (engines_are i) (unplaced_are i)))
+
+  -- an engine that is not enrolled stands in no list
+  pub enrol_unlisted : (found : Bool) → IsWellFormed plan w → found ≡ has_number engines engine → found ≡ false → has_number (engines_at w key.Unplaced) engine ≡ false
+  enrol_unlisted found well found_is new =
+      unplaced_has w well.ascending engine
+      ∙ ap (λ train. option_map_or (stands_in key.Unplaced) train false) (value_of-absent engine w.trains (enrolled_already found false found_is new))
 
 -- ---- a train that leaves
 
@@ -139,19 +129,24 @@ module _ (plan : Plan) (w : World) (engine : ℕ) (train : TrainRec) (found : So
       (λ i. then_do (λ trains. record w { trains = trains }) (without_train engine w.trains (sym found i)))
       ∙ (λ i. then_do (λ trains. record w { trains = trains }) (cond (free i) (Ok (without engine w.trains)) (Err (code_of StopsOutstanding))))
 
-  pub withdraw_right : (engines : List ℕ) (outcome : Outcome) → outcome ≡ withdrawn_outcome engine engines → engines ≡ keys w.trains
+  pub withdraw_outstanding : eqb (length train.stops) 0 ≡ false → effect plan (Withdraw engine) w ≡ Err (code_of StopsOutstanding)
+  withdraw_outstanding held =
+      (λ i. then_do (λ trains. record w { trains = trains }) (without_train engine w.trains (sym found i)))
+      ∙ (λ i. then_do (λ trains. record w { trains = trains }) (cond (held i) (Ok (without engine w.trains)) (Err (code_of StopsOutstanding))))
+
+  pub withdraw_right : (outcome : Outcome) → outcome ≡ withdrawn_outcome engine (keys w.trains) (list_of train) (engines_at w (list_of train))
       → IsWellFormed plan w → eqb (length train.stops) 0 ≡ true → IsStep plan (Withdraw engine) w outcome.result outcome.writes outcome.messages
-  withdraw_right engines outcome is engines_are well free =
+  withdraw_right outcome is well free =
       let f = settled plan w.stops w.limits in
       let m = messages_of plan w.stops w.limits in
       let left = without engine w.trains in
       let done = done-without f m engine w.trains (trains_done plan w.stops w.limits w.trains well.trains) in
       let same : settled_trains plan w.stops w.limits left ≡ left = map-done f m left done in
       let P : Outcome → Type 0 = λ o. IsStep plan (Withdraw engine) w o.result o.writes o.messages in
-      subst P (sym (is ∙ ap (withdrawn_outcome engine) engines_are))
+      subst P (sym is)
       (taken plan (Withdraw engine) w (record w { trains = left }) _ _ _
       (withdraw_effect free)
-      (λ k. withdrawn_records w engine k ∙ ap (λ trains. record_of (record w { trains = trains }) k) (sym same))
+      (λ k. withdrawn_records w engine train well.ascending (sym found) k ∙ ap (λ trains. record_of (record w { trains = trains }) k) (sym same))
       (ap Done (sym (count-done f m 0 left done)))
       (λ k. sym (sent-done f m left k done)))
 
@@ -237,18 +232,28 @@ module _ (plan : Plan) (message : FromTrain) (w : World) (old : TrainRec) (found
       (λ i. then_do (λ trains. record w { trains = trains }) (then_do (λ other. with_value (engine_of message) other w.trains) (heard_from plan message (sym found i))))
       ∙ (λ i. then_do (λ trains. record w { trains = trains }) (then_do (λ other. with_value (engine_of message) other w.trains) (is i)))
 
-  pub receive_right : (stops : Stops) (limits : Limits) (train : TrainRec) (outcome : Outcome) → Ok train ≡ heard plan message old
-      → outcome ≡ heard_outcome plan stops limits (engine_of message) train → stops ≡ w.stops → limits ≡ w.limits
+  pub receive_right : (train : TrainRec) (outcome : Outcome) → Ok train ≡ heard plan message old
+      → outcome ≡ heard_outcome plan w.stops w.limits (engine_of message) train (moves w (engine_of message) (list_of old) (list_of train))
       → IsWellFormed plan w → IsStep plan (Received message) w outcome.result outcome.writes outcome.messages
-  receive_right stops limits train outcome train_is is stops_are limits_are well =
+  receive_right train outcome train_is is well =
       let heard_is : heard plan message old ≡ Ok train = sym train_is in
       let engine = engine_of message in
       let there = has_value w.trains engine old (sym found) in
       let same : train.engine ≡ engine = heard_engine plan message old train heard_is ∙ engine_found plan w engine old well found in
+      let after = settled plan w.stops w.limits train in
+      let list : list_of after ≡ list_of train = ap (λ place. option_map_or (λ (p : Place). key.Line p.line) place key.Unplaced) (settled_place plan w.stops w.limits train) in
       let P : Outcome → Type 0 = λ o. IsStep plan (Received message) w o.result o.writes o.messages in
-      subst P (sym (is ∙ (λ i. heard_outcome plan (stops_are i) (limits_are i) engine train)))
+      subst P (sym is)
       (taken plan (Received message) w (record w { trains = with_value engine train w.trains }) _ _ _
       (receive_effect train heard_is)
-      (λ k. heard_records w engine (settled plan w.stops w.limits train) well.ascending there k ∙ ap (λ trains. record_of (record w { trains = trains }) k) (sym (settled_with plan w well engine train)))
+      (λ k.
+          ap (λ entered. written (moves w engine (list_of old) entered ++ (key.Train engine, Some (rec.Train after)) ∷ []) (record_of w) k) (sym list)
+          ∙ heard_records w engine old after well.ascending (sym found) there k
+          ∙ ap (λ trains. record_of (record w { trains = trains }) k) (sym (settled_with plan w well engine train)))
       (ap Done (count_with plan w well engine train))
       (λ k. ap (λ e. messages_to k (to_engine e (messages_of plan w.stops w.limits train))) same ∙ sent_with plan w well engine train k))
+
+  -- a train that leaves its list does not stand in the one into which it comes
+  pub comes_anew : (list : Key) → IsWellFormed plan w → IsTrainList list → same_key (list_of old) list ≡ false → has_number (engines_at w list) (engine_of message) ≡ false
+  comes_anew list well is apart =
+      train_list_has w list well.ascending is (engine_of message) ∙ ap (λ o. option_map_or (stands_in list) o false) (sym found) ∙ same_key_sym list (list_of old) ∙ apart

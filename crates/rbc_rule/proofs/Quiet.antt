@@ -21,7 +21,7 @@ use Rattle.rbc_rule.proofs.Untouched.{untouched}
 
 module _ (plan : Plan) (change : Change) (w : World) (stops : Stops) (limits : Limits) (engine : ℕ) (train : TrainRec)
     (well : IsWellFormed plan w) (changed : HasChanged change w stops limits) (there : Some train ≡ value_of w.trains engine) (quiet : touches plan change train ≡ false) where
-  stays : (is_same plan stops limits (released_by change) train ≡ true) × (sent_of plan stops limits (released_by change) train ≡ [])
+  pub stays : (is_same plan stops limits (released_by change) train ≡ true) × (sent_of plan stops limits (released_by change) train ≡ [])
   stays =
       let good : IsGoodTrain plan w.stops w.limits (engine, train) = All-value_of (IsGoodTrain plan w.stops w.limits) engine train w.trains well.trains (sym there) in
       untouched plan change w stops limits train well.stops.numbered well.limits.numbered good.well_formed.tables good.settled changed quiet

@@ -1,11 +1,11 @@
 -- What settling trains writes and sends, by the records that were read (own rule).
-use Rattle.std.specs.Prelude.{ℕ, Bool, false, ◌==◌, if◌then◌else◌, List, [], ◌∷◌, ◌++◌, map, Option, Some, None, IsTrue, length, ◌&&◌, not}
+use Rattle.std.specs.Prelude.{◌≡◌, ℕ, Bool, false, ◌==◌, if◌then◌else◌, List, [], ◌∷◌, ◌++◌, map, Option, Some, None, IsTrue, length, ◌&&◌, not}
 use Rattle.std.specs.List.{flat_map, All}
 use Rattle.std.specs.Option.{unwrap_or, option_map_or}
 use Rattle.ertms_codec.specs.ToTrain.{Fits}
 use Rattle.ertms_codec.specs.declared.to_train.ToTrain.{ToTrain}
 use Rattle.rbc_track.specs.Plan.{Plan}
-use Rattle.rbc_maps.specs.Maps.{value_of}
+use Rattle.rbc_maps.specs.Maps.{value_of, keys}
 use Rattle.rbc_maps.specs.Numbered.{Numbered, none_numbered}
 use Rattle.rbc_settle.specs.declared.train.TrainRec.{TrainRec}
 use Rattle.rbc_settle.specs.declared.upkeep.Sent.{Sent}
@@ -16,7 +16,6 @@ use Rattle.rbc_records.specs.declared.record.Key.{Key}
 use Rattle.rbc_records.specs.declared.record.Key.TheVariants as key
 use Rattle.rbc_records.specs.declared.record.Rec.{Rec}
 use Rattle.rbc_records.specs.declared.record.Rec.TheVariants as rec
-use Rattle.rbc_records.specs.Notes.{Notes, knows, noted}
 use Rattle.rbc_rule.specs.declared.outcome.Outcome.{Outcome}
 use Rattle.rbc_rule.specs.declared.outcome.Reply.TheVariants.{Done}
 use Rattle.rbc_rule.specs.Effect.{forget}
@@ -25,20 +24,6 @@ use Rattle.rbc_rule.specs.Records.{engines_record}
 -- without a record, nothing was ever given a number
 abbrev pub or_none : {V : Type 0} → Option (Numbered V) → Numbered V
 or_none numbered = unwrap_or numbered none_numbered
-
--- without a record, a list of engines is empty
-abbrev pub or_nobody : Option (List ℕ) → List ℕ
-or_nobody engines = unwrap_or engines []
-
--- the engines in a record
-abbrev pub engines_in : Option Rec → List ℕ
-engines_in (Some (rec.Engines engines)) = engines
-engines_in _ = []
-
--- the roster was read, and the train of each engine in it
-pub record AreTrainsKnown (notes : Notes) : Type 0 where
-  pub roster : IsTrue (knows notes key.Roster)
-  pub trains : All (λ engine. IsTrue (knows notes (key.Train engine))) (engines_in (noted notes key.Roster))
 
 -- a train, which no longer stops at once for the released stop, if there is one
 abbrev pub forgotten : Option ℕ → TrainRec → TrainRec
@@ -90,31 +75,41 @@ sent_at plan stops limits released trains engine = option_map_or (sent_of plan s
 abbrev pub AreSendable : List Sent → Type 0
 AreSendable sent = All (λ one. Fits one.message) sent
 
+-- Settling the trains of these engines alone writes and sends what settling all trains does.
+pub record IsEnough (plan : Plan) (stops : Stops) (limits : Limits) (released : Option ℕ) (trains : List (ℕ × TrainRec)) (engines : List ℕ) : Type 0 where
+  pub enrolled : All (λ engine. IsTrue (has_number (keys trains) engine)) engines
+  pub writes : flat_map (write_at plan stops limits released trains) engines ≡ writes_of plan stops limits released trains
+  pub sent : flat_map (sent_at plan stops limits released trains) engines ≡ all_sent plan stops limits released trains
+
 -- ---- outcomes for one train
 
--- the outcome for a new train, beside the engines that are enrolled
-abbrev pub enrolled_outcome : Plan → Stops → Limits → ℕ → ℕ → List ℕ → Outcome
-enrolled_outcome plan stops limits engine train_length engines =
+-- the outcome for a new train, beside the engines that are enrolled, and those of them without a place
+abbrev pub enrolled_outcome : Plan → Stops → Limits → ℕ → ℕ → List ℕ → List ℕ → Outcome
+enrolled_outcome plan stops limits engine train_length engines unplaced =
     let train = new_train engine train_length 0 in
     record {
       result = Done (length (messages_of plan stops limits train));
-      writes = (key.Roster, engines_record (with_number engine engines)) ∷ (key.Train engine, Some (rec.Train (settled plan stops limits train))) ∷ [];
+      writes =
+          (key.Roster, engines_record (with_number engine engines))
+          ∷ (key.Train engine, Some (rec.Train (settled plan stops limits train)))
+          ∷ (key.Unplaced, engines_record (with_number engine unplaced))
+          ∷ [];
       messages = to_engine engine (messages_of plan stops limits train);
     }
 
--- the outcome for a train that leaves
-abbrev pub withdrawn_outcome : ℕ → List ℕ → Outcome
-withdrawn_outcome engine engines = record {
+-- the outcome for a train that leaves the enrolled engines, and the list in which it stood
+abbrev pub withdrawn_outcome : ℕ → List ℕ → Key → List ℕ → Outcome
+withdrawn_outcome engine engines list others = record {
   result = Done 0;
-  writes = (key.Roster, engines_record (without_number engine engines)) ∷ (key.Train engine, None) ∷ [];
+  writes = (key.Roster, engines_record (without_number engine engines)) ∷ (key.Train engine, None) ∷ (list, engines_record (without_number engine others)) ∷ [];
   messages = [];
 }
 
--- the outcome for a train after its message
-abbrev pub heard_outcome : Plan → Stops → Limits → ℕ → TrainRec → Outcome
-heard_outcome plan stops limits engine train = record {
+-- the outcome for a train after its message, behind what it writes where it moves from list to list
+abbrev pub heard_outcome : Plan → Stops → Limits → ℕ → TrainRec → List (Key × Option Rec) → Outcome
+heard_outcome plan stops limits engine train moved = record {
   result = Done (length (messages_of plan stops limits train));
-  writes = (key.Train engine, Some (rec.Train (settled plan stops limits train))) ∷ [];
+  writes = moved ++ (key.Train engine, Some (rec.Train (settled plan stops limits train))) ∷ [];
   messages = to_engine train.engine (messages_of plan stops limits train);
 }
 

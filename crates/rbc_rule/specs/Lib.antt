@@ -5,6 +5,7 @@ pub mod Bounds
 pub mod Effect
 pub mod Step
 pub mod Records
+pub mod Lists
 pub mod WellFormed
 pub mod Right
 pub mod Faults

@@ -1,15 +1,18 @@
 -- Which outcomes are right for what was read (own rule).
-use Rattle.std.specs.Prelude.{◌≡◌, ℕ, ◌+◌, ◌==◌, List, [], map, Option}
-use Rattle.std.specs.List.{filter}
+use Rattle.std.specs.Prelude.{◌≡◌, ◌⊎◌, ℕ, ◌+◌, ◌==◌, List, [], map, Option}
+use Rattle.std.specs.List.{filter, All}
 use Rattle.ertms_codec.specs.declared.to_train.ToTrain.{ToTrain}
 use Rattle.rbc_track.specs.Plan.{Plan}
 use Rattle.rbc_maps.specs.Maps.{value_or}
 use Rattle.rbc_settle.specs.declared.upkeep.Sent.{Sent}
 use Rattle.rbc_records.specs.declared.record.Key.{Key}
+use Rattle.rbc_records.specs.declared.record.Key.TheVariants as key
 use Rattle.rbc_records.specs.declared.record.Rec.{Rec}
 use Rattle.rbc_records.specs.Notes.{Notes}
 use Rattle.rbc_records.specs.Writes.{written}
 use Rattle.rbc_rule.specs.declared.input.Input.{Input}
+use Rattle.rbc_rule.specs.declared.input.Input.TheVariants.{Received}
+use Rattle.rbc_rule.specs.Effect.{engine_of}
 use Rattle.rbc_rule.specs.declared.outcome.Reply.{Reply}
 use Rattle.rbc_rule.specs.declared.outcome.Reply.TheVariants.{Done, Refused}
 use Rattle.rbc_rule.specs.declared.outcome.RuleFault.{RuleFault}
@@ -38,6 +41,20 @@ pub record MayBe (plan : Plan) (notes : Notes) (w : World) : Type 0 where
 -- an outcome is right for notes where it is the step's in each such world
 abbrev pub IsRight : Plan → Input → Notes → Reply → List (Key × Option Rec) → List Sent → Type 0
 IsRight plan input notes reply writes messages = (w : World) → MayBe plan notes w → IsStep plan input w reply writes messages
+
+-- a write changes what stands under its key
+abbrev pub IsChange : World → Key × Option Rec → Type 0
+IsChange w write = record_of w write.0 ≡ write.1 → ⊥
+
+-- the record of the train that sent a message
+abbrev pub IsOfSender : Input → Key → Type 0
+IsOfSender (Received message) k = k ≡ key.Train (engine_of message)
+IsOfSender _ k = ⊥
+
+-- Each write changes what stands under its key, but that of the train that sent a message, which is written in any case.
+abbrev pub EachWriteChanges : Plan → Input → Notes → List (Key × Option Rec) → Type 0
+EachWriteChanges plan input notes writes =
+    (w : World) → MayBe plan notes w → All (λ write. IsChange w write ⊎ IsOfSender input write.0) writes
 
 -- an input that is refused writes nothing and sends nothing, whatever was read
 abbrev pub IsSilentIfRefused : Reply → List (Key × Option Rec) → List Sent → Type 0

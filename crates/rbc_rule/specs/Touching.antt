@@ -12,6 +12,7 @@ use Rattle.rbc_zones.specs.Limits.{Limit}
 use Rattle.rbc_settle.specs.declared.train.TrainRec.{TrainRec}
 use Rattle.rbc_settle.specs.Numbers.{has_number}
 use Rattle.rbc_settle.specs.Settling.{Stops, Limits, concern_to, limit_told_to}
+use Rattle.rbc_rule.specs.declared.change.Restriction.{Restriction}
 use Rattle.rbc_rule.specs.declared.touch.Change.{Change}
 use Rattle.rbc_rule.specs.declared.touch.Change.TheVariants as change
 use Rattle.rbc_rule.specs.World.{World}
@@ -45,6 +46,10 @@ touches plan (change.Limit number None) train = has_limit train number
 touches plan (change.Limit number (Some limit)) train = is_limit_for plan.horizon train limit.now
 
 -- ---- what a command changes
+
+-- the restriction that the signaller gives
+abbrev pub limit_of : Restriction → Limit
+limit_of new = record { segment = new.segment; dirs = new.dirs; speed = new.speed; front = new.front }
 
 -- a value begins to be active, under a new number
 pub record HasBegun {V : Type 0} (number : ℕ) (value : V) (old new : Numbered V) : Type 0 where

@@ -2,10 +2,10 @@
 
 ghost use Rattle.std.specs.Prelude.{◌≡◌, ◌+◌, ◌≤◌, ◌<◌, ◌^◌, IfOk, IfErr, OnOk, length};
 ghost use Rattle.rbc_records.specs.Notes.{Extends};
-ghost use Rattle.rbc_rule.specs.Right.{IsRight, IsSilentIfRefused, IsFault};
+ghost use Rattle.rbc_rule.specs.Right.{EachWriteChanges, IsRight, IsSilentIfRefused, IsFault};
 ghost use Rattle.rbc_rule.specs.Gathered.{AreSendable};
 
-use crate::all_trains::{limits_changed, stops_changed};
+use crate::begin_and_end::{limit_begun, limit_ended, stop_begun, stop_ended};
 use crate::change::{self, Restriction};
 use crate::fetch::fetch;
 use crate::input::{Input, Segments};
@@ -28,6 +28,7 @@ pub(crate) fn stop<S: Reader>(
     requires room { S.failed store.old + 1 < 2 ^ 64 }
     requires some { 1 ≤ length segments.now }
     ensures right { IfOk result (λ outcome. IsRight track.now (Input.Stop number segments.now) (S.notes store.new) outcome.result outcome.writes outcome.messages) }
+    ensures changes { IfOk result (λ outcome. EachWriteChanges track.now (Input.Stop number segments.now) (S.notes store.new) outcome.writes) }
     ensures refused { IfOk result (λ outcome. IsSilentIfRefused outcome.result outcome.writes outcome.messages) }
     ensures fit { IfOk result (λ outcome. AreSendable outcome.messages) }
     ensures extends { Extends (S.notes store.old) (S.notes store.new) }
@@ -38,7 +39,7 @@ pub(crate) fn stop<S: Reader>(
     let none = Stops::new(alloc);
     let stops = read::stops(store)?.unwrap_or(&none);
     match change::stops_after(alloc, track, number, segments, stops) {
-        Ok(stops) => stops_changed(alloc, track, number, stops, store),
+        Ok(stops) => stop_begun(alloc, track, number, segments, stops, store),
         Err(NotChanged::Refused(refusal)) => Ok(Outcome::refused(alloc, refusal)),
         Err(NotChanged::OutOfMemory) => Err(RuleFault::OutOfMemory),
     }
@@ -53,6 +54,7 @@ pub(crate) fn release<S: Reader>(
 ) -> Result<Outcome, RuleFault>
     requires { S.failed store.old + 1 < 2 ^ 64 }
     ensures right { IfOk result (λ outcome. IsRight track.now (Input.Release number) (S.notes store.new) outcome.result outcome.writes outcome.messages) }
+    ensures changes { IfOk result (λ outcome. EachWriteChanges track.now (Input.Release number) (S.notes store.new) outcome.writes) }
     ensures refused { IfOk result (λ outcome. IsSilentIfRefused outcome.result outcome.writes outcome.messages) }
     ensures fit { IfOk result (λ outcome. AreSendable outcome.messages) }
     ensures extends { Extends (S.notes store.old) (S.notes store.new) }
@@ -63,7 +65,7 @@ pub(crate) fn release<S: Reader>(
     let none = Stops::new(alloc);
     let stops = read::stops(store)?.unwrap_or(&none);
     match change::stops_without(alloc, number, stops) {
-        Ok(stops) => stops_changed(alloc, track, number, stops, store),
+        Ok(stops) => stop_ended(alloc, track, number, stops, store),
         Err(NotChanged::Refused(refusal)) => Ok(Outcome::refused(alloc, refusal)),
         Err(NotChanged::OutOfMemory) => Err(RuleFault::OutOfMemory),
     }
@@ -78,6 +80,7 @@ pub(crate) fn restrict<S: Reader>(
 ) -> Result<Outcome, RuleFault>
     requires { S.failed store.old + 1 < 2 ^ 64 }
     ensures right { IfOk result (λ outcome. IsRight track.now (Input.Restrict new.now.number new.now.segment new.now.dirs new.now.speed new.now.front) (S.notes store.new) outcome.result outcome.writes outcome.messages) }
+    ensures changes { IfOk result (λ outcome. EachWriteChanges track.now (Input.Restrict new.now.number new.now.segment new.now.dirs new.now.speed new.now.front) (S.notes store.new) outcome.writes) }
     ensures refused { IfOk result (λ outcome. IsSilentIfRefused outcome.result outcome.writes outcome.messages) }
     ensures fit { IfOk result (λ outcome. AreSendable outcome.messages) }
     ensures extends { Extends (S.notes store.old) (S.notes store.new) }
@@ -88,7 +91,7 @@ pub(crate) fn restrict<S: Reader>(
     let none = Limits::new(alloc);
     let limits = read::limits(store)?.unwrap_or(&none);
     match change::limits_after(alloc, track, new, limits) {
-        Ok(limits) => limits_changed(alloc, track, new.number, limits, store),
+        Ok(limits) => limit_begun(alloc, track, new, limits, store),
         Err(NotChanged::Refused(refusal)) => Ok(Outcome::refused(alloc, refusal)),
         Err(NotChanged::OutOfMemory) => Err(RuleFault::OutOfMemory),
     }
@@ -103,6 +106,7 @@ pub(crate) fn lift<S: Reader>(
 ) -> Result<Outcome, RuleFault>
     requires { S.failed store.old + 1 < 2 ^ 64 }
     ensures right { IfOk result (λ outcome. IsRight track.now (Input.Lift number) (S.notes store.new) outcome.result outcome.writes outcome.messages) }
+    ensures changes { IfOk result (λ outcome. EachWriteChanges track.now (Input.Lift number) (S.notes store.new) outcome.writes) }
     ensures refused { IfOk result (λ outcome. IsSilentIfRefused outcome.result outcome.writes outcome.messages) }
     ensures fit { IfOk result (λ outcome. AreSendable outcome.messages) }
     ensures extends { Extends (S.notes store.old) (S.notes store.new) }
@@ -113,7 +117,7 @@ pub(crate) fn lift<S: Reader>(
     let none = Limits::new(alloc);
     let limits = read::limits(store)?.unwrap_or(&none);
     match change::limits_without(alloc, number, limits) {
-        Ok(limits) => limits_changed(alloc, track, number, limits, store),
+        Ok(limits) => limit_ended(alloc, track, number, limits, store),
         Err(NotChanged::Refused(refusal)) => Ok(Outcome::refused(alloc, refusal)),
         Err(NotChanged::OutOfMemory) => Err(RuleFault::OutOfMemory),
     }

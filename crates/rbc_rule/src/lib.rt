@@ -1,20 +1,23 @@
 //! The rules: decides what an input does by reading single records.
 #![tactic(auto)]
 
-mod all_trains;
+mod begin_and_end;
 mod change;
 mod commands;
+mod enrol;
 mod fetch;
 mod hear;
 mod input;
 mod law;
-mod one_train;
+mod lists;
 mod outcome;
 mod read;
+mod receive;
 mod refuse;
 mod rule;
 mod settle_trains;
 mod touch;
+mod withdraw;
 mod witnesses;
 
 pub use input::{Input, Segments};

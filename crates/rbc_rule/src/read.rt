@@ -2,14 +2,15 @@
 
 ghost use Rattle.std.specs.Prelude.{◌≡◌, ℕ, ◌≤◌, IsTrue, IfOk, IfErr, IfSome, option_copied, length};
 ghost use Rattle.rbc_track.specs.Plan.{Plan};
-ghost use Rattle.rbc_maps.specs.Maps.{value_of, keys};
+ghost use Rattle.rbc_maps.specs.Maps.{value_of};
 ghost use Rattle.rbc_records.specs.declared.record.Key.TheVariants as key;
 ghost use Rattle.rbc_records.specs.Notes.{knows, noted};
 ghost use Rattle.rbc_rule.specs.Bounds.{max_trains};
 ghost use Rattle.rbc_rule.specs.World.{World};
 ghost use Rattle.rbc_rule.specs.Right.{MayBe};
 ghost use Rattle.rbc_rule.specs.Faults.{IsFaultOf};
-ghost use Rattle.rbc_rule.specs.Gathered.{engines_in, or_none, or_nobody};
+ghost use Rattle.rbc_rule.specs.Lists.{engines_at, is_list, or_nobody};
+ghost use Rattle.rbc_rule.specs.Gathered.{or_none};
 
 use crate::outcome::RuleFault;
 use rbc_records::{Key, Reader, Rec};
@@ -19,18 +20,19 @@ use rbc_zones::{Limits, Stops};
 /// The greatest number of enrolled trains (own rule).
 pub(crate) const MAX_TRAINS: usize = 2_000;
 
-/// Returns the engines that are enrolled, or `None` if there is no roster.
-pub(crate) fn roster<S: Reader>(store: &S) -> Result<Option<&Numbers>, RuleFault>
-    requires { IsTrue (knows (S.notes store.now) key.Roster) }
-    ensures noted { IfOk result (λ engines. or_nobody (option_copied engines) ≡ engines_in (noted (S.notes store.now) key.Roster)) }
-    ensures engines { IfOk result (λ engines. (plan : Plan) (w : World) → MayBe plan (S.notes store.now) w → or_nobody (option_copied engines) ≡ keys w.trains) }
+/// Returns the engines of a list, or `None` if the list has no record.
+pub(crate) fn engines<S: Reader>(store: &S, list: Key) -> Result<Option<&Numbers>, RuleFault>
+    requires known { IsTrue (knows (S.notes store.now) list) }
+    requires list { IsTrue (is_list list) }
+    ensures engines { IfOk result (λ engines. (plan : Plan) (w : World) → MayBe plan (S.notes store.now) w → or_nobody (option_copied engines) ≡ engines_at w list) }
     ensures few { IfOk result (λ engines. length (or_nobody (option_copied engines)) ≤ max_trains) }
     ensures fault { (plan : Plan) → IfErr result (λ fault. IsFaultOf plan fault (S.notes store.now)) }
 {
-    match store.seen(Key::Roster) {
+    match store.seen(list) {
         None => Ok(None),
-        Some(Rec::Engines(engines)) if engines.len() <= MAX_TRAINS => Ok(Some(engines)),
-        Some(_) => Err(RuleFault::Torn),
+        Some(Rec::Engines(engines)) if engines.len() > MAX_TRAINS => Err(RuleFault::Torn),
+        Some(Rec::Engines(engines)) => Ok(Some(engines)),
+        Some(Rec::Train(_) | Rec::Stops(_) | Rec::Limits(_)) => Err(RuleFault::Torn),
     }
 }
 

@@ -3,20 +3,23 @@
 ghost use Rattle.std.specs.Prelude.{◌≡◌, ◌+◌, ◌<◌, ◌^◌, IfOk, IfErr, OnOk};
 ghost use Rattle.rbc_records.specs.Notes.{Extends};
 ghost use Rattle.rbc_rule.specs.Inputs.{Fits};
-ghost use Rattle.rbc_rule.specs.Right.{IsRight, IsSilentIfRefused, IsFault};
+ghost use Rattle.rbc_rule.specs.Right.{EachWriteChanges, IsRight, IsSilentIfRefused, IsFault};
 ghost use Rattle.rbc_rule.specs.Gathered.{AreSendable};
 
 use crate::change::Restriction;
 use crate::input::Input;
 use crate::outcome::{Outcome, RuleFault};
-use crate::{commands, one_train};
+use crate::{commands, enrol, receive, withdraw};
 use rbc_records::Reader;
 use rbc_track::Track;
 use std::alloc::Global;
 
 /// Decides an input on a track by the records that it reads (own rule): the answer, the records to write and the messages to send.
 /// The outcome is that of a step of each well-formed world that has the records that were read. An input that is refused writes
-/// nothing and sends nothing, whatever was read. Nothing is written to the store, and records that were read before stay as they were.
+/// nothing and sends nothing, whatever was read. Each write changes what stands under its key, but that of the train that sent a
+/// message, which is written in any case. A stop that begins reads the trains without a place and those on the lines of its segments,
+/// a restriction that begins those on its line; what ends reads all trains. Nothing is written to the store, and records that were
+/// read before stay as they were.
 ///
 /// # Errors
 ///
@@ -31,6 +34,7 @@ pub fn decide<S: Reader>(
     requires room { S.failed store.old + 1 < 2 ^ 64 }
     requires fits { Fits input.now }
     ensures right { IfOk result (λ outcome. IsRight track.now (input.now) (S.notes store.new) outcome.result outcome.writes outcome.messages) }
+    ensures changes { IfOk result (λ outcome. EachWriteChanges track.now (input.now) (S.notes store.new) outcome.writes) }
     ensures refused { IfOk result (λ outcome. IsSilentIfRefused outcome.result outcome.writes outcome.messages) }
     ensures fit { IfOk result (λ outcome. AreSendable outcome.messages) }
     ensures extends { Extends (S.notes store.old) (S.notes store.new) }
@@ -38,8 +42,8 @@ pub fn decide<S: Reader>(
     ensures failed { OnOk result (S.failed store.new ≡ S.failed store.old) }
 {
     match input {
-        Input::Enrol { engine, length } => one_train::enrol(alloc, track, *engine, *length, store),
-        Input::Withdraw { engine } => one_train::withdraw(alloc, track, *engine, store),
+        Input::Enrol { engine, length } => enrol::enrol(alloc, track, *engine, *length, store),
+        Input::Withdraw { engine } => withdraw::withdraw(alloc, track, *engine, store),
         Input::Stop { number, segments } => {
             commands::stop(alloc, track, *number, segments, store)
         }
@@ -61,7 +65,7 @@ pub fn decide<S: Reader>(
             commands::restrict(alloc, track, &new, store)
         }
         Input::Lift { number } => commands::lift(alloc, track, *number, store),
-        Input::Received(message) => one_train::receive(alloc, track, message, store),
+        Input::Received(message) => receive::receive(alloc, track, message, store),
         Input::Bad(code) => Ok(Outcome::refused_with(alloc, *code)),
     }
 }

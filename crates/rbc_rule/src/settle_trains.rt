@@ -12,6 +12,7 @@ ghost use Rattle.rbc_rule.specs.World.{World};
 ghost use Rattle.rbc_rule.specs.Right.{MayBe};
 ghost use Rattle.rbc_rule.specs.Faults.{IsFaultOf};
 ghost use Rattle.rbc_rule.specs.Touching.{HasChanged, released_by};
+ghost use Rattle.rbc_rule.specs.Lists.{AreTrainsKnown};
 ghost use Rattle.rbc_rule.specs.Gathered.{write_of, sent_of, write_at, sent_at, AreSendable};
 
 use crate::outcome::{RuleFault, SentList};
@@ -155,7 +156,7 @@ fn settle_engine<S: Reader>(
     Ok(())
 }
 
-/// Settles the trains of the enrolled engines one after another, after a change of the stops or the restrictions.
+/// Settles the trains of some enrolled engines one after another, after a change of the stops or the restrictions.
 pub(crate) fn settle_trains<S: Reader>(
     alloc: Global,
     track: &Track,
@@ -165,8 +166,8 @@ pub(crate) fn settle_trains<S: Reader>(
     limits: &Limits,
     change: Change<'_>,
 ) -> Result<Gathered, RuleFault>
-    requires known { All (λ engine. IsTrue (knows (S.notes store.now) (key.Train engine))) engines.now }
-    requires enrolled { (w : World) → MayBe track.now (S.notes store.now) w → engines.now ≡ keys w.trains }
+    requires known { AreTrainsKnown (S.notes store.now) engines.now }
+    requires enrolled { (w : World) → MayBe track.now (S.notes store.now) w → All (λ engine. IsTrue (has_number (keys w.trains) engine)) engines.now }
     requires changed { (w : World) → MayBe track.now (S.notes store.now) w → HasChanged change w stops.now limits.now }
     ensures writes { IfOk result (λ gathered. (w : World) → MayBe track.now (S.notes store.now) w → gathered.writes ≡ flat_map (write_at track.now stops.now limits.now (released_by change.entry) w.trains) engines.now) }
     ensures messages { IfOk result (λ gathered. (w : World) → MayBe track.now (S.notes store.now) w → gathered.messages ≡ flat_map (sent_at track.now stops.now limits.now (released_by change.entry) w.trains) engines.now) }

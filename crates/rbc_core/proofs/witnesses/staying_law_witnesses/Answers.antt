@@ -31,6 +31,8 @@ returns-clause-written c key.Roster = inr refl
 returns-clause-written c (key.Train engine) = seven_or_none (eqb engine 7) (Some (rec.Train (new_train 7 2000 0)))
 returns-clause-written c key.Stops = inl refl
 returns-clause-written c key.Limits = inl refl
+returns-clause-written c (key.Line line) = inl refl
+returns-clause-written c key.Unplaced = inr refl
 
 pub returns-clause-still_closed : goal.returns-clause-still_closed
 returns-clause-still_closed c closed = refl

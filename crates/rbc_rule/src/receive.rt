@@ -1,0 +1,161 @@
+//! Decides a message from a train.
+
+ghost use Rattle.std.specs.Prelude.{◌≡◌, ◌+◌, ◌<◌, ◌^◌, IsTrue, IfOk, IfErr, OnOk, Ok, false};
+ghost use Rattle.rbc_track.specs.Plan.{Plan};
+ghost use Rattle.rbc_records.specs.declared.record.Key.TheVariants as key;
+ghost use Rattle.rbc_records.specs.Notes.{Extends, knows, same_key};
+ghost use Rattle.rbc_settle.specs.Numbers.{has_number};
+ghost use Rattle.rbc_rule.specs.World.{World};
+ghost use Rattle.rbc_rule.specs.Effect.{engine_of};
+ghost use Rattle.rbc_rule.specs.Right.{EachWriteChanges, IsRight, IsSilentIfRefused, IsFault, MayBe};
+ghost use Rattle.rbc_rule.specs.Faults.{IsFaultOf};
+ghost use Rattle.rbc_rule.specs.Lists.{engines_at, is_list, moves};
+ghost use Rattle.rbc_rule.specs.Gathered.{AreSendable, heard_outcome};
+
+use crate::fetch::fetch;
+use crate::hear::{engine_of, heard};
+use crate::input::Input;
+use crate::lists::{list_of, write_with, write_without};
+use crate::outcome::{Outcome, RuleFault, SentList};
+use crate::read;
+use crate::refuse::{NotChanged, Refusal};
+use ertms_codec::FromTrain;
+use rbc_records::{Key, Reader, Rec, Writes};
+use rbc_settle::{Numbers, TrainRec, settle};
+use rbc_track::Track;
+use rbc_zones::{Limits, Stops};
+use std::alloc::{AllocError, Global};
+
+/// Reads the records and decides a message from a train.
+pub(crate) fn receive<S: Reader>(
+    alloc: Global,
+    track: &Track,
+    message: &FromTrain,
+    store: &mut S,
+) -> Result<Outcome, RuleFault>
+    requires { S.failed store.old + 1 < 2 ^ 64 }
+    ensures right { IfOk result (λ outcome. IsRight track.now (Input.Received message.now) (S.notes store.new) outcome.result outcome.writes outcome.messages) }
+    ensures changes { IfOk result (λ outcome. EachWriteChanges track.now (Input.Received message.now) (S.notes store.new) outcome.writes) }
+    ensures refused { IfOk result (λ outcome. IsSilentIfRefused outcome.result outcome.writes outcome.messages) }
+    ensures fit { IfOk result (λ outcome. AreSendable outcome.messages) }
+    ensures extends { Extends (S.notes store.old) (S.notes store.new) }
+    ensures fault { IfErr result (λ fault. IsFault track.now fault (S.notes store.new) (S.failed store.old) (S.failed store.new)) }
+    ensures failed { OnOk result (S.failed store.new ≡ S.failed store.old) }
+{
+    let engine = engine_of(message);
+    fetch(store, Key::Train(engine))?;
+    let Some(before) = read::train(store, engine)? else {
+        return Ok(Outcome::refused(alloc, Refusal::UnknownTrain));
+    };
+    let train = match heard(alloc, track, message, before) {
+        Ok(train) => train,
+        Err(NotChanged::Refused(refusal)) => return Ok(Outcome::refused(alloc, refusal)),
+        Err(NotChanged::OutOfMemory) => return Err(RuleFault::OutOfMemory),
+    };
+    let (left, entered) = (list_of(before), list_of(&train));
+    let moved = moves(alloc, engine, left, entered, store)?;
+    received(alloc, track, engine, train, moved, store)
+}
+
+/// Reads the two lists of a train that leaves one and comes into another, and returns what is written to them: nothing for a train
+/// that stays in its list.
+fn moves<S: Reader>(
+    alloc: Global,
+    engine: u32,
+    left: Key,
+    entered: Key,
+    store: &mut S,
+) -> Result<Writes, RuleFault>
+    requires room { S.failed store.old + 1 < 2 ^ 64 }
+    requires left { IsTrue (is_list left) }
+    requires entered { IsTrue (is_list entered) }
+    requires comes { (plan : Plan) (w : World) → MayBe plan (S.notes store.old) w → same_key left entered ≡ false → has_number (engines_at w entered) engine ≡ false }
+    ensures writes { IfOk result (λ writes. (plan : Plan) (w : World) → MayBe plan (S.notes store.new) w → writes ≡ moves w engine left entered) }
+    ensures extends { Extends (S.notes store.old) (S.notes store.new) }
+    ensures fault { (plan : Plan) → IfErr result (λ fault. IsFault plan fault (S.notes store.new) (S.failed store.old) (S.failed store.new)) }
+    ensures failed { OnOk result (S.failed store.new ≡ S.failed store.old) }
+{
+    if left == entered {
+        return Ok(Writes::new(alloc));
+    }
+    fetch(store, left)?;
+    fetch(store, entered)?;
+    moved(alloc, engine, left, entered, store)
+}
+
+/// Returns what is written to the two lists of a train that leaves one and comes into another, by the records that were read.
+fn moved<S: Reader>(
+    alloc: Global,
+    engine: u32,
+    left: Key,
+    entered: Key,
+    store: &S,
+) -> Result<Writes, RuleFault>
+    requires left { IsTrue (is_list left) }
+    requires entered { IsTrue (is_list entered) }
+    requires left_known { IsTrue (knows (S.notes store.now) left) }
+    requires entered_known { IsTrue (knows (S.notes store.now) entered) }
+    requires apart { same_key left entered ≡ false }
+    requires comes { (plan : Plan) (w : World) → MayBe plan (S.notes store.now) w → has_number (engines_at w entered) engine ≡ false }
+    ensures writes { IfOk result (λ writes. (plan : Plan) (w : World) → MayBe plan (S.notes store.now) w → writes ≡ moves w engine left entered) }
+    ensures fault { (plan : Plan) → IfErr result (λ fault. IsFaultOf plan fault (S.notes store.now)) }
+{
+    let nobody = Numbers::new(alloc);
+    let others = read::engines(store, left)?.unwrap_or(&nobody);
+    let engines = read::engines(store, entered)?.unwrap_or(&nobody);
+    if engines.has(engine) {
+        return Err(RuleFault::Torn);
+    }
+    let mut writes = Writes::new(alloc);
+    write_without(alloc, left, others, engine, &mut writes)?;
+    write_with(alloc, entered, engines, engine, &mut writes)?;
+    Ok(writes)
+}
+
+/// Reads the stops and the restrictions and settles a train after its message.
+fn received<S: Reader>(
+    alloc: Global,
+    track: &Track,
+    engine: u32,
+    train: TrainRec,
+    moved: Writes,
+    store: &mut S,
+) -> Result<Outcome, RuleFault>
+    requires { S.failed store.old + 1 < 2 ^ 64 }
+    ensures outcome { IfOk result (λ outcome. (w : World) → MayBe track.now (S.notes store.new) w → outcome ≡ heard_outcome track.now w.stops w.limits engine train moved) }
+    ensures refused { IfOk result (λ outcome. IsSilentIfRefused outcome.result outcome.writes outcome.messages) }
+    ensures fit { IfOk result (λ outcome. AreSendable outcome.messages) }
+    ensures extends { Extends (S.notes store.old) (S.notes store.new) }
+    ensures fault { IfErr result (λ fault. IsFault track.now fault (S.notes store.new) (S.failed store.old) (S.failed store.new)) }
+    ensures failed { OnOk result (S.failed store.new ≡ S.failed store.old) }
+{
+    fetch(store, Key::Stops)?;
+    fetch(store, Key::Limits)?;
+    let no_stops = Stops::new(alloc);
+    let no_limits = Limits::new(alloc);
+    let stops = read::stops(store)?.unwrap_or(&no_stops);
+    let limits = read::limits(store)?.unwrap_or(&no_limits);
+    let outcome = heard_outcome(alloc, track, engine, train, moved, stops, limits)?;
+    Ok(outcome)
+}
+
+/// Makes the outcome for a train after its message, behind what it writes where it moves from list to list.
+fn heard_outcome(
+    alloc: Global,
+    track: &Track,
+    engine: u32,
+    train: TrainRec,
+    moved: Writes,
+    stops: &Stops,
+    limits: &Limits,
+) -> Result<Outcome, AllocError>
+    ensures outcome { IfOk result (λ outcome. outcome ≡ heard_outcome track.now stops.now limits.now engine train moved) }
+    ensures refused { IfOk result (λ outcome. IsSilentIfRefused outcome.result outcome.writes outcome.messages) }
+    ensures fit { IfOk result (λ outcome. AreSendable outcome.messages) }
+{
+    let mut train = train;
+    let sent = settle(alloc, track, stops, limits, &mut train)?;
+    let mut writes = moved;
+    writes.set(Key::Train(engine), Some(Rec::Train(train)))?;
+    Ok(Outcome::done(writes, SentList::from_vec(sent)))
+}
