@@ -163,12 +163,10 @@ module _ {V A : Type 0} (g : V → List A) where
   AreOwn all pairs = AllByRecursion (λ pair. value_of all pair.0 ≡ Some pair.1) pairs
 
   each_found : (all pairs : List (ℕ × V)) → AreOwn all pairs → flat_map (found_in all) (keys pairs) ≡ flat_map (λ (pair : ℕ × V). g pair.1) pairs
-
   each_found all [] own = refl
   each_found all (pair ∷ pairs) own = λ i. option_map_or g (own.0 i) [] ++ each_found all pairs own.1 i
 
   own_later : (least : ℕ) (first : ℕ × V) (all pairs : List (ℕ × V)) → first.0 < least → rises_from least (keys pairs) ≡ true → AreOwn all pairs → AreOwn (first ∷ all) pairs
-
   own_later least first all [] below rises own = tt
   own_later least first all (pair ∷ pairs) below rises own =
       let parts = and_parts (leb least pair.0) (rises_from (pair.0 + 1) (keys pairs)) rises in
@@ -177,7 +175,6 @@ module _ {V A : Type 0} (g : V → List A) where
       (ap (λ b. cond b (Some first.1) (value_of all pair.0)) other ∙ own.0, own_later (pair.0 + 1) first all pairs (omega (arith, above, below)) parts.1 own.1)
 
   pub own_all : (least : ℕ) (pairs : List (ℕ × V)) → rises_from least (keys pairs) ≡ true → AreOwn pairs pairs
-
   own_all least [] rises = tt
   own_all least (pair ∷ pairs) rises =
       let rest = rest_rises least pair pairs rises in

@@ -124,10 +124,10 @@ one_more_line w segments i d old new rises within so_far union =
     let line = (get_or segments i d).line in
     in_other_words (λ train. may_stop (take i segments) train || stands_in (key.Line line) train) (may_stop (take (i + 1) segments)) w new
     (λ train.
-        or_together (same_key key.Unplaced (list_of train)) (list_any (λ segment. same_key (key.Line segment.line) (list_of train)) (take i segments)) (stands_in (key.Line line) train)
-        ∙ ap (λ b. same_key key.Unplaced (list_of train) || b)
-            (sym (ap (list_any (λ (segment : Segment). same_key (key.Line segment.line) (list_of train))) (take_more segments i d within)
-            ∙ any-last (λ (segment : Segment). same_key (key.Line segment.line) (list_of train)) (take i segments) (get_or segments i d))))
+    or_together (same_key key.Unplaced (list_of train)) (list_any (λ segment. same_key (key.Line segment.line) (list_of train)) (take i segments)) (stands_in (key.Line line) train)
+    ∙ ap (λ b. same_key key.Unplaced (list_of train) || b)
+    (sym (ap (list_any (λ (segment : Segment). same_key (key.Line segment.line) (list_of train))) (take_more segments i d within)
+    ∙ any-last (λ (segment : Segment). same_key (key.Line segment.line) (list_of train)) (take i segments) (get_or segments i d))))
     (joined (may_stop (take i segments)) (stands_in (key.Line line)) w old (engines_at w (key.Line line)) new so_far (line_has w line rises) union)
 
 -- ---- engines that are enough
@@ -148,7 +148,7 @@ enough plan changed w stops limits p engines well has_changed numbers are quiet 
   enrolled = all_from (λ n. has_number (keys w.trains) n ≡ true) engines (λ n there. is_there p w.trains n (sym (are n) ∙ there));
   writes = gathered_listed p (write_of plan stops limits (released_by changed)) w.trains engines well.ascending numbers are
       (λ n train found other. let nothing = stays plan changed w stops limits n train well has_changed (sym found) (quiet n train found other) in
-          ap (λ b. cond b [] ((key.Train train.engine, Some (rec.Train (settled_train plan stops limits (released_by changed) train))) ∷ [])) nothing.0);
+      ap (λ b. cond b [] ((key.Train train.engine, Some (rec.Train (settled_train plan stops limits (released_by changed) train))) ∷ [])) nothing.0);
   sent = gathered_listed p (sent_of plan stops limits (released_by changed)) w.trains engines well.ascending numbers are
       (λ n train found other. (stays plan changed w stops limits n train well has_changed (sym found) (quiet n train found other)).1);
 }

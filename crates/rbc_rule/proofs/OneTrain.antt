@@ -247,9 +247,9 @@ module _ (plan : Plan) (message : FromTrain) (w : World) (old : TrainRec) (found
       (taken plan (Received message) w (record w { trains = with_value engine train w.trains }) _ _ _
       (receive_effect train heard_is)
       (λ k.
-          ap (λ entered. written (moves w engine (list_of old) entered ++ (key.Train engine, Some (rec.Train after)) ∷ []) (record_of w) k) (sym list)
-          ∙ heard_records w engine old after well.ascending (sym found) there k
-          ∙ ap (λ trains. record_of (record w { trains = trains }) k) (sym (settled_with plan w well engine train)))
+      ap (λ entered. written (moves w engine (list_of old) entered ++ (key.Train engine, Some (rec.Train after)) ∷ []) (record_of w) k) (sym list)
+      ∙ heard_records w engine old after well.ascending (sym found) there k
+      ∙ ap (λ trains. record_of (record w { trains = trains }) k) (sym (settled_with plan w well engine train)))
       (ap Done (count_with plan w well engine train))
       (λ k. ap (λ e. messages_to k (to_engine e (messages_of plan w.stops w.limits train))) same ∙ sent_with plan w well engine train k))
 
