@@ -1,5 +1,5 @@
--- Worked cases of the laws, on one track. Places and lengths are in units of 10 cm, speeds in km/h.
-use Rattle.std.specs.Prelude.{ℕ, Bool, true, false, List, [], ◌∷◌, Option, Some, pos}
+-- Worked cases of the laws, on one track, and of the records. Places and lengths are in units of 10 cm, speeds in km/h.
+use Rattle.std.specs.Prelude.{ℕ, Bool, true, false, List, [], ◌∷◌, Option, Some, None, pos}
 use Rattle.ertms_codec.specs.declared.to_train.Head.{Head}
 use Rattle.ertms_codec.specs.declared.to_train.ToTrain.{ToTrain}
 use Rattle.ertms_codec.specs.declared.to_train.ToTrain.TheVariants as message
@@ -15,6 +15,11 @@ use Rattle.rbc_zones.specs.declared.limit.Dirs.TheVariants as dirs
 use Rattle.rbc_zones.specs.Limits.{Limit}
 use Rattle.rbc_settle.specs.declared.train.TrainRec.{TrainRec}
 use Rattle.rbc_settle.specs.Settling.{Stops, Limits}
+use Rattle.rbc_records.specs.declared.record.Key.{Key}
+use Rattle.rbc_records.specs.declared.record.Key.TheVariants as key
+use Rattle.rbc_records.specs.declared.record.Rec.{Rec}
+use Rattle.rbc_records.specs.declared.record.Rec.TheVariants as rec
+use Rattle.rbc_records.specs.Notes.{Notes, Part}
 use Rattle.rbc_rule.specs.declared.input.Input.{Input}
 use Rattle.rbc_rule.specs.declared.input.Input.TheVariants.{Enrol, Stop, Restrict}
 use Rattle.rbc_rule.specs.World.{World}
@@ -149,3 +154,37 @@ world_off_line = world_of (train_7 (Some (record facing_up { hi = 300001 })) 100
 abbrev pub world_numbered_high : World
 world_numbered_high =
     world_of (train_7 (Some facing_up) 1001 (told_as_0 2)) (record { last = 1; active = (2, on_line_0 20000 21000 ∷ []) ∷ [] }) none_numbered
+
+-- ---- records
+
+-- a train of 200 m under an engine number, at a place or without one, to which nothing was told
+abbrev pub enrolled_as : ℕ → Option Place → TrainRec
+enrolled_as engine place = record (train_7 place 1000 []) { engine = engine }
+
+-- train 7 stands on line 0, train 8 has no place, train 9 stands on line 2, and nothing is active
+abbrev pub three_trains : World
+three_trains = record {
+  trains = (7, enrolled_as 7 (Some facing_up)) ∷ (8, enrolled_as 8 None) ∷ (9, enrolled_as 9 (Some (record facing_up { line = 2 }))) ∷ [];
+  stops = none_numbered;
+  limits = none_numbered;
+}
+
+-- a list of engines that is there
+abbrev pub engines_there : List ℕ → Option Rec
+engines_there engines = Some (rec.Engines engines)
+
+-- all lists of the three trains, and the record of train 7
+abbrev pub all_lists_read : Notes
+all_lists_read = Part (
+    (key.Roster, engines_there (7 ∷ 8 ∷ 9 ∷ []))
+    ∷ (key.Line 0, engines_there (7 ∷ []))
+    ∷ (key.Line 1, None)
+    ∷ (key.Line 2, engines_there (9 ∷ []))
+    ∷ (key.Unplaced, engines_there (8 ∷ []))
+    ∷ (key.Train 7, Some (rec.Train (enrolled_as 7 (Some facing_up))))
+    ∷ []
+    )
+
+-- one key alone was read, with what was found under it
+abbrev pub read_alone : Key → Option Rec → Notes
+read_alone key found = Part ((key, found) ∷ [])

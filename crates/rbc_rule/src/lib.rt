@@ -25,4 +25,6 @@ pub use law::{says_law, step_law, told_law};
 pub use outcome::{Outcome, Reply, RuleFault, SentList};
 pub use refuse::Refusal;
 pub use rule::decide;
-pub use witnesses::{says_law_witnesses, step_law_witnesses, told_law_witnesses};
+pub use witnesses::{
+    records_witnesses, says_law_witnesses, step_law_witnesses, told_law_witnesses,
+};

@@ -1,13 +1,16 @@
-//! Worked cases of the laws: right ones, of which a law's conclusion holds, and wrong ones, of which it does not.
+//! Worked cases of the laws and of the records: right ones, of which a law's conclusion or `Agrees` holds, and wrong
+//! ones, of which it does not.
 
 ghost use Rattle.std.specs.Prelude.{◌≡◌, ◌∷◌, [], Some, None};
 ghost use Rattle.rbc_settle.specs.Settling.{last_stamp};
+ghost use Rattle.rbc_records.specs.declared.record.Key.TheVariants as key;
 ghost use Rattle.rbc_rule.specs.declared.input.Input.TheVariants as input;
 ghost use Rattle.rbc_rule.specs.Step.{step};
 ghost use Rattle.rbc_rule.specs.WellFormed.{IsWellFormed};
 ghost use Rattle.rbc_rule.specs.Saying.{StopsBefore, Says};
 ghost use Rattle.rbc_rule.specs.Told.{EachTrainIsUpToDate};
-ghost use Rattle.rbc_rule.specs.Witnesses.{track_a, facing_up, facing_down, stop_before, stop_now, restrict_to, revoke, two_stops, told_as_0, world_told, told_world, told_twice, world_released, world_restricted, world_off_line, world_numbered_high, spot_at, only_train_7, on_line_0, IsSaidIn, IsSaidOfStop, IsSaidOfLimit, IsSaidAtEnrolment};
+ghost use Rattle.rbc_rule.specs.Records.{Agrees};
+ghost use Rattle.rbc_rule.specs.Witnesses.{track_a, facing_up, facing_down, stop_before, stop_now, restrict_to, revoke, two_stops, told_as_0, world_told, told_world, told_twice, world_released, world_restricted, world_off_line, world_numbered_high, spot_at, only_train_7, on_line_0, IsSaidIn, IsSaidOfStop, IsSaidOfLimit, IsSaidAtEnrolment, three_trains, engines_there, all_lists_read, read_alone};
 
 /// Train 7 of 200 m stands 200 m from balise group 5, which lies at 10000 on line 0; nothing was told to it, and stop 1 or a
 /// restriction to 80 km/h becomes active there.
@@ -77,4 +80,22 @@ pub fn step_law_witnesses()
     ensures not_settled { IsWellFormed track_a (world_told (Some facing_up) 1000 []) → ⊥ }
     ensures off_the_line { IsWellFormed track_a world_off_line → ⊥ }
     ensures number_above { IsWellFormed track_a world_numbered_high → ⊥ }
+{}
+
+/// Train 7 stands on line 0, train 8 has no place, and train 9 stands on line 2.
+///
+/// Right: the roster has all three, line 0 lists train 7, line 1 has no record, line 2 lists train 9,
+/// train 8 is listed without a place, and train 7 has its own record.
+///
+/// Wrong: line 0 lists train 8 too; line 0 has no record; line 1 lists train 7; train 9 is listed
+/// without a place, beside train 8; the trains without a place have no record; line 1 has a record
+/// that lists nobody.
+pub fn records_witnesses()
+    ensures all_lists { Agrees all_lists_read three_trains }
+    ensures one_too_many { Agrees (read_alone (key.Line 0) (engines_there (7 ∷ 8 ∷ []))) three_trains → ⊥ }
+    ensures line_absent { Agrees (read_alone (key.Line 0) None) three_trains → ⊥ }
+    ensures other_line { Agrees (read_alone (key.Line 1) (engines_there (7 ∷ []))) three_trains → ⊥ }
+    ensures placed_among_unplaced { Agrees (read_alone key.Unplaced (engines_there (8 ∷ 9 ∷ []))) three_trains → ⊥ }
+    ensures unplaced_absent { Agrees (read_alone key.Unplaced None) three_trains → ⊥ }
+    ensures empty_list { Agrees (read_alone (key.Line 1) (engines_there [])) three_trains → ⊥ }
 {}
