@@ -1,6 +1,7 @@
 mod playing;
 mod ranges;
 mod reading;
+mod recorder;
 mod refusals;
 mod setting;
 

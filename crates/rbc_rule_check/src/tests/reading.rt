@@ -1,76 +1,14 @@
-//! Inputs over a reader that reads one record at a time: it fails at one of its reads, or reads what stands in no world.
-
-ghost use Rattle.std.specs.Prelude.{◌≡◌};
+//! Inputs over a reader that reads one record at a time: what it reads in turn, and that it fails at one of its reads, or reads what
+//! stands in no world.
 
 use super::same;
-use crate::tests::playing::assert_transcript;
+use crate::tests::playing::{assert_transcript, write};
+use crate::tests::recorder::reader_of;
 use crate::tests::setting::{enrol, stop, track};
-use rbc_records::{Key, Notes, PlainStore, ReadFault, Reader, Rec, Writes, apply};
+use rbc_records::{Key, Notes, PlainStore, Reader};
 use rbc_rule::{Input, Outcome, Reply, RuleFault, decide};
-use rbc_settle::Numbers;
 use std::alloc::Global;
 use std::process::Abort;
-
-/// Reads copies from a store, and fails once `left` reads were made.
-#[derive(Drop)]
-struct Recorder<'a> {
-    alloc: Global,
-    store: &'a PlainStore,
-    notes: Notes,
-    left: usize,
-    failed: u64,
-}
-
-impl Reader for Recorder<'_> {
-    ghost use Rattle.rbc_records.specs.Notes.{Part};
-
-    ghost notes = { λ recorder. Part recorder.notes };
-
-    ghost failed = { λ recorder. recorder.failed };
-
-    fn fetch(&mut self, key: Key) -> Result<(), ReadFault> {
-        if self.notes.get(key).is_some() {
-            return Ok(());
-        }
-        if self.left == 0 {
-            self.failed += 1;
-            return Err(ReadFault::Failed);
-        }
-        self.left -= 1;
-        let rec = match self.store.get(key) {
-            None => None,
-            Some(rec) => match rec.copy(self.alloc) {
-                Ok(rec) => Some(rec),
-                Err(_) => return Err(ReadFault::OutOfMemory),
-            },
-        };
-        match self.notes.add(key, rec) {
-            Ok(()) => Ok(()),
-            Err(_) => Err(ReadFault::OutOfMemory),
-        }
-    }
-
-    fn seen(&self, key: Key) -> Option<&Rec> {
-        self.notes.get(key).unwrap()
-    }
-
-    fn failures(&self) -> u64 {
-        self.failed
-    }
-}
-
-/// A reader of a store that has read nothing.
-fn reader_of(alloc: Global, store: &PlainStore, left: usize) -> Recorder<'_>
-    ensures { result.failed ≡ 0 }
-{
-    Recorder {
-        alloc,
-        store,
-        notes: Notes::new(alloc),
-        left,
-        failed: 0,
-    }
-}
 
 /// Asserts that just so many of the keys are known, the first ones.
 fn assert_known(rt: &impl Abort, notes: &Notes, keys: &[Key], count: usize) {
@@ -80,10 +18,11 @@ fn assert_known(rt: &impl Abort, notes: &Notes, keys: &[Key], count: usize) {
 }
 
 /// What a stop with trains 3 and 7 reads, in turn.
-const READ: [Key; 5] = [
+const READ: [Key; 6] = [
     Key::Stops,
     Key::Limits,
-    Key::Roster,
+    Key::Unplaced,
+    Key::Line(0),
     Key::Train(3),
     Key::Train(7),
 ];
@@ -91,13 +30,6 @@ const READ: [Key; 5] = [
 /// A stop for one segment of line 0.
 fn closed(rt: &impl Abort, alloc: Global, number: u32) -> Input {
     stop(alloc, number, 0, 100).expect(rt, "memory")
-}
-
-/// Takes one write over.
-fn write(rt: &impl Abort, alloc: Global, store: &mut PlainStore, key: Key, rec: Rec) {
-    let mut writes = Writes::new(alloc);
-    writes.set(key, Some(rec)).expect(rt, "memory");
-    assert!(rt; apply(store, writes).is_ok());
 }
 
 /// Asserts that a stop with trains 3 and 7, over a reader that fails once `left` reads were made, is decided if these are
@@ -121,12 +53,12 @@ fn assert_fails_after(rt: &impl Abort, alloc: Global, store: &PlainStore, left: 
 #[test]
 fn fails_at_each_read(rt: HostRuntime) {
     let transcript = "> enrol 7 2000
-Done(0) [Roster, Train(7)]
+Done(0) +Roster +Train(7) +Unplaced
 > enrol 3 2000
-Done(0) [Roster, Train(3)]
+Done(0) +Roster +Train(3) +Unplaced
 ";
     let store = assert_transcript(&rt, rt.alloc(), transcript);
-    for left in 0..7 {
+    for left in 0..8 {
         assert_fails_after(&rt, rt.alloc(), &store, left);
     }
 }
@@ -143,26 +75,102 @@ fn assert_returns(rt: &impl Abort, alloc: Global, store: &PlainStore, input: &In
     same(rt, reader.failures(), 0);
 }
 
-// the roster names train 9, of which there is no record
+// lists by hand, in place of those that the inputs write: engine 9 is not enrolled, and train 7 stands on line 0
 #[test]
-fn a_missing_train_is_no_failure(rt: HostRuntime) {
-    let alloc = rt.alloc();
-    let mut engines = Numbers::new(alloc);
-    assert!(rt; !engines.has(9));
-    engines.add(9).expect(&rt, "memory");
-    let mut store = PlainStore::new(alloc);
-    write(&rt, alloc, &mut store, Key::Roster, Rec::Engines(engines));
-    assert_returns(&rt, alloc, &store, &closed(&rt, alloc, 1));
-    assert_returns(&rt, alloc, &store, &Input::Withdraw { engine: 9 });
+fn lists_that_name_a_wrong_train_are_torn(rt: HostRuntime) {
+    let transcript = "> enrol 7 2000
+Done(0) +Roster +Train(7) +Unplaced
+> report 7 1000 5
+Done(0) -Unplaced +Line(0) +Train(7)
+> stop 1 1:0-10
+Done(0) +Stops
+> restrict 1 1:0-10 40
+Done(0) +Limits
+> put 1 7
+> reads report 7 2000 6
+Torn Train(7) Line(0) Line(1)
+> put 1 9
+> reads stop 2 1:0-10
+Torn Stops Limits Unplaced Line(1) Train(9)
+> reads restrict 2 1:0-10 40
+Torn Limits Stops Line(1) Train(9)
+> put unplaced 9
+> reads enrol 9 2000
+Torn Roster Unplaced Stops Limits
+> reads stop 2 0:0-10
+Torn Stops Limits Unplaced Line(0) Train(7) Train(9)
+> put roster 9
+> reads release 1
+Torn Stops Limits Roster Train(9)
+> reads lift 1
+Torn Limits Stops Roster Train(9)
+> reads withdraw 9
+Refused(7) Train(9)
+";
+    assert_transcript(&rt, rt.alloc(), transcript);
+}
+
+// train 7 stands on line 0 and train 8 has no place: what begins reads the lists of its trains, what ends reads all trains
+#[test]
+fn reads_no_more_than_can_be_concerned(rt: HostRuntime) {
+    let transcript = "> enrol 7 2000
+Done(0) +Roster +Train(7) +Unplaced
+> report 7 1000 5
+Done(0) -Unplaced +Line(0) +Train(7)
+> enrol 8 2000
+Done(0) +Roster +Train(8) +Unplaced
+> reads stop 1 1:0-10
+Done(1) Stops Limits Unplaced Line(1) Train(8)
+> reads stop 1 0:0-10 1:0-10
+Done(1) Stops Limits Unplaced Line(0) Line(1) Train(7) Train(8)
+> reads restrict 1 1:0-10 40
+Done(0) Limits Stops Line(1)
+> reads restrict 1 0:11000-12000 40
+Done(1) Limits Stops Line(0) Train(7)
+> reads release 1
+Refused(14) Stops
+> reads lift 1
+Refused(14) Limits
+> stop 1 1:0-10
+Done(1) +Train(8) +Stops
+8 Stop { head: Head { stamp: 1, ack: false, lrbg: 16777215 }, id: 0 }
+> restrict 1 1:0-10 40
+Done(0) +Limits
+> reads release 1
+Done(1) Stops Limits Roster Train(7) Train(8)
+> reads lift 1
+Done(0) Limits Stops Roster Train(7) Train(8)
+> reads stop 1 1:0-10
+Refused(11) Stops
+> reads restrict 1 1:0-10 40
+Refused(11) Limits
+> reads enrol 9 2000
+Done(1) Roster Unplaced Stops Limits
+> reads withdraw 7
+Done(0) Train(7) Roster Line(0)
+> reads withdraw 8
+Refused(10) Train(8)
+> reads report 7 2000 5
+Done(0) Train(7) Stops Limits
+> reads report 7 2000 6
+Done(0) Train(7) Line(0) Line(1) Stops Limits
+> reads report 7 4200000001 6
+Refused(15) Train(7)
+> reads report 9 2000 5
+Refused(7) Train(9)
+> reads bad 2
+Refused(2)
+";
+    assert_transcript(&rt, rt.alloc(), transcript);
 }
 
 // the stops are those after a stop, and the train is the one before it
 #[test]
 fn stops_of_another_time_are_no_failure(rt: HostRuntime) {
     let alloc = rt.alloc();
-    let transcript = "> enrol 7 2000\nDone(0) [Roster, Train(7)]\n";
+    let transcript = "> enrol 7 2000\nDone(0) +Roster +Train(7) +Unplaced\n";
     let mut before = assert_transcript(&rt, alloc, transcript);
-    let after = assert_transcript(&rt, alloc, "> stop 1 0 100\nDone(0) [Stops]\n");
+    let after = assert_transcript(&rt, alloc, "> stop 1 0:0-100\nDone(0) +Stops\n");
     let stops = after.get(Key::Stops).expect(&rt, "the stops");
     let stops = stops.copy(alloc).expect(&rt, "memory");
     write(&rt, alloc, &mut before, Key::Stops, stops);

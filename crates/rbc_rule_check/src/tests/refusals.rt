@@ -22,7 +22,10 @@ const TRAINS: u32 = 20;
 const UNKNOWN: u32 = 16_777_215;
 
 /// What is written where train 7 is enrolled.
-const ENROLLED: &[Key] = &[Key::Roster, Key::Train(7)];
+const ENROLLED: &[Key] = &[Key::Roster, Key::Train(7), Key::Unplaced];
+
+/// What is written where it comes onto line 0.
+const PLACED: &[Key] = &[Key::Unplaced, Key::Line(0), Key::Train(7)];
 
 /// What is written where only train 7 changes.
 const TRAIN: &[Key] = &[Key::Train(7)];
@@ -212,7 +215,7 @@ fn play_rejected(rt: &impl Abort, play: &mut Play) -> Result<(), Fail> {
     let with_stops = [Key::Train(7), Key::Stops];
     let closed = stop(play.alloc, 4, 20_000, 21_000)?;
     play.done(rt, &enrol(7), ENROLLED, None)?;
-    play.done(rt, &report(), TRAIN, None)?;
+    play.done(rt, &report(), PLACED, None)?;
     play.done(rt, &closed, with_stops.as_slice(), Some(before))?;
     play.done(rt, &reject(), TRAIN, Some(at_once))?;
     let refused = Right {
@@ -244,7 +247,7 @@ fn play_restricted(rt: &impl Abort, play: &mut Play) -> Result<(), Fail> {
     };
     let with_limits = [Key::Train(7), Key::Limits];
     play.done(rt, &enrol(7), ENROLLED, None)?;
-    play.done(rt, &report(), TRAIN, None)?;
+    play.done(rt, &report(), PLACED, None)?;
     let ahead = restrict(1, 11_000, 12_000);
     play.done(rt, &ahead, with_limits.as_slice(), Some(restricted))?;
     let behind = restrict(2, 1_000, 9_899);
@@ -262,7 +265,7 @@ fn play_many(rt: &impl Abort, play: &mut Play) -> Result<(), Fail> {
         let message = ToTrain::Stop { head, id: 0 };
         keys.push(Key::Train(engine))?;
         sent.push(Sent { engine, message })?;
-        let enrolled = [Key::Roster, Key::Train(engine)];
+        let enrolled = [Key::Roster, Key::Train(engine), Key::Unplaced];
         play.done(rt, &enrol(engine), enrolled.as_slice(), None)?;
     }
     keys.push(Key::Stops)?;

@@ -7,13 +7,21 @@ use rbc_track::{Track, TrackError, track_from_toml};
 use rbc_zones::Segment;
 use std::alloc::{AllocError, Global};
 
-/// Line 0 is 30 km long and has balise group 5 at 1 km, whose nominal direction is up.
+/// Lines 0 and 1 are 30 km long. Balise group 5 lies at 1 km of line 0, and group 6 at 1 km of line 1; the nominal direction of
+/// both is up.
 const TRACK: &str = "horizon = 100000
+[[line]]
+length = 300000
 [[line]]
 length = 300000
 [[group]]
 nid = 5
 line = 0
+at = 10000
+nominal = \"up\"
+[[group]]
+nid = 6
+line = 1
 at = 10000
 nominal = \"up\"
 ";
