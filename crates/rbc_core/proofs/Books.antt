@@ -1,12 +1,14 @@
 -- Each call of a book keeps what is true of it.
-use Rattle.std.proofs.Common.{◌≡◌, ◌≢◌, ◌⊎◌, ℕ, zero, suc, ◌+◌, ◌-◌, ◌<◌, ◌≤◌, Bool, true, false, List, [], ◌∷◌, length, take, set, Option, Some, None, inl, inr, ⊎_elim, refl, sym, ap, ◌∙◌, subst, arith}
+use Rattle.std.proofs.Common.{◌≡◌, ◌≢◌, ◌⊎◌, ℕ, zero, suc, ◌+◌, ◌-◌, ◌<◌, ◌≤◌, Bool, true, false, cond, List, [], ◌∷◌, length, take, set, Option, Some, None, inl, inr, ⊎_elim, refl, sym, ap, ◌∙◌, subst, arith}
 use Rattle.std.specs.Prelude.{slice_get, replicate}
 use Rattle.std.specs.List.{All}
 use Rattle.std.proofs.lemmas.List.{length-set, length-replicate, length-append}
 use Rattle.std.proofs.lemmas.List.Elements.{All-get_or}
 use Rattle.std.proofs.lemmas.Option.{slice_get_within, get_or_from_slice_get}
 use Rattle.rbc_records.specs.declared.record.Key.{Key}
-use Rattle.rbc_records.specs.declared.record.Rec.{Rec}
+use Rattle.rbc_records.specs.Notes.{same_key}
+use Rattle.rbc_versions.specs.Log.{LogName, Shown, number_of}
+use Rattle.rbc_versions.specs.Entries.{NumberedRec, AreCurrent, numbered, ticket_in, tickets_after, numbers_after}
 use Rattle.rbc_rule.specs.declared.input.Input.{Input}
 use Rattle.rbc_rule.specs.declared.outcome.Outcome.{Outcome}
 use Rattle.rbc_rule.specs.Inputs.{Fits}
@@ -17,10 +19,9 @@ use Rattle.rbc_core.specs.Serial.{Desk, step, serial}
 use Rattle.rbc_core.specs.Runs.{Run, IsGoodRun, IsInput}
 use Rattle.rbc_core.specs.Core.{Try, IsRightTry, State, opening, IsAt, front, IsReady, IsStale}
 use Rattle.rbc_core.specs.declared.book.Commit.TheVariants.{Applied, Recomputed, NotReady, Failed}
-use Rattle.rbc_records.specs.Notes.{AreNow}
-use Rattle.rbc_core.specs.Events.{Happens, Commits, IsSparing}
+use Rattle.rbc_core.specs.Events.{Happens, Commits}
 use Rattle.rbc_core.specs.Events.Event.{Deposits, Voids}
-use Rattle.rbc_core.specs.Books.{IsStage, AreStages, IsBook, IsOutIn, Judges, IsJudged, IsCarriedOut}
+use Rattle.rbc_core.specs.Books.{IsStage, AreStages, IsKept, IsOutIn, Judges, IsJudged, IsCarriedOut, number_now}
 use Rattle.rbc_core.proofs.Runs.{fold_more}
 use Rattle.rbc_core.proofs.Stands.{holds_after, boxes_after}
 
@@ -75,10 +76,20 @@ stage_committed n t k Out ne h = (omega arith, h.1)
 stage_committed n t k (Tried a) ne h = (omega arith, h.1, h.2)
 stage_committed n t k Void ne h = (omega arith, h.1)
 
+-- ---- states
+
+-- one input more is committed: with this desk, these present numbers, these stages and this count of inputs that were computed again
+abbrev pub committed : State → Standing → (Key → ℕ) → List (Stage Try) → ℕ → State
+committed s desk present stages recomputed = record { desk = desk; present = present; stages = stages; committed = s.committed + 1; taken = s.taken; recomputed = recomputed; closed = s.closed }
+
+-- nothing more is taken: with this desk, these present numbers and these stages
+abbrev pub lost : State → Standing → (Key → ℕ) → List (Stage Try) → State
+lost s desk present stages = record { desk = desk; present = present; stages = stages; committed = s.committed; taken = s.taken; recomputed = s.recomputed; closed = true }
+
 -- ---- what is true of each book
 
-pub opens : (run : Run) → IsGoodRun run → IsBook run (opening run)
-opens run good = record {
+pub opens : (run : Run) (numbers : Key → ℕ) → IsGoodRun run → IsKept run (opening run numbers)
+opens run numbers good = record {
   good = good;
   serial = λ desk h. h;
   boxes = good.in_order;
@@ -91,7 +102,7 @@ opens run good = record {
 }
 
 -- the next input is taken
-pub takes : (run : Run) (s : State) (k : ℕ) → IsBook run s → k ≡ s.taken → s.taken < length run.inputs → IsBook run (record s { stages = set s.stages k Out; taken = s.taken + 1 })
+pub takes : (run : Run) (s : State) (k : ℕ) → IsKept run s → k ≡ s.taken → s.taken < length run.inputs → IsKept run (record s { stages = set s.stages k Out; taken = s.taken + 1 })
 takes run s k b is more = record {
   good = b.good;
   serial = b.serial;
@@ -105,7 +116,7 @@ takes run s k b is more = record {
 }
 
 -- a stage changes
-pub keeps : (run : Run) (s : State) (k : ℕ) (x : Stage Try) → IsBook run s → IsStage s.committed s.taken k x → IsBook run (record s { stages = set s.stages k x })
+pub keeps : (run : Run) (s : State) (k : ℕ) (x : Stage Try) → IsKept run s → IsStage s.committed s.taken k x → IsKept run (record s { stages = set s.stages k x })
 keeps run s k x b new = record {
   good = b.good;
   serial = b.serial;
@@ -118,12 +129,8 @@ keeps run s k x b new = record {
   stages = stages_set s.stages k s.committed s.taken s.committed s.taken x b.stages new (λ j g ne h. h);
 }
 
--- a book with other words for the same
-pub same_book : (run : Run) (s t : State) → s ≡ t → IsBook run t → IsBook run s
-same_book run s t e b = subst (IsBook run) (sym e) b
-
 -- the book is closed to `take`
-pub closes : (run : Run) (s : State) → IsBook run s → IsBook run (record s { closed = true })
+pub closes : (run : Run) (s : State) → IsKept run s → IsKept run (record s { closed = true })
 closes run s b = record {
   good = b.good;
   serial = b.serial;
@@ -140,11 +147,11 @@ closes run s b = record {
 pub same_item : {A : Type 0} (xs : List A) (k : ℕ) (x y : A) → slice_get xs k ≡ Some x → slice_get xs k ≡ Some y → x ≡ y
 same_item xs k x y e f = cc (e, f)
 
--- an outcome of the next input is taken over
-pub commits : (run : Run) (s : State) (input : Input) (outcome : Outcome) (recomputed : ℕ) → IsBook run s → s.committed < s.taken → IsInput run (s.committed + 1) input
+-- an outcome of the next input is taken over, whichever numbers are the present ones then
+pub commits : (run : Run) (s : State) (input : Input) (outcome : Outcome) (present : Key → ℕ) (recomputed : ℕ) → IsKept run s → s.committed < s.taken → IsInput run (s.committed + 1) input
     → IsOutcomeOf run.track input s.desk.records outcome → recomputed ≤ s.committed + 1
-    → IsBook run (record { desk = after_outcome s.desk outcome; stages = set s.stages s.committed Free; committed = s.committed + 1; taken = s.taken; recomputed = recomputed; closed = s.closed })
-commits run s input outcome recomputed b turn is right few =
+    → IsKept run (committed s (after_outcome s.desk outcome) present (set s.stages s.committed Free) recomputed)
+commits run s input outcome present recomputed b turn is right few =
     let there : slice_get run.inputs s.committed ≡ Some input = subst (λ (k : ℕ). slice_get run.inputs k ≡ Some input) (minus_one s.committed) is.there in
     let within = slice_get_within run.inputs s.committed input there in
     let more : (d : Desk) → serial run.track d (take (s.committed + 1) run.inputs) ≡ step run.track (serial run.track d (take s.committed run.inputs)) input =
@@ -179,7 +186,7 @@ at_index s k number x is low high there = record {
     before a b e = omega (arith, e)
 
 -- an input that is out
-pub is_out_at : (run : Run) (s : State) (number : ℕ) → IsBook run s → IsOutIn s.stages number → IsAt s number Out
+pub is_out_at : (run : Run) (s : State) (number : ℕ) → IsKept run s → IsOutIn s.stages number → IsAt s number Out
 is_out_at run s number b h =
     let turn = b.stages (number - 1) Out h.1 in
     at_index s (number - 1) number Out (omega (arith, h.0)) turn.0 turn.1 h.1
@@ -188,17 +195,35 @@ pub out_in : (s : State) (number : ℕ) → IsAt s number Out → IsOutIn s.stag
 out_in s number a = (let low = a.uncommitted in omega (arith, low), a.at)
 
 -- an attempt at an input that is out is kept
-pub deposits : (run : Run) (s old : State) (a : Try) (number : ℕ) → s ≡ old → IsBook run s → IsRightTry run a → IsOutIn s.stages number → number ≡ a.number
+pub deposits : (run : Run) (s old : State) (a : Try) (number : ℕ) → s ≡ old → IsKept run s → IsRightTry run a → IsOutIn s.stages number → number ≡ a.number
     → Happens run old (Deposits a true) (record s { stages = set s.stages (number - 1) (Tried a) })
 deposits run s old a number is b right out same =
     subst (λ (o : State). Happens run o (Deposits a true) (record s { stages = set s.stages (number - 1) (Tried a) })) is
     (record { may = (right, is_out_at run s a.number b (subst (IsOutIn s.stages) same out)); leads = ap (λ n. record s { stages = set s.stages (n - 1) (Tried a) }) same })
 
 -- an input that is out is given up
-pub voids : (run : Run) (s old : State) (number : ℕ) → s ≡ old → IsBook run s → IsOutIn s.stages number → Happens run old (Voids number true) (record s { stages = set s.stages (number - 1) Void })
+pub voids : (run : Run) (s old : State) (number : ℕ) → s ≡ old → IsKept run s → IsOutIn s.stages number → Happens run old (Voids number true) (record s { stages = set s.stages (number - 1) Void })
 voids run s old number is b out =
     subst (λ (o : State). Happens run o (Voids number true) (record s { stages = set s.stages (number - 1) Void })) is
     (record { may = is_out_at run s number b out; leads = refl })
+
+-- ---- numbers
+
+-- the number of a ticket after a publication is the number after its entries
+number_after : (entries : List (Key × Option Shown)) (tickets : Key → Option Shown) (k : Key) → number_of (tickets_after entries tickets k) ≡ numbers_after (numbered entries) (λ other. number_of (tickets other)) k
+number_after [] tickets k = refl
+number_after (entry ∷ entries) tickets k =
+    number_after entries (λ other. cond (same_key other entry.0) entry.1 (tickets other)) k
+    ∙ ap (λ (numbers : Key → ℕ). numbers_after (numbered entries) numbers k) (λ i other. over (same_key other entry.0) (tickets other) i)
+  where
+    over : (b : Bool) (ticket : Option Shown) → number_of (cond b entry.1 ticket) ≡ cond b (number_of entry.1) (number_of ticket)
+    over true ticket = refl
+    over false ticket = refl
+
+-- so the present numbers after a commit are those of the tickets after it
+pub numbers_taken_over : (entries : List (Key × Option Shown)) (before now : List (Key × Shown)) → ((k : Key) → ticket_in now k ≡ tickets_after entries (ticket_in before) k)
+    → (k : Key) → number_now now k ≡ numbers_after (numbered entries) (number_now before) k
+numbers_taken_over entries before now same k = ap number_of (same k) ∙ number_after entries (ticket_in before) k
 
 -- ---- commits
 
@@ -213,103 +238,133 @@ freed : (s : State) (xs : List (Stage Try)) → xs ≡ set s.stages s.committed 
 freed s xs void = ap (λ (l : List (Stage Try)). set l s.committed Free) void ∙ set_set s.stages s.committed Void Free
 
 -- who can be committed is in turn
-pub judged_turn : (n t k : ℕ) (records : Key → Option Rec) (g : Stage Try) (b : Bool) → Judges records g (Some b) → IsStage n t k g → (n ≤ k) × (k < t)
-judged_turn n t k records (Tried a) b h s = (s.0, s.1)
-judged_turn n t k records Void b h s = s
-judged_turn n t k records Free b h s = absurd h
-judged_turn n t k records Out b h s = absurd h
+pub judged_turn : (n t k : ℕ) (tickets : List (Key × Shown)) (g : Stage Try) (b : Bool) → Judges tickets g (Some b) → IsStage n t k g → (n ≤ k) × (k < t)
+judged_turn n t k tickets (Tried a) b h s = (s.0, s.1)
+judged_turn n t k tickets Void b h s = s
+judged_turn n t k tickets Free b h s = absurd h
+judged_turn n t k tickets Out b h s = absurd h
 
--- the next input, as it was judged
-pub turn_of : (run : Run) (s : State) (fresh : Bool) → IsBook run s → IsJudged s.stages s.committed s.desk.records (Some fresh) → s.committed < s.taken
-turn_of run s fresh b can = (judged_turn s.committed s.taken s.committed s.desk.records can.0 fresh can.2 (b.stages s.committed can.0 can.1)).1
+-- the next input, as it was judged by the tickets
+module _ (run : Run) (s : State) (tickets : List (Key × Shown)) (b : IsKept run s) where
+  pub turn_of : (fresh : Bool) → IsJudged s.stages s.committed tickets (Some fresh) → s.committed < s.taken
+  turn_of fresh can = (judged_turn s.committed s.taken s.committed tickets can.0 fresh can.2 (b.stages s.committed can.0 can.1)).1
 
-front_at : (run : Run) (s : State) (fresh : Bool) (x : Stage Try) → IsBook run s → IsJudged s.stages s.committed s.desk.records (Some fresh) → slice_get s.stages s.committed ≡ Some x → IsAt s (front s) x
-front_at run s fresh x b can at = at_index s s.committed (front s) x refl (omega arith) (turn_of run s fresh b can) at
+  front_at : (fresh : Bool) (x : Stage Try) → IsJudged s.stages s.committed tickets (Some fresh) → slice_get s.stages s.committed ≡ Some x → IsAt s (front s) x
+  front_at fresh x can at = at_index s s.committed (front s) x refl (omega arith) (turn_of fresh can) at
 
-ready_stage : (run : Run) (s : State) (records : Key → Option Rec) (g : Stage Try) (b : Bool) → Judges records g (Some b) → IsAt s (front s) g → IsReady s
-ready_stage run s records (Tried a) b h at = inl (a, at)
-ready_stage run s records Void b h at = inr at
-ready_stage run s records Free b h at = absurd h
-ready_stage run s records Out b h at = absurd h
+  ready_stage : (g : Stage Try) (fresh : Bool) → Judges tickets g (Some fresh) → IsAt s (front s) g → IsReady s
+  ready_stage (Tried a) fresh h at = inl (a, at)
+  ready_stage Void fresh h at = inr at
+  ready_stage Free fresh h at = absurd h
+  ready_stage Out fresh h at = absurd h
 
-pub ready : (run : Run) (s : State) (fresh : Bool) → IsBook run s → IsJudged s.stages s.committed s.desk.records (Some fresh) → IsReady s
-ready run s fresh b can = ready_stage run s s.desk.records can.0 fresh can.2 (front_at run s fresh can.0 b can can.1)
-
-stale_stage : (s : State) (g : Stage Try) → Judges s.desk.records g (Some false) → IsAt s (front s) g → IsStale s
-stale_stage s (Tried a) h at = inr (a, at, h)
-stale_stage s Void h at = inl at
-stale_stage s Free h at = absurd h
-stale_stage s Out h at = absurd h
+  pub ready : (fresh : Bool) → IsJudged s.stages s.committed tickets (Some fresh) → IsReady s
+  ready fresh can = ready_stage can.0 fresh can.2 (front_at fresh can.0 can can.1)
 
 -- an input that is computed again is stale
-pub stale : (run : Run) (s old : State) → s ≡ old → IsBook run s → IsJudged s.stages s.committed s.desk.records (Some false) → IsSparing old Recomputed
-stale run s old is b can = subst IsStale is (stale_stage s can.0 can.2 (front_at run s false can.0 b can can.1))
+stale_stage : (s : State) (tickets : List (Key × Shown)) (g : Stage Try) → s.present ≡ number_now tickets → Judges tickets g (Some false) → IsAt s (front s) g → IsStale s
+stale_stage s tickets (Tried a) now h at = inr (a, at, λ current. h (subst (AreCurrent a.notes) now current))
+stale_stage s tickets Void now h at = inl at
+stale_stage s tickets Free now h at = absurd h
+stale_stage s tickets Out now h at = absurd h
 
-waiting_stage : (s : State) (g : Stage Try) → Judges s.desk.records g None → slice_get s.stages s.committed ≡ Some g → ¬ (IsReady s)
-waiting_stage s (Tried a) h at r = absurd h
-waiting_stage s Void h at r = absurd h
-waiting_stage s Free h at r = ⊎_elim (λ (q : (a : Try) × IsAt s (front s) (Tried a)). absurd (cc (at_front s (Tried q.0) q.1, at))) (λ (q : IsAt s (front s) Void). absurd (cc (at_front s Void q, at))) r
-waiting_stage s Out h at r = ⊎_elim (λ (q : (a : Try) × IsAt s (front s) (Tried a)). absurd (cc (at_front s (Tried q.0) q.1, at))) (λ (q : IsAt s (front s) Void). absurd (cc (at_front s Void q, at))) r
+waiting_stage : (s : State) (tickets : List (Key × Shown)) (g : Stage Try) → Judges tickets g None → slice_get s.stages s.committed ≡ Some g → ¬ (IsReady s)
+waiting_stage s tickets (Tried a) h at r = absurd h
+waiting_stage s tickets Void h at r = absurd h
+waiting_stage s tickets Free h at r =
+    ⊎_elim (λ (q : (a : Try) × IsAt s (front s) (Tried a)). absurd (cc (at_front s (Tried q.0) q.1, at))) (λ (q : IsAt s (front s) Void). absurd (cc (at_front s Void q, at))) r
+waiting_stage s tickets Out h at r =
+    ⊎_elim (λ (q : (a : Try) × IsAt s (front s) (Tried a)). absurd (cc (at_front s (Tried q.0) q.1, at))) (λ (q : IsAt s (front s) Void). absurd (cc (at_front s Void q, at))) r
 
 -- the next input is not ready
-pub waits : (run : Run) (s old : State) → s ≡ old → s.closed ≡ false → s.committed < length run.inputs → IsJudged s.stages s.committed s.desk.records None → Commits run old NotReady old
-waits run s old is opened more can = subst (λ (o : State). Commits run o NotReady o) is (record { may = (opened, more, waiting_stage s can.0 can.2 can.1); leads = refl })
+pub waits : (run : Run) (s old : State) (tickets : List (Key × Shown)) → s ≡ old → s.closed ≡ false → s.committed < length run.inputs → IsJudged s.stages s.committed tickets None → Commits run old NotReady old
+waits run s old tickets is opened more can = subst (λ (o : State). Commits run o NotReady o) is (record { may = (opened, more, waiting_stage s tickets can.0 can.2 can.1); leads = refl })
 
 -- memory is refused: the next input is given up, and the book closed
-pub fails : (run : Run) (s old : State) (fresh : Bool) (desk : Standing) (xs : List (Stage Try)) → s ≡ old → IsBook run s → s.closed ≡ false → IsJudged s.stages s.committed s.desk.records (Some fresh)
-    → desk ≡ s.desk → xs ≡ set s.stages s.committed Void → Commits run old Failed (record { desk = desk; stages = xs; committed = s.committed; taken = s.taken; recomputed = s.recomputed; closed = true })
-fails run s old fresh desk xs is b opened can same void =
-    subst (λ (o : State). Commits run o Failed (record { desk = desk; stages = xs; committed = s.committed; taken = s.taken; recomputed = s.recomputed; closed = true })) is
-    (false, record { may = (opened, ready run s fresh b can); leads = λ i. record { desk = same i; stages = (void ∙ ap (λ n. set s.stages n Void) (front_index s)) i; committed = s.committed; taken = s.taken; recomputed = s.recomputed; closed = true } })
+pub fails : (run : Run) (s old : State) (tickets : List (Key × Shown)) (fresh : Bool) (desk : Standing) (present : Key → ℕ) (xs : List (Stage Try)) → s ≡ old → IsKept run s → s.closed ≡ false
+    → IsJudged s.stages s.committed tickets (Some fresh) → desk ≡ s.desk → present ≡ s.present → xs ≡ set s.stages s.committed Void
+    → Commits run old Failed (lost s desk present xs)
+fails run s old tickets fresh desk present xs is b opened can same numbers void =
+    subst (λ (o : State). Commits run o Failed (lost s desk present xs)) is
+    (false, record { may = (opened, ready run s tickets b fresh can); leads = λ i. lost s (same i) (numbers i) ((void ∙ ap (λ n. set s.stages n Void) (front_index s)) i) })
 
-pub fails_book : (run : Run) (s : State) (fresh : Bool) (desk : Standing) (xs : List (Stage Try)) → IsBook run s → IsJudged s.stages s.committed s.desk.records (Some fresh)
-    → desk ≡ s.desk → xs ≡ set s.stages s.committed Void → IsBook run (record { desk = desk; stages = xs; committed = s.committed; taken = s.taken; recomputed = s.recomputed; closed = true })
-fails_book run s fresh desk xs b can same void =
-    let turn = turn_of run s fresh b can in
-    subst (IsBook run) (λ i. record { desk = sym same i; stages = sym void i; committed = s.committed; taken = s.taken; recomputed = s.recomputed; closed = true })
-    (closes run (record s { stages = set s.stages s.committed Void }) (keeps run s s.committed Void b (omega arith, turn)))
+pub fails_kept : (run : Run) (s : State) (tickets : List (Key × Shown)) (fresh : Bool) (desk : Standing) (present : Key → ℕ) (xs : List (Stage Try)) → IsKept run s
+    → IsJudged s.stages s.committed tickets (Some fresh) → desk ≡ s.desk → xs ≡ set s.stages s.committed Void
+    → IsKept run (lost s desk present xs)
+fails_kept run s tickets fresh desk present xs b can same void =
+    let turn = turn_of run s tickets b fresh can in
+    subst (IsKept run) (λ i. lost s (sym same i) present (sym void i)) (renumbered (closes run (record s { stages = set s.stages s.committed Void }) (keeps run s s.committed Void b (omega arith, turn))))
+  where
+    -- which numbers are the present ones makes no difference
+    renumbered : IsKept run (lost s s.desk s.present (set s.stages s.committed Void)) → IsKept run (lost s s.desk present (set s.stages s.committed Void))
+    renumbered k = record {
+      good = k.good;
+      serial = k.serial;
+      boxes = k.boxes;
+      results = k.results;
+      all = k.all;
+      in_turn = k.in_turn;
+      in_range = k.in_range;
+      counted = k.counted;
+      stages = k.stages;
+    }
 
 -- the book was closed before
 pub stays_closed : (run : Run) (s old : State) → s ≡ old → s.closed ≡ true → s.committed < length run.inputs → Commits run old Failed old
-stays_closed run s old is closed more =
-    subst (λ (o : State). Commits run o Failed o) is
-    (true, record { may = (more, inl closed); leads = λ i. record { desk = s.desk; stages = s.stages; committed = s.committed; taken = s.taken; recomputed = s.recomputed; closed = closed i } })
+stays_closed run s old is closed more = subst (λ (o : State). Commits run o Failed o) is (true, record { may = (more, inl closed); leads = λ i. record s { closed = closed i } })
 
 -- the next input is committed
-pub commits_book : (run : Run) (s : State) (fresh : Bool) (stage : Stage Try) (desk : Standing) (xs : List (Stage Try)) (recomputed : ℕ) → IsBook run s → IsJudged s.stages s.committed s.desk.records (Some fresh)
-    → IsCarriedOut run s.committed stage fresh s.desk desk → xs ≡ set s.stages s.committed Void → recomputed ≤ s.committed + 1
-    → IsBook run (record { desk = desk; stages = set xs s.committed Free; committed = s.committed + 1; taken = s.taken; recomputed = recomputed; closed = s.closed })
-commits_book run s fresh stage desk xs recomputed b can done void few =
+pub commits_kept : (run : Run) (log : LogName) (s : State) (before now : List (Key × Shown)) (fresh : Bool) (stage : Stage Try) (desk : Standing) (xs : List (Stage Try)) (recomputed : ℕ) → IsKept run s
+    → IsJudged s.stages s.committed before (Some fresh) → IsCarriedOut run log s.committed stage fresh s.desk desk before now → xs ≡ set s.stages s.committed Void → recomputed ≤ s.committed + 1
+    → IsKept run (committed s desk (number_now now) (set xs s.committed Free) recomputed)
+commits_kept run log s before now fresh stage desk xs recomputed b can done void few =
     let out = done.is_outcome in
-    subst (IsBook run) (λ i. record { desk = sym done.taken_over i; stages = sym (freed s xs void) i; committed = s.committed + 1; taken = s.taken; recomputed = recomputed; closed = s.closed })
-    (commits run s out.input done.outcome recomputed b (turn_of run s fresh b can) out.is_input out.right few)
+    subst (IsKept run) (λ i. committed s (sym done.taken_over i) (number_now now) (sym (freed s xs void) i) recomputed)
+    (commits run s out.input done.outcome (number_now now) recomputed b (turn_of run s before b fresh can) out.is_input out.right few)
+
+-- the state that a commit leads to
+led : (s : State) (outcome : Outcome) (entries : List (Key × Option Shown)) (writes : List (Key × NumberedRec)) (before now : List (Key × Shown)) (desk : Standing) (xs : List (Stage Try)) (recomputed : ℕ)
+    → s.present ≡ number_now before → numbered entries ≡ writes → ((k : Key) → ticket_in now k ≡ tickets_after entries (ticket_in before) k) → desk ≡ after_outcome s.desk outcome → xs ≡ set s.stages s.committed Void
+    → committed s desk (number_now now) (set xs s.committed Free) recomputed ≡ committed s (after_outcome s.desk outcome) (λ k. numbers_after writes s.present k) (set s.stages (front s - 1) Free) recomputed
+led s outcome entries writes before now desk xs recomputed numbers named tickets same void i =
+    committed s (same i) (λ k. present k i) ((freed s xs void ∙ ap (λ n. set s.stages n Free) (front_index s)) i) recomputed
+  where
+    present : (k : Key) → number_now now k ≡ numbers_after writes s.present k
+    present k =
+        numbers_taken_over entries before now tickets k
+        ∙ (ap (λ (e : List (Key × NumberedRec)). numbers_after e (number_now before) k) named ∙ ap (λ (p : Key → ℕ). numbers_after writes p k) (sym numbers))
 
 -- by its attempt
-pub applies : (run : Run) (s old : State) (stage : Stage Try) (desk : Standing) (xs : List (Stage Try)) → s ≡ old → IsBook run s → s.closed ≡ false → IsJudged s.stages s.committed s.desk.records (Some true)
-    → slice_get s.stages s.committed ≡ Some stage → IsCarriedOut run s.committed stage true s.desk desk → xs ≡ set s.stages s.committed Void
-    → Commits run old Applied (record { desk = desk; stages = set xs s.committed Free; committed = s.committed + 1; taken = s.taken; recomputed = s.recomputed; closed = s.closed })
-applies run s old stage desk xs is b opened can at done void =
+pub applies : (run : Run) (log : LogName) (s old : State) (before now : List (Key × Shown)) (stage : Stage Try) (desk : Standing) (xs : List (Stage Try)) → s ≡ old → IsKept run s → s.present ≡ number_now before
+    → s.closed ≡ false → IsJudged s.stages s.committed before (Some true) → slice_get s.stages s.committed ≡ Some stage → IsCarriedOut run log s.committed stage true s.desk desk before now
+    → xs ≡ set s.stages s.committed Void
+    → Commits run old Applied (committed s desk (number_now now) (set xs s.committed Free) s.recomputed)
+applies run log s old before now stage desk xs is b numbers opened can at done void =
     let attempt = done.is_outcome.attempt in
     let there : slice_get s.stages s.committed ≡ Some (Tried attempt.0) = at ∙ ap Some attempt.1 in
-    let now : AreNow attempt.0.notes s.desk.records = subst (λ (x : Stage Try). Judges s.desk.records x (Some true)) (same_item s.stages s.committed can.0 (Tried attempt.0) can.1 there) can.2 in
-    subst (λ (o : State). Commits run o Applied (record { desk = desk; stages = set xs s.committed Free; committed = s.committed + 1; taken = s.taken; recomputed = s.recomputed; closed = s.closed })) is (
+    let fresh = subst (λ (x : Stage Try). Judges before x (Some true)) (same_item s.stages s.committed can.0 (Tried attempt.0) can.1 there) can.2 in
+    let current : AreCurrent attempt.0.notes s.present = subst (AreCurrent attempt.0.notes) (sym numbers) fresh.0 in
+    subst (λ (o : State). Commits run o Applied (committed s desk (number_now now) (set xs s.committed Free) s.recomputed)) is (
       done.outcome,
+      attempt.0.writes,
       record {
-        may = (opened, (attempt.0, front_at run s true (Tried attempt.0) b can there, now, attempt.2));
-        leads = λ i. record { desk = done.taken_over i; stages = (freed s xs void ∙ ap (λ n. set s.stages n Free) (front_index s)) i; committed = s.committed + 1; taken = s.taken; recomputed = s.recomputed; closed = s.closed };
+        may = (opened, (attempt.0, front_at run s before b true (Tried attempt.0) can there, current, attempt.2, refl));
+        leads = led s done.outcome done.entries attempt.0.writes before now desk xs s.recomputed numbers attempt.3 done.tickets done.taken_over void;
       },
     )
 
 -- or computed here
-pub recomputes : (run : Run) (s old : State) (fresh : Bool) (stage : Stage Try) (desk : Standing) (xs : List (Stage Try)) → s ≡ old → IsBook run s → s.closed ≡ false → IsJudged s.stages s.committed s.desk.records (Some fresh)
-    → IsCarriedOut run s.committed stage fresh s.desk desk → xs ≡ set s.stages s.committed Void
-    → Commits run old Recomputed (record { desk = desk; stages = set xs s.committed Free; committed = s.committed + 1; taken = s.taken; recomputed = s.recomputed + 1; closed = s.closed })
-recomputes run s old fresh stage desk xs is b opened can done void =
+pub recomputes : (run : Run) (log : LogName) (s old : State) (before now : List (Key × Shown)) (stage : Stage Try) (desk : Standing) (xs : List (Stage Try)) → s ≡ old → IsKept run s → s.present ≡ number_now before
+    → s.closed ≡ false → IsJudged s.stages s.committed before (Some false) → IsCarriedOut run log s.committed stage false s.desk desk before now → xs ≡ set s.stages s.committed Void
+    → Commits run old Recomputed (committed s desk (number_now now) (set xs s.committed Free) (s.recomputed + 1))
+recomputes run log s old before now stage desk xs is b numbers opened can done void =
     let out = done.is_outcome in
-    subst (λ (o : State). Commits run o Recomputed (record { desk = desk; stages = set xs s.committed Free; committed = s.committed + 1; taken = s.taken; recomputed = s.recomputed + 1; closed = s.closed })) is (
+    let stale : IsStale s = stale_stage s before can.0 numbers can.2 (front_at run s before b false can.0 can can.1) in
+    subst (λ (o : State). Commits run o Recomputed (committed s desk (number_now now) (set xs s.committed Free) (s.recomputed + 1))) is (
       done.outcome,
+      numbered done.entries,
       record {
-        may = (opened, ready run s fresh b can, (out.input, out.is_input, out.right));
-        leads = λ i. record { desk = done.taken_over i; stages = (freed s xs void ∙ ap (λ n. set s.stages n Free) (front_index s)) i; committed = s.committed + 1; taken = s.taken; recomputed = s.recomputed + 1; closed = s.closed };
+        may = (opened, stale, (out.input, out.is_input, out.right), out.writes);
+        leads = led s done.outcome done.entries (numbered done.entries) before now desk xs (s.recomputed + 1) numbers refl done.tickets done.taken_over void;
       },
     )

@@ -6,12 +6,14 @@ use Rattle.rbc_records.specs.declared.record.Key.{Key}
 use Rattle.rbc_records.specs.declared.record.Rec.{Rec}
 use Rattle.rbc_records.specs.Notes.{same_key}
 use Rattle.rbc_records.specs.Writes.{written, write_over}
+use Rattle.rbc_versions.specs.Entries.{NumberedRec, numbers_after}
 use Rattle.rbc_core.specs.declared.stage.Stage.{Stage}
 use Rattle.rbc_core.specs.declared.stage.Stage.TheVariants.{Free, Out, Tried, Void}
 use Rattle.rbc_core.specs.Core.{Try, State, IsAt, front, with_stage}
 use Rattle.rbc_core.specs.Events.{next}
-use Rattle.rbc_core.specs.Events.Event.{Takes, Reads, Deposits, Voids, Applies, Recomputes, Waits, Ends, Fails}
-use Rattle.rbc_core.specs.Facts.{names, AttemptsStay, RecordsStay, ClosedStays}
+use Rattle.rbc_core.specs.Events.Event.{Publishes, Takes, Reads, Deposits, Voids, Applies, Recomputes, Waits, Ends, Fails}
+use Rattle.rbc_core.specs.Conflicts.{names}
+use Rattle.rbc_core.specs.Facts.{AttemptsStay, RecordsStay, NumbersStay, ClosedStays}
 
 -- another item stays
 slice_get_other : {A : Type 0} (xs : List A) (i k : ℕ) (x : A) → k ≢ i → slice_get (set xs i x) k ≡ slice_get xs k
@@ -48,6 +50,7 @@ module _ (s : State) (number : ℕ) (a : Try) (at : IsAt s number (Tried a)) whe
       cases m n = elim (cases_lt m n) [ inl q ↦ inl q | inr q ↦ inr (omega (arith, q)) ]
 
 pub attempts_stay : AttemptsStay
+attempts_stay run s (Publishes published version) may number a at = inl at
 attempts_stay run s (Takes None) may number a at = inl at
 attempts_stay run s (Takes (Some taken)) may number a at =
     let low = at.uncommitted in
@@ -58,13 +61,13 @@ attempts_stay run s (Takes (Some taken)) may number a at =
       taken = omega (arith, high);
       at = kept_beside s number a at taken Out (λ e. absurd (omega (arith, e, is, high, low)));
     })
-attempts_stay run s (Reads other k found) may number a at = inl at
+attempts_stay run s (Reads other k answer) may number a at = inl at
 attempts_stay run s (Deposits b true) may number a at = inl (record { uncommitted = at.uncommitted; taken = at.taken; at = kept_beside s number a at b.number (Tried b) (differ s number a at b.number may.1) })
 attempts_stay run s (Deposits b false) may number a at = inl at
 attempts_stay run s (Voids other true) may number a at = inl (record { uncommitted = at.uncommitted; taken = at.taken; at = kept_beside s number a at other Void (differ s number a at other may) })
 attempts_stay run s (Voids other false) may number a at = inl at
-attempts_stay run s (Applies outcome) may number a at = after_front s number a at (next s (Applies outcome)) refl refl refl
-attempts_stay run s (Recomputes outcome) may number a at = after_front s number a at (next s (Recomputes outcome)) refl refl refl
+attempts_stay run s (Applies outcome writes) may number a at = after_front s number a at (next s (Applies outcome writes)) refl refl refl
+attempts_stay run s (Recomputes outcome writes) may number a at = after_front s number a at (next s (Recomputes outcome writes)) refl refl refl
 attempts_stay run s Waits may number a at = inl at
 attempts_stay run s Ends may number a at = inl at
 attempts_stay run s (Fails true) may number a at = inl (record { uncommitted = at.uncommitted; taken = at.taken; at = at.at })
@@ -76,47 +79,76 @@ attempts_stay run s (Fails false) may number a at =
     (elim (cases_lt (front s) number) [ inl q ↦ inl q | inr q ↦ inr (omega (arith, q)) ])
 
 -- what no write names stays
+neither : (a b : Bool) → (a || b) ≡ false → (a ≡ false) × (b ≡ false)
+neither true b e = absurd (cc e)
+neither false b e = (refl, e)
+
 unnamed : (writes : List (Key × Option Rec)) (records : Key → Option Rec) (k : Key) → names writes k ≡ false → written writes records k ≡ records k
 unnamed [] records k none = refl
 unnamed (write ∷ writes) records k none =
     let parts = neither (same_key k write.0) (names writes k) none in
     unnamed writes (write_over write records) k parts.1 ∙ ap (λ b. cond b write.1 (records k)) parts.0
-  where
-    neither : (a b : Bool) → (a || b) ≡ false → (a ≡ false) × (b ≡ false)
-    neither true b e = absurd (cc e)
-    neither false b e = (refl, e)
+
+unnumbered : (entries : List (Key × NumberedRec)) (numbers : Key → ℕ) (k : Key) → names entries k ≡ false → numbers_after entries numbers k ≡ numbers k
+unnumbered [] numbers k none = refl
+unnumbered (entry ∷ entries) numbers k none =
+    let parts = neither (same_key k entry.0) (names entries k) none in
+    unnumbered entries (λ other. cond (same_key other entry.0) entry.1.number (numbers other)) k parts.1 ∙ ap (λ b. cond b entry.1.number (numbers k)) parts.0
+
+-- what holds where a key is not named holds, or it is named
+or_named : {A : Type 0} (b : Bool) → (b ≡ false → A) → A ⊎ IsTrue b
+or_named true same = inr refl
+or_named false same = inl (same refl)
 
 named_or_same : (writes : List (Key × Option Rec)) (records : Key → Option Rec) (k : Key) → (written writes records k ≡ records k) ⊎ IsTrue (names writes k)
-named_or_same writes records k = (elim (names writes k) as (λ b. names writes k ≡ b → (written writes records k ≡ records k) ⊎ IsTrue b) [
-  | true ↦ λ is. inr refl
-  | false ↦ λ is. inl (unnamed writes records k is)
-]) refl
+named_or_same writes records k = or_named (names writes k) (unnamed writes records k)
+
+numbered_or_same : (entries : List (Key × NumberedRec)) (numbers : Key → ℕ) (k : Key) → (numbers_after entries numbers k ≡ numbers k) ⊎ IsTrue (names entries k)
+numbered_or_same entries numbers k = or_named (names entries k) (unnumbered entries numbers k)
 
 pub records_stay : RecordsStay
+records_stay run s (Publishes number version) may k = inl refl
 records_stay run s (Takes None) may k = inl refl
 records_stay run s (Takes (Some number)) may k = inl refl
-records_stay run s (Reads number key found) may k = inl refl
+records_stay run s (Reads number key answer) may k = inl refl
 records_stay run s (Deposits a true) may k = inl refl
 records_stay run s (Deposits a false) may k = inl refl
 records_stay run s (Voids number true) may k = inl refl
 records_stay run s (Voids number false) may k = inl refl
-records_stay run s (Applies outcome) may k = named_or_same outcome.writes s.desk.records k
-records_stay run s (Recomputes outcome) may k = named_or_same outcome.writes s.desk.records k
+records_stay run s (Applies outcome writes) may k = named_or_same outcome.writes s.desk.records k
+records_stay run s (Recomputes outcome writes) may k = named_or_same outcome.writes s.desk.records k
 records_stay run s Waits may k = inl refl
 records_stay run s Ends may k = inl refl
 records_stay run s (Fails true) may k = inl refl
 records_stay run s (Fails false) may k = inl refl
 
+pub numbers_stay : NumbersStay
+numbers_stay run s (Publishes number version) may k = inl refl
+numbers_stay run s (Takes None) may k = inl refl
+numbers_stay run s (Takes (Some number)) may k = inl refl
+numbers_stay run s (Reads number key answer) may k = inl refl
+numbers_stay run s (Deposits a true) may k = inl refl
+numbers_stay run s (Deposits a false) may k = inl refl
+numbers_stay run s (Voids number true) may k = inl refl
+numbers_stay run s (Voids number false) may k = inl refl
+numbers_stay run s (Applies outcome writes) may k = numbered_or_same writes s.present k
+numbers_stay run s (Recomputes outcome writes) may k = numbered_or_same writes s.present k
+numbers_stay run s Waits may k = inl refl
+numbers_stay run s Ends may k = inl refl
+numbers_stay run s (Fails true) may k = inl refl
+numbers_stay run s (Fails false) may k = inl refl
+
 pub closed_stays : ClosedStays
+closed_stays run s (Publishes number version) may closed = closed
 closed_stays run s (Takes None) may closed = closed
 closed_stays run s (Takes (Some number)) may closed = closed
-closed_stays run s (Reads number key found) may closed = closed
+closed_stays run s (Reads number key answer) may closed = closed
 closed_stays run s (Deposits a true) may closed = closed
 closed_stays run s (Deposits a false) may closed = closed
 closed_stays run s (Voids number true) may closed = closed
 closed_stays run s (Voids number false) may closed = closed
-closed_stays run s (Applies outcome) may closed = closed
-closed_stays run s (Recomputes outcome) may closed = closed
+closed_stays run s (Applies outcome writes) may closed = closed
+closed_stays run s (Recomputes outcome writes) may closed = closed
 closed_stays run s Waits may closed = closed
 closed_stays run s Ends may closed = closed
 closed_stays run s (Fails true) may closed = refl

@@ -7,9 +7,14 @@ pub mod Stands
 pub mod Books
 pub mod TakesBack
 pub mod Agreeing
+pub mod Meanings
 pub mod Laws
 pub mod Mails
 pub mod Facts
+pub mod Fates
+pub mod Conflicts
 pub mod WitnessEvents
+pub mod WitnessConflicts
 pub mod WitnessMails
 pub mod Spelled
+pub mod Presents

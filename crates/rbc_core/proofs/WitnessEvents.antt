@@ -1,5 +1,6 @@
 -- What holds of worked events.
-use Rattle.std.proofs.Common.{◌≡◌, ℕ, ◌≤◌, Bool, true, false, cond, eqb, leb, option_map, List, [], ◌∷◌, Option, Some, None, refl, sym, ap, ◌∙◌, subst, arith}
+use Rattle.std.proofs.Common.{◌≡◌, ℕ, ◌+◌, ◌-◌, ◌≤◌, Bool, true, false, cond, eqb, leb, option_map, List, [], ◌∷◌, ◌++◌, Option, Some, None, inr, refl, sym, ap, ◌∙◌, subst, arith}
+use Rattle.std.specs.Prelude.{slice_get}
 use Rattle.std.specs.List.{All}
 use Rattle.std.proofs.lemmas.Bool.{and_parts, leb-true, eqb-true}
 use Rattle.std.proofs.lemmas.List.Elements.{All-head, All-tail, All-nil, All-cons}
@@ -12,18 +13,26 @@ use Rattle.rbc_records.specs.declared.record.Key.{Key}
 use Rattle.rbc_records.specs.declared.record.Key.TheVariants as key
 use Rattle.rbc_records.specs.declared.record.Rec.{Rec}
 use Rattle.rbc_records.specs.declared.record.Rec.TheVariants as rec
-use Rattle.rbc_records.specs.Notes.{Part, AreNow, record_in}
+use Rattle.rbc_records.specs.Notes.{Part}
 use Rattle.rbc_records.specs.Writes.{written}
+use Rattle.rbc_versions.specs.Entries.{NumberedRec, AreCurrent, records_of}
 use Rattle.rbc_rule.specs.declared.input.Input.TheVariants as input
+use Rattle.rbc_rule.specs.declared.outcome.Outcome.{Outcome}
 use Rattle.rbc_rule.specs.World.{World, new_world}
 use Rattle.rbc_rule.specs.Step.{step}
 use Rattle.rbc_rule.specs.Records.{record_of, engines_record}
 use Rattle.rbc_rule.specs.Right.{MayBe, IsStep}
 use Rattle.rbc_rule.specs.Witnesses.{track_a}
+use Rattle.rbc_rule.proofs.WitnessSays.{differ}
 use Rattle.rbc_rule.proofs.WorldMaps.{eqb_turned}
 use Rattle.rbc_core.specs.Held.{IsOutcomeOf}
-use Rattle.rbc_core.specs.Core.{Try, IsRightTry}
-use Rattle.rbc_core.specs.Witnesses.{two_inputs, enrolled, refused, nothing_there, first_try, second_try}
+use Rattle.rbc_core.specs.declared.stage.Stage.{Stage}
+use Rattle.rbc_core.specs.declared.stage.Stage.TheVariants.{Out, Tried, Void}
+use Rattle.rbc_core.specs.Runs.{IsInput}
+use Rattle.rbc_core.specs.Core.{Try, State, IsRightTry, front, IsStale}
+use Rattle.rbc_core.specs.Events.{Event, Follow}
+use Rattle.rbc_core.specs.Events.Event.{Takes, Reads, Deposits, Voids, Recomputes, Ends}
+use Rattle.rbc_core.specs.Witnesses.{two_inputs, enrolled, refused, train_7, absent, under, publishing, no_numbers, start, nothing_there, first_try, committing_first, second_try, stale_try, second_overtaken, second_given_up}
 
 -- ---- the outcomes
 
@@ -32,12 +41,13 @@ bad_step : (w : World) → IsStep track_a (input.Bad 1) w refused.result refused
 bad_step w = record { after = λ k. refl; answer = refl; sent = λ engine. refl }
 
 -- an attempt at it is right, whatever was read
-pub right_second : (notes : List (Key × Option Rec)) → IsRightTry two_inputs (record second_try { notes = notes })
+pub right_second : (notes : List (Key × NumberedRec)) → IsRightTry two_inputs (record second_try { notes = notes })
 right_second notes = record {
   input = input.Bad 1;
   is_input = record { first = omega arith; there = refl };
   right = λ w m. bad_step w;
   fit = All-nil _;
+  writes = λ records k. refl;
 }
 
 -- nobody is enrolled where there is no record of engines
@@ -63,7 +73,7 @@ none_given n r are e =
     test false e = absurd (cc e)
 
 -- so a well-formed world without those records is the new one
-is_new : (w : World) → MayBe track_a (Part nothing_there) w → w ≡ new_world
+is_new : (w : World) → MayBe track_a (Part (records_of nothing_there)) w → w ≡ new_world
 is_new w m =
     let trains = nobody w.trains (m.agrees key.Roster refl) in
     let stops = none_given w.stops _ m.well_formed.stops.numbered (m.agrees key.Stops refl) in
@@ -97,24 +107,74 @@ right_first = record {
   is_input = record { first = omega arith; there = refl };
   right = λ w m. subst (λ (v : World). IsStep track_a (input.Enrol 7 2000) v enrolled.result enrolled.writes enrolled.messages) (sym (is_new w m)) enrol_step;
   fit = All-nil _;
+  writes = λ records k. refl;
 }
 
 -- ---- the events
 
--- nothing of what was read for the first is there
-pub nothing_now : AreNow nothing_there (record_in [])
+-- each number that was read for the first is the present one at the opening
+pub nothing_now : AreCurrent nothing_there no_numbers
 nothing_now =
-    let P : Key × Option Rec → Type 0 = λ note. record_in [] note.0 ≡ note.1 in
-    All-cons P (key.Roster, None) ((key.Stops, None) ∷ (key.Limits, None) ∷ []) refl (All-cons P (key.Stops, None) ((key.Limits, None) ∷ []) refl (All-cons P (key.Limits, None) [] refl (All-nil P)))
+    let P : Key × NumberedRec → Type 0 = λ entry. entry.1.number ≡ no_numbers entry.0 in
+    All-cons P (key.Roster, absent) ((key.Stops, absent) ∷ (key.Limits, absent) ∷ []) refl (All-cons P (key.Stops, absent) ((key.Limits, absent) ∷ []) refl (All-cons P (key.Limits, absent) [] refl (All-nil P)))
 
 -- the second is computed again in each world
 pub recomputes_second : (records : Key → Option Rec) → IsOutcomeOf track_a (input.Bad 1) records refused
 recomputes_second records w are = bad_step w
 
--- an attempt with three notes of which the last is not what stands there is not fresh
-pub third_is_stale : (a : Try) (train : Option Rec) (r : Rec) → train ≡ Some r → (key.Roster, None) ∷ (key.Stops, None) ∷ (key.Train 7, train) ∷ [] ≡ a.notes → AreNow a.notes (record_in []) → ⊥
-third_is_stale a train r there same now =
-    let P : Key × Option Rec → Type 0 = λ note. record_in [] note.0 ≡ note.1 in
-    let all : All P ((key.Roster, None) ∷ (key.Stops, None) ∷ (key.Train 7, train) ∷ []) = subst (All P) (sym same) now in
-    let third : None ≡ train = All-head P (key.Train 7, train) [] (All-tail P (key.Stops, None) ((key.Train 7, train) ∷ []) (All-tail P (key.Roster, None) ((key.Stops, None) ∷ (key.Train 7, train) ∷ []) all)) in
-    absurd (cc (third, there))
+-- an attempt with these three numbers of which the last is not the present one is not fresh
+pub third_is_stale : (notes : List (Key × NumberedRec)) (numbers : Key → ℕ) → stale_try.notes ≡ notes → AreCurrent notes numbers → 2 ≡ numbers (key.Train 7)
+third_is_stale notes numbers same current =
+    let P : Key × NumberedRec → Type 0 = λ entry. entry.1.number ≡ numbers entry.0 in
+    let all : All P ((key.Roster, absent) ∷ (key.Stops, absent) ∷ (key.Train 7, under 2 train_7) ∷ []) = subst (All P) (sym same) current in
+    All-head P (key.Train 7, under 2 train_7) [] (All-tail P (key.Stops, absent) ((key.Train 7, under 2 train_7) ∷ []) (All-tail P (key.Roster, absent) ((key.Stops, absent) ∷ (key.Train 7, under 2 train_7) ∷ []) all))
+
+-- the number of a note that there is no train 7 is not the present one once it is enrolled
+pub train_note_stale : (numbers : Key → ℕ) → numbers (key.Train 7) ≡ 2 → AreCurrent second_try.notes numbers → ⊥
+train_note_stale numbers is current = differ 0 2 refl (All-head (λ (entry : Key × NumberedRec). entry.1.number ≡ numbers entry.0) (key.Train 7, absent) [] current ∙ is)
+
+-- ---- runs
+
+-- the records are published, and then both inputs are taken
+pub both_taken : (events : List Event) → Follow two_inputs (record start { stages = Out ∷ Out ∷ []; taken = 2 }) events → Follow two_inputs start (publishing ++ Takes (Some 1) ∷ Takes (Some 2) ∷ events)
+both_taken events h = (tt, (tt, (tt, ((refl, omega arith, refl), ((refl, omega arith, refl), h)))))
+
+-- the first input is read for, attempted and committed, however far the second one is
+pub first_turn : (taken : ℕ) (x : Stage Try) → 1 ≤ taken → Follow two_inputs (record start { stages = Out ∷ x ∷ []; taken = taken }) committing_first
+first_turn taken x one = (
+  refl,
+  (
+    refl,
+    (
+      refl,
+      (
+        (right_first, record { uncommitted = omega arith; taken = one; at = refl }),
+        ((refl, (first_try, record { uncommitted = omega arith; taken = one; at = refl }, nothing_now, refl, refl)), tt),
+      ),
+    ),
+  ),
+)
+
+pub follow_overtaken : Follow two_inputs start second_overtaken
+follow_overtaken =
+    both_taken (Reads 2 (key.Train 7) 0 ∷ Deposits second_try true ∷ committing_first)
+    (refl, ((right_second _, record { uncommitted = omega arith; taken = omega arith; at = refl }), first_turn 2 (Tried second_try) (omega arith)))
+
+pub follow_given_up : Follow two_inputs start second_given_up
+follow_given_up = both_taken (Voids 2 true ∷ committing_first) (record { uncommitted = omega arith; taken = omega arith; at = refl }, first_turn 2 Void (omega arith))
+
+-- then the second is computed again
+pub again : (s : State) → s.closed ≡ false → s.committed ≡ 1 → IsStale s → Follow two_inputs s (Recomputes refused [] ∷ Ends ∷ [])
+again s live one stale =
+    let second : IsInput two_inputs (front s) (input.Bad 1) = subst (λ n. IsInput two_inputs n (input.Bad 1)) (ap (λ n. n + 1) (sym one)) (record { first = omega arith; there = refl }) in
+    ((live, stale, (input.Bad 1, second, recomputes_second s.desk.records), λ records k. refl), (ap (λ n. n + 1) one, tt))
+
+-- where the number of a note of its attempt is not the present one any more
+pub again_by_number : (s : State) (outcome : Outcome) (writes : List (Key × NumberedRec)) → s.closed ≡ false → s.committed ≡ 1 → 2 ≤ s.taken → slice_get s.stages 1 ≡ Some (Tried (record second_try { outcome = outcome; writes = writes }))
+    → s.present (key.Train 7) ≡ 2 → Follow two_inputs s (Recomputes refused [] ∷ Ends ∷ [])
+again_by_number s outcome writes live one taken there number =
+    again s live one (inr (
+      record second_try { outcome = outcome; writes = writes },
+      record { uncommitted = omega arith; taken = omega (arith, one, taken); at = subst (λ n. slice_get s.stages (n + 1 - 1) ≡ Some (Tried (record second_try { outcome = outcome; writes = writes }))) (sym one) there },
+      train_note_stale s.present number,
+    ))

@@ -1,25 +1,20 @@
 -- What one event leaves (own rule).
-use Rattle.std.specs.Prelude.{◌≡◌, ◌⊎◌, ℕ, Bool, true, false, List, Option, IsTrue}
-use Rattle.std.specs.List.{list_any}
+use Rattle.std.specs.Prelude.{◌≡◌, ◌⊎◌, ℕ, true, false, IsTrue}
 use Rattle.rbc_records.specs.declared.record.Key.{Key}
-use Rattle.rbc_records.specs.declared.record.Rec.{Rec}
-use Rattle.rbc_records.specs.Notes.{same_key}
 use Rattle.rbc_core.specs.declared.stage.Stage.TheVariants.{Tried}
 use Rattle.rbc_core.specs.Runs.{Run}
 use Rattle.rbc_core.specs.Core.{Try, State, IsAt, front}
 use Rattle.rbc_core.specs.Events.{Event, May, next}
-use Rattle.rbc_core.specs.Events.Event.{Takes, Reads, Deposits, Voids, Applies, Recomputes, Waits, Ends, Fails}
-
--- a write names the key
-abbrev pub names : List (Key × Option Rec) → Key → Bool
-names writes k = list_any (λ write. same_key k write.0) writes
+use Rattle.rbc_core.specs.Events.Event.{Publishes, Takes, Reads, Deposits, Voids, Applies, Recomputes, Waits, Ends, Fails}
+use Rattle.rbc_core.specs.Conflicts.{names, writes_by}
 
 -- the event commits an input whose writes name the key
 abbrev pub WritesTo : Event → Key → Type 0
-WritesTo (Applies outcome) k = IsTrue (names outcome.writes k)
-WritesTo (Recomputes outcome) k = IsTrue (names outcome.writes k)
+WritesTo (Publishes number version) k = ⊥
+WritesTo (Applies outcome writes) k = IsTrue (names outcome.writes k)
+WritesTo (Recomputes outcome writes) k = IsTrue (names outcome.writes k)
 WritesTo (Takes answer) k = ⊥
-WritesTo (Reads number key found) k = ⊥
+WritesTo (Reads number key answer) k = ⊥
 WritesTo (Deposits a kept) k = ⊥
 WritesTo (Voids number done) k = ⊥
 WritesTo Waits k = ⊥
@@ -36,6 +31,10 @@ KeepsAttempts s t =
 abbrev pub KeepsRecords : State → Event → State → Type 0
 KeepsRecords s event t = (k : Key) → (t.desk.records k ≡ s.desk.records k) ⊎ WritesTo event k
 
+-- the number of what stands under a key changes only where an input is committed whose numbers name the key
+abbrev pub KeepsNumbers : State → Event → State → Type 0
+KeepsNumbers s event t = (k : Key) → (t.present k ≡ s.present k) ⊎ IsTrue (names (writes_by event) k)
+
 -- a book that is closed stays closed
 abbrev pub KeepsClosed : State → State → Type 0
 KeepsClosed s t = s.closed ≡ true → t.closed ≡ true
@@ -49,3 +48,6 @@ RecordsStay = (run : Run) (s : State) (event : Event) → May run s event → Ke
 
 abbrev pub ClosedStays : Type 0
 ClosedStays = (run : Run) (s : State) (event : Event) → May run s event → KeepsClosed s (next s event)
+
+abbrev pub NumbersStay : Type 0
+NumbersStay = (run : Run) (s : State) (event : Event) → May run s event → KeepsNumbers s event (next s event)

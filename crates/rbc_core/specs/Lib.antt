@@ -4,6 +4,7 @@ pub mod Held
 pub mod Runs
 pub mod Core
 pub mod Events
+pub mod Conflicts
 pub mod Books
 pub mod SaidMails
 pub mod Facts

@@ -1,12 +1,14 @@
--- Worked cases of the laws of events and mails. Places and lengths are in units of 10 cm.
-use Rattle.std.specs.Prelude.{ℕ, true, false, List, [], ◌∷◌, Option, Some, None}
-use Rattle.std.specs.List.{fold}
+-- Worked cases of the laws of events, of what is computed again, and of mails. Places and lengths are in units of 10 cm.
+use Rattle.std.specs.Prelude.{ℕ, zero, suc, true, false, List, [], ◌∷◌, ◌++◌, Some, None, if◌then◌else◌, slice_get}
 use Rattle.rbc_maps.specs.Numbered.{none_numbered}
 use Rattle.rbc_settle.specs.Trains.{new_train}
 use Rattle.rbc_records.specs.declared.record.Key.{Key}
 use Rattle.rbc_records.specs.declared.record.Key.TheVariants as key
 use Rattle.rbc_records.specs.declared.record.Rec.{Rec}
 use Rattle.rbc_records.specs.declared.record.Rec.TheVariants as rec
+use Rattle.rbc_records.specs.Notes.{same_key}
+use Rattle.rbc_versions.specs.declared.log.Version.{Version}
+use Rattle.rbc_versions.specs.Entries.{NumberedRec}
 use Rattle.rbc_rule.specs.declared.input.Input.{Input}
 use Rattle.rbc_rule.specs.declared.input.Input.TheVariants as input
 use Rattle.rbc_rule.specs.declared.outcome.Outcome.{Outcome}
@@ -18,84 +20,170 @@ use Rattle.rbc_core.specs.Serial.{Desk, mail}
 use Rattle.rbc_core.specs.Held.{Held, standing}
 use Rattle.rbc_core.specs.Runs.{Run}
 use Rattle.rbc_core.specs.Core.{Try, State, opening}
-use Rattle.rbc_core.specs.Events.{Event, next}
-use Rattle.rbc_core.specs.Events.Event.{Takes, Reads, Deposits, Voids, Applies, Recomputes, Ends, Fails}
+use Rattle.rbc_core.specs.Events.{Event, Meaning}
+use Rattle.rbc_core.specs.Events.Event.{Publishes, Takes, Reads, Deposits, Voids, Applies, Recomputes, Ends, Fails}
+use Rattle.rbc_core.specs.Conflicts.{after}
 use Rattle.rbc_core.specs.SaidMails.{IsSaidMail, AreSaidMails}
 
 -- from a new desk: train 7 of 200 m is enrolled, and then comes a line that is no input
 abbrev pub two_inputs : Run
 two_inputs = record { track = track_a; opening = record { records = []; results = []; outboxes = [] }; inputs = input.Enrol 7 2000 ∷ input.Bad 1 ∷ [] }
 
+-- the records that the first writes: engine 7 is enrolled, and has no place; and its train
+abbrev pub engines : Rec
+engines = rec.Engines (7 ∷ [])
+
+abbrev pub train_7 : Rec
+train_7 = rec.Train (new_train 7 2000 0)
+
 -- what the first does where nobody is enrolled and nothing was ever active, and what the second does
 abbrev pub enrolled : Outcome
-enrolled = record {
-  result = Done 0;
-  writes = (key.Roster, Some (rec.Engines (7 ∷ []))) ∷ (key.Train 7, Some (rec.Train (new_train 7 2000 0))) ∷ (key.Unplaced, Some (rec.Engines (7 ∷ []))) ∷ [];
-  messages = [];
-}
+enrolled = record { result = Done 0; writes = (key.Roster, Some engines) ∷ (key.Train 7, Some train_7) ∷ (key.Unplaced, Some engines) ∷ []; messages = [] }
 
 abbrev pub refused : Outcome
 refused = record { result = Refused 1; writes = []; messages = [] }
 
+-- ---- numbers
+
+-- no record, and a record under a number
+abbrev pub absent : NumberedRec
+absent = record { number = 0; rec = None }
+
+abbrev pub under : ℕ → Rec → NumberedRec
+under number r = record { number = number; rec = Some r }
+
+-- what the first writes is published under the numbers 1, 2 and 3
+abbrev pub version : Key → Rec → Version
+version k r = record { key = k; rec = r }
+
+abbrev pub versions : List Version
+versions = version key.Roster engines ∷ version (key.Train 7) train_7 ∷ version key.Unplaced engines ∷ []
+
+abbrev pub publishing : List Event
+publishing = Publishes 1 (version key.Roster engines) ∷ Publishes 2 (version (key.Train 7) train_7) ∷ Publishes 3 (version key.Unplaced engines) ∷ []
+
+abbrev pub enrolled_numbers : List (Key × NumberedRec)
+enrolled_numbers = (key.Roster, under 1 engines) ∷ (key.Train 7, under 2 train_7) ∷ (key.Unplaced, under 3 engines) ∷ []
+
+-- what each number means then
+abbrev pub means : Meaning
+means zero = None
+means (suc n) = slice_get versions n
+
+-- engines and a train are published under one number
+abbrev pub two_under_one : List Event
+two_under_one = Publishes 1 (version key.Roster engines) ∷ Publishes 1 (version (key.Train 7) train_7) ∷ []
+
+-- the desk before has no records, so all numbers are 0
+abbrev pub no_numbers : Key → ℕ
+no_numbers k = 0
+
+abbrev pub start : State
+start = opening two_inputs no_numbers
+
+-- ---- attempts and events
+
 -- that was read for the first: there is no record of engines, of stops or of restrictions
-abbrev pub nothing_there : List (Key × Option Rec)
-nothing_there = (key.Roster, None) ∷ (key.Stops, None) ∷ (key.Limits, None) ∷ []
+abbrev pub nothing_there : List (Key × NumberedRec)
+nothing_there = (key.Roster, absent) ∷ (key.Stops, absent) ∷ (key.Limits, absent) ∷ []
 
 abbrev pub first_try : Try
-first_try = record { number = 1; notes = nothing_there; outcome = enrolled }
+first_try = record { number = 1; notes = nothing_there; outcome = enrolled; writes = enrolled_numbers }
 
--- an attempt at the second, for which it was read that there is no train 7
+abbrev pub reading_first : List Event
+reading_first = Reads 1 key.Roster 0 ∷ Reads 1 key.Stops 0 ∷ Reads 1 key.Limits 0 ∷ []
+
+-- it is read for, attempted and committed
+abbrev pub committing_first : List Event
+committing_first = reading_first ++ Deposits first_try true ∷ Applies enrolled enrolled_numbers ∷ []
+
+-- an attempt at the second, for which it was read that there is no train 7; and one for which nothing was read
 abbrev pub second_try : Try
-second_try = record { number = 2; notes = (key.Train 7, None) ∷ []; outcome = refused }
+second_try = record { number = 2; notes = (key.Train 7, absent) ∷ []; outcome = refused; writes = [] }
+
+abbrev pub unread_try : Try
+unread_try = record second_try { notes = [] }
 
 -- the state after events
 abbrev pub after_events : List Event → State
-after_events events = fold next (opening two_inputs) events
+after_events events = after start events
 
--- both are attempted, the second one first, and committed in their order; what was read for the second does not stand any more
+-- both are taken, and these events come before the first is committed
+abbrev pub before_first : List Event → List Event
+before_first events = publishing ++ Takes (Some 1) ∷ Takes (Some 2) ∷ events ++ committing_first
+
+-- a note of the attempt at the second is overtaken
+abbrev pub second_overtaken : List Event
+second_overtaken = before_first (Reads 2 (key.Train 7) 0 ∷ Deposits second_try true ∷ [])
+
 abbrev pub computing_again : List Event
-computing_again =
-    Takes (Some 1) ∷ Takes (Some 2) ∷ Reads 2 (key.Train 7) None ∷ Deposits second_try true ∷ Deposits first_try true ∷ Applies enrolled ∷ Recomputes refused ∷ Ends ∷ []
+computing_again = second_overtaken ++ Recomputes refused [] ∷ Ends ∷ []
 
--- the same, but the second is attempted after the first is committed, and was read to have nothing to read
+-- or it is given up
+abbrev pub second_given_up : List Event
+second_given_up = before_first (Voids 2 true ∷ [])
+
+abbrev pub giving_up : List Event
+giving_up = second_given_up ++ Recomputes refused [] ∷ Ends ∷ []
+
+-- the second is attempted after the first is committed, with nothing read for it
 abbrev pub applying : List Event
-applying =
-    Takes (Some 1) ∷ Deposits first_try true ∷ Applies enrolled ∷ Takes (Some 2) ∷ Deposits (record second_try { notes = [] }) true ∷ Applies refused ∷ Takes None ∷ Ends ∷ []
+applying = publishing ++ Takes (Some 1) ∷ committing_first ++ Takes (Some 2) ∷ Deposits unread_try true ∷ Applies refused [] ∷ Takes None ∷ Ends ∷ []
 
 -- memory is refused as the first is to be committed: it is given up, no more is committed, and the second can be given up
 abbrev pub failing : List Event
-failing = Takes (Some 1) ∷ Takes (Some 2) ∷ Deposits first_try true ∷ Fails false ∷ Voids 2 true ∷ Voids 1 false ∷ Takes None ∷ Fails true ∷ []
+failing = publishing ++ Takes (Some 1) ∷ Takes (Some 2) ∷ reading_first ++ Deposits first_try true ∷ Fails false ∷ Voids 2 true ∷ Voids 1 false ∷ Takes None ∷ Fails true ∷ []
+
+-- the first is computed again, though each number that was read for it is the present one
+abbrev pub again_for_nothing : List Event
+again_for_nothing = publishing ++ Takes (Some 1) ∷ reading_first ++ Deposits first_try true ∷ Recomputes enrolled enrolled_numbers ∷ []
+
+-- for the second stops are read, which the first does not write; and nothing is read for it, though its attempt has a note
+abbrev pub stops_try : Try
+stops_try = record second_try { notes = (key.Stops, absent) ∷ [] }
+
+abbrev pub stops_read : List Event
+stops_read = before_first (Reads 2 key.Stops 0 ∷ Deposits stops_try true ∷ [])
+
+abbrev pub nothing_read : List Event
+nothing_read = before_first (Deposits second_try true ∷ [])
 
 -- ---- states
 
--- an attempt at the first input, of whose three notes the last is not what stands there
+-- an attempt at the first input, of whose three numbers the last is not the present one
 abbrev pub stale_try : Try
-stale_try = record first_try { notes = (key.Roster, None) ∷ (key.Stops, None) ∷ (key.Train 7, Some (rec.Train (new_train 7 2000 0))) ∷ [] }
+stale_try = record first_try { notes = (key.Roster, absent) ∷ (key.Stops, absent) ∷ (key.Train 7, under 2 train_7) ∷ [] }
 
 abbrev pub one_stale : State
-one_stale = let s = opening two_inputs in record s { stages = Tried stale_try ∷ Free ∷ []; taken = 1 }
+one_stale = record start { stages = Tried stale_try ∷ Free ∷ []; taken = 1 }
+
+-- the same record stands there, but it was published once more, under another number
+abbrev pub published_again : State
+published_again = record one_stale {
+  desk = standing (record { records = (key.Train 7, train_7) ∷ []; results = []; outboxes = [] });
+  present = λ k. if same_key k (key.Train 7) then 4 else 0;
+}
 
 -- the first input is out, and there is an attempt at the second, which would be fresh
 abbrev pub second_first : State
-second_first = let s = opening two_inputs in record s { stages = Out ∷ Tried second_try ∷ []; taken = 2 }
+second_first = record start { stages = Out ∷ Tried second_try ∷ []; taken = 2 }
 
 -- ---- what one event leaves
 
 -- there are attempts at both inputs
 abbrev pub both_tried : State
-both_tried = let s = opening two_inputs in record s { stages = Tried first_try ∷ Tried second_try ∷ []; taken = 2 }
+both_tried = record start { stages = Tried first_try ∷ Tried second_try ∷ []; taken = 2 }
 
--- the desk with train 7 enrolled
+-- the desk with train 7 enrolled, and the numbers of its records
 abbrev pub enrolled_desk : Held
-enrolled_desk = record {
-  records = (key.Roster, rec.Engines (7 ∷ [])) ∷ (key.Train 7, rec.Train (new_train 7 2000 0)) ∷ (key.Unplaced, rec.Engines (7 ∷ [])) ∷ [];
-  results = Done 0 ∷ [];
-  outboxes = [];
-}
+enrolled_desk = record { records = (key.Roster, engines) ∷ (key.Train 7, train_7) ∷ (key.Unplaced, engines) ∷ []; results = Done 0 ∷ []; outboxes = [] }
+
+abbrev pub three_numbers : Key → ℕ
+three_numbers k = if same_key k key.Roster then 1 else if same_key k (key.Train 7) then 2 else if same_key k key.Unplaced then 3 else 0
 
 -- the first is committed by its attempt
 abbrev pub first_committed : State
-first_committed = record both_tried { desk = standing enrolled_desk; stages = Free ∷ Tried second_try ∷ []; committed = 1 }
+first_committed = record both_tried { desk = standing enrolled_desk; present = three_numbers; stages = Free ∷ Tried second_try ∷ []; committed = 1 }
 
 -- memory was refused as the first was to be committed
 abbrev pub first_lost : State
@@ -105,6 +193,10 @@ first_lost = record both_tried { stages = Void ∷ Tried second_try ∷ []; clos
 abbrev pub none_tried : State
 none_tried = record first_lost { stages = Void ∷ Void ∷ [] }
 
+-- the attempt at the second, which does not stand any more, enrols the train too
+abbrev pub second_enrols : State
+second_enrols = record first_committed { stages = Free ∷ Tried (record second_try { outcome = enrolled; writes = enrolled_numbers }) ∷ [] }
+
 -- ---- states that no event leaves there
 
 -- the second attempt is gone, or is another one
@@ -112,15 +204,19 @@ abbrev pub second_gone : State
 second_gone = record first_committed { stages = Free ∷ Out ∷ [] }
 
 abbrev pub second_changed : State
-second_changed = record first_committed { stages = Free ∷ Tried (record second_try { notes = [] }) ∷ [] }
+second_changed = record first_committed { stages = Free ∷ Tried unread_try ∷ [] }
 
--- the engines are there, and no input is committed
+-- the engines are there, with their numbers, and no input is committed
 abbrev pub engines_there : State
-engines_there = record both_tried { desk = standing enrolled_desk }
+engines_there = record both_tried { desk = standing enrolled_desk; present = three_numbers }
 
 -- the stops are there too, which no write names
 abbrev pub stops_there : State
 stops_there = record first_committed { desk = standing (record enrolled_desk { records = (key.Stops, rec.Stops none_numbered) ∷ enrolled_desk.records }) }
+
+-- or they have a number
+abbrev pub stops_numbered : State
+stops_numbered = record first_committed { present = λ k. if same_key k key.Stops then 4 else three_numbers k }
 
 -- ---- mails
 

@@ -1,15 +1,19 @@
 //! The book of a run: its inputs are taken and attempted in any order, and committed in their own.
 
 ghost use Rattle.std.specs.Prelude.{◌≡◌, ◌+◌, ◌<◌, ◌↔◌, IsTrue, Some, length, replicate, set, slice_get, is_ok, IfOk, IfErr, OnOk, OnErr};
+ghost use Rattle.std.specs.Prelude.{List};
+ghost use Rattle.rbc_records.specs.declared.record.Key.{Key};
 ghost use Rattle.rbc_records.specs.Notes.{record_in};
+ghost use Rattle.rbc_versions.specs.Log.{Shown};
+ghost use Rattle.rbc_versions.specs.Entries.{AreKeyedOf, StandIn, numbered, tickets_after, ticket_in};
 ghost use Rattle.rbc_rule.specs.Gathered.{AreSendable};
 ghost use Rattle.rbc_core.specs.declared.stage.Stage.TheVariants.{Free, Tried, Void};
 ghost use Rattle.rbc_core.specs.Held.{standing};
 ghost use Rattle.rbc_core.specs.Runs.{IsGoodRun, IsSerialRun};
 ghost use Rattle.rbc_core.specs.Core.{Try, opening};
-ghost use Rattle.rbc_core.specs.Books.{IsBook, state_of, IsOutIn, IsJudged, Judges, IsMemoryOf, IsOutcomeAt, IsCarriedOut};
+ghost use Rattle.rbc_core.specs.Books.{IsBook, ArePresent, state_of, number_now, IsOutIn, IsJudged, Judges, IsMemoryOf, IsOutcomeAt, IsCarriedOut};
 ghost use Rattle.rbc_core.specs.SaidMails.{IsSaidSince};
-ghost use Rattle.rbc_core.specs.Events.{Happens, Commits, IsSparing};
+ghost use Rattle.rbc_core.specs.Events.{Happens, Commits};
 ghost use Rattle.rbc_core.specs.Events.Event.{Takes, Reads, Deposits, Voids};
 
 use crate::attempt::Attempt;
@@ -17,12 +21,14 @@ use crate::desk::{Desk, MAX_RESULTS};
 use crate::run_name::RunName;
 use crate::spent::Spent;
 use crate::stage::Stage;
-use rbc_records::{Key, Rec};
+use rbc_records::Key;
 use rbc_rule::{Input, Outcome, RuleFault};
 use rbc_track::Track;
+use rbc_versions::{Present, Published, VersionLog, publish_all};
 use std::alloc::{AllocError, Global};
 use std::marker::Model;
 use std::mem;
+use std::sync::Wait;
 
 /// How many inputs were taken, and how many were computed again while they were committed.
 #[derive(Clone, Copy, Debug, PartialEq, Eq)]
@@ -34,9 +40,9 @@ pub struct Stats {
 /// What a call of `commit` did.
 #[derive(Clone, Copy, Debug, PartialEq, Eq)]
 pub enum Commit {
-    /// The outcome of the attempt was taken over: all that was read for it stands.
+    /// The outcome of the attempt was taken over: the number of all that was read for it is the present one.
     Applied,
-    /// The input was computed here: it was given up, or something that was read does not stand any more.
+    /// The input was computed here: it was given up, or the number of something that was read is not the present one any more.
     Recomputed,
     /// The input is neither attempted nor given up. Nothing changed.
     NotReady,
@@ -46,17 +52,20 @@ pub enum Commit {
     Failed,
 }
 
-/// A desk, and how far each input of a run is. The desk is always that of the rules applied to the inputs that are committed, one
-/// after another. Inputs are numbered from 1.
-#[derive(Debug, Drop)]
+/// A desk, for each of its records the ticket under which it is published in the log of the run, and how far each input is. The desk
+/// is always that of the rules applied to the inputs that are committed, one after another. Inputs are numbered from 1.
+#[derive(Drop)]
 pub struct Book<'a, N: RunName> {
+    log: &'a VersionLog,
     inputs: &'a [Input],
     desk: Desk,
+    present: Present,
     stages: Vec<Stage<Attempt<N>>>,
     committed: u32,
     taken: u32,
     recomputed: u32,
     is_closed: bool,
+    weight: usize,
     spent: Spent,
 }
 
@@ -66,36 +75,51 @@ impl<'a, N: RunName> Model for Book<'a, N> {
 
     ghost Value = { books.BookValue };
 
-    ghost view = { λ b. record { desk = b.desk; stages = b.stages.items; committed = b.committed; taken = b.taken; recomputed = b.recomputed; closed = b.is_closed } };
+    ghost view = { λ b. record { desk = b.desk; present = b.present.tickets; stages = b.stages.items; committed = b.committed; taken = b.taken; recomputed = b.recomputed; closed = b.is_closed } };
 
-    // The inputs are those of the run, and what is held is the serial run of those that are committed.
-    ghost invariant = { λ b. (b.inputs.now ≡ N.run.inputs) × books.IsBook N.run (books.state_of (record { desk = b.desk; stages = b.stages.items; committed = b.committed; taken = b.taken; recomputed = b.recomputed; closed = b.is_closed })) };
+    // The inputs and the log are those of the run, and what is held is the serial run of the inputs that are committed.
+    ghost invariant = { λ b. (b.log.now ≡ N.log) × (b.inputs.now ≡ N.run.inputs) × books.IsBook N.run N.log (record { desk = b.desk; present = b.present.tickets; stages = b.stages.items; committed = b.committed; taken = b.taken; recomputed = b.recomputed; closed = b.is_closed }) };
 }
 
 impl<'a, N: RunName> Book<'a, N> {
-    /// Opens a book on a desk and inputs. It makes the room that `take`, `deposit` and `void` need, and copies no record.
+    /// Opens a book on a desk and inputs: publishes copies of the desk's records in the log, and makes the room that `take`, `deposit`
+    /// and `void` need.
     ///
     /// # Errors
     ///
-    /// Fails only for lack of memory, and then hands the desk back.
-    pub fn new(alloc: Global, desk: Desk, inputs: &'a [Input]) -> Result<Self, Desk>
+    /// Fails only for lack of memory, and then hands the desk back. It may then leave versions in the log that nothing names.
+    pub fn new(
+        rt: &impl Wait,
+        alloc: Global,
+        desk: Desk,
+        inputs: &'a [Input],
+        log: &'a VersionLog,
+    ) -> Result<Self, Desk>
         requires desk { desk ≡ N.run.opening }
         requires inputs { inputs.now ≡ N.run.inputs }
+        requires log { log.now ≡ N.log }
         requires good { IsGoodRun N.run }
-        ensures ok { IfOk result (λ book. state_of book ≡ opening N.run) }
+        ensures ok { IfOk result (λ book. state_of book ≡ opening N.run (number_now book.present)) }
+        ensures book { IfOk result (IsBook N.run N.log) }
         ensures err { IfErr result (λ back. back ≡ desk) }
     {
         let Ok(stages) = all_free(alloc, inputs.len()) else {
             return Err(desk);
         };
+        let Ok(present) = Present::of_store(rt, alloc, log, desk.store()) else {
+            return Err(desk);
+        };
         Ok(Book {
+            log,
             inputs,
             desk,
+            present,
             stages,
             committed: 0,
             taken: 0,
             recomputed: 0,
             is_closed: false,
+            weight: 0,
             spent: Spent::nothing(),
         })
     }
@@ -112,16 +136,13 @@ impl<'a, N: RunName> Book<'a, N> {
         Some(self.taken)
     }
 
-    /// A copy of the record that stands under a key now, or `None` if there is none; read for an input. Fails only for lack of memory.
-    pub fn present(&self, alloc: Global, input: u32, key: Key) -> Result<Option<Rec>, AllocError>
-        ensures event { IfOk result (λ found. Happens N.run (state_of self.now) (Reads input key found) (state_of self.now)) }
-        ensures book { IsBook N.run (state_of self.now) }
+    /// The number of the record that stands under a key now, or 0 if there is none; read for an input. Takes no memory.
+    pub fn present(&self, input: u32, key: Key) -> u64
+        ensures event { Happens N.run (state_of self.now) (Reads input key result) (state_of self.now) }
+        ensures book { IsBook N.run N.log self.now }
     {
         let _ = input;
-        match self.desk.store().get(key) {
-            Some(rec) => Ok(Some(rec.copy(alloc)?)),
-            None => Ok(None),
-        }
+        self.present.number(key)
     }
 
     /// Keeps an attempt at an input that was taken, and is neither attempted nor given up. Any other attempt is handed back, and
@@ -134,6 +155,7 @@ impl<'a, N: RunName> Book<'a, N> {
         if !is_out(&self.stages, number) {
             return Err(attempt);
         }
+        self.weight = self.weight.saturating_add(attempt.weight());
         self.stages[number as usize - 1] = Stage::Tried(attempt);
         Ok(())
     }
@@ -150,15 +172,16 @@ impl<'a, N: RunName> Book<'a, N> {
         true
     }
 
-    /// Commits the next input, in the order of the inputs: by its attempt if all that was read for it stands, and else by
-    /// computing it here. The track has to be that of the run. What it has no more use for is kept for `take_spent`, and freed by
-    /// a later commit where nobody takes it.
-    pub fn commit(&mut self, alloc: Global, track: &Track) -> Commit
+    /// Commits the next input, in the order of the inputs: by its attempt if the number of all that was read for it is the present one,
+    /// and else by computing it here and publishing what it writes. Where an attempt is taken over, nothing but numbers is compared. The
+    /// track has to be that of the run. What it has no more use for is kept for `take_spent`, and freed by a later commit where nobody
+    /// takes it.
+    pub fn commit(&mut self, rt: &impl Wait, alloc: Global, track: &Track) -> Commit
         requires { track.now ≡ N.run.track }
         ensures event { Commits N.run (state_of self.old) result (state_of self.new) }
-        ensures sparing { IsSparing (state_of self.old) result }
     {
         let inputs = self.inputs;
+        let log = self.log;
         let front = self.committed as usize;
         if front >= inputs.len() {
             return Commit::Done;
@@ -166,7 +189,7 @@ impl<'a, N: RunName> Book<'a, N> {
         if self.is_closed {
             return Commit::Failed;
         }
-        let Some(is_fresh) = judge(&self.stages, front, &self.desk) else {
+        let Some(is_fresh) = judge(&self.stages, front, log, &self.present) else {
             return Commit::NotReady;
         };
         let stage = taken_out(&mut self.stages, front);
@@ -175,7 +198,10 @@ impl<'a, N: RunName> Book<'a, N> {
             stage,
             is_fresh,
         };
-        if carry_out(alloc, track, inputs, turn, &mut self.desk, &mut self.spent).is_err() {
+        let desk = &mut self.desk;
+        let present = &mut self.present;
+        let spent = &mut self.spent;
+        if carry_out(rt, alloc, track, inputs, log, turn, desk, present, spent).is_err() {
             self.is_closed = true;
             return Commit::Failed;
         }
@@ -185,6 +211,7 @@ impl<'a, N: RunName> Book<'a, N> {
             return Commit::Applied;
         }
         self.recomputed += 1;
+        self.weight = self.weight.saturating_add(self.spent.weight());
         Commit::Recomputed
     }
 
@@ -198,15 +225,21 @@ impl<'a, N: RunName> Book<'a, N> {
     /// How many inputs are committed.
     pub fn committed(&self) -> u32
         ensures count { result ≡ self.now.committed }
-        ensures book { IsBook N.run (state_of self.now) }
+        ensures book { IsBook N.run N.log self.now }
     {
         self.committed
+    }
+
+    /// How much was published for attempts and commits: one for each record, and one for each item of its lists. It is for whoever bounds
+    /// the memory of the log; nothing else hangs on it.
+    pub fn weight(&self) -> usize {
+        self.weight
     }
 
     /// How many inputs were taken, and how many were computed again.
     pub fn stats(&self) -> Stats
         ensures counts { result ≡ record { taken = self.now.taken; recomputed = self.now.recomputed } }
-        ensures book { IsBook N.run (state_of self.now) }
+        ensures book { IsBook N.run N.log self.now }
     {
         Stats {
             taken: self.taken,
@@ -222,13 +255,16 @@ impl<'a, N: RunName> Book<'a, N> {
         ensures mails { IsSaidSince N.run self.entry.committed result.outboxes }
     {
         let Book {
+            log: _,
             inputs: _,
             desk,
+            present: _,
             stages: _,
             committed: _,
             taken: _,
             recomputed: _,
             is_closed: _,
+            weight: _,
             spent: _,
         } = self;
         desk
@@ -254,12 +290,19 @@ fn is_out<N: RunName>(stages: &Vec<Stage<Attempt<N>>>, number: u32) -> bool
 }
 
 /// Whether the next input is ready to be committed, and then whether by its attempt.
-fn judge<N: RunName>(stages: &Vec<Stage<Attempt<N>>>, front: usize, desk: &Desk) -> Option<bool>
-    requires { front < length stages.now.items }
-    ensures { IsJudged stages.now.items front (record_in desk.now.records) result }
+fn judge<N: RunName>(
+    stages: &Vec<Stage<Attempt<N>>>,
+    front: usize,
+    log: &VersionLog,
+    present: &Present,
+) -> Option<bool>
+    requires within { front < length stages.now.items }
+    requires log { log.now ≡ N.log }
+    requires present { StandIn log.now present.now.tickets }
+    ensures { IsJudged stages.now.items front present.now.tickets result }
 {
     match &stages[front] {
-        Stage::Tried(attempt) => Some(attempt.is_fresh(desk)),
+        Stage::Tried(attempt) => Some(attempt.is_fresh(log, present)),
         Stage::Void => Some(false),
         Stage::Free | Stage::Out => None,
     }
@@ -282,22 +325,24 @@ struct Turn<N: RunName> {
     is_fresh: bool,
 }
 
-/// The outcome of the next input: that of its attempt if it is fresh, and else as it is computed here. Puts aside what is not needed
-/// of the attempt. Fails only for lack of memory.
+/// The outcome of the next input and its publication: those of its attempt if it is fresh, and else as they are computed here. Puts
+/// aside what is not needed of the attempt. Fails only for lack of memory.
 fn outcome_of<N: RunName>(
+    rt: &impl Wait,
     alloc: Global,
     track: &Track,
     inputs: &[Input],
+    log: &VersionLog,
     turn: Turn<N>,
     desk: &mut Desk,
     spent: &mut Spent,
-) -> Result<Outcome, RuleFault>
-    requires run { (track.now ≡ N.run.track) × (inputs.now ≡ N.run.inputs) × IsGoodRun N.run }
+) -> Result<(Outcome, Published), RuleFault>
+    requires run { (track.now ≡ N.run.track) × (inputs.now ≡ N.run.inputs) × (log.now ≡ N.log) × IsGoodRun N.run }
     requires within { turn.front < length inputs.now }
-    requires judged { Judges (record_in desk.old.records) turn.stage (Some turn.is_fresh) }
+    requires judged { (tickets : List (Key × Shown)) × ArePresent log.now tickets (record_in desk.old.records) × Judges tickets turn.stage (Some turn.is_fresh) }
     requires number { (a : Try) → turn.stage ≡ Tried a → a.number ≡ turn.front + 1 }
-    ensures outcome { IfOk result (λ outcome. IsOutcomeAt N.run turn.front turn.stage turn.is_fresh (record_in desk.old.records) outcome) }
-    ensures fit { IfOk result (λ outcome. AreSendable outcome.messages) }
+    ensures outcome { IfOk result (λ done. IsOutcomeAt N.run N.log turn.front turn.stage turn.is_fresh (record_in desk.old.records) done.0 done.1) }
+    ensures fit { IfOk result (λ done. AreSendable done.0.messages) }
     ensures memory { IfErr result (λ fault. IsMemoryOf N.run.track (record_in desk.old.records) fault) }
     ensures same { standing desk.new ≡ standing desk.old }
 {
@@ -307,38 +352,53 @@ fn outcome_of<N: RunName>(
         is_fresh,
     } = turn;
     if let Stage::Tried(attempt) = stage {
-        let (notes, outcome) = attempt.into_parts();
+        let (notes, outcome, published) = attempt.into_parts();
         spent.keep_notes(notes);
         if is_fresh {
-            return Ok(outcome);
+            return Ok((outcome, published));
         }
-        spent.keep_stale(outcome);
+        spent.keep_stale(outcome, published);
     }
-    desk.decide(alloc, track, &inputs[front])
+    let outcome = desk.decide(alloc, track, &inputs[front])?;
+    match publish_all(rt, alloc, log, &outcome.writes) {
+        Ok(published) => Ok((outcome, published)),
+        Err(_) => Err(RuleFault::OutOfMemory),
+    }
 }
 
 /// Does what the next input does, and puts aside what is not needed any more. Fails only for lack of memory, and then changes nothing.
 fn carry_out<N: RunName>(
+    rt: &impl Wait,
     alloc: Global,
     track: &Track,
     inputs: &[Input],
+    log: &VersionLog,
     turn: Turn<N>,
     desk: &mut Desk,
+    present: &mut Present,
     spent: &mut Spent,
 ) -> Result<(), RuleFault>
-    requires run { (track.now ≡ N.run.track) × (inputs.now ≡ N.run.inputs) × IsGoodRun N.run }
+    requires run { (track.now ≡ N.run.track) × (inputs.now ≡ N.run.inputs) × (log.now ≡ N.log) × IsGoodRun N.run }
     requires within { turn.front < length inputs.now }
-    requires judged { Judges (record_in desk.old.records) turn.stage (Some turn.is_fresh) }
+    requires judged { Judges present.old.tickets turn.stage (Some turn.is_fresh) }
+    requires present { ArePresent log.now present.old.tickets (record_in desk.old.records) }
     requires number { (a : Try) → turn.stage ≡ Tried a → a.number ≡ turn.front + 1 }
     requires room { length desk.old.results < MAX_RESULTS }
-    ensures done { OnOk result (IsCarriedOut N.run turn.front turn.stage turn.is_fresh (standing desk.old) (standing desk.new)) }
+    ensures done { OnOk result (IsCarriedOut N.run N.log turn.front turn.stage turn.is_fresh (standing desk.old) (standing desk.new) present.old.tickets present.new.tickets) }
     ensures memory { IfErr result (λ fault. IsMemoryOf N.run.track (record_in desk.old.records) fault) }
     ensures err { OnErr result (standing desk.new ≡ standing desk.old) }
+    ensures kept { OnErr result (present.new.tickets ≡ present.old.tickets) }
 {
-    let outcome = outcome_of(alloc, track, inputs, turn, desk, spent)?;
+    let (outcome, published) = outcome_of(rt, alloc, track, inputs, log, turn, desk, spent)?;
+    if present.reserve(published.len()).is_err() {
+        spent.keep_outcome(outcome);
+        return Err(RuleFault::OutOfMemory);
+    }
     match desk.take_over(alloc, outcome) {
         Ok(left) => {
+            present.take_over(&published);
             spent.keep_outcome(left);
+            spent.keep_published(published);
             Ok(())
         }
         Err(back) => {

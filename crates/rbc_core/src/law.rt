@@ -1,11 +1,13 @@
 //! What holds after all events.
 
 ghost use Rattle.rbc_core.specs.Events.{EventsAreSerial};
-ghost use Rattle.rbc_core.specs.Facts.{AttemptsStay, RecordsStay, ClosedStays};
+ghost use Rattle.rbc_core.specs.Conflicts.{EachIsExplained};
+ghost use Rattle.rbc_core.specs.Facts.{AttemptsStay, RecordsStay, NumbersStay, ClosedStays};
 ghost use Rattle.rbc_core.specs.SaidMails.{EachRunSays};
 
 /// After any events of a book, in any order, the desk is that of the rules applied to the inputs that are committed, one after
-/// another: attempts made from reads at different moments make no difference.
+/// another: attempts made from reads at different moments make no difference, although an attempt is taken over by comparing nothing
+/// but numbers. It rests on this, that a number means one record for good.
 pub fn event_law()
     ensures { EventsAreSerial }
 {}
@@ -17,10 +19,17 @@ pub fn mails_law()
 {}
 
 /// What one event leaves: an attempt that was deposited stays until its input is committed, or lost where memory is refused, which
-/// closes the book; what stands under a key changes only where an input is committed whose writes name it; and a book that is
-/// closed stays closed.
+/// closes the book; what stands under a key, and its number, change only where an input is committed whose writes name it; and a book
+/// that is closed stays closed.
 pub fn staying_law()
     ensures attempts { AttemptsStay }
     ensures records { RecordsStay }
+    ensures numbers { NumbersStay }
     ensures closed { ClosedStays }
+{}
+
+/// Why an input is computed again, where all that is noted in an attempt was read: it was given up, or a number that was read for its
+/// attempt was the present one when it was read, and an earlier input that was committed since then wrote that key.
+pub fn conflict_law()
+    ensures { EachIsExplained }
 {}

@@ -14,8 +14,10 @@ mod witnesses;
 pub use attempt::Attempt;
 pub use book::{Book, Commit, Stats};
 pub use desk::{Desk, MAX_RESULTS};
-pub use law::{event_law, mails_law, staying_law};
+pub use law::{conflict_law, event_law, mails_law, staying_law};
 pub use outbox::{Mail, Outbox};
 pub use run_name::RunName;
 pub use spent::Spent;
-pub use witnesses::{event_law_witnesses, mails_law_witnesses, staying_law_witnesses};
+pub use witnesses::{
+    conflict_law_witnesses, event_law_witnesses, mails_law_witnesses, staying_law_witnesses,
+};

@@ -1,59 +1,102 @@
 //! Worked cases of the laws: right ones, of which a law's statement holds, and wrong ones, of which it does not.
 
 ghost use Rattle.std.specs.Prelude.{◌≡◌, [], ◌∷◌, Some, None, true, false};
+ghost use Rattle.std.specs.List.{All};
+ghost use Rattle.rbc_records.specs.declared.record.Key.TheVariants as key;
 ghost use Rattle.rbc_rule.specs.Witnesses.{stop_before, stop_now, revoke};
 ghost use Rattle.rbc_core.specs.Serial.{mail};
-ghost use Rattle.rbc_core.specs.Core.{opening};
-ghost use Rattle.rbc_core.specs.Events.{May, Follow};
-ghost use Rattle.rbc_core.specs.Events.Event.{Takes, Deposits, Applies, Waits, Ends};
-ghost use Rattle.rbc_core.specs.Facts.{KeepsAttempts, KeepsRecords, KeepsClosed};
-ghost use Rattle.rbc_core.specs.Witnesses.{two_inputs, enrolled, refused, first_try, second_try, computing_again, applying, failing, after_events, one_stale, second_first};
-ghost use Rattle.rbc_core.specs.Witnesses.{both_tried, first_committed, first_lost, none_tried, second_gone, second_changed, engines_there, stops_there};
+ghost use Rattle.rbc_core.specs.Events.{May, Follow, Meaning, AreMeant, IsMeant, IsOpeningIn};
+ghost use Rattle.rbc_core.specs.Events.Event.{Takes, Deposits, Applies, Recomputes, Waits, Ends};
+ghost use Rattle.rbc_core.specs.Facts.{KeepsAttempts, KeepsRecords, KeepsNumbers, KeepsClosed};
+ghost use Rattle.rbc_core.specs.Conflicts.{AreAnswered, WasVoided, IsOvertaken, IsExplained};
+ghost use Rattle.rbc_core.specs.Witnesses.{two_inputs, engines, enrolled, refused, absent, under, enrolled_numbers, means, two_under_one, no_numbers, start};
+ghost use Rattle.rbc_core.specs.Witnesses.{first_try, second_try, stops_try, computing_again, applying, failing, after_events, one_stale, published_again, second_first};
+ghost use Rattle.rbc_core.specs.Witnesses.{both_tried, first_committed, first_lost, none_tried, second_enrols, second_gone, second_changed, engines_there, stops_there, stops_numbered};
+ghost use Rattle.rbc_core.specs.Witnesses.{second_overtaken, second_given_up, giving_up, again_for_nothing, stops_read, nothing_read};
 ghost use Rattle.rbc_core.specs.Witnesses.{stop_told, stop_revoked, IsSaidThere, AreSaidThere};
 
-/// From a new desk train 7 is enrolled, and then comes a line that is no input.
+/// From a new desk train 7 is enrolled, and then comes a line that is no input. The three records of the first are published under the
+/// numbers 1, 2 and 3.
 ///
 /// Right: both are attempted, the second one first, from a read that does not stand any more when its turn comes, so that it is
-/// computed again, and once in all; both are attempted one after the other, and nothing is computed again; and memory is refused as
-/// the first one is to be committed, after which nothing is committed any more, and the second one is given up.
+/// computed again, and once in all; what this run says of numbers is what they mean, and so are the numbers of its desk before; both are
+/// attempted one after the other, and nothing is computed again; memory is refused as the first one is to be committed, after which
+/// nothing is committed any more, and the second one is given up; and the second is computed again, and has no numbers, though its attempt
+/// had some.
 ///
-/// Wrong: an attempt is taken over of whose three notes one does not stand; the second input is committed before the first; an attempt
-/// is kept at an input that was not taken; all is done before the end; the first number is taken twice; an input with an attempt is
-/// not ready.
+/// Wrong: two versions are published under one number; number 0 means a record; an attempt is taken over of whose three numbers one is
+/// not the present one, be it that nothing stands there, or the same record under another number; the second input is committed before
+/// the first; an attempt is kept at an input that was not taken; all is done before the end; the first number is taken twice; an input with
+/// an attempt is not ready; an input is computed again whose attempt is fresh; one that is computed again keeps the numbers of its attempt,
+/// which had another outcome.
 pub fn event_law_witnesses()
-    ensures computing_again { Follow two_inputs (opening two_inputs) computing_again }
+    ensures computing_again { Follow two_inputs start computing_again }
     ensures once { (after_events computing_again).recomputed ≡ 1 }
-    ensures applying { Follow two_inputs (opening two_inputs) applying }
+    ensures meant { All (IsMeant means) computing_again }
+    ensures opening_meant { IsOpeningIn means two_inputs no_numbers }
+    ensures applying { Follow two_inputs start applying }
     ensures never { (after_events applying).recomputed ≡ 0 }
-    ensures failing { Follow two_inputs (opening two_inputs) failing }
+    ensures failing { Follow two_inputs start failing }
     ensures none_committed { (after_events failing).committed ≡ 0 }
-    ensures one_stale_note { May two_inputs one_stale (Applies enrolled) → ⊥ }
-    ensures second_before_first { May two_inputs second_first (Applies refused) → ⊥ }
-    ensures not_out { May two_inputs (opening two_inputs) (Deposits first_try true) → ⊥ }
+    ensures own_numbers { May two_inputs second_enrols (Recomputes refused []) }
+    ensures two_under_one { (meaning : Meaning) → All (IsMeant meaning) two_under_one → ⊥ }
+    ensures record_under_zero { (meaning : Meaning) → AreMeant meaning ((key.Roster, under 0 engines) ∷ []) → ⊥ }
+    ensures one_stale_note { May two_inputs one_stale (Applies enrolled enrolled_numbers) → ⊥ }
+    ensures same_record { May two_inputs published_again (Applies enrolled enrolled_numbers) → ⊥ }
+    ensures second_before_first { May two_inputs second_first (Applies refused []) → ⊥ }
+    ensures not_out { May two_inputs start (Deposits first_try true) → ⊥ }
     ensures done_too_soon { May two_inputs second_first Ends → ⊥ }
     ensures taken_twice { May two_inputs second_first (Takes (Some 1)) → ⊥ }
     ensures ready_yet_waiting { May two_inputs one_stale Waits → ⊥ }
+    ensures again_though_fresh { May two_inputs both_tried (Recomputes enrolled enrolled_numbers) → ⊥ }
+    ensures dropped_numbers { May two_inputs second_enrols (Recomputes refused enrolled_numbers) → ⊥ }
 {}
 
 /// There are attempts at both of those inputs.
 ///
-/// Right: the first is committed by its attempt, which leaves the second one and writes the engines and train 7; memory is refused,
-/// which closes the book and loses the first attempt; and a book that is closed stays so as the second is given up.
+/// Right: the first is committed by its attempt, which leaves the second one and writes the engines and train 7, with their numbers;
+/// memory is refused, which closes the book and loses the first attempt; and a book that is closed stays so as the second is given up.
 ///
 /// Wrong: the second attempt is gone, or another one, as the first is committed; the first is lost though the book was closed before;
-/// the engines change at a deposit, or as nothing is taken; the stops change though no write names them; the book is open again.
+/// the engines change at a deposit, or as nothing is taken, and so do their numbers; the stops change though no write names them, or their
+/// number does; the book is open again.
 pub fn staying_law_witnesses()
     ensures second_stays { KeepsAttempts both_tried first_committed }
     ensures lost_as_closed { KeepsAttempts both_tried first_lost }
-    ensures written { KeepsRecords both_tried (Applies enrolled) first_committed }
+    ensures written { KeepsRecords both_tried (Applies enrolled enrolled_numbers) first_committed }
+    ensures numbered { KeepsNumbers both_tried (Applies enrolled enrolled_numbers) first_committed }
     ensures still_closed { KeepsClosed first_lost none_tried }
     ensures gone { KeepsAttempts both_tried second_gone → ⊥ }
     ensures changed { KeepsAttempts both_tried second_changed → ⊥ }
     ensures lost_though_closed { KeepsAttempts (record both_tried { closed = true }) first_lost → ⊥ }
     ensures written_at_deposit { KeepsRecords both_tried (Deposits second_try true) engines_there → ⊥ }
     ensures written_at_take { KeepsRecords both_tried (Takes None) engines_there → ⊥ }
-    ensures not_named { KeepsRecords both_tried (Applies enrolled) stops_there → ⊥ }
+    ensures not_named { KeepsRecords both_tried (Applies enrolled enrolled_numbers) stops_there → ⊥ }
+    ensures numbered_at_deposit { KeepsNumbers both_tried (Deposits second_try true) engines_there → ⊥ }
+    ensures numbered_at_take { KeepsNumbers both_tried (Takes None) engines_there → ⊥ }
+    ensures number_not_named { KeepsNumbers both_tried (Applies enrolled enrolled_numbers) stops_numbered → ⊥ }
     ensures opened_again { KeepsClosed first_lost both_tried → ⊥ }
+{}
+
+/// The first of those inputs is committed by its attempt, and then it is the turn of the second one.
+///
+/// Right: it was read for the second that there is no train 7, and then the first was committed, which writes that record, so the
+/// attempt at the second is overtaken; and the second was given up. Each note of an attempt was read.
+///
+/// Wrong: the first is computed again though its attempt is fresh; a note of stops is overtaken, which nobody writes; a note is overtaken
+/// that was never read; and a note that was never read is answered.
+pub fn conflict_law_witnesses()
+    ensures answered { AreAnswered second_overtaken }
+    ensures overtaken { IsOvertaken start second_overtaken second_try (key.Train 7, absent) }
+    ensures explained { IsExplained start second_overtaken }
+    ensures giving_up { Follow two_inputs start giving_up }
+    ensures answered_too { AreAnswered second_given_up }
+    ensures given_up { WasVoided second_given_up 2 }
+    ensures explained_too { IsExplained start second_given_up }
+    ensures for_nothing { Follow two_inputs start again_for_nothing → ⊥ }
+    ensures unwritten { IsOvertaken start stops_read stops_try (key.Stops, absent) → ⊥ }
+    ensures unread { IsOvertaken start nothing_read second_try (key.Train 7, absent) → ⊥ }
+    ensures unanswered { AreAnswered nothing_read → ⊥ }
 {}
 
 /// Train 7 stands 200 m beyond balise group 5, facing up. Stop 1 of 20000 to 21000 becomes active, and is released.

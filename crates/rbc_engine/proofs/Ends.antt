@@ -1,36 +1,52 @@
 -- What a run leaves.
-use Rattle.std.proofs.Common.{◌≡◌, ℕ, length, Result, Ok, Err, ap, sym, subst, arith}
+use Rattle.std.proofs.Common.{◌≡◌, ◌⊎◌, ℕ, ◌<◌, length, Result, Ok, Err, inl, inr, ⊎_elim, ap, sym, ◌∙◌, subst, arith}
 use Rattle.rbc_core.specs.declared.book.Stats.{Stats}
 use Rattle.rbc_core.specs.Held.{Held, standing}
 use Rattle.rbc_core.specs.Runs.{Run, IsGoodRun, IsSerialRun}
-use Rattle.rbc_core.specs.Books.{BookValue, state_of, IsBook}
+use Rattle.rbc_core.specs.declared.book.Commit.TheVariants.{NotReady}
+use Rattle.rbc_core.specs.Core.{State}
+use Rattle.rbc_core.specs.Books.{BookValue, state_of, IsKept}
 use Rattle.rbc_core.specs.SaidMails.{IsSaidSince}
 use Rattle.rbc_core.proofs.Mails.{said_since}
 use Rattle.rbc_engine.specs.declared.workers.RunError.{RunError}
 use Rattle.rbc_engine.specs.declared.workers.RunError.TheVariants.{Workers, TooManyInputs, OutOfMemory}
-use Rattle.rbc_engine.specs.Answers.{IsOpening, IsDeskAfter, IsFinished, MayWork, AreFew, IsRun}
+use Rattle.rbc_engine.specs.Fronts.{IsNext, IsAtItsEnd}
+use Rattle.rbc_engine.specs.Answers.{IsOpening, IsDeskAfter, IsStretch, IsFinished, MayWork, AreFew, IsRun}
 
 -- before the first input
 pub desk_before : (run : Run) → IsGoodRun run → IsDeskAfter run 0 run.opening
 desk_before run good = let serial : IsSerialRun run 0 (standing run.opening) = λ desk h. h in (serial, said_since run 0 (standing run.opening) good serial)
 
--- every input is committed
-pub done : (run : Run) (book : BookValue) (held : Held) (stats : Stats) → book.committed ≡ length run.inputs → stats ≡ record { taken = book.taken; recomputed = book.recomputed } → IsBook run (state_of book)
-    → IsSerialRun run book.committed (standing held) → IsSaidSince run book.committed held.outboxes → IsFinished run (Ok stats) held
-done run book held stats all is b serial said =
+-- the inputs that were taken are committed, and these are all or some
+some_or_all : (run : Run) (s : State) → IsKept run s → IsAtItsEnd run s → (s.taken ≡ s.committed) × ((s.committed ≡ length run.inputs) ⊎ (0 < s.committed))
+some_or_all run s b end =
+    ⊎_elim
+    (λ (all : s.committed ≡ length run.inputs). let turn = b.in_turn in let range = b.in_range in (omega (arith, all, turn, range), inl all))
+    (λ (some : (s.taken ≡ s.committed) × (0 < s.committed)). (some.0, inr some.1))
+    end
+
+pub done : (run : Run) (book : BookValue) (held : Held) (stats : Stats) → IsAtItsEnd run (state_of book) → stats ≡ record { taken = book.taken; recomputed = book.recomputed }
+    → IsKept run (state_of book) → IsSerialRun run book.committed (standing held) → IsSaidSince run book.committed held.outboxes → IsStretch run (Ok stats) held
+done run book held stats end is b serial said =
+    let ends = some_or_all run (state_of book) b end in
     let taken : stats.taken ≡ book.taken = ap (λ (s : Stats). s.taken) is in
     let recomputed : stats.recomputed ≡ book.recomputed = ap (λ (s : Stats). s.recomputed) is in
-    let turn = b.in_turn in
+    let all : stats.taken ≡ book.committed = taken ∙ ends.0 in
     let range = b.in_range in
     let counted = b.counted in (
-      (subst (λ n. IsSerialRun run n (standing held)) all serial, subst (λ n. IsSaidSince run n held.outboxes) all said),
-      omega (arith, taken, turn, range, all),
-      omega (arith, taken, recomputed, turn, counted),
+      (subst (λ n. IsSerialRun run n (standing held)) (sym all) serial, subst (λ n. IsSaidSince run n held.outboxes) (sym all) said),
+      omega (arith, taken, range),
+      subst (λ n. (n ≡ length run.inputs) ⊎ (0 < n)) (sym all) ends.1,
+      omega (arith, all, recomputed, counted),
     )
 
+-- a stretch that ends before an input that was not taken
+pub ended_some : (run : Run) (s t : State) → IsNext run s NotReady t → IsAtItsEnd run t
+ended_some run s t left = inr (subst (λ (x : State). x.taken ≡ x.committed) (sym left.0) left.1, subst (λ (x : State). 0 < x.committed) (sym left.0) left.2)
+
 -- memory was refused after some
-pub stopped : (run : Run) (book : BookValue) (held : Held) (committed : ℕ) → committed ≡ book.committed → IsBook run (state_of book) → IsSerialRun run book.committed (standing held) → IsSaidSince run book.committed held.outboxes
-    → IsFinished run (Err (OutOfMemory committed)) held
+pub stopped : (run : Run) (book : BookValue) (held : Held) (committed : ℕ) → committed ≡ book.committed → IsKept run (state_of book) → IsSerialRun run book.committed (standing held) → IsSaidSince run book.committed held.outboxes
+    → IsStretch run (Err (OutOfMemory committed)) held
 stopped run book held committed is b serial said =
     let turn = b.in_turn in
     let range = b.in_range in

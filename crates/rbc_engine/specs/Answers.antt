@@ -1,5 +1,5 @@
 -- What a run by several workers leaves (own rule).
-use Rattle.std.specs.Prelude.{◌≡◌, ℕ, ◌+◌, ◌≤◌, List, ◌++◌, codes, length, Result, Ok, Err}
+use Rattle.std.specs.Prelude.{◌≡◌, ◌⊎◌, ℕ, ◌+◌, ◌<◌, ◌≤◌, List, ◌++◌, codes, length, Result, Ok, Err}
 use Rattle.std.specs.Fmt.{decimal}
 use Rattle.rbc_track.specs.Plan.{Plan}
 use Rattle.rbc_core.specs.declared.book.Stats.{Stats}
@@ -34,6 +34,15 @@ AreFew run = (length run.inputs ≤ max_inputs) × (length run.opening.results +
 -- says what the rules give its train
 abbrev pub IsDeskAfter : Run → ℕ → Held → Type 0
 IsDeskAfter run count held = IsSerialRun run count (standing held) × IsSaidSince run count held.outboxes
+
+-- What a stretch of a run leaves: so many of its first inputs are done, one of them at least if it has any; or memory was refused after the
+-- first of them.
+abbrev pub IsStretch : Run → Result Stats RunError → Held → Type 0
+IsStretch run (Ok stats) new =
+    IsDeskAfter run stats.taken new × (stats.taken ≤ length run.inputs) × ((stats.taken ≡ length run.inputs) ⊎ (0 < stats.taken)) × (stats.recomputed ≤ stats.taken)
+IsStretch run (Err (OutOfMemory committed)) new = IsDeskAfter run committed new × (committed ≤ length run.inputs)
+IsStretch run (Err Workers) new = ⊥
+IsStretch run (Err TooManyInputs) new = ⊥
 
 -- what a run that was not refused leaves: every input is done, or memory was refused after the first of them
 abbrev pub IsFinished : Run → Result Stats RunError → Held → Type 0

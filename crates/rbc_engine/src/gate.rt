@@ -31,3 +31,28 @@ impl Gate for OpenGate {
 
     fn after_deposit(&self, _input: u32) {}
 }
+
+/// A gate for the inputs behind the first `before` of a run: it is told of each under the number that it has in the whole run.
+#[derive(Drop)]
+pub(crate) struct Behind<'a, G> {
+    pub(crate) gate: &'a G,
+    pub(crate) before: u32,
+}
+
+impl<'a, G: Gate> Gate for Behind<'a, G> {
+    fn before_rule(&self, input: u32) {
+        self.gate.before_rule(self.before.saturating_add(input));
+    }
+
+    fn after_read(&self, input: u32, key: Key) {
+        self.gate.after_read(self.before.saturating_add(input), key);
+    }
+
+    fn before_deposit(&self, input: u32) {
+        self.gate.before_deposit(self.before.saturating_add(input));
+    }
+
+    fn after_deposit(&self, input: u32) {
+        self.gate.after_deposit(self.before.saturating_add(input));
+    }
+}

@@ -1,98 +1,132 @@
 //! Reading the records of a shared book, and noting what was read.
 
-ghost use Rattle.std.specs.Prelude.{◌≡◌, [], IfOk};
+ghost use Rattle.std.specs.Prelude.{◌≡◌, [], IfSome};
+ghost use Rattle.rbc_versions.specs.Log.{IsOf, number_of};
+ghost use Rattle.rbc_versions.specs.Entries.{AreOf};
 ghost use Rattle.rbc_engine.specs.Reading.{HasStood};
 
 use crate::gate::Gate;
 use rbc_core::{Book, RunName};
-use rbc_records::{Key, Notes, ReadFault, Reader, Rec};
-use std::alloc::{AllocError, Global};
+use rbc_records::{Key, ReadFault, Reader, Rec};
+use rbc_versions::{Notes, Ticket, VersionLog};
+use std::alloc::Global;
+use std::marker::Model;
 use std::sync::{Mutex, Wait};
 
-/// Reads the records of a book for one input, each for itself under the lock of the book, and keeps what it read in the order of first
-/// reading. What was read under a key, also that there is no record, is read once.
+/// Reads the records of a book for one input: the number of each for itself under the lock of the book, and the record in the log of the
+/// run, without the lock and without a copy. What was read under a key, also that there is no record, is read once; the notes stand in
+/// the order of first reading.
 #[derive(Drop)]
 pub struct Recorder<'a, 'b, N: RunName, G, R> {
     rt: &'a R,
-    alloc: Global,
     book: &'a Mutex<Book<'b, N>>,
+    log: &'a VersionLog,
     gate: &'a G,
     input: u32,
     notes: Notes,
+    failures: u64,
+}
+
+impl<'a, 'b, N: RunName, G, R> Model for Recorder<'a, 'b, N, G, R> {
+    ghost use Rattle.std.specs.Prelude.{◌≡◌};
+    ghost use Rattle.rbc_versions.specs.Entries.{AreOf};
+    ghost use Rattle.rbc_engine.specs.Reading.{Reading};
+
+    ghost Value = { Reading };
+
+    ghost view = { λ r. record { input = r.input; notes = r.notes; failures = r.failures } };
+
+    // The log is that of the run, and so are the tickets.
+    ghost invariant = { λ r. (r.log.now ≡ N.log) × AreOf N.log r.notes };
 }
 
 impl<'a, 'b, N: RunName, G: Gate, R: Wait> Recorder<'a, 'b, N, G, R> {
-    /// Makes a recorder for the input of a number, which has read nothing yet. Takes no memory.
+    /// Makes a recorder for the input of a number, which has read nothing yet. The log has to be that of the run. Takes no memory.
     pub fn new(
         rt: &'a R,
         alloc: Global,
         book: &'a Mutex<Book<'b, N>>,
+        log: &'a VersionLog,
         gate: &'a G,
         input: u32,
     ) -> Self
-        ensures notes { result.notes ≡ [] }
-        ensures input { result.input ≡ input }
+        requires { log.now ≡ N.log }
+        ensures { result ≡ record { input = input; notes = []; failures = 0 } }
     {
         Recorder {
             rt,
-            alloc,
             book,
+            log,
             gate,
             input,
             notes: Notes::new(alloc),
+            failures: 0,
         }
     }
 
     /// The notes of all that was read.
     pub fn into_notes(self) -> Notes
-        ensures { result ≡ self.entry.notes }
+        ensures notes { result ≡ self.entry.notes }
+        ensures here { AreOf N.log result }
     {
         let Recorder {
             rt: _,
-            alloc: _,
             book: _,
+            log: _,
             gate: _,
             input: _,
             notes,
+            failures: _,
         } = self;
         notes
     }
 
-    /// A copy of the record that stands under a key while the book is locked. Fails only for lack of memory.
-    fn read(&self, key: Key) -> Result<Option<Rec>, AllocError>
-        ensures { IfOk result (λ found. HasStood N.run key found) }
+    /// The ticket of what stands under a key while the book is locked, or that nothing does. `None` if the number is not in the log.
+    fn read(&self, key: Key) -> Option<Option<Ticket>>
+        ensures here { IfSome result (λ ticket. IfSome ticket (IsOf N.log)) }
+        ensures stood { IfSome result (λ ticket. HasStood N.run N.log key (number_of ticket)) }
     {
-        self.book.lock(self.rt).present(self.alloc, self.input, key)
+        let number = self.book.lock(self.rt).present(self.input, key);
+        if number == 0 {
+            return Some(None);
+        }
+        let ticket = self.log.look(number)?;
+        Some(Some(ticket))
     }
 }
 
 impl<'a, 'b, N: RunName, G: Gate, R: Wait> Reader for Recorder<'a, 'b, N, G, R> {
     ghost use Rattle.rbc_records.specs.Notes.{Part};
+    ghost use Rattle.rbc_versions.specs.Entries.{shown};
 
-    ghost notes = { λ recorder. Part recorder.notes };
+    ghost notes = { λ recorder. Part (shown recorder.notes) };
 
-    // No read fails but for lack of memory.
-    ghost failed = { λ _. 0 };
+    ghost failed = { λ recorder. recorder.failures };
 
+    /// Fails for lack of memory; and `Failed` where a number that stood in the book is not found in the log.
     fn fetch(&mut self, key: Key) -> Result<(), ReadFault> {
         if self.notes.get(key).is_some() {
             return Ok(());
         }
-        let Ok(found) = self.read(key) else {
-            return Err(ReadFault::OutOfMemory);
+        let Some(ticket) = self.read(key) else {
+            self.failures += 1;
+            return Err(ReadFault::Failed);
         };
         self.gate.after_read(self.input, key);
-        match self.notes.add(key, found) {
+        match self.notes.add(key, ticket) {
             Ok(()) => Ok(()),
             Err(_) => Err(ReadFault::OutOfMemory),
         }
     }
 
     fn seen(&self, key: Key) -> Option<&Rec> {
-        self.notes.get(key).unwrap()
+        match self.notes.get(key).unwrap() {
+            Some(ticket) => Some(&self.log.version(ticket).rec),
+            None => None,
+        }
     }
 
     fn failures(&self) -> u64 {
-        0
+        self.failures
     }
 }

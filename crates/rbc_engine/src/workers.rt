@@ -1,20 +1,22 @@
-//! Runs by several workers.
+//! Runs by several workers, in stretches: each has a book and a log of its own, so that the memory of a log is given back with it.
 
-ghost use Rattle.std.specs.Prelude.{◌≡◌};
+ghost use Rattle.std.specs.Prelude.{◌≡◌, ◌≤◌, IsTrue, Ok, false, length, drop};
 ghost use Rattle.std.specs.List.{All};
 ghost use Rattle.rbc_track.specs.Plan.{IsPlan};
 ghost use Rattle.rbc_rule.specs.Inputs.{Fits};
 ghost use Rattle.rbc_core.specs.Books.{state_of};
 ghost use Rattle.rbc_core.specs.Core.{front};
+ghost use Rattle.rbc_core.specs.Held.{IsInOrder};
 ghost use Rattle.rbc_core.specs.Runs.{IsGoodRun};
-ghost use Rattle.rbc_engine.specs.Answers.{IsOpening, IsRun, IsFinished};
-ghost use Rattle.rbc_engine.specs.Fronts.{IsWaiting, IsGivenUp, IsNext};
+ghost use Rattle.rbc_engine.specs.Answers.{IsOpening, IsRun, IsStretch, IsFinished};
+ghost use Rattle.rbc_engine.specs.Fronts.{IsWaiting, IsGivenUp, IsNext, IsAtItsEnd};
 
-use crate::gate::Gate;
+use crate::gate::{Behind, Gate};
 use crate::job::Job;
 use rbc_core::{Book, Commit, Desk, MAX_RESULTS, RunName, Stats};
 use rbc_rule::Input;
 use rbc_track::Track;
+use rbc_versions::VersionLog;
 use std::alloc::Global;
 use std::error::Error;
 use std::marker::Brand;
@@ -58,52 +60,73 @@ impl fmt::Display for RunError {
 
 impl Error for RunError {}
 
-/// Gives up the next input to be committed, which nobody will deposit any more: one that a worker took, or that none took.
-fn give_up<N: RunName>(book: &mut Book<'_, N>, number: u32)
+/// Gives up the next input to be committed, which nobody will deposit any more. `false` if it was not taken, and is not the first: then
+/// nothing changed.
+fn give_up<N: RunName>(book: &mut Book<'_, N>, number: u32) -> bool
     requires waiting { IsWaiting N.run (state_of book.old) }
     requires front { number ≡ front (state_of book.old) }
-    ensures { IsGivenUp (state_of book.old) (state_of book.new) }
+    ensures given_up { IsTrue result → IsGivenUp (state_of book.old) (state_of book.new) }
+    ensures not_taken { result ≡ false → IsNext N.run (state_of book.old) Commit.NotReady (state_of book.new) }
 {
     if book.void(number) {
-        return;
+        return true;
+    }
+    if number > 1 {
+        return false;
     }
     let _ = book.take();
     let _ = book.void(number);
+    true
 }
 
-/// Commits the next input, whether or not somebody has it.
-fn commit_front<N: RunName>(alloc: Global, track: &Track, book: &mut Book<'_, N>) -> Commit
+/// Commits the next input, if somebody has it or it is the first.
+fn commit_front<N: RunName>(
+    rt: &impl Wait,
+    alloc: Global,
+    track: &Track,
+    book: &mut Book<'_, N>,
+) -> Commit
     requires { track.now ≡ N.run.track }
     ensures { IsNext N.run (state_of book.old) result (state_of book.new) }
 {
     let number = book.committed() + 1;
-    let answer = book.commit(alloc, track);
+    let answer = book.commit(rt, alloc, track);
     if answer != Commit::NotReady {
         return answer;
     }
-    give_up(book, number);
-    book.commit(alloc, track)
+    if !give_up(book, number) {
+        return Commit::NotReady;
+    }
+    book.commit(rt, alloc, track)
 }
 
-/// Commits what the workers left, and puts the desk back.
+/// Closes the book of a stretch that is at its end, and puts the desk back.
+fn put_back<N: RunName>(book: Book<'_, N>, desk: &mut Desk) -> Stats
+    requires { IsAtItsEnd N.run (state_of book) }
+    ensures { IsStretch N.run (Ok result) desk.new }
+{
+    let stats = book.stats();
+    *desk = book.close();
+    stats
+}
+
+/// Commits what the workers of a stretch left, and puts the desk back.
 fn finish<N: RunName>(
+    rt: &impl Wait,
     alloc: Global,
     track: &Track,
     mut book: Book<'_, N>,
     desk: &mut Desk,
 ) -> Result<Stats, RunError>
     requires { track.now ≡ N.run.track }
-    ensures { IsFinished N.run result desk.new }
+    ensures { IsStretch N.run result desk.new }
 {
     loop {
-        match commit_front(alloc, track, &mut book) {
+        match commit_front(rt, alloc, track, &mut book) {
             Commit::Applied | Commit::Recomputed => {}
-            Commit::Done => {
-                let stats = book.stats();
-                *desk = book.close();
-                return Ok(stats);
-            }
-            Commit::Failed | Commit::NotReady => {
+            Commit::Done => return Ok(put_back(book, desk)),
+            Commit::NotReady => return Ok(put_back(book, desk)),
+            Commit::Failed => {
                 let committed = book.committed();
                 *desk = book.close();
                 return Err(RunError::OutOfMemory { committed });
@@ -112,8 +135,49 @@ fn finish<N: RunName>(
     }
 }
 
-/// Runs the inputs of a run on one book.
+/// Runs as many of the first inputs of a run on one book as its log may hold, and one at least.
 fn run_named<N: RunName + Send + Sync, G: Gate + Sync, R: Threads + Wait + Sync>(
+    rt: &R,
+    alloc: Global,
+    track: &Track,
+    desk: &mut Desk,
+    inputs: &[Input],
+    log: &VersionLog,
+    workers: u8,
+    gate: &G,
+) -> Result<Stats, RunError>
+    requires track { track.now ≡ N.run.track }
+    requires desk { desk.old ≡ N.run.opening }
+    requires inputs { inputs.now ≡ N.run.inputs }
+    requires log { log.now ≡ N.log }
+    requires good { IsGoodRun N.run }
+    ensures { IsStretch N.run result desk.new }
+{
+    let opening = mem::replace(desk, Desk::new(alloc));
+    match Book::<N>::new(rt, alloc, opening, inputs, log) {
+        Ok(book) => {
+            let lock = Mutex::new(book);
+            let job = Job {
+                rt,
+                alloc,
+                track,
+                inputs,
+                log,
+                book: &lock,
+                gate,
+            };
+            job.share(workers);
+            finish(rt, alloc, track, lock.into_inner(), desk)
+        }
+        Err(opening) => {
+            *desk = opening;
+            Err(RunError::OutOfMemory { committed: 0 })
+        }
+    }
+}
+
+/// Runs a stretch of a run on a log of its own, which is dropped with it.
+fn run_stretch<G: Gate + Sync, R: Threads + Wait + Sync>(
     rt: &R,
     alloc: Global,
     track: &Track,
@@ -122,32 +186,77 @@ fn run_named<N: RunName + Send + Sync, G: Gate + Sync, R: Threads + Wait + Sync>
     workers: u8,
     gate: &G,
 ) -> Result<Stats, RunError>
-    requires track { track.now ≡ N.run.track }
-    requires desk { desk.old ≡ N.run.opening }
-    requires inputs { inputs.now ≡ N.run.inputs }
-    requires good { IsGoodRun N.run }
-    ensures { IsFinished N.run result desk.new }
+    requires good { IsGoodRun (record { track = track.now; opening = desk.old; inputs = inputs.now }) }
+    ensures { IsStretch (record { track = track.now; opening = desk.old; inputs = inputs.now }) result desk.new }
 {
-    let opening = mem::replace(desk, Desk::new(alloc));
-    match Book::<N>::new(alloc, opening, inputs) {
-        Ok(book) => {
-            let lock = Mutex::new(book);
-            let job = Job {
-                rt,
-                alloc,
-                track,
-                inputs,
-                book: &lock,
-                gate,
-            };
-            job.share(workers);
-            finish(alloc, track, lock.into_inner(), desk)
-        }
-        Err(opening) => {
-            *desk = opening;
-            Err(RunError::OutOfMemory { committed: 0 })
+    let Ok(log) = VersionLog::new(alloc) else {
+        return Err(RunError::OutOfMemory { committed: 0 });
+    };
+    run_named::<Brand, G, R>(rt, alloc, track, desk, inputs, &log, workers, gate)
+}
+
+/// Runs the next stretch of a run, of which so many inputs are done.
+fn run_next<G: Gate + Sync, R: Threads + Wait + Sync>(
+    rt: &R,
+    alloc: Global,
+    track: &Track,
+    desk: &mut Desk,
+    inputs: &[Input],
+    before: u32,
+    workers: u8,
+    gate: &G,
+) -> Result<Stats, RunError>
+    requires within { before ≤ length inputs.now }
+    requires good { IsGoodRun (record { track = track.now; opening = desk.old; inputs = drop before inputs.now }) }
+    ensures { IsStretch (record { track = track.now; opening = desk.old; inputs = drop before inputs.now }) result desk.new }
+{
+    let behind = Behind { gate, before };
+    let rest = &inputs[before as usize..];
+    run_stretch(rt, alloc, track, desk, rest, workers, &behind)
+}
+
+/// Says in its contract what every desk satisfies, because a stretch requires it.
+fn keeps_order(desk: &Desk)
+    ensures { IsInOrder desk.now }
+{
+    let _ = desk.results();
+}
+
+/// Runs all inputs, one stretch after another on the same desk.
+fn run_stretches<G: Gate + Sync, R: Threads + Wait + Sync>(
+    rt: &R,
+    alloc: Global,
+    track: &Track,
+    desk: &mut Desk,
+    inputs: &[Input],
+    workers: u8,
+    gate: &G,
+) -> Result<Stats, RunError>
+    requires good { IsGoodRun (record { track = track.now; opening = desk.old; inputs = inputs.now }) }
+    requires few { length inputs.now ≤ MAX_INPUTS }
+    ensures { IsFinished (record { track = track.now; opening = desk.old; inputs = inputs.now }) result desk.new }
+{
+    let mut all = Stats {
+        taken: 0,
+        recomputed: 0,
+    };
+    while (all.taken as usize) < inputs.len() {
+        let before = all.taken;
+        keeps_order(desk);
+        match run_next(rt, alloc, track, desk, inputs, before, workers, gate) {
+            Ok(stats) => {
+                all.taken += stats.taken;
+                all.recomputed += stats.recomputed;
+            }
+            Err(RunError::OutOfMemory { committed }) => {
+                return Err(RunError::OutOfMemory {
+                    committed: before + committed,
+                });
+            }
+            Err(error) => return Err(error),
         }
     }
+    Ok(all)
 }
 
 /// Says in its contract what every track satisfies, because a run requires it.
@@ -183,5 +292,5 @@ pub fn run<G: Gate + Sync, R: AllocGlobal + Threads + Wait + Sync>(
         return Err(RunError::TooManyInputs);
     }
     keeps(track);
-    run_named::<Brand, G, R>(rt, rt.alloc(), track, desk, inputs, workers, gate)
+    run_stretches(rt, rt.alloc(), track, desk, inputs, workers, gate)
 }

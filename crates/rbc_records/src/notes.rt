@@ -1,10 +1,9 @@
 //! Notes of what was read.
 
-ghost use Rattle.std.specs.Prelude.{◌≡◌, ◌↔◌, ◌<◌, [], ◌∷◌, ◌++◌, false, length, is_some, IsTrue, IfSome, OnOk, OnErr, Some, slice_get, option_copied};
-ghost use Rattle.rbc_records.specs.Notes.{Part, Learns, IsNotedOnce, AreNow, note_in, record_in, is_noted};
+ghost use Rattle.std.specs.Prelude.{◌≡◌, ◌<◌, [], ◌∷◌, ◌++◌, false, length, is_some, IfSome, OnOk, OnErr, Some, slice_get, option_copied};
+ghost use Rattle.rbc_records.specs.Notes.{Part, Learns, IsNotedOnce, note_in, is_noted};
 
-use crate::record::{Key, Rec, same_record};
-use crate::store::PlainStore;
+use crate::record::{Key, Rec};
 use indexmap::IndexMap;
 use std::alloc::{AllocError, Global};
 use std::marker::Model;
@@ -79,18 +78,5 @@ impl Notes {
     {
         let (key, rec) = self.all.get_index(index).unwrap();
         (*key, rec.as_ref())
-    }
-
-    /// Whether each note, also one that there is no record, is what the store has under its key. Takes no memory.
-    pub fn agree_with(&self, store: &PlainStore) -> bool
-        ensures { IsTrue result ↔ AreNow self.now (record_in store.now) }
-    {
-        for index in 0..self.len() {
-            let (key, rec) = self.at(index);
-            if !same_record(rec, store.get(key)) {
-                return false;
-            }
-        }
-        true
     }
 }

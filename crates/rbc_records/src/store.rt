@@ -1,6 +1,6 @@
 //! A store of all records.
 
-ghost use Rattle.std.specs.Prelude.{◌≡◌, ℕ, ◌+◌, ◌<◌, ◌≤◌, [], OnOk, OnErr, IfOk, IfErr, IsOk, option_copied};
+ghost use Rattle.std.specs.Prelude.{◌≡◌, ℕ, ◌+◌, ◌<◌, ◌≤◌, [], length, slice_get, Some, OnOk, OnErr, IfOk, IfErr, IsOk, option_copied};
 ghost use Rattle.indexmap.specs.IndexMap.{spare};
 ghost use Rattle.rbc_records.specs.declared.record.Key.{Key};
 ghost use Rattle.rbc_records.specs.Notes.{record_in};
@@ -44,6 +44,22 @@ impl PlainStore {
         ensures { option_copied result ≡ record_in self.now key }
     {
         self.records.get(&key)
+    }
+
+    /// The number of records.
+    pub fn len(&self) -> usize
+        ensures { result ≡ length self.now }
+    {
+        self.records.len()
+    }
+
+    /// The key and the record at an index, which counts from 0 and is below `len`.
+    pub fn at(&self, index: usize) -> (Key, &Rec)
+        requires { index < length self.now }
+        ensures at { slice_get self.now index ≡ Some (result.0, result.1.now) }
+    {
+        let (key, rec) = self.records.get_index(index).unwrap();
+        (*key, rec)
     }
 }
 

@@ -108,31 +108,3 @@ fn record(alloc: Global, key: Key, stamp: Option<u32>) -> Result<Option<Rec>, Fa
         _ => Ok(Some(engines(alloc, &[7, 9])?)),
     }
 }
-
-// the engine on line 3 comes after the same one on line 4; a list and a train that were not there have
-// come and gone; a train that was there has another stamp, and then is gone
-#[test]
-fn notes_agree_with_a_store_that_has_what_was_read(rt: HostRuntime) -> Result<(), Fail> {
-    let alloc = rt.alloc();
-    let notes = noted(&rt, alloc)?;
-    let mut store = PlainStore::new(alloc);
-    same(&rt, notes.agree_with(&store), false);
-    same(&rt, Notes::new(alloc).agree_with(&store), true);
-    for (key, stamp, wanted) in [
-        (Key::Roster, Some(0), false),
-        (Key::Train(7), Some(20), false),
-        (Key::Line(4), Some(0), false),
-        (Key::Line(3), Some(0), true),
-        (Key::Unplaced, Some(0), false),
-        (Key::Unplaced, None, true),
-        (Key::Train(8), Some(20), true),
-        (Key::Train(9), Some(20), false),
-        (Key::Train(9), None, true),
-        (Key::Train(7), Some(21), false),
-        (Key::Train(7), None, false),
-    ] {
-        write(&rt, alloc, &mut store, key, record(alloc, key, stamp)?)?;
-        same(&rt, notes.agree_with(&store), wanted);
-    }
-    Ok(())
-}

@@ -1,32 +1,50 @@
-use Rattle.std.proofs.Common.{◌≡◌, [], Some, refl, ap, arith, inl, inr}
-use Rattle.std.proofs.lemmas.List.Elements.{All-nil}
-use Rattle.rbc_settle.specs.Trains.{new_train}
-use Rattle.rbc_records.specs.declared.record.Rec.TheVariants as rec
-use Rattle.rbc_rule.specs.declared.input.Input.TheVariants as input
-use Rattle.rbc_core.specs.Runs.{IsInput}
+use Rattle.std.proofs.Common.{◌≡◌, true, false, List, [], ◌∷◌, ◌++◌, Some, None, refl, ap, arith, inl, inr}
+use Rattle.std.proofs.lemmas.List.Elements.{All-nil, All-head}
+use Rattle.rbc_records.specs.declared.record.Key.{Key}
+use Rattle.rbc_records.specs.declared.record.Key.TheVariants as key
+use Rattle.rbc_versions.specs.Entries.{NumberedRec}
+use Rattle.rbc_rule.proofs.WitnessSays.{differ}
+use Rattle.rbc_core.specs.declared.stage.Stage.TheVariants.{Free}
 use Rattle.rbc_core.specs.Core.{Try}
-use Rattle.rbc_core.specs.Witnesses.{two_inputs, first_try, second_try, stale_try}
-use Rattle.rbc_core.proofs.WitnessEvents.{right_first, right_second, nothing_now, recomputes_second, third_is_stale}
+use Rattle.rbc_core.specs.Events.{Event, Follow, record_at}
+use Rattle.rbc_core.specs.Events.Event.{Takes, Deposits, Voids, Applies, Recomputes, Ends, Fails}
+use Rattle.rbc_core.specs.Witnesses.{two_inputs, engines, under, enrolled, refused, publishing, enrolled_numbers, start, first_try, reading_first, committing_first, unread_try, after_events, second_overtaken, stale_try, one_stale, published_again, second_enrols}
+use Rattle.rbc_core.proofs.Fates.{follow_append}
+use Rattle.rbc_core.proofs.WitnessEvents.{right_first, right_second, third_is_stale, both_taken, first_turn, follow_overtaken, again_by_number}
 use Rattle.rbc_core.proofs.witnesses.event_law_witnesses.Goals as goal
 
 pub returns-clause-computing_again : goal.returns-clause-computing_again
 returns-clause-computing_again c =
-    let second : IsInput two_inputs 2 (input.Bad 1) = record { first = omega arith; there = refl } in (
+    follow_append two_inputs start second_overtaken (Recomputes refused [] ∷ Ends ∷ []) follow_overtaken
+    (again_by_number (after_events second_overtaken) refused [] refl refl (omega arith) refl refl)
+
+pub returns-clause-applying : goal.returns-clause-applying
+returns-clause-applying c =
+    let more : List Event = Takes (Some 2) ∷ Deposits unread_try true ∷ Applies refused [] ∷ Takes None ∷ Ends ∷ [] in
+    let rest : Follow two_inputs (after_events (publishing ++ Takes (Some 1) ∷ committing_first)) more = (
       (refl, omega arith, refl),
       (
-        (refl, omega arith, refl),
+        (right_second [], record { uncommitted = omega arith; taken = omega arith; at = refl }),
+        ((refl, (unread_try, record { uncommitted = omega arith; taken = omega arith; at = refl }, All-nil _, refl, refl)), (inl refl, (refl, tt))),
+      ),
+    ) in
+    follow_append two_inputs start (publishing ++ Takes (Some 1) ∷ committing_first) more (tt, (tt, (tt, ((refl, omega arith, refl), first_turn 1 Free (omega arith))))) rest
+
+pub returns-clause-failing : goal.returns-clause-failing
+returns-clause-failing c =
+    both_taken (reading_first ++ Deposits first_try true ∷ Fails false ∷ Voids 2 true ∷ Voids 1 false ∷ Takes None ∷ Fails true ∷ []) (
+      refl,
+      (
+        refl,
         (
           refl,
           (
-            (right_second _, record { uncommitted = omega arith; taken = omega arith; at = refl }),
+            (right_first, record { uncommitted = omega arith; taken = omega arith; at = refl }),
             (
-              (right_first, record { uncommitted = omega arith; taken = omega arith; at = refl }),
+              (refl, inl (first_try, record { uncommitted = omega arith; taken = omega arith; at = refl })),
               (
-                (refl, (first_try, record { uncommitted = omega arith; taken = omega arith; at = refl }, nothing_now, refl)),
-                (
-                  (refl, inl (second_try, record { uncommitted = omega arith; taken = omega arith; at = refl }), (input.Bad 1, second, recomputes_second _)),
-                  (refl, tt),
-                ),
+                record { uncommitted = omega arith; taken = omega arith; at = refl },
+                ((λ at. let x = at.at in absurd (cc x)), (inr refl, ((omega arith, inl refl), tt))),
               ),
             ),
           ),
@@ -34,51 +52,21 @@ returns-clause-computing_again c =
       ),
     )
 
-pub returns-clause-applying : goal.returns-clause-applying
-returns-clause-applying c = (
-  (refl, omega arith, refl),
-  (
-    (right_first, record { uncommitted = omega arith; taken = omega arith; at = refl }),
-    (
-      (refl, (first_try, record { uncommitted = omega arith; taken = omega arith; at = refl }, nothing_now, refl)),
-      (
-        (refl, omega arith, refl),
-        (
-          (right_second [], record { uncommitted = omega arith; taken = omega arith; at = refl }),
-          (
-            (refl, (record second_try { notes = [] }, record { uncommitted = omega arith; taken = omega arith; at = refl }, All-nil _, refl)),
-            (inl refl, (refl, tt)),
-          ),
-        ),
-      ),
-    ),
-  ),
-)
+pub returns-clause-own_numbers : goal.returns-clause-own_numbers
+returns-clause-own_numbers c = (again_by_number second_enrols enrolled enrolled_numbers refl refl (omega arith) refl refl).0
 
-pub returns-clause-failing : goal.returns-clause-failing
-returns-clause-failing c = (
-  (refl, omega arith, refl),
-  (
-    (refl, omega arith, refl),
-    (
-      (right_first, record { uncommitted = omega arith; taken = omega arith; at = refl }),
-      (
-        (refl, inl (first_try, record { uncommitted = omega arith; taken = omega arith; at = refl })),
-        (
-          record { uncommitted = omega arith; taken = omega arith; at = refl },
-          ((λ at. let x = at.at in absurd (cc x)), (inr refl, ((omega arith, inl refl), tt))),
-        ),
-      ),
-    ),
-  ),
-)
+pub returns-clause-record_under_zero : goal.returns-clause-record_under_zero
+returns-clause-record_under_zero c meaning all =
+    let none = All-head (λ (entry : Key × NumberedRec). record_at meaning entry.1.number ≡ entry.1.rec) (key.Roster, under 0 engines) [] all in
+    absurd (cc none)
 
 pub returns-clause-one_stale_note : goal.returns-clause-one_stale_note
-returns-clause-one_stale_note c (opened, (a, at, now, same)) =
-    let is : stale_try ≡ a = let x = at.at in cc x in third_is_stale a (Some (rec.Train (new_train 7 2000 0))) (rec.Train (new_train 7 2000 0)) refl (ap (λ (t : Try). t.notes) is) now
+returns-clause-one_stale_note c (opened, (a, at, current, same, numbers)) =
+    let is : stale_try ≡ a = let x = at.at in cc x in differ 2 0 refl (third_is_stale a.notes one_stale.present (ap (λ (t : Try). t.notes) is) current)
 
-pub returns-clause-not_out : goal.returns-clause-not_out
-returns-clause-not_out c may = let bad = may.1.taken in absurd (omega (arith, bad))
+pub returns-clause-same_record : goal.returns-clause-same_record
+returns-clause-same_record c (opened, (a, at, current, same, numbers)) =
+    let is : stale_try ≡ a = let x = at.at in cc x in differ 2 4 refl (third_is_stale a.notes published_again.present (ap (λ (t : Try). t.notes) is) current)
 
-pub returns-clause-done_too_soon : goal.returns-clause-done_too_soon
-returns-clause-done_too_soon c may = absurd (omega (arith, may))
+pub returns-clause-dropped_numbers : goal.returns-clause-dropped_numbers
+returns-clause-dropped_numbers c may = let one = may.3 (λ k. None) key.Roster in absurd (cc one)

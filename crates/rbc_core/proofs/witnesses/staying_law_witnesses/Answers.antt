@@ -1,12 +1,10 @@
 use Rattle.std.proofs.Common.{◌≡◌, ◌⊎◌, zero, suc, Bool, true, false, ◌||◌, cond, eqb, [], Option, Some, None, inl, inr, IsTrue, refl, ap, ⊎_elim, arith}
-use Rattle.rbc_settle.specs.Trains.{new_train}
 use Rattle.rbc_records.specs.declared.record.Key.TheVariants as key
 use Rattle.rbc_records.specs.declared.record.Rec.{Rec}
-use Rattle.rbc_records.specs.declared.record.Rec.TheVariants as rec
 use Rattle.rbc_rule.proofs.WitnessSays.{differ}
 use Rattle.rbc_core.specs.declared.stage.Stage.TheVariants.{Tried}
 use Rattle.rbc_core.specs.Core.{Try, IsAt}
-use Rattle.rbc_core.specs.Witnesses.{first_try, second_try, both_tried}
+use Rattle.rbc_core.specs.Witnesses.{first_try, second_try, unread_try, both_tried, train_7}
 use Rattle.rbc_core.proofs.witnesses.staying_law_witnesses.Goals as goal
 
 pub returns-clause-second_stays : goal.returns-clause-second_stays
@@ -28,7 +26,7 @@ seven_or_none false r = inl refl
 
 pub returns-clause-written : goal.returns-clause-written
 returns-clause-written c key.Roster = inr refl
-returns-clause-written c (key.Train engine) = seven_or_none (eqb engine 7) (Some (rec.Train (new_train 7 2000 0)))
+returns-clause-written c (key.Train engine) = seven_or_none (eqb engine 7) (Some train_7)
 returns-clause-written c key.Stops = inl refl
 returns-clause-written c key.Limits = inl refl
 returns-clause-written c (key.Line line) = inl refl
@@ -47,7 +45,7 @@ returns-clause-gone c h = ⊎_elim (λ at. let is = at.at in absurd (cc is)) (λ
 pub returns-clause-changed : goal.returns-clause-changed
 returns-clause-changed c h =
     ⊎_elim
-    (λ at. let is : record second_try { notes = [] } ≡ second_try = let same = at.at in cc same in let none : [] ≡ second_try.notes = ap (λ (a : Try). a.notes) is in absurd (cc none))
+    (λ at. let is : unread_try ≡ second_try = let same = at.at in cc same in let none : [] ≡ second_try.notes = ap (λ (a : Try). a.notes) is in absurd (cc none))
     (λ lost. differ 2 1 refl lost.0) (h 2 second_try second_is_there)
 
 pub returns-clause-lost_though_closed : goal.returns-clause-lost_though_closed
@@ -63,6 +61,15 @@ returns-clause-written_at_take c h = ⊎_elim (λ same. absurd (cc same)) (λ na
 
 pub returns-clause-not_named : goal.returns-clause-not_named
 returns-clause-not_named c h = ⊎_elim (λ same. absurd (cc same)) (λ named. absurd (cc named)) (h key.Stops)
+
+pub returns-clause-numbered_at_deposit : goal.returns-clause-numbered_at_deposit
+returns-clause-numbered_at_deposit c h = ⊎_elim (λ same. differ 1 0 refl same) (λ named. absurd (cc named)) (h key.Roster)
+
+pub returns-clause-numbered_at_take : goal.returns-clause-numbered_at_take
+returns-clause-numbered_at_take c h = ⊎_elim (λ same. differ 1 0 refl same) (λ named. absurd (cc named)) (h key.Roster)
+
+pub returns-clause-number_not_named : goal.returns-clause-number_not_named
+returns-clause-number_not_named c h = ⊎_elim (λ same. differ 4 0 refl same) (λ named. absurd (cc named)) (h key.Stops)
 
 pub returns-clause-opened_again : goal.returns-clause-opened_again
 returns-clause-opened_again c h = let opened = h refl in absurd (cc opened)

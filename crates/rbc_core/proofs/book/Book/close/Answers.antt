@@ -9,4 +9,5 @@ pub returns-clause-mails : goal.returns-clause-mails
 returns-clause-mails g c =
     let run = g.N.RunName.run in
     let held = standing c.self.inside.desk in
-    subst (λ n. IsSaidSince run n held.outboxes) (ap (λ (b : BookValue). b.committed) c.self.view_is) (said_since run _ held c.self.invariant.1.good c.self.invariant.1.serial)
+    let kept = c.self.invariant.2.kept in
+    subst (λ n. IsSaidSince run n held.outboxes) (ap (λ (b : BookValue). b.committed) c.self.view_is) (said_since run _ held kept.good kept.serial)

@@ -1,0 +1,104 @@
+-- A run in stretches: some of its first inputs, and then the rest from the desk that these leave.
+use Rattle.std.proofs.Common.{◌≡◌, ℕ, ◌+◌, ◌≤◌, List, [], ◌∷◌, length, take, drop, Ok, Err, sym, ap, ◌∙◌, subst, arith, take-add}
+use Rattle.std.specs.List.{fold}
+use Rattle.std.proofs.lemmas.List.{length-append, length-take-le, length-drop}
+use Rattle.std.proofs.lemmas.List.Elements.{All-drop}
+use Rattle.std.proofs.lemmas.List.Sums.{fold-append}
+use Rattle.rbc_track.specs.Plan.{Plan}
+use Rattle.rbc_rule.specs.declared.input.Input.{Input}
+use Rattle.rbc_rule.specs.declared.outcome.Reply.{Reply}
+use Rattle.rbc_rule.specs.Inputs.{Fits}
+use Rattle.rbc_rule.specs.Step as rule
+use Rattle.rbc_core.specs.declared.book.Stats.{Stats}
+use Rattle.rbc_core.specs.Serial.{Desk, step, serial}
+use Rattle.rbc_core.specs.Held.{Held, Holds, AreOutboxes, standing}
+use Rattle.rbc_core.specs.Runs.{Run, IsGoodRun, IsSerialRun}
+use Rattle.rbc_core.proofs.Mails.{said_since}
+use Rattle.rbc_engine.specs.declared.workers.RunError.TheVariants.{OutOfMemory}
+use Rattle.rbc_engine.specs.Answers.{IsDeskAfter, IsStretch, IsFinished}
+use Rattle.rbc_engine.proofs.Ends.{desk_before}
+
+-- a run of these inputs from there on
+abbrev pub run_of : Plan → Held → List Input → Run
+run_of track opening inputs = record { track = track; opening = opening; inputs = inputs }
+
+-- the inputs of a run behind so many, from the desk that these left
+abbrev pub rest_of : Run → ℕ → Held → Run
+rest_of run count mid = run_of run.track mid (drop count run.inputs)
+
+-- the inputs in two parts
+serial_in_parts : (track : Plan) (desk : Desk) (inputs : List Input) (n m : ℕ) → serial track (serial track desk (take n inputs)) (take m (drop n inputs)) ≡ serial track desk (take (n + m) inputs)
+serial_in_parts track desk inputs n m = sym (ap (fold (step track) desk) (take-add n m inputs) ∙ fold-append (step track) desk (take n inputs) (take m (drop n inputs)))
+
+-- a desk after some inputs, and after more of them from there on, is the desk after all of these
+pub onward : (run : Run) (n m : ℕ) (mid new : Held) → IsGoodRun run → IsDeskAfter run n mid → IsDeskAfter (rest_of run n mid) m new → IsDeskAfter run (n + m) new
+onward run n m mid new good before after =
+    let serial : IsSerialRun run (n + m) (standing new) = λ desk h. subst (λ (d : Desk). Holds run.track (standing new) d) (serial_in_parts run.track desk run.inputs n m) (after.0 _ (before.0 desk h)) in
+    (serial, said_since run (n + m) (standing new) good serial)
+
+-- each input has one result
+results_of : (track : Plan) (desk : Desk) (inputs : List Input) → length (serial track desk inputs).results ≡ length desk.results + length inputs
+results_of track desk [] = omega arith
+results_of track desk (input ∷ inputs) =
+    let rest = results_of track (step track desk input) inputs in
+    let one = length-append desk.results ((rule.step track desk.world input).reply ∷ []) in
+    omega (arith, rest, one)
+
+-- the rest can be run
+pub rest_is_good : (run : Run) (n : ℕ) (mid : Held) → IsGoodRun run → n ≤ length run.inputs → AreOutboxes mid.outboxes → IsDeskAfter run n mid → IsGoodRun (rest_of run n mid)
+rest_is_good run n mid good within boxes after =
+    let held = after.0 good.desk good.holds in
+    let few = good.few in
+    let before : length run.opening.results ≡ length good.desk.results = ap (λ (rs : List Reply). length rs) good.holds.results in
+    let now : length mid.results ≡ length (serial run.track good.desk (take n run.inputs)).results = ap (λ (rs : List Reply). length rs) held.results in
+    let more = results_of run.track good.desk (take n run.inputs) in
+    let first = length-take-le n run.inputs within in
+    let left = length-drop n run.inputs in
+    record {
+      track = good.track;
+      desk = serial run.track good.desk (take n run.inputs);
+      holds = held;
+      in_order = boxes;
+      fit = All-drop Fits n run.inputs good.fit;
+      few = omega (arith, few, before, now, more, first, left);
+    }
+
+-- What a run in stretches has done so far: so many of its inputs, one after another.
+pub record AreDone (run : Run) (all : Stats) (held : Held) : Type 0 where
+  pub desk : IsDeskAfter run all.taken held
+  pub within : all.taken ≤ length run.inputs
+  pub some : all.recomputed ≤ all.taken
+
+-- none at first
+pub none_done : (run : Run) → IsGoodRun run → AreDone run (record { taken = 0; recomputed = 0 }) run.opening
+none_done run good = record { desk = desk_before run good; within = omega arith; some = omega arith }
+
+module _ (run : Run) (all : Stats) (mid : Held) (good : IsGoodRun run) (before : AreDone run all mid) where
+  -- the inputs of the next stretch too
+  pub more_done : (stats now : Stats) (new : Held) → IsStretch (rest_of run all.taken mid) (Ok stats) new → now.taken ≡ all.taken + stats.taken → now.recomputed ≡ all.recomputed + stats.recomputed → AreDone run now new
+  more_done stats now new h taken recomputed =
+      let within = before.within in
+      let some = before.some in
+      let left = length-drop all.taken run.inputs in
+      let few = h.1 in
+      let fewer = h.3 in
+      record {
+        desk = subst (λ n. IsDeskAfter run n new) (sym taken) (onward run all.taken stats.taken mid new good before.desk h.0);
+        within = omega (arith, within, left, few, taken);
+        some = omega (arith, some, fewer, taken, recomputed);
+      }
+
+  -- memory was refused in the next stretch: those that were committed in it too
+  pub refused_in : (committed now : ℕ) (new : Held) → IsStretch (rest_of run all.taken mid) (Err (OutOfMemory committed)) new → now ≡ all.taken + committed → IsFinished run (Err (OutOfMemory now)) new
+  refused_in committed now new h is =
+      let within = before.within in
+      let left = length-drop all.taken run.inputs in
+      let few = h.1 in
+      (subst (λ n. IsDeskAfter run n new) (sym is) (onward run all.taken committed mid new good before.desk h.0), omega (arith, within, left, few, is))
+
+-- all are done
+pub all_done : (run : Run) (all : Stats) (held : Held) → AreDone run all held → length run.inputs ≤ all.taken → IsFinished run (Ok all) held
+all_done run all held before past =
+    let within = before.within in
+    let same : all.taken ≡ length run.inputs = omega (arith, within, past) in
+    (subst (λ n. IsDeskAfter run n held) same before.desk, same, before.some)

@@ -1,0 +1,73 @@
+-- Keys with tickets: what notes, publications and the present tickets mean (own rule).
+use Rattle.std.specs.Prelude.{◌≡◌, ℕ, List, [], ◌∷◌, map, Option, Some, None, if◌then◌else◌, IfSome}
+use Rattle.std.specs.List.{All}
+use Rattle.std.specs.Option.{option_map}
+use Rattle.rbc_records.specs.declared.record.Key.{Key}
+use Rattle.rbc_records.specs.declared.record.Rec.{Rec}
+use Rattle.rbc_records.specs.Notes.{same_key}
+use Rattle.rbc_records.specs.Writes.{written}
+use Rattle.rbc_versions.specs.Log.{LogName, Shown, IsOf, number_of}
+
+-- a number, and the record that it means: none for 0
+pub record NumberedRec : Type 0 where
+  pub number : ℕ
+  pub rec : Option Rec
+
+-- the record that a ticket shows
+abbrev pub record_of : Shown → Rec
+record_of ticket = ticket.value.rec
+
+abbrev pub numbered_of : Option Shown → NumberedRec
+numbered_of ticket = record { number = number_of ticket; rec = option_map record_of ticket }
+
+-- under each key the number, and the record that it means
+abbrev pub numbered : List (Key × Option Shown) → List (Key × NumberedRec)
+numbered entries = map (λ entry. (entry.0, numbered_of entry.1)) entries
+
+-- under each key the record alone, absence included
+abbrev pub records_of : List (Key × NumberedRec) → List (Key × Option Rec)
+records_of entries = map (λ entry. (entry.0, entry.1.rec)) entries
+
+-- the records that tickets show, absence included
+abbrev pub shown : List (Key × Option Shown) → List (Key × Option Rec)
+shown entries = records_of (numbered entries)
+
+-- each ticket is of the log
+abbrev pub AreOf : LogName → List (Key × Option Shown) → Type 0
+AreOf log entries = All (λ entry. IfSome entry.1 (IsOf log)) entries
+
+-- each ticket is of the log, and its version was published under the key that it stands under
+abbrev pub AreKeyedOf : LogName → List (Key × Option Shown) → Type 0
+AreKeyedOf log entries = All (λ entry. IfSome entry.1 (λ ticket. IsOf log ticket × (ticket.value.key ≡ entry.0))) entries
+
+-- the first ticket under a key
+abbrev pub ticket_in : List (Key × Shown) → Key → Option Shown
+ticket_in [] k = None
+ticket_in (entry ∷ entries) k = if same_key k entry.0 then Some entry.1 else ticket_in entries k
+
+-- under each key one number at most: each ticket under a key is of the log, and its version was published under that key
+abbrev pub StandIn : LogName → List (Key × Shown) → Type 0
+StandIn log tickets = (k : Key) → IfSome (ticket_in tickets k) (λ ticket. IsOf log ticket × (ticket.value.key ≡ k))
+
+-- the tickets after a publication: its entries in order, so that the last with a key counts
+abbrev pub tickets_after : List (Key × Option Shown) → (Key → Option Shown) → Key → Option Shown
+tickets_after [] tickets k = tickets k
+tickets_after (entry ∷ entries) tickets k = tickets_after entries (λ other. if same_key other entry.0 then entry.1 else tickets other) k
+
+-- the present numbers after numbered entries, in the same way
+abbrev pub numbers_after : List (Key × NumberedRec) → (Key → ℕ) → Key → ℕ
+numbers_after [] numbers k = numbers k
+numbers_after (entry ∷ entries) numbers k = numbers_after entries (λ other. if same_key other entry.0 then entry.1.number else numbers other) k
+
+-- the number of each entry is the one that stands under its key: nothing else is compared
+abbrev pub AreCurrent : List (Key × NumberedRec) → (Key → ℕ) → Type 0
+AreCurrent entries numbers = All (λ entry. entry.1.number ≡ numbers entry.0) entries
+
+-- the entries do what the writes do, to any records
+abbrev pub AreOfWrites : List (Key × NumberedRec) → List (Key × Option Rec) → Type 0
+AreOfWrites entries writes = (records : Key → Option Rec) (k : Key) → written (records_of entries) records k ≡ written writes records k
+
+-- what contracts see of the present tickets: they, and for how many keys more there is room
+pub record PresentValue : Type 0 where
+  pub tickets : List (Key × Shown)
+  pub room : ℕ
