@@ -1,8 +1,8 @@
 -- A run in stretches: some of its first inputs, and then the rest from the desk that these leave.
-use Rattle.std.proofs.Common.{◌≡◌, ℕ, ◌+◌, ◌≤◌, List, [], ◌∷◌, length, take, drop, Ok, Err, sym, ap, ◌∙◌, subst, arith, take-add}
+use Rattle.std.proofs.Common.{◌≡◌, ◌⊎◌, inl, inr, ℕ, ◌+◌, ◌<◌, ◌≤◌, List, [], ◌∷◌, length, take, drop, Result, Ok, Err, sym, ap, ◌∙◌, subst, arith, take-add, take-take}
 use Rattle.std.specs.List.{fold}
 use Rattle.std.proofs.lemmas.List.{length-append, length-take-le, length-drop}
-use Rattle.std.proofs.lemmas.List.Elements.{All-drop}
+use Rattle.std.proofs.lemmas.List.Elements.{All-drop, All-take}
 use Rattle.std.proofs.lemmas.List.Sums.{fold-append}
 use Rattle.rbc_track.specs.Plan.{Plan}
 use Rattle.rbc_rule.specs.declared.input.Input.{Input}
@@ -14,7 +14,8 @@ use Rattle.rbc_core.specs.Serial.{Desk, step, serial}
 use Rattle.rbc_core.specs.Held.{Held, Holds, AreOutboxes, standing}
 use Rattle.rbc_core.specs.Runs.{Run, IsGoodRun, IsSerialRun}
 use Rattle.rbc_core.proofs.Mails.{said_since}
-use Rattle.rbc_engine.specs.declared.workers.RunError.TheVariants.{OutOfMemory}
+use Rattle.rbc_engine.specs.declared.workers.RunError.{RunError}
+use Rattle.rbc_engine.specs.declared.workers.RunError.TheVariants.{Workers, TooManyInputs, OutOfMemory}
 use Rattle.rbc_engine.specs.Answers.{IsDeskAfter, IsStretch, IsFinished}
 use Rattle.rbc_engine.proofs.Ends.{desk_before}
 
@@ -62,6 +63,49 @@ rest_is_good run n mid good within boxes after =
       fit = All-drop Fits n run.inputs good.fit;
       few = omega (arith, few, before, now, more, first, left);
     }
+
+-- the first inputs of a run, from the same desk
+abbrev pub first_of : Run → ℕ → Run
+first_of run count = run_of run.track run.opening (take count run.inputs)
+
+-- they can be run too
+pub first_are_good : (run : Run) (count : ℕ) → count ≤ length run.inputs → IsGoodRun run → IsGoodRun (first_of run count)
+first_are_good run count within good =
+    let few = good.few in
+    let cut = length-take-le count run.inputs within in
+    record {
+      track = good.track;
+      desk = good.desk;
+      holds = good.holds;
+      in_order = good.in_order;
+      fit = All-take Fits count run.inputs good.fit;
+      few = omega (arith, few, cut, within);
+    }
+
+-- all of some, or one at least, are some
+one_at_least : (count all taken : ℕ) → 0 < count → all ≡ count → (taken ≡ all) ⊎ (0 < taken) → 0 < taken
+one_at_least count all taken some same (inl done) = omega (arith, some, same, done)
+one_at_least count all taken some same (inr one) = one
+
+module _ (run : Run) (count : ℕ) (new : Held) (good : IsGoodRun run) (within : count ≤ length run.inputs) where
+  -- a desk after some of the first inputs is a desk after so many of all
+  desk_of_all : (n : ℕ) → n ≤ count → IsDeskAfter (first_of run count) n new → IsDeskAfter run n new
+  desk_of_all n few after =
+      let all : IsSerialRun run n (standing new) = λ desk h. subst (λ (inputs : List Input). Holds run.track (standing new) (serial run.track desk inputs)) (take-take n count run.inputs few) (after.0 desk h) in
+      (all, said_since run n (standing new) good all)
+
+  -- what a stretch of the first inputs leaves is what a stretch of all leaves
+  pub stretch_of_all : (result : Result Stats RunError) → 0 < count → IsStretch (first_of run count) result new → IsStretch run result new
+  stretch_of_all (Ok stats) some h =
+      let cut = length-take-le count run.inputs within in
+      let few = h.1 in
+      (desk_of_all stats.taken (omega (arith, few, cut)) h.0, omega (arith, few, cut, within), inr (one_at_least count (length (take count run.inputs)) stats.taken some cut h.2), h.3)
+  stretch_of_all (Err (OutOfMemory committed)) some h =
+      let cut = length-take-le count run.inputs within in
+      let few = h.1 in
+      (desk_of_all committed (omega (arith, few, cut)) h.0, omega (arith, few, cut, within))
+  stretch_of_all (Err Workers) some h = h
+  stretch_of_all (Err TooManyInputs) some h = h
 
 -- What a run in stretches has done so far: so many of its inputs, one after another.
 pub record AreDone (run : Run) (all : Stats) (held : Held) : Type 0 where

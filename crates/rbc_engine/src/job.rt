@@ -20,6 +20,9 @@ use std::thread::{self, Threads};
 /// record counts one more. The memory of a log is given back with its stretch.
 const MAX_WEIGHT: usize = 400_000;
 
+/// How many inputs are committed under one lock at most.
+const MAX_COMMITS: usize = 8;
+
 /// What all workers of a stretch of a run share: its track, its inputs and its log, the locked book, and the gate.
 #[derive(Drop)]
 pub(crate) struct Job<'a, 'b, N: RunName, G, R> {
@@ -37,17 +40,6 @@ pub(crate) struct Job<'a, 'b, N: RunName, G, R> {
 }
 
 impl<'a, 'b, N: RunName, G: Gate, R: Wait> Job<'a, 'b, N, G, R> {
-    /// Takes the next input that nobody has taken; none where the log holds enough for one stretch.
-    fn take(&self) -> Option<u32>
-        ensures { IfSome result (λ number. IsNumber N.run number) }
-    {
-        let mut book = self.book.lock(self.rt);
-        if book.weight() > MAX_WEIGHT {
-            return None;
-        }
-        book.take()
-    }
-
     /// Attempts the input of a number: decides what it does by single records, and publishes what it writes, without the lock but for
     /// the numbers that are read.
     fn attempt(&self, number: u32) -> Result<Attempt<N>, RuleFault>
@@ -81,38 +73,58 @@ impl<'a, 'b, N: RunName, G: Gate, R: Wait> Job<'a, 'b, N, G, R> {
         }
     }
 
-    /// Commits the next input under the lock, and returns what has to be freed without it.
-    fn commit_locked(&self) -> (Commit, Spent) {
-        let mut book = self.book.lock(self.rt);
-        let answer = book.commit(self.rt, self.alloc, self.track);
-        (answer, book.take_spent())
+    /// Commits inputs in their order, as far as they are ready, and then takes the next one that nobody has taken: all under one lock,
+    /// if these are few. `None` if there may be more to commit. Puts aside what has to be freed without the lock.
+    fn commit_and_take(&self, spent: &mut Vec<Spent>) -> Option<Option<u32>>
+        ensures { IfSome result (λ taken. IfSome taken (λ number. IsNumber N.run number)) }
+    {
+        let mut guard = self.book.lock(self.rt);
+        let book = &mut *guard;
+        for _ in 0..MAX_COMMITS {
+            let answer = book.commit(self.rt, self.alloc, self.track);
+            if !matches!(answer, Commit::Applied | Commit::Recomputed) {
+                return Some(take(book));
+            }
+            let _ = spent.push(book.take_spent());
+        }
+        None
     }
 
-    /// Commits the next input. `false` if it is not ready, there is none, or memory was refused.
-    fn commit_next(&self) -> bool {
-        let (answer, _spent) = self.commit_locked();
-        matches!(answer, Commit::Applied | Commit::Recomputed)
-    }
-
-    /// Commits inputs in their order, as far as they are ready.
-    fn commit_ready(&self) {
+    /// Commits inputs in their order, as far as they are ready, and takes the next one that nobody has taken.
+    fn next(&self, spent: &mut Vec<Spent>) -> Option<u32>
+        ensures { IfSome result (λ number. IsNumber N.run number) }
+    {
         for _ in 0..self.inputs.len() {
-            if !self.commit_next() {
-                return;
+            let taken = self.commit_and_take(spent);
+            spent.clear();
+            if let Some(next) = taken {
+                return next;
             }
         }
+        None
     }
 
     /// Works until no input is to be taken any more. Nobody takes more inputs than there are.
     fn work(&self) {
+        let mut spent = Vec::new(self.alloc);
         for _ in 0..self.inputs.len() {
-            let Some(number) = self.take() else {
+            let Some(number) = self.next(&mut spent) else {
                 return;
             };
             self.bring(number);
-            self.commit_ready();
         }
+        let _ = self.next(&mut spent);
     }
+}
+
+/// Takes the next input that nobody has taken; none where the log holds enough for one stretch.
+fn take<N: RunName>(book: &mut Book<'_, N>) -> Option<u32>
+    ensures { IfSome result (λ number. IsNumber N.run number) }
+{
+    if book.weight() > MAX_WEIGHT {
+        return None;
+    }
+    book.take()
 }
 
 impl<'a, 'b, N: RunName + Send + Sync, G: Gate + Sync, R: Threads + Wait + Sync> Job<

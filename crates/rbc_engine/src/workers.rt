@@ -30,6 +30,9 @@ pub const MAX_WORKERS: u8 = 16;
 /// The greatest number of inputs of one run.
 pub const MAX_INPUTS: usize = 100_000;
 
+/// The greatest number of inputs of one stretch of a run: a book takes memory for each of its inputs.
+const MAX_STRETCH: usize = 16_384;
+
 /// Why a run did not come to its end.
 #[derive(Clone, Copy, Debug, PartialEq, Eq)]
 pub enum RunError {
@@ -195,6 +198,33 @@ fn run_stretch<G: Gate + Sync, R: Threads + Wait + Sync>(
     run_named::<Brand, G, R>(rt, alloc, track, desk, inputs, &log, workers, gate)
 }
 
+/// Runs the first of some inputs in one stretch, and not too many of them.
+fn run_first<G: Gate + Sync, R: Threads + Wait + Sync>(
+    rt: &R,
+    alloc: Global,
+    track: &Track,
+    desk: &mut Desk,
+    inputs: &[Input],
+    workers: u8,
+    gate: &G,
+) -> Result<Stats, RunError>
+    requires good { IsGoodRun (record { track = track.now; opening = desk.old; inputs = inputs.now }) }
+    ensures { IsStretch (record { track = track.now; opening = desk.old; inputs = inputs.now }) result desk.new }
+{
+    if inputs.len() <= MAX_STRETCH {
+        return run_stretch(rt, alloc, track, desk, inputs, workers, gate);
+    }
+    run_stretch(
+        rt,
+        alloc,
+        track,
+        desk,
+        &inputs[..MAX_STRETCH],
+        workers,
+        gate,
+    )
+}
+
 /// Runs the next stretch of a run, of which so many inputs are done.
 fn run_next<G: Gate + Sync, R: Threads + Wait + Sync>(
     rt: &R,
@@ -212,7 +242,7 @@ fn run_next<G: Gate + Sync, R: Threads + Wait + Sync>(
 {
     let behind = Behind { gate, before };
     let rest = &inputs[before as usize..];
-    run_stretch(rt, alloc, track, desk, rest, workers, &behind)
+    run_first(rt, alloc, track, desk, rest, workers, &behind)
 }
 
 /// Says in its contract what every desk satisfies, because a stretch requires it.
