@@ -1,5 +1,6 @@
 mod attempting;
 mod calls;
+mod numbers;
 mod refusals;
 mod rows;
 mod setting;

@@ -4,15 +4,19 @@ ghost use Rattle.std.specs.Prelude.{◌≡◌};
 ghost use Rattle.rbc_core.specs.Runs.{IsGoodRun};
 
 use super::same;
-use crate::tests::attempting::attempt;
+use crate::tests::attempting::{Ahead, Scene, attempt, read_ahead};
+use crate::tests::numbers::{Numbers, Origin, is_same_version};
 use crate::tests::setting::{all_fit, track};
 use rbc_core::{Book, Commit, Desk, MAX_RESULTS, RunName, Stats};
 use rbc_records::Key;
 use rbc_rule::Input;
 use rbc_track::Track;
+use rbc_versions::VersionLog;
 use std::alloc::Global;
-use std::marker::Brand;
+use std::marker::{Brand, PhantomData};
+use std::mem;
 use std::process::Abort;
+use std::sync::Wait;
 use std::test::Fail;
 
 /// A call of a book, with what it has to answer.
@@ -20,8 +24,12 @@ use std::test::Fail;
 pub(crate) enum Call {
     /// An input is taken, or there is none to take.
     Take(Option<u32>),
-    /// Nothing stands under a key.
-    Absent(Key),
+    /// The number of what stands under a key is asked for: where it comes from.
+    Number(Key, Origin),
+    /// The number of what stands under a key is asked for: it is not the first one there, but its record is the same.
+    Again(Key),
+    /// A key is read for an input, whose attempt is made later.
+    Read(u32, Key),
     /// An attempt is made at an input, and deposited: whether it is kept.
     Deposit(u32, bool),
     /// An input is given up: whether it could be.
@@ -32,83 +40,120 @@ pub(crate) enum Call {
     TakeSpent(bool),
 }
 
-/// What is taken where no commit has left anything.
-const NOTHING: &str = "Spent { notes: None, stale: None, outcome: None }";
+/// What is kept from one call to the next: what was read for an attempt that is made later, and the numbers that are known.
+#[derive(Drop)]
+struct Kept<N: RunName> {
+    ahead: Ahead<N>,
+    numbers: Numbers,
+}
+
+impl<N: RunName> Kept<N> {
+    /// What was read for an input, which is not kept any more; nothing where another input was read for.
+    fn take_ahead(&mut self, alloc: Global, input: u32) -> Ahead<N> {
+        let nothing = Ahead::nothing(alloc, input);
+        if self.ahead.input() == input {
+            mem::replace(&mut self.ahead, nothing)
+        } else {
+            nothing
+        }
+    }
+}
 
 /// Makes an attempt at an input, and deposits it.
-fn deposit<N: RunName>(
-    rt: &impl Abort,
-    alloc: Global,
-    track: &Track,
-    inputs: &[Input],
+fn deposit<N: RunName, R: Abort + Wait>(
+    scene: &Scene<'_, N, R>,
     book: &mut Book<'_, N>,
+    kept: &mut Kept<N>,
     number: u32,
-) -> Result<bool, Fail>
-    requires track { track.now ≡ N.run.track }
-    requires inputs { inputs.now ≡ N.run.inputs }
-{
-    let attempt = attempt(rt, alloc, track, inputs, book, number)?;
-    match book.deposit(attempt) {
+) -> Result<bool, Fail> {
+    let ahead = kept.take_ahead(scene.alloc, number);
+    let tried = attempt(scene, book, ahead)?;
+    kept.numbers.publish(number, &tried.numbers)?;
+    match book.deposit(tried.attempt) {
         Ok(()) => Ok(true),
         Err(back) => {
-            same(rt, back.number(), number);
+            same(scene.rt, back.number(), number);
             Ok(false)
         }
     }
 }
 
+/// Asserts that the record under a key is the first one that is known there, published once more.
+fn assert_again<N: RunName, R: Abort>(
+    scene: &Scene<'_, N, R>,
+    book: &Book<'_, N>,
+    numbers: &Numbers,
+    key: Key,
+) {
+    let (first, now) = (numbers.first(key), book.present(1, key));
+    assert!(scene.rt; first != now && is_same_version(scene.log, first, now));
+}
+
 /// Makes a call, and asserts its answer.
-fn make_call<N: RunName>(
-    rt: &impl Abort,
-    alloc: Global,
-    track: &Track,
-    inputs: &[Input],
+fn make_call<N: RunName, R: Abort + Wait>(
+    scene: &Scene<'_, N, R>,
     book: &mut Book<'_, N>,
+    kept: &mut Kept<N>,
     call: Call,
-) -> Result<(), Fail>
-    requires track { track.now ≡ N.run.track }
-    requires inputs { inputs.now ≡ N.run.inputs }
-{
+) -> Result<(), Fail> {
+    let rt = scene.rt;
     match call {
         Call::Take(wanted) => same(rt, book.take(), wanted),
-        Call::Absent(key) => assert!(rt; book.present(alloc, 1, key)?.is_none()),
+        Call::Number(key, wanted) => {
+            let number = book.present(1, key);
+            same(rt, kept.numbers.origin(rt, key, number)?, wanted);
+        }
+        Call::Again(key) => assert_again(scene, book, &kept.numbers, key),
+        Call::Read(input, key) => kept.ahead = read_ahead(scene, book, input, key)?,
         Call::Deposit(number, wanted) => {
-            let kept = deposit(rt, alloc, track, inputs, book, number)?;
-            same(rt, kept, wanted);
+            let is_kept = deposit(scene, book, kept, number)?;
+            same(rt, is_kept, wanted);
         }
         Call::Void(number, wanted) => same(rt, book.void(number), wanted),
-        Call::Commit(wanted) => same(rt, book.commit(alloc, track), wanted),
+        Call::Commit(wanted) => same(rt, book.commit(rt, scene.alloc, scene.track), wanted),
         Call::TakeSpent(wanted) => {
             let stats = book.stats();
             let spent = book.take_spent();
             same(rt, book.stats(), stats);
-            same(
-                rt,
-                format!(in alloc; "{spent:?}")?.as_str() != NOTHING,
-                wanted,
-            );
+            same(rt, !spent.is_empty(), wanted);
         }
     }
     Ok(())
 }
 
 /// Makes calls of a new book, and closes it. All inputs have to be committed then.
-fn make_calls<N: RunName>(
-    rt: &impl Abort,
+fn make_calls<N: RunName, R: Abort + Wait>(
+    rt: &R,
     alloc: Global,
     track: &Track,
     desk: Desk,
     inputs: &[Input],
+    log: &VersionLog,
     calls: &[Call],
 ) -> Result<(Desk, Stats), Fail>
     requires track { track.now ≡ N.run.track }
     requires desk { desk ≡ N.run.opening }
     requires inputs { inputs.now ≡ N.run.inputs }
+    requires log { log.now ≡ N.log }
     requires good { IsGoodRun N.run }
 {
-    let mut book = Book::<N>::new(alloc, desk, inputs).ok().ok_or("memory")?;
+    let scene = Scene {
+        rt,
+        alloc,
+        track,
+        inputs,
+        log,
+        of: PhantomData,
+    };
+    let mut kept = Kept {
+        ahead: Ahead::nothing(alloc, 0),
+        numbers: Numbers::new(alloc),
+    };
+    let mut book = Book::<N>::new(rt, alloc, desk, inputs, log)
+        .ok()
+        .ok_or("memory")?;
     for call in calls {
-        make_call(rt, alloc, track, inputs, &mut book, *call)?;
+        make_call(&scene, &mut book, &mut kept, *call)?;
     }
     same(rt, book.committed() as usize, inputs.len());
     let stats = book.stats();
@@ -116,15 +161,16 @@ fn make_calls<N: RunName>(
 }
 
 /// Runs inputs from a new desk by these calls of a book.
-pub(crate) fn run(
-    rt: &impl Abort,
+pub(crate) fn run<R: Abort + Wait>(
+    rt: &R,
     alloc: Global,
     inputs: &[Input],
     calls: &[Call],
 ) -> Result<(Desk, Stats), Fail> {
     let track = track(alloc)?;
+    let log = VersionLog::new(alloc)?;
     assert!(rt; all_fit(inputs));
     let desk = Desk::new(alloc);
     assert!(rt; inputs.len() <= MAX_RESULTS - desk.results().len());
-    make_calls::<Brand>(rt, alloc, &track, desk, inputs, calls)
+    make_calls::<Brand, R>(rt, alloc, &track, desk, inputs, &log, calls)
 }

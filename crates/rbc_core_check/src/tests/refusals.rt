@@ -10,15 +10,17 @@ ghost use Rattle.rbc_core.specs.Held.{Holds, standing};
 ghost use Rattle.rbc_core.specs.Runs.{IsGoodRun};
 
 use super::same;
-use crate::tests::attempting::attempt;
+use crate::tests::attempting::{Ahead, Scene, Tried, attempt};
 use crate::tests::setting::{all_fit, assert_outbox, enrol, revoked, stop, stopped, track};
-use rbc_core::{Attempt, Book, Commit, Desk, MAX_RESULTS, RunName};
+use rbc_core::{Book, Commit, Desk, MAX_RESULTS, RunName};
 use rbc_records::{Key, same_record};
 use rbc_rule::{Input, Reply, RuleFault};
 use rbc_track::Track;
+use rbc_versions::VersionLog;
 use std::alloc::Global;
-use std::marker::Brand;
+use std::marker::{Brand, PhantomData};
 use std::process::Abort;
+use std::sync::Wait;
 use std::test::Fail;
 
 /// Memory was refused in a call that the test is about, and all was right otherwise.
@@ -42,8 +44,9 @@ struct Ended {
 }
 
 /// All keys under which something may stand.
-const KEYS: [Key; 6] = [
+const KEYS: [Key; 7] = [
     Key::Roster,
+    Key::Unplaced,
     Key::Train(3),
     Key::Train(7),
     Key::Train(9),
@@ -52,58 +55,50 @@ const KEYS: [Key; 6] = [
 ];
 
 /// Opens a book on a desk, once more where memory was refused, and tells whether it was.
-fn open<'a, N: RunName>(
-    alloc: Global,
+fn open<'a, N: RunName, R: Wait>(
+    scene: &Scene<'a, N, R>,
     desk: Desk,
-    inputs: &'a [Input],
 ) -> Result<(Book<'a, N>, bool), Fail>
     requires desk { desk ≡ N.run.opening }
-    requires inputs { inputs.now ≡ N.run.inputs }
     requires good { IsGoodRun N.run }
 {
-    match Book::<N>::new(alloc, desk, inputs) {
+    let (rt, alloc, inputs, log) = (scene.rt, scene.alloc, scene.inputs, scene.log);
+    match Book::<N>::new(rt, alloc, desk, inputs, log) {
         Ok(book) => Ok((book, false)),
         Err(back) => {
-            let book = Book::<N>::new(alloc, back, inputs).ok().ok_or("memory")?;
+            let book = Book::<N>::new(rt, alloc, back, inputs, log)
+                .ok()
+                .ok_or("memory")?;
             Ok((book, true))
         }
     }
 }
 
 /// Attempts an input, once more where memory was refused, and tells whether it was.
-fn attempt_twice<N: RunName>(
-    rt: &impl Abort,
-    alloc: Global,
-    track: &Track,
-    inputs: &[Input],
+fn attempt_twice<N: RunName, R: Abort + Wait>(
+    scene: &Scene<'_, N, R>,
     book: &Book<'_, N>,
     number: u32,
-) -> Result<(Attempt<N>, bool), Fail>
-    requires track { track.now ≡ N.run.track }
-    requires inputs { inputs.now ≡ N.run.inputs }
-{
-    match attempt(rt, alloc, track, inputs, book, number) {
-        Ok(attempt) => Ok((attempt, false)),
+) -> Result<(Tried<N>, bool), Fail> {
+    let alloc = scene.alloc;
+    match attempt(scene, book, Ahead::nothing(alloc, number)) {
+        Ok(tried) => Ok((tried, false)),
         Err(fault) => {
-            same(rt, fault, RuleFault::OutOfMemory);
-            Ok((attempt(rt, alloc, track, inputs, book, number)?, true))
+            same(scene.rt, fault, RuleFault::OutOfMemory);
+            let tried = attempt(scene, book, Ahead::nothing(alloc, number))?;
+            Ok((tried, true))
         }
     }
 }
 
 /// Takes the next input, and attempts it or gives it up. Tells whether memory was refused.
-fn make_ready<N: RunName>(
-    rt: &impl Abort,
-    alloc: Global,
-    track: &Track,
-    inputs: &[Input],
+fn make_ready<N: RunName, R: Abort + Wait>(
+    scene: &Scene<'_, N, R>,
     book: &mut Book<'_, N>,
     number: u32,
     way: Way,
-) -> Result<bool, Fail>
-    requires track { track.now ≡ N.run.track }
-    requires inputs { inputs.now ≡ N.run.inputs }
-{
+) -> Result<bool, Fail> {
+    let rt = scene.rt;
     same(rt, book.take(), Some(number));
     match way {
         Way::Computing => {
@@ -111,28 +106,25 @@ fn make_ready<N: RunName>(
             Ok(false)
         }
         Way::Attempts => {
-            let (attempt, refused) = attempt_twice(rt, alloc, track, inputs, book, number)?;
-            assert!(rt; book.deposit(attempt).is_ok());
+            let (tried, refused) = attempt_twice(scene, book, number)?;
+            assert!(rt; book.deposit(tried.attempt).is_ok());
             Ok(refused)
         }
     }
 }
 
 /// Commits the next input. Tells whether memory was refused, which ends the book.
-fn commit<N: RunName>(
-    rt: &impl Abort,
-    alloc: Global,
-    track: &Track,
+fn commit<N: RunName, R: Abort + Wait>(
+    scene: &Scene<'_, N, R>,
     book: &mut Book<'_, N>,
     way: Way,
-) -> bool
-    requires { track.now ≡ N.run.track }
-{
+) -> bool {
+    let (rt, alloc, track) = (scene.rt, scene.alloc, scene.track);
     let committed = book.committed();
-    match book.commit(alloc, track) {
+    match book.commit(rt, alloc, track) {
         Commit::Failed => {
             same(rt, book.take(), None);
-            same(rt, book.commit(alloc, track), Commit::Failed);
+            same(rt, book.commit(rt, alloc, track), Commit::Failed);
             same(rt, book.committed(), committed);
             true
         }
@@ -148,27 +140,37 @@ fn commit<N: RunName>(
 }
 
 /// Runs inputs from a desk, to the first commit that is refused memory.
-fn run_all<N: RunName>(
-    rt: &impl Abort,
+fn run_all<N: RunName, R: Abort + Wait>(
+    rt: &R,
     alloc: Global,
     track: &Track,
     desk: Desk,
     inputs: &[Input],
+    log: &VersionLog,
     way: Way,
 ) -> Result<Ended, Fail>
     requires track { track.now ≡ N.run.track }
     requires desk { desk ≡ N.run.opening }
     requires inputs { inputs.now ≡ N.run.inputs }
+    requires log { log.now ≡ N.log }
     requires good { IsGoodRun N.run }
     ensures { IfOk result (λ ended. (d : serial.Desk) × Holds N.run.track (standing ended.desk) d) }
 {
     assert!(rt; inputs.len() <= MAX_RESULTS);
-    let (mut book, mut refused) = open::<N>(alloc, desk, inputs)?;
+    let scene = Scene {
+        rt,
+        alloc,
+        track,
+        inputs,
+        log,
+        of: PhantomData,
+    };
+    let (mut book, mut refused) = open::<N, R>(&scene, desk)?;
     for number in 1..=inputs.len() as u32 {
-        if make_ready(rt, alloc, track, inputs, &mut book, number, way)? {
+        if make_ready(&scene, &mut book, number, way)? {
             refused = true;
         }
-        if commit(rt, alloc, track, &mut book, way) {
+        if commit(&scene, &mut book, way) {
             refused = true;
             break;
         }
@@ -180,8 +182,8 @@ fn run_all<N: RunName>(
 }
 
 /// Runs inputs from a desk on which the records of a well-formed world stand, to the first commit that is refused memory.
-fn run_from(
-    rt: &impl Abort,
+fn run_from<R: Abort + Wait>(
+    rt: &R,
     alloc: Global,
     track: &Track,
     desk: Desk,
@@ -194,7 +196,8 @@ fn run_from(
 {
     assert!(rt; all_fit(inputs));
     assert!(rt; inputs.len() <= MAX_RESULTS - desk.results().len());
-    run_all::<Brand>(rt, alloc, track, desk, inputs, way)
+    let log = VersionLog::new(alloc)?;
+    run_all::<Brand, R>(rt, alloc, track, desk, inputs, &log, way)
 }
 
 /// Asserts that the same stands on two desks.
@@ -213,7 +216,7 @@ fn assert_same_desk(rt: &impl Abort, desk: &Desk, wanted: &Desk) {
 /// Runs inputs from a new desk. Where a commit is refused memory, asserts that the desk is that of the inputs before, and runs
 /// the others from there.
 fn run_to_end(
-    rt: &impl Abort,
+    rt: &(impl Abort + Wait),
     alloc: Global,
     track: &Track,
     inputs: &[Input],
@@ -238,7 +241,7 @@ fn run_to_end(
 }
 
 /// Three trains are enrolled and told of five stops, of which the first is released.
-fn run_worked(rt: &impl Abort, alloc: Global, way: Way) -> Result<bool, Fail> {
+fn run_worked(rt: &(impl Abort + Wait), alloc: Global, way: Way) -> Result<bool, Fail> {
     let mut inputs = vec![in alloc; enrol(3), enrol(9), enrol(7)]?;
     let mut results = vec![in alloc; Reply::Done(0), Reply::Done(0), Reply::Done(0)]?;
     let mut mails = Vec::new(alloc);

@@ -2,6 +2,7 @@
 
 use super::same;
 use crate::tests::calls::{Call, run};
+use crate::tests::numbers::Origin;
 use crate::tests::setting::{assert_outbox, enrol, revoked, stop, stopped};
 use ertms_codec::{FromTrain, write_to_train};
 use rbc_core::{Commit, Mail, Stats};
@@ -9,6 +10,7 @@ use rbc_records::Key;
 use rbc_rule::{Input, Reply};
 use std::alloc::Global;
 use std::process::Abort;
+use std::sync::Wait;
 use std::test::Fail;
 
 /// An input is accepted; nobody is told anything.
@@ -34,7 +36,7 @@ struct Left<'a> {
 
 /// Runs inputs by these calls of a book, and asserts what is left.
 fn assert_left(
-    rt: &impl Abort,
+    rt: &(impl Abort + Wait),
     alloc: Global,
     inputs: &[Input],
     calls: &[Call],
@@ -97,7 +99,31 @@ fn second_first(rt: HostRuntime) -> Result<(), Fail> {
     assert_left(&rt, alloc, &inputs, &calls, &left)
 }
 
-// the last input is attempted before the train leaves and comes again, which leaves each record as it was
+// the second input is read for in part before the first is committed, and in part behind it
+#[test]
+fn read_in_between(rt: HostRuntime) -> Result<(), Fail> {
+    let alloc = rt.alloc();
+    let inputs = [enrol(7), stop(alloc, 1)?];
+    let calls = [
+        Call::Take(Some(1)),
+        Call::Take(Some(2)),
+        Call::Read(2, Key::Unplaced),
+        Call::Deposit(1, true),
+        APPLIED,
+        Call::Deposit(2, true),
+        RECOMPUTED,
+        AT_END,
+    ];
+    let left = Left {
+        taken: 2,
+        recomputed: 1,
+        results: &[DONE, TOLD],
+        mails: &[stopped(2, 1, 0)],
+    };
+    assert_left(&rt, alloc, &inputs, &calls, &left)
+}
+
+// the last input is attempted before the train leaves and comes again: each record is as it was, and has another number
 #[test]
 fn there_and_back(rt: HostRuntime) -> Result<(), Fail> {
     let alloc = rt.alloc();
@@ -115,12 +141,12 @@ fn there_and_back(rt: HostRuntime) -> Result<(), Fail> {
         APPLIED,
         Call::Deposit(3, true),
         APPLIED,
-        APPLIED,
+        RECOMPUTED,
         AT_END,
     ];
     let left = Left {
         taken: 4,
-        recomputed: 0,
+        recomputed: 1,
         results: &[DONE, DONE, DONE, TOLD],
         mails: &[stopped(4, 1, 0)],
     };
@@ -186,7 +212,7 @@ fn at_the_end(rt: HostRuntime) -> Result<(), Fail> {
     let alloc = rt.alloc();
     let inputs = [enrol(9), enrol(7), stop(alloc, 1)?];
     let calls = [
-        Call::Absent(Key::Train(9)),
+        Call::Number(Key::Train(9), Origin::Nowhere),
         Call::Take(Some(1)),
         Call::Take(Some(2)),
         Call::Take(Some(3)),
@@ -196,7 +222,7 @@ fn at_the_end(rt: HostRuntime) -> Result<(), Fail> {
         APPLIED,
         Call::Deposit(3, true),
         APPLIED,
-        Call::Absent(Key::Limits),
+        Call::Number(Key::Limits, Origin::Nowhere),
         AT_END,
         Call::Take(None),
         AT_END,
@@ -210,4 +236,107 @@ fn at_the_end(rt: HostRuntime) -> Result<(), Fail> {
     assert_outbox(&rt, &desk, 1, 9, &[mail]);
     assert!(rt; desk.outbox(8).is_empty());
     Ok(())
+}
+
+/// Runs inputs of which nobody is told, all of which are accepted, and asserts how many are computed again.
+fn assert_silent(
+    rt: &(impl Abort + Wait),
+    alloc: Global,
+    inputs: &[Input],
+    calls: &[Call],
+    recomputed: u32,
+) -> Result<(), Fail> {
+    let (desk, stats) = run(rt, alloc, inputs, calls)?;
+    same(rt, stats.taken as usize, inputs.len());
+    same(rt, stats.recomputed, recomputed);
+    same(rt, desk.results().len(), inputs.len());
+    assert!(rt; desk.results().iter().all(|reply| *reply == DONE));
+    same(rt, desk.outboxes(), 0);
+    Ok(())
+}
+
+// each commit puts the numbers of its attempt under the keys that it writes, and under no other; a list that is again what it was
+// first has a number of its own
+#[test]
+fn a_number_for_each_write(rt: HostRuntime) -> Result<(), Fail> {
+    let inputs = [enrol(7), enrol(9), Input::Withdraw { engine: 9 }];
+    let calls = [
+        Call::Number(Key::Roster, Origin::Nowhere),
+        Call::Number(Key::Unplaced, Origin::Nowhere),
+        Call::Take(Some(1)),
+        Call::Deposit(1, true),
+        Call::Number(Key::Roster, Origin::Nowhere),
+        APPLIED,
+        Call::Number(Key::Roster, Origin::Attempt(1)),
+        Call::Number(Key::Unplaced, Origin::Attempt(1)),
+        Call::Take(Some(2)),
+        Call::Deposit(2, true),
+        Call::Number(Key::Roster, Origin::Attempt(1)),
+        APPLIED,
+        Call::Number(Key::Roster, Origin::Attempt(2)),
+        Call::Number(Key::Unplaced, Origin::Attempt(2)),
+        Call::Take(Some(3)),
+        Call::Deposit(3, true),
+        APPLIED,
+        Call::Number(Key::Roster, Origin::Attempt(3)),
+        Call::Number(Key::Unplaced, Origin::Attempt(3)),
+        Call::Again(Key::Roster),
+        Call::Again(Key::Unplaced),
+        Call::Number(Key::Train(7), Origin::Attempt(1)),
+        Call::Number(Key::Train(9), Origin::Nowhere),
+        AT_END,
+    ];
+    assert_silent(&rt, rt.alloc(), &inputs, &calls, 0)
+}
+
+// a train that is withdrawn has no number, and a new one once it is enrolled again
+#[test]
+fn no_number_in_between(rt: HostRuntime) -> Result<(), Fail> {
+    let inputs = [enrol(7), Input::Withdraw { engine: 7 }, enrol(7)];
+    let calls = [
+        Call::Take(Some(1)),
+        Call::Void(1, true),
+        RECOMPUTED,
+        Call::Number(Key::Train(7), Origin::Commit),
+        Call::Number(Key::Train(7), Origin::Before),
+        Call::Number(Key::Roster, Origin::Commit),
+        Call::Take(Some(2)),
+        Call::Void(2, true),
+        RECOMPUTED,
+        Call::Number(Key::Train(7), Origin::Nowhere),
+        Call::Number(Key::Roster, Origin::Nowhere),
+        Call::Number(Key::Unplaced, Origin::Nowhere),
+        Call::Take(Some(3)),
+        Call::Void(3, true),
+        RECOMPUTED,
+        Call::Number(Key::Train(7), Origin::Commit),
+        Call::Number(Key::Roster, Origin::Commit),
+        Call::Again(Key::Train(7)),
+        Call::Again(Key::Roster),
+        AT_END,
+    ];
+    assert_silent(&rt, rt.alloc(), &inputs, &calls, 3)
+}
+
+// the numbers of an attempt that does not stand any more are dropped with it
+#[test]
+fn dropped_numbers(rt: HostRuntime) -> Result<(), Fail> {
+    let inputs = [enrol(7), enrol(9)];
+    let calls = [
+        Call::Take(Some(1)),
+        Call::Take(Some(2)),
+        Call::Deposit(2, true),
+        Call::Deposit(1, true),
+        APPLIED,
+        Call::Number(Key::Roster, Origin::Attempt(1)),
+        Call::Number(Key::Train(9), Origin::Nowhere),
+        RECOMPUTED,
+        Call::Number(Key::Roster, Origin::Commit),
+        Call::Number(Key::Train(9), Origin::Commit),
+        Call::Number(Key::Unplaced, Origin::Commit),
+        Call::Number(Key::Train(7), Origin::Attempt(1)),
+        Call::Again(Key::Train(9)),
+        AT_END,
+    ];
+    assert_silent(&rt, rt.alloc(), &inputs, &calls, 1)
 }

@@ -1,0 +1,97 @@
+//! The numbers that stand under keys, and where they come from.
+
+use super::same;
+use rbc_records::Key;
+use rbc_versions::VersionLog;
+use std::alloc::{AllocError, Global};
+use std::process::Abort;
+
+/// Where the number comes from that stands under a key.
+#[derive(Clone, Copy, Debug, PartialEq)]
+pub(crate) enum Origin {
+    /// Nothing stands there, and the number is 0.
+    Nowhere,
+    /// It was published for the attempt at an input.
+    Attempt(u32),
+    /// It is new: it was published for no attempt, and was not asked for before.
+    Commit,
+    /// It was asked for before, and was published for no attempt.
+    Before,
+}
+
+/// A number of a record under a key, and what it comes from when it is asked for.
+#[derive(Clone, Copy)]
+struct Known {
+    key: Key,
+    number: u64,
+    origin: Origin,
+}
+
+/// The numbers that were published for attempts, and those that were asked for, each once.
+#[derive(Drop)]
+pub(crate) struct Numbers {
+    known: Vec<Known>,
+}
+
+impl Numbers {
+    pub(crate) fn new(alloc: Global) -> Self {
+        Numbers {
+            known: Vec::new(alloc),
+        }
+    }
+
+    /// Keeps the numbers that were published for the attempt at an input.
+    pub(crate) fn publish(&mut self, input: u32, numbers: &[(Key, u64)]) -> Result<(), AllocError> {
+        for (key, number) in numbers {
+            self.known.push(Known {
+                key: *key,
+                number: *number,
+                origin: Origin::Attempt(input),
+            })?;
+        }
+        Ok(())
+    }
+
+    /// Where a number comes from that stands under a key. No number stands under two keys.
+    pub(crate) fn origin(
+        &mut self,
+        rt: &impl Abort,
+        key: Key,
+        number: u64,
+    ) -> Result<Origin, AllocError> {
+        if number == 0 {
+            return Ok(Origin::Nowhere);
+        }
+        if let Some(known) = self.known.iter().find(|known| known.number == number) {
+            same(rt, known.key, key);
+            return Ok(known.origin);
+        }
+        self.known.push(Known {
+            key,
+            number,
+            origin: Origin::Before,
+        })?;
+        Ok(Origin::Commit)
+    }
+
+    /// The first number above 0 that is known under a key, and 0 if none is.
+    pub(crate) fn first(&self, key: Key) -> u64 {
+        let mut all = self.known.iter();
+        match all.find(|known| known.key == key && known.number > 0) {
+            Some(known) => known.number,
+            None => 0,
+        }
+    }
+}
+
+/// Whether a log has a version under each of two numbers, both of one key and with the same record.
+pub(crate) fn is_same_version(log: &VersionLog, one: u64, other: u64) -> bool {
+    let Some(one) = log.look(one) else {
+        return false;
+    };
+    let Some(other) = log.look(other) else {
+        return false;
+    };
+    let (one, other) = (log.version(&one), log.version(&other));
+    one.key == other.key && one.rec.is_same(&other.rec)
+}
