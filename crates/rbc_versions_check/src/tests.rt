@@ -1,0 +1,13 @@
+mod log;
+mod notes;
+mod present;
+mod published;
+mod setting;
+
+use std::fmt::Debug;
+use std::process::Abort;
+
+/// Asserts that two values are the same.
+fn same<T: Debug + PartialEq + Copy>(rt: &impl Abort, got: T, wanted: T) {
+    assert_eq!(rt; got, wanted);
+}
