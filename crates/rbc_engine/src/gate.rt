@@ -16,6 +16,11 @@ pub trait Gate {
 
     /// After the attempt at an input was deposited, and before anything is committed.
     fn after_deposit(&self, input: u32);
+
+    /// Whether the gate does nothing in any of its calls, so that nobody sees how many workers share the work.
+    fn is_open(&self) -> bool {
+        false
+    }
 }
 
 /// A gate that does nothing.
@@ -30,6 +35,10 @@ impl Gate for OpenGate {
     fn before_deposit(&self, _input: u32) {}
 
     fn after_deposit(&self, _input: u32) {}
+
+    fn is_open(&self) -> bool {
+        true
+    }
 }
 
 /// A gate for the inputs behind the first `before` of a run: it is told of each under the number that it has in the whole run.
@@ -54,5 +63,9 @@ impl<'a, G: Gate> Gate for Behind<'a, G> {
 
     fn after_deposit(&self, input: u32) {
         self.gate.after_deposit(self.before.saturating_add(input));
+    }
+
+    fn is_open(&self) -> bool {
+        self.gate.is_open()
     }
 }

@@ -7,6 +7,9 @@ ghost use Rattle.rbc_engine.specs.Reading.{IsNumber};
 ghost use Rattle.rbc_engine.specs.Facts.{all_fit_at_most_once};
 
 use crate::gate::Gate;
+use crate::locking::lock;
+use crate::pace::Pace;
+use crate::progress::Progress;
 use crate::recorder::Recorder;
 use rbc_core::{Attempt, Book, Commit, RunName, Spent};
 use rbc_rule::{Input, RuleFault, decide};
@@ -32,6 +35,8 @@ pub(crate) struct Job<'a, 'b, N: RunName, G, R> {
     pub(crate) inputs: &'a [Input],
     pub(crate) log: &'a VersionLog,
     pub(crate) book: &'a Mutex<Book<'b, N>>,
+    pub(crate) progress: &'a Progress,
+    pub(crate) pace: &'a Pace,
     pub(crate) gate: &'a G,
     ghost track_is: { track.now ≡ N.run.track },
     ghost inputs_are: { inputs.now ≡ N.run.inputs },
@@ -45,14 +50,16 @@ impl<'a, 'b, N: RunName, G: Gate, R: Wait> Job<'a, 'b, N, G, R> {
     fn attempt(&self, number: u32) -> Result<Attempt<N>, RuleFault>
         requires { IsNumber N.run number }
     {
-        self.gate.before_rule(number);
         let input = &self.inputs[number as usize - 1];
+        self.progress.wait(number, self.inputs);
+        self.gate.before_rule(number);
         let (rt, alloc, log) = (self.rt, self.alloc, self.log);
         let mut recorder = Recorder::new(rt, alloc, self.book, log, self.gate, number);
         let outcome = decide(alloc, self.track, input, &mut recorder)?;
         let Ok(published) = publish_all(rt, alloc, log, &outcome.writes) else {
             return Err(RuleFault::OutOfMemory);
         };
+        self.pace.note(input, &outcome.writes);
         let notes = recorder.into_notes();
         Ok(Attempt::of(self.track, number, input, notes, outcome, published))
     }
@@ -64,11 +71,11 @@ impl<'a, 'b, N: RunName, G: Gate, R: Wait> Job<'a, 'b, N, G, R> {
         match self.attempt(number) {
             Ok(attempt) => {
                 self.gate.before_deposit(number);
-                let _refused = self.book.lock(self.rt).deposit(attempt);
+                let _refused = lock(self.rt, self.book).deposit(attempt);
                 self.gate.after_deposit(number);
             }
             Err(_) => {
-                let _ = self.book.lock(self.rt).void(number);
+                let _ = lock(self.rt, self.book).void(number);
             }
         }
     }
@@ -78,13 +85,14 @@ impl<'a, 'b, N: RunName, G: Gate, R: Wait> Job<'a, 'b, N, G, R> {
     fn commit_and_take(&self, spent: &mut Vec<Spent>) -> Option<Option<u32>>
         ensures { IfSome result (λ taken. IfSome taken (λ number. IsNumber N.run number)) }
     {
-        let mut guard = self.book.lock(self.rt);
+        let mut guard = lock(self.rt, self.book);
         let book = &mut *guard;
         for _ in 0..MAX_COMMITS {
             let answer = book.commit(self.rt, self.alloc, self.track);
             if !matches!(answer, Commit::Applied | Commit::Recomputed) {
                 return Some(take(book));
             }
+            self.progress.tell(book.committed());
             let _ = spent.push(book.take_spent());
         }
         None

@@ -3,6 +3,9 @@
 
 mod gate;
 mod job;
+mod locking;
+mod pace;
+mod progress;
 mod recorder;
 mod workers;
 

@@ -6,6 +6,7 @@ ghost use Rattle.rbc_versions.specs.Entries.{AreOf};
 ghost use Rattle.rbc_engine.specs.Reading.{HasStood};
 
 use crate::gate::Gate;
+use crate::locking::lock;
 use rbc_core::{Book, RunName};
 use rbc_records::{Key, ReadFault, Reader, Rec};
 use rbc_versions::{Notes, Ticket, VersionLog};
@@ -86,7 +87,7 @@ impl<'a, 'b, N: RunName, G: Gate, R: Wait> Recorder<'a, 'b, N, G, R> {
         ensures here { IfSome result (λ ticket. IfSome ticket (IsOf N.log)) }
         ensures stood { IfSome result (λ ticket. HasStood N.run N.log key (number_of ticket)) }
     {
-        let number = self.book.lock(self.rt).present(self.input, key);
+        let number = lock(self.rt, self.book).present(self.input, key);
         if number == 0 {
             return Some(None);
         }

@@ -13,6 +13,8 @@ ghost use Rattle.rbc_engine.specs.Fronts.{IsWaiting, IsGivenUp, IsNext, IsAtItsE
 
 use crate::gate::{Behind, Gate};
 use crate::job::Job;
+use crate::pace::Pace;
+use crate::progress::Progress;
 use rbc_core::{Book, Commit, Desk, MAX_RESULTS, RunName, Stats};
 use rbc_rule::Input;
 use rbc_track::Track;
@@ -146,7 +148,7 @@ fn run_named<N: RunName + Send + Sync, G: Gate + Sync, R: Threads + Wait + Sync>
     desk: &mut Desk,
     inputs: &[Input],
     log: &VersionLog,
-    workers: u8,
+    pace: &Pace,
     gate: &G,
 ) -> Result<Stats, RunError>
     requires track { track.now ≡ N.run.track }
@@ -160,6 +162,8 @@ fn run_named<N: RunName + Send + Sync, G: Gate + Sync, R: Threads + Wait + Sync>
     match Book::<N>::new(rt, alloc, opening, inputs, log) {
         Ok(book) => {
             let lock = Mutex::new(book);
+            let workers = pace.workers(gate.is_open());
+            let progress = Progress::new(workers);
             let job = Job {
                 rt,
                 alloc,
@@ -167,6 +171,8 @@ fn run_named<N: RunName + Send + Sync, G: Gate + Sync, R: Threads + Wait + Sync>
                 inputs,
                 log,
                 book: &lock,
+                progress: &progress,
+                pace,
                 gate,
             };
             job.share(workers);
@@ -186,7 +192,7 @@ fn run_stretch<G: Gate + Sync, R: Threads + Wait + Sync>(
     track: &Track,
     desk: &mut Desk,
     inputs: &[Input],
-    workers: u8,
+    pace: &Pace,
     gate: &G,
 ) -> Result<Stats, RunError>
     requires good { IsGoodRun (record { track = track.now; opening = desk.old; inputs = inputs.now }) }
@@ -195,7 +201,7 @@ fn run_stretch<G: Gate + Sync, R: Threads + Wait + Sync>(
     let Ok(log) = VersionLog::new(alloc) else {
         return Err(RunError::OutOfMemory { committed: 0 });
     };
-    run_named::<Brand, G, R>(rt, alloc, track, desk, inputs, &log, workers, gate)
+    run_named::<Brand, G, R>(rt, alloc, track, desk, inputs, &log, pace, gate)
 }
 
 /// Runs the first of some inputs in one stretch, and not too many of them.
@@ -205,24 +211,16 @@ fn run_first<G: Gate + Sync, R: Threads + Wait + Sync>(
     track: &Track,
     desk: &mut Desk,
     inputs: &[Input],
-    workers: u8,
+    pace: &Pace,
     gate: &G,
 ) -> Result<Stats, RunError>
     requires good { IsGoodRun (record { track = track.now; opening = desk.old; inputs = inputs.now }) }
     ensures { IsStretch (record { track = track.now; opening = desk.old; inputs = inputs.now }) result desk.new }
 {
     if inputs.len() <= MAX_STRETCH {
-        return run_stretch(rt, alloc, track, desk, inputs, workers, gate);
+        return run_stretch(rt, alloc, track, desk, inputs, pace, gate);
     }
-    run_stretch(
-        rt,
-        alloc,
-        track,
-        desk,
-        &inputs[..MAX_STRETCH],
-        workers,
-        gate,
-    )
+    run_stretch(rt, alloc, track, desk, &inputs[..MAX_STRETCH], pace, gate)
 }
 
 /// Runs the next stretch of a run, of which so many inputs are done.
@@ -233,7 +231,7 @@ fn run_next<G: Gate + Sync, R: Threads + Wait + Sync>(
     desk: &mut Desk,
     inputs: &[Input],
     before: u32,
-    workers: u8,
+    pace: &Pace,
     gate: &G,
 ) -> Result<Stats, RunError>
     requires within { before ≤ length inputs.now }
@@ -242,7 +240,7 @@ fn run_next<G: Gate + Sync, R: Threads + Wait + Sync>(
 {
     let behind = Behind { gate, before };
     let rest = &inputs[before as usize..];
-    run_first(rt, alloc, track, desk, rest, workers, &behind)
+    run_first(rt, alloc, track, desk, rest, pace, &behind)
 }
 
 /// Says in its contract what every desk satisfies, because a stretch requires it.
@@ -266,6 +264,7 @@ fn run_stretches<G: Gate + Sync, R: Threads + Wait + Sync>(
     requires few { length inputs.now ≤ MAX_INPUTS }
     ensures { IsFinished (record { track = track.now; opening = desk.old; inputs = inputs.now }) result desk.new }
 {
+    let pace = Pace::new(workers);
     let mut all = Stats {
         taken: 0,
         recomputed: 0,
@@ -273,7 +272,7 @@ fn run_stretches<G: Gate + Sync, R: Threads + Wait + Sync>(
     while (all.taken as usize) < inputs.len() {
         let before = all.taken;
         keeps_order(desk);
-        match run_next(rt, alloc, track, desk, inputs, before, workers, gate) {
+        match run_next(rt, alloc, track, desk, inputs, before, &pace, gate) {
             Ok(stats) => {
                 all.taken += stats.taken;
                 all.recomputed += stats.recomputed;

@@ -1,5 +1,7 @@
 mod gates;
+mod refusals;
 mod runs;
+mod stretches;
 
 use std::fmt::Debug;
 use std::process::Abort;

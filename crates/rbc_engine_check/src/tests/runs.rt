@@ -25,7 +25,7 @@ const ENROL_AND_STOP: &str = "enrol 7 2000\nstop 1 0:0-10\n";
 /// What it gives.
 const STOPPED: &str = "1 ok 0\n2 ok 1\n7 2 1002800000005FFFFFE0\n";
 
-fn track<R: Abort + AllocGlobal>(rt: &R) -> Track {
+pub(super) fn track<R: Abort + AllocGlobal>(rt: &R) -> Track {
     track_from_toml(rt.alloc(), TRACK).expect(rt, "a good track")
 }
 
@@ -43,7 +43,7 @@ where
 }
 
 /// A new desk, from which a run on any track can begin.
-fn new_desk(alloc: Global, track: &Track) -> Desk
+pub(super) fn new_desk(alloc: Global, track: &Track) -> Desk
     ensures { IsOpening track.now result }
 {
     let _ = track;
@@ -51,7 +51,7 @@ fn new_desk(alloc: Global, track: &Track) -> Desk
 }
 
 /// Runs the lines of a batch on a desk.
-fn run_lines<R, G>(
+pub(super) fn run_lines<R, G>(
     rt: &R,
     track: &Track,
     desk: &mut Desk,
