@@ -23,7 +23,8 @@ pub trait Gate {
     }
 }
 
-/// A gate that does nothing.
+/// A gate that does nothing. Behind it a stretch in which trains are told of few stops and restrictions is left to one worker, since
+/// several would take longer.
 #[derive(Clone, Copy, Debug)]
 pub struct OpenGate;
 
@@ -39,6 +40,20 @@ impl Gate for OpenGate {
     fn is_open(&self) -> bool {
         true
     }
+}
+
+/// A gate that does nothing and is not open: all workers share every stretch, whether it pays or not.
+#[derive(Clone, Copy, Debug)]
+pub struct AllWorkers;
+
+impl Gate for AllWorkers {
+    fn before_rule(&self, _input: u32) {}
+
+    fn after_read(&self, _input: u32, _key: Key) {}
+
+    fn before_deposit(&self, _input: u32) {}
+
+    fn after_deposit(&self, _input: u32) {}
 }
 
 /// A gate for the inputs behind the first `before` of a run: it is told of each under the number that it has in the whole run.

@@ -9,6 +9,6 @@ mod progress;
 mod recorder;
 mod workers;
 
-pub use gate::{Gate, OpenGate};
+pub use gate::{AllWorkers, Gate, OpenGate};
 pub use recorder::Recorder;
 pub use workers::{MAX_INPUTS, MAX_WORKERS, RunError, run};

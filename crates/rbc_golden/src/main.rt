@@ -1,4 +1,4 @@
-//! Runs golden batches by 1, 2 and 16 workers. An independent model of the rules has given their outputs; says of each batch whether
+//! Runs golden batches by 1, 2 and 16 workers, of which each takes part. An independent model of the rules has given their outputs; says of each batch whether
 //! every output is right.
 //!
 //! `rbc_golden RUNS` runs each batch so many times by each number of workers, once if no number is given. If there are more runs than
@@ -7,7 +7,7 @@
 
 use anyhow::{Context, Result};
 use rbc_batch::process;
-use rbc_engine::OpenGate;
+use rbc_engine::AllWorkers;
 use rbc_track::{Track, track_from_toml};
 use std::rt::Files;
 use std::sync::Wait;
@@ -51,7 +51,7 @@ where
         &mut reader,
         &mut written,
         workers,
-        &OpenGate,
+        &AllWorkers,
     )?;
     Ok(Tally {
         is_right: tally.is_right && written.as_slice() == case.wanted.as_slice(),

@@ -3,7 +3,7 @@
 use super::same;
 use rbc_batch::{ProcessError, process};
 use rbc_core::Stats;
-use rbc_engine::{OpenGate, RunError};
+use rbc_engine::{AllWorkers, OpenGate, RunError};
 use rbc_track::{Track, track_from_toml};
 use std::io;
 use std::io::{ErrorKind, Read, Write};
@@ -30,7 +30,7 @@ where
 {
     let mut written = Vec::new(rt.alloc());
     let mut reader = batch;
-    let stats = process(rt, track, &mut reader, &mut written, workers, &OpenGate).expect(
+    let stats = process(rt, track, &mut reader, &mut written, workers, &AllWorkers).expect(
         rt,
         "an output",
     );

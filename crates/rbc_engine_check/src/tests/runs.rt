@@ -6,7 +6,7 @@ use super::gates::{Hold, Moment};
 use super::same;
 use rbc_batch::{parse_batch, process, render};
 use rbc_core::{Desk, Stats};
-use rbc_engine::{Gate, OpenGate, RunError, run};
+use rbc_engine::{AllWorkers, Gate, OpenGate, RunError, run};
 use rbc_track::{Track, track_from_toml};
 use std::alloc::Global;
 use std::process::Abort;
@@ -178,7 +178,7 @@ fn goes_on_from_the_desk_of_an_earlier_run(rt: HostRuntime) {
             &mut whole,
             &stops(&rt, 0, 19),
             workers,
-            &OpenGate,
+            &AllWorkers,
         );
         same(&rt, stats.ok().map(|stats| stats.taken), Some(19));
         let mut parts = new_desk(alloc, &track);
@@ -188,7 +188,7 @@ fn goes_on_from_the_desk_of_an_earlier_run(rt: HostRuntime) {
             &mut parts,
             &stops(&rt, 0, 9),
             workers,
-            &OpenGate,
+            &AllWorkers,
         );
         let second = run_lines(
             &rt,
@@ -196,7 +196,7 @@ fn goes_on_from_the_desk_of_an_earlier_run(rt: HostRuntime) {
             &mut parts,
             &stops(&rt, 9, 10),
             workers,
-            &OpenGate,
+            &AllWorkers,
         );
         same(&rt, (first.is_ok(), second.is_ok()), (true, true));
         let text = render(alloc, &whole).expect(&rt, "memory");

@@ -7,7 +7,7 @@ use super::runs::{new_desk, run_lines, track};
 use super::same;
 use rbc_batch::render;
 use rbc_core::{Desk, Stats};
-use rbc_engine::{Gate, OpenGate};
+use rbc_engine::{AllWorkers, Gate, OpenGate};
 use rbc_records::Key;
 use rbc_track::Track;
 use std::process::Abort;
@@ -68,7 +68,7 @@ fn goes_on_where_a_log_is_full(rt: HostRuntime) {
     let wanted = stopped(&rt);
     for workers in [1, 2, 16] {
         let mut desk = new_desk(rt.alloc(), &track);
-        let stats = run_lines(&rt, &track, &mut desk, &batch, workers, &OpenGate);
+        let stats = run_lines(&rt, &track, &mut desk, &batch, workers, &AllWorkers);
         same(&rt, stats.ok().map(|stats| stats.taken), Some(TRAINS + 1));
         same(&rt, text_of(&rt, &desk).as_slice(), wanted.as_bytes());
     }
@@ -86,7 +86,7 @@ fn goes_on_where_a_stretch_has_enough_inputs(rt: HostRuntime) {
     batch.push_str("stop 1 0:0-10\n").expect(&rt, "memory");
     for workers in [1, 2, 16] {
         let mut desk = new_desk(rt.alloc(), &track);
-        let stats = run_lines(&rt, &track, &mut desk, &batch, workers, &OpenGate);
+        let stats = run_lines(&rt, &track, &mut desk, &batch, workers, &AllWorkers);
         same(
             &rt,
             stats.ok().map(|stats| stats.taken),
