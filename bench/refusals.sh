@@ -21,7 +21,7 @@ work=$(mktemp -d)
 trap 'rm -r "$work"' EXIT
 
 if [[ ${1-} != --built ]]; then
-    for crate in rbc_rule_check rbc_core_check rbc_batch_check; do
+    for crate in rbc_rule_check rbc_core_check rbc_batch_check rbc_engine_check; do
         if ! (cd "$root/crates/$crate" && rt test -- tests::refusals::) > "$work/log" 2>&1; then
             tail -n 20 "$work/log" >&2
             exit 1
