@@ -2,10 +2,17 @@
 //! stretch cannot be begun, and a run of the rest ends right. A test that was refused memory ends with `Refused`; so where memory is
 //! ample, it passes by the right answers alone. `bench/refusals.sh` refuses one allocation after another.
 
-use super::runs::{new_desk, run_lines, track};
+ghost use Rattle.rbc_engine.specs.Answers.{IsOpening};
+
+use super::runs::{TRACK, new_desk};
 use super::same;
-use rbc_engine::{OpenGate, RunError};
+use rbc_batch::parse_batch;
+use rbc_core::{Desk, Stats};
+use rbc_engine::{OpenGate, RunError, run};
+use rbc_track::{Track, track_from_toml};
+use std::sync::Wait;
 use std::test::Fail;
+use std::thread::Threads;
 
 /// How many lines are no input, which is more than one stretch takes.
 const BAD_LINES: usize = 20_000;
@@ -14,16 +21,31 @@ const BAD_LINES: usize = 20_000;
 #[derive(Debug, Drop)]
 struct Refused;
 
-#[test]
-fn runs_stretches_or_tells_what_is_done(rt: HostRuntime) -> Result<(), Fail> {
+/// Runs so many lines that are no input.
+fn run_bad_lines<R>(
+    rt: &R,
+    track: &Track,
+    desk: &mut Desk,
+    count: usize,
+) -> Result<Result<Stats, RunError>, Fail>
+where
+    R: AllocGlobal + Threads + Wait + Sync,
+    requires { IsOpening track.now desk.old }
+    ensures { IsOpening track.now desk.new }
+{
     let mut batch = String::new(rt.alloc());
-    for _ in 0..BAD_LINES {
+    for _ in 0..count {
         batch.push('\n')?;
     }
-    let track = track(&rt);
+    let inputs = parse_batch(rt, batch.as_bytes())?;
+    Ok(run(rt, track, desk, &inputs, 1, &OpenGate))
+}
+
+#[test]
+fn runs_stretches_or_tells_what_is_done(rt: HostRuntime) -> Result<(), Fail> {
+    let track = track_from_toml(rt.alloc(), TRACK)?;
     let mut desk = new_desk(rt.alloc(), &track);
-    let answer = run_lines(&rt, &track, &mut desk, &batch, 1, &OpenGate);
-    let Err(error) = answer else {
+    let Err(error) = run_bad_lines(&rt, &track, &mut desk, BAD_LINES)? else {
         same(&rt, desk.results().len(), BAD_LINES);
         return Ok(());
     };
@@ -31,11 +53,8 @@ fn runs_stretches_or_tells_what_is_done(rt: HostRuntime) -> Result<(), Fail> {
         return Err(Fail::from("another error"));
     };
     same(&rt, desk.results().len(), committed as usize);
-    let mut rest = String::new(rt.alloc());
-    for _ in committed as usize..BAD_LINES {
-        rest.push('\n')?;
-    }
-    let again = run_lines(&rt, &track, &mut desk, &rest, 1, &OpenGate);
+    let left = BAD_LINES.saturating_sub(committed as usize);
+    let again = run_bad_lines(&rt, &track, &mut desk, left)?;
     same(&rt, again.is_ok(), true);
     same(&rt, desk.results().len(), BAD_LINES);
     Err(Fail::from(Refused))

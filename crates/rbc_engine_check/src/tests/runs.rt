@@ -14,7 +14,7 @@ use std::sync::Wait;
 use std::thread::Threads;
 
 /// Line 0 is 30 km long.
-const TRACK: &str = "horizon = 100000
+pub(super) const TRACK: &str = "horizon = 100000
 [[line]]
 length = 300000
 ";
