@@ -5,7 +5,7 @@ FILES = {"crates/CRATE/specs/FILE.antt", "FILE.rt", "crates/CRATE/src/", "crates
 
 # of Rust
 RUST = """
-Abort Bool Bor Copy Debug Display Env PartialEq Sized Wait assert_eq IndexMap List Option Vec allow always as bool collect copied data div_ceil entry env false for from get_index
+Abort Bool Bor Copy Debug Display Env PartialEq String push_str Sized Wait assert_eq IndexMap List Option Vec allow always as bool collect copied data div_ceil entry env false for from get_index
 ghost i16 if impl inline into iter iterator let malloc map match max min mut not pub realloc ref self source string true type u32 u8
 unwrap_or unwrap use usize var vec while
 """
@@ -24,13 +24,13 @@ PORTED = "anyhow boxcar clap hex indexmap itoa memchr rayon thiserror toml"
 
 # of rt, and of the folders and files that it knows
 TOOL = """
-python3 Prelude ci must-fail check doc fail fmt lemma must plant program proofs specs src test tests tidy tries try version rt allocations rlib PID RLIMIT_AS autogroup proc
+bash python3 Prelude ci must-fail check doc fail fmt lemma must plant program proofs specs src test tests tidy tries try version rt allocations rlib PID RLIMIT_AS autogroup proc
 """
 
 # of batches, outputs, tracks, texts of messages and command lines
 FORMATS = """
-CODE COUNT CRATE ENGINE FILE FROM FRONT HEX INPUT LENGTH LINE MODULE NAME NAME_tests NUMBER SPEED TO WAYS WORD bad be both dispatch down em enrol
-fault group horizon lift line long many memory out recv refused release restrict stop too track tsr unreadable up withdraw write
+CODE COMMAND COUNT CRATE ENGINE FILE FROM FRONT HEX INPUT LENGTH LINE MODULE NAME NAME_tests NUMBER SPEED TO WAYS WORD bad be both dispatch down em enrol
+fault group help horizon lift line long many memory out recv refused release restrict stop too track tsr unreadable up warning warnings withdraw write
 """
 
 KNOWN = set(" ".join([RUST, ANTT, PORTED, TOOL, FORMATS]).split())

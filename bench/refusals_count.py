@@ -23,6 +23,7 @@ TESTS = {
     "parse_batch": ("rbc_batch_check", "parses_or_gives_no_inputs"),
     "process": ("rbc_batch_check", "processes_or_writes_nothing"),
     "run": ("rbc_engine_check", "runs_stretches_or_tells_what_is_done"),
+    "run, alone": ("rbc_engine_check", "runs_alone_or_tells_what_is_done"),
 }
 
 # the first line on standard error of a test that ended right: its call was refused memory, or what it does beside it was

@@ -9,5 +9,5 @@ mod write;
 
 pub use batch::{ProcessError, process};
 pub use output::render;
-pub use parse::parse_batch;
+pub use parse::{parse_batch, parse_line};
 pub use write::write_text;

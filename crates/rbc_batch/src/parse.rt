@@ -363,8 +363,9 @@ fn message(alloc: Global, arguments: &[u8]) -> Result<Input, AllocError>
     }
 }
 
-/// The input of a line: what it spells, or a refusal with its code. Fails only for lack of memory.
-fn input(alloc: Global, line: &[u8]) -> Result<Input, AllocError>
+/// The input of one line, without its line feed (own rule): what it spells, or a refusal with its code. It is one that a batch can
+/// have. Fails only for lack of memory.
+pub fn parse_line(alloc: Global, line: &[u8]) -> Result<Input, AllocError>
     ensures spelled { IfOk result (λ input. IsInput (line_of line.now) input) }
     ensures fits { IfOk result (λ input. Fits input) }
 {
@@ -401,7 +402,7 @@ fn inputs_in_turn(alloc: Global, lines: &[&[u8]]) -> Result<Vec<Input>, AllocErr
 {
     let mut inputs = Vec::with_capacity(alloc, lines.len())?;
     for line in lines {
-        inputs.push(input(alloc, line)?)?;
+        inputs.push(parse_line(alloc, line)?)?;
     }
     Ok(inputs)
 }
@@ -417,7 +418,7 @@ fn inputs_in_threads(
 {
     lines
         .par_iter()
-        .map(|line| input(alloc, line))
+        .map(|line| parse_line(alloc, line))
         .collect::<Result<Vec<_>, AllocError>>(rt, alloc)?
 }
 

@@ -1,7 +1,10 @@
 -- What becomes of stages and of present numbers over many events.
-use Rattle.std.proofs.Common.{◌≡◌, ◌≢◌, ◌⊎◌, ℕ, ◌+◌, ◌-◌, ◌≤◌, Bool, true, false, List, [], ◌∷◌, ◌++◌, set, Some, None, inl, inr, IsTrue, refl, sym, ap, ◌∙◌, ⊎_elim, arith}
+use Rattle.std.proofs.Common.{◌≡◌, ◌≢◌, ◌⊎◌, ℕ, ◌+◌, ◌-◌, ◌<◌, ◌≤◌, Bool, true, false, cond, List, [], ◌∷◌, ◌++◌, set, Option, Some, None, unwrap_or, inl, inr, IsTrue, refl, sym, ap, ◌∙◌, subst, ⊎_elim, arith}
 use Rattle.std.specs.Prelude.{slice_get}
 use Rattle.rbc_records.specs.declared.record.Key.{Key}
+use Rattle.rbc_records.specs.Notes.{same_key}
+use Rattle.rbc_versions.specs.Entries.{NumberedRec, number_for, numbers_after}
+use Rattle.rbc_rule.specs.declared.outcome.Outcome.{Outcome}
 use Rattle.rbc_core.specs.declared.stage.Stage.{Stage}
 use Rattle.rbc_core.specs.declared.stage.Stage.TheVariants.{Free, Out, Tried, Void}
 use Rattle.rbc_core.specs.Runs.{Run}
@@ -9,8 +12,8 @@ use Rattle.rbc_core.specs.Core.{Try, State, IsAt, front}
 use Rattle.rbc_core.specs.Events.{Event, May, next, Follow}
 use Rattle.rbc_core.specs.Events.Event.{Publishes, Takes, Reads, Deposits, Voids, Applies, Recomputes, Waits, Ends, Fails}
 use Rattle.rbc_core.specs.Conflicts.{after, names, writes_by, Writes, WasVoided}
-use Rattle.rbc_core.proofs.Books.{slice_get_set}
-use Rattle.rbc_core.proofs.Facts.{closed_stays, numbers_stay}
+use Rattle.rbc_core.proofs.Books.{slice_get_set, same_item}
+use Rattle.rbc_core.proofs.Facts.{attempts_stay, closed_stays, numbers_stay}
 
 -- ---- lists of events
 
@@ -42,7 +45,7 @@ open_before run s (event ∷ events) h live = opened s.closed (next s event).clo
 
 -- ---- more and more inputs are committed
 
-committed_one : (s : State) (event : Event) → s.committed ≤ (next s event).committed
+pub committed_one : (s : State) (event : Event) → s.committed ≤ (next s event).committed
 committed_one s (Publishes number version) = omega arith
 committed_one s (Takes None) = omega arith
 committed_one s (Takes (Some number)) = omega arith
@@ -82,7 +85,7 @@ commit_raises s (Fails keeps) k h = absurd (cc h)
 
 -- among the events an input is committed that writes the key
 abbrev pub IsWritten : State → List Event → Key → Type 0
-IsWritten s events k = (number : ℕ) × (number ≤ (after s events).committed) × Writes s events number k
+IsWritten s events k = (number : ℕ) × (s.committed < number) × (number ≤ (after s events).committed) × Writes s events number k
 
 pub changed : (run : Run) (s : State) (events : List Event) (k : Key) → Follow run s events → ((after s events).present k ≡ s.present k) ⊎ IsWritten s events k
 changed run s [] k h = inl refl
@@ -93,9 +96,11 @@ changed run s (event ∷ events) k h = first (numbers_stay run s event h.0 k) (c
     first (inr named) rest =
         let raised = commit_raises s event k named in
         let grown = committed_grows (next s event) events in
-        inr (front s, omega (arith, raised, grown), ([], event, events, refl, refl, named))
+        inr (front s, omega arith, omega (arith, raised, grown), ([], event, events, refl, refl, named))
     first (inl here) (inl later) = inl (later ∙ here)
-    first (inl here) (inr (number, below, (before, commit, behind, are, turn, named))) = inr (number, below, (event ∷ before, commit, behind, ap (λ (xs : List Event). event ∷ xs) are, turn, named))
+    first (inl here) (inr (number, above, below, (before, commit, behind, are, turn, named))) =
+        let grown : s.committed ≤ (next s event).committed = committed_one s event in
+        inr (number, omega (arith, grown, above), below, (event ∷ before, commit, behind, ap (λ (xs : List Event). event ∷ xs) are, turn, named))
 
 -- ---- where an attempt came from
 
@@ -174,3 +179,82 @@ was_voided run s (event ∷ events) k h live at = first (was_voided run (next s 
         ⊎_elim (λ (was : slice_get s.stages k ≡ Some Void). inl was) (λ (q : event ≡ Voids (k + 1) true). inr ([], events, ap (λ (e : Event). e ∷ events) q))
         (voided_by run s event k h.0 (open_before run (next s event) events h.1 live) there)
     first (inr (before, behind, are)) = inr (event ∷ before, behind, ap (λ (xs : List Event). event ∷ xs) are)
+
+-- ---- what becomes of an attempt that is kept
+
+-- the number under a key after entries
+put_after : (entries : List (Key × NumberedRec)) (numbers : Key → ℕ) (k : Key) → numbers_after entries numbers k ≡ unwrap_or (number_for entries k) (numbers k)
+put_after [] numbers k = refl
+put_after (entry ∷ entries) numbers k =
+    put_after entries (λ other. cond (same_key other entry.0) entry.1.number (numbers other)) k ∙ by (number_for entries k) (same_key k entry.0)
+  where
+    by : (o : Option ℕ) (b : Bool)
+        → unwrap_or o (cond b entry.1.number (numbers k)) ≡ unwrap_or (elim o as (λ _. Option ℕ) [ Some number ↦ Some number | None ↦ cond b (Some entry.1.number) None ]) (numbers k)
+    by (Some number) b = refl
+    by None true = refl
+    by None false = refl
+
+pub number_put : (entries : List (Key × NumberedRec)) (numbers : Key → ℕ) (k : Key) (number : ℕ) → number_for entries k ≡ Some number → numbers_after entries numbers k ≡ number
+number_put entries numbers k number is = put_after entries numbers k ∙ ap (λ (o : Option ℕ). unwrap_or o (numbers k)) is
+
+pub number_left : (entries : List (Key × NumberedRec)) (numbers : Key → ℕ) (k : Key) → number_for entries k ≡ None → numbers_after entries numbers k ≡ numbers k
+number_left entries numbers k is = put_after entries numbers k ∙ ap (λ (o : Option ℕ). unwrap_or o (numbers k)) is
+
+-- the event commits an input with the numbers of this attempt, or computes it again
+abbrev pub IsCommitOf : Try → Event → Type 0
+IsCommitOf a event = ((outcome : Outcome) × (event ≡ Applies outcome a.writes)) ⊎ ((outcome : Outcome) × (writes : List (Key × NumberedRec)) × (event ≡ Recomputes outcome writes))
+
+-- an input has one attempt
+pub same_try : (s : State) (number : ℕ) (a b : Try) → IsAt s number (Tried a) → IsAt s number (Tried b) → a ≡ b
+same_try s number a b x y = let is : Tried a ≡ Tried b = same_item s.stages (number - 1) (Tried a) (Tried b) x.at y.at in cc is
+
+-- an event that commits the next input, which has an attempt
+commit_is : (run : Run) (s : State) (event : Event) (a : Try) → May run s event → IsAt s (front s) (Tried a) → (next s event).committed ≡ front s → IsCommitOf a event
+commit_is run s (Publishes number version) a may at raised = absurd (omega (arith, raised))
+commit_is run s (Takes None) a may at raised = absurd (omega (arith, raised))
+commit_is run s (Takes (Some number)) a may at raised = absurd (omega (arith, raised))
+commit_is run s (Reads number key answer) a may at raised = absurd (omega (arith, raised))
+commit_is run s (Deposits b true) a may at raised = absurd (omega (arith, raised))
+commit_is run s (Deposits b false) a may at raised = absurd (omega (arith, raised))
+commit_is run s (Voids number true) a may at raised = absurd (omega (arith, raised))
+commit_is run s (Voids number false) a may at raised = absurd (omega (arith, raised))
+commit_is run s (Applies outcome writes) a (opened, (b, there, current, same, numbers)) at raised =
+    inl (outcome, ap (λ (w : List (Key × NumberedRec)). Applies outcome w) (numbers ∙ ap (λ (x : Try). x.writes) (same_try s (front s) b a there at)))
+commit_is run s (Recomputes outcome writes) a may at raised = inr (outcome, writes, refl)
+commit_is run s Waits a may at raised = absurd (omega (arith, raised))
+commit_is run s Ends a may at raised = absurd (omega (arith, raised))
+commit_is run s (Fails true) a may at raised = absurd (omega (arith, raised))
+commit_is run s (Fails false) a may at raised = absurd (omega (arith, raised))
+
+-- one event leaves an attempt, or commits its input, as long as the book is open
+pub stays_or_commits : (run : Run) (s : State) (event : Event) (number : ℕ) (a : Try) → May run s event → IsAt s number (Tried a) → (next s event).closed ≡ false
+    → IsAt (next s event) number (Tried a) ⊎ ((number ≡ front s) × ((next s event).committed ≡ front s) × IsCommitOf a event)
+stays_or_commits run s event number a may at live = by (attempts_stay run s event may number a at)
+  where
+    by : IsAt (next s event) number (Tried a) ⊎ ((number ≡ front s) × (((next s event).committed ≡ number) ⊎ ((s.closed ≡ false) × ((next s event).closed ≡ true))))
+        → IsAt (next s event) number (Tried a) ⊎ ((number ≡ front s) × ((next s event).committed ≡ front s) × IsCommitOf a event)
+    by (inl stays) = inl stays
+    by (inr (turn, inl committed)) = inr (turn, committed ∙ turn, commit_is run s event a may (subst (λ n. IsAt s n (Tried a)) turn at) (committed ∙ turn))
+    by (inr (turn, inr lost)) = absurd (cc (live, lost.1))
+
+-- among the events the input is committed that had this attempt until then
+abbrev pub IsCommitted : State → List Event → ℕ → Try → Type 0
+IsCommitted s events number a =
+    (before : List Event) × (commit : Event) × (behind : List Event)
+    × (events ≡ before ++ commit ∷ behind) × (front (after s before) ≡ number) × ((next (after s before) commit).committed ≡ number) × IsCommitOf a commit
+
+pub fate : (run : Run) (s : State) (events : List Event) (number : ℕ) (a : Try) → Follow run s events → IsAt s number (Tried a) → (after s events).closed ≡ false
+    → IsAt (after s events) number (Tried a) ⊎ IsCommitted s events number a
+fate run s [] number a h at live = inl at
+fate run s (event ∷ events) number a h at live =
+    by (stays_or_commits run s event number a h.0 at (open_before run (next s event) events h.1 live)) (λ there. fate run (next s event) events number a h.1 there live)
+  where
+    more : IsAt (after (next s event) events) number (Tried a) ⊎ IsCommitted (next s event) events number a → IsAt (after (next s event) events) number (Tried a) ⊎ IsCommitted s (event ∷ events) number a
+    more (inl there) = inl there
+    more (inr (before, commit, behind, are, turn, raised, is)) = inr (event ∷ before, commit, behind, ap (λ (xs : List Event). event ∷ xs) are, turn, raised, is)
+
+    by : IsAt (next s event) number (Tried a) ⊎ ((number ≡ front s) × ((next s event).committed ≡ front s) × IsCommitOf a event)
+        → (IsAt (next s event) number (Tried a) → IsAt (after (next s event) events) number (Tried a) ⊎ IsCommitted (next s event) events number a)
+        → IsAt (after (next s event) events) number (Tried a) ⊎ IsCommitted s (event ∷ events) number a
+    by (inl there) rest = more (rest there)
+    by (inr (turn, raised, is)) rest = inr ([], event, events, refl, sym turn, raised ∙ sym turn, is)

@@ -13,8 +13,11 @@ pub mod Mails
 pub mod Facts
 pub mod Fates
 pub mod Conflicts
+pub mod Forwards
+pub mod Reaching
 pub mod WitnessEvents
 pub mod WitnessConflicts
+pub mod WitnessForwards
 pub mod WitnessMails
 pub mod Spelled
 pub mod Presents

@@ -15,7 +15,7 @@ use Rattle.rbc_rule.specs.World.{World}
 use Rattle.rbc_rule.specs.Right.{MayBe, IsRight, IsFault}
 use Rattle.rbc_rule.specs.Step as rule
 use Rattle.rbc_core.specs.declared.outbox.Mail.{Mail}
-use Rattle.rbc_core.specs.Held.{Standing, Holds, AreRecordsOf, AreOutboxes, IsOutcomeOf, after_outcome}
+use Rattle.rbc_core.specs.Held.{Standing, Holds, AreRecordsOf, AreOutboxes, IsOutcomeOf, IsTakenIn, after_outcome}
 use Rattle.rbc_core.specs.Serial.{Desk, step, post_all}
 use Rattle.rbc_core.specs.Books.{IsMemoryOf}
 use Rattle.rbc_core.proofs.Kept.{step_keeps}
@@ -62,6 +62,11 @@ module _ (track : Plan) where
         outboxes = posted_alike (length held.results + 1) held.outboxes outcome.messages sent boxes (sent_ascends track desk.world input h.world.well_formed.ascending) is.sent
             ∙ ap (λ (rs : List Reply). post_all (length rs + 1) sent held.outboxes) h.results ∙ ap (λ (b : List (ℕ × List Mail)). post_all (length desk.results + 1) sent b) h.outboxes;
       }
+
+  -- so an input is taken in by its outcome
+  pub taken_in : (input : Input) (old new : Standing) (outcome : Outcome) → IsPlan track → Fits input → AreOutboxes old.outboxes → IsOutcomeOf track input old.records outcome → new ≡ after_outcome old outcome
+      → IsTakenIn track input old new
+  taken_in input old new outcome good fits boxes right is desk h = subst (λ (s : Standing). Holds track s (step track desk input)) (sym is) (holds_after input old outcome desk good fits boxes right h)
 
 -- outboxes are in order after an outcome
 pub boxes_after : (held : Standing) (outcome : Outcome) → AreOutboxes held.outboxes → AreOutboxes (after_outcome held outcome).outboxes

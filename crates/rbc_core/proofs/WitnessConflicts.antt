@@ -1,13 +1,15 @@
 -- What was read and written in worked events.
-use Rattle.std.proofs.Common.{◌≡◌, ℕ, true, false, List, [], ◌∷◌, ◌++◌, refl, sym, ap, ◌∙◌, subst, append_assoc}
+use Rattle.std.proofs.Common.{◌≡◌, ℕ, true, false, List, [], ◌∷◌, ◌++◌, Some, refl, sym, ap, ◌∙◌, subst, append_assoc}
 use Rattle.std.specs.List.{All}
 use Rattle.std.proofs.lemmas.List.{append-nil}
-use Rattle.std.proofs.lemmas.List.Elements.{All-contains}
+use Rattle.std.proofs.lemmas.List.Elements.{All-contains, All-nil, All-cons}
 use Rattle.rbc_records.specs.declared.record.Key.{Key}
+use Rattle.rbc_records.specs.declared.record.Key.TheVariants as key
 use Rattle.rbc_versions.specs.Entries.{NumberedRec}
 use Rattle.rbc_core.specs.Core.{Try, State}
 use Rattle.rbc_core.specs.Events.{Event}
 use Rattle.rbc_core.specs.Events.Event.{Publishes, Takes, Reads, Deposits, Voids, Applies, Recomputes, Waits, Ends, Fails}
+use Rattle.rbc_core.specs.Witnesses.{publishing, absent, first_try, reading_first}
 use Rattle.rbc_core.specs.Conflicts.{names, writes_by, AreAnswered, IsOvertaken}
 
 -- ---- each event, with those before it
@@ -23,7 +25,7 @@ tail_is : (x y : Event) (xs ys : List Event) → x ∷ xs ≡ y ∷ ys → xs �
 tail_is x y xs ys is = cc is
 
 -- what holds of each holds of one among them
-each_at : (P : List Event → Event → Type 0) (before events : List Event) → Each P before events → (first : List Event) (event : Event) (behind : List Event) → events ≡ first ++ event ∷ behind → P (before ++ first) event
+pub each_at : (P : List Event → Event → Type 0) (before events : List Event) → Each P before events → (first : List Event) (event : Event) (behind : List Event) → events ≡ first ++ event ∷ behind → P (before ++ first) event
 each_at P before [] each [] event behind is = absurd (cc is)
 each_at P before [] each (other ∷ first) event behind is = absurd (cc is)
 each_at P before (x ∷ events) each [] event behind is = subst (λ (xs : List Event). P xs event) (sym (append-nil before)) (subst (P before) (head_is x event events behind is) each.0)
@@ -53,6 +55,21 @@ IsAnswered before (Fails keeps) = Unit
 
 pub are_answered : (events : List Event) → Each IsAnswered [] events → AreAnswered events
 are_answered events each before behind a is note has = All-contains (WasRead before a) a.notes note (each_at IsAnswered [] events each before (Deposits a true) behind is) has
+
+-- both inputs are taken
+abbrev pub taken : List Event
+taken = publishing ++ Takes (Some 1) ∷ Takes (Some 2) ∷ []
+
+-- each note of each attempt was read
+pub first_answered : (before : List Event) → IsAnswered (before ++ reading_first) (Deposits first_try true)
+first_answered before =
+    let P : Key × NumberedRec → Type 0 = WasRead (before ++ reading_first) first_try in
+    let roster : Event = Reads 1 key.Roster 0 in
+    let stops : Event = Reads 1 key.Stops 0 in
+    let limits : Event = Reads 1 key.Limits 0 in
+    All-cons P (key.Roster, absent) ((key.Stops, absent) ∷ (key.Limits, absent) ∷ []) (before, stops ∷ limits ∷ [], refl)
+    (All-cons P (key.Stops, absent) ((key.Limits, absent) ∷ []) (before ++ roster ∷ [], limits ∷ [], sym (append_assoc before (roster ∷ []) (stops ∷ limits ∷ [])))
+    (All-cons P (key.Limits, absent) [] (before ++ roster ∷ stops ∷ [], [], sym (append_assoc before (roster ∷ stops ∷ []) (limits ∷ []))) (All-nil P)))
 
 -- the event is not this read
 abbrev pub IsOther : ℕ → Key → ℕ → List Event → Event → Type 0

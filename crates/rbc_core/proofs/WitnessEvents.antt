@@ -1,5 +1,5 @@
 -- What holds of worked events.
-use Rattle.std.proofs.Common.{◌≡◌, ℕ, ◌+◌, ◌-◌, ◌≤◌, Bool, true, false, cond, eqb, leb, option_map, List, [], ◌∷◌, ◌++◌, Option, Some, None, inr, refl, sym, ap, ◌∙◌, subst, arith}
+use Rattle.std.proofs.Common.{◌≡◌, ℕ, ◌+◌, ◌-◌, ◌≤◌, Bool, true, false, cond, eqb, leb, option_map, List, [], ◌∷◌, ◌++◌, Option, Some, None, inl, inr, refl, sym, ap, ◌∙◌, subst, arith}
 use Rattle.std.specs.Prelude.{slice_get}
 use Rattle.std.specs.List.{All}
 use Rattle.std.proofs.lemmas.Bool.{and_parts, leb-true, eqb-true}
@@ -22,6 +22,7 @@ use Rattle.rbc_rule.specs.World.{World, new_world}
 use Rattle.rbc_rule.specs.Step.{step}
 use Rattle.rbc_rule.specs.Records.{record_of, engines_record}
 use Rattle.rbc_rule.specs.Right.{MayBe, IsStep}
+use Rattle.rbc_rule.specs.WellFormed.{IsWellFormed}
 use Rattle.rbc_rule.specs.Witnesses.{track_a}
 use Rattle.rbc_rule.proofs.WitnessSays.{differ}
 use Rattle.rbc_rule.proofs.WorldMaps.{eqb_turned}
@@ -73,12 +74,15 @@ none_given n r are e =
     test false e = absurd (cc e)
 
 -- so a well-formed world without those records is the new one
-is_new : (w : World) → MayBe track_a (Part (records_of nothing_there)) w → w ≡ new_world
-is_new w m =
-    let trains = nobody w.trains (m.agrees key.Roster refl) in
-    let stops = none_given w.stops _ m.well_formed.stops.numbered (m.agrees key.Stops refl) in
-    let limits = none_given w.limits _ m.well_formed.limits.numbered (m.agrees key.Limits refl) in
+new_by : (w : World) → IsWellFormed track_a w → None ≡ record_of w key.Roster → None ≡ record_of w key.Stops → None ≡ record_of w key.Limits → w ≡ new_world
+new_by w well_formed no_engines no_stops no_limits =
+    let trains = nobody w.trains no_engines in
+    let stops = none_given w.stops _ well_formed.stops.numbered no_stops in
+    let limits = none_given w.limits _ well_formed.limits.numbered no_limits in
     λ i. record { trains = trains i; stops = stops i; limits = limits i }
+
+is_new : (w : World) → MayBe track_a (Part (records_of nothing_there)) w → w ≡ new_world
+is_new w m = new_by w m.well_formed (m.agrees key.Roster refl) (m.agrees key.Stops refl) (m.agrees key.Limits refl)
 
 -- whether an engine is train 7, asked either way
 is_seven : (b : Bool) (train : TrainRec) → cond b (Some (rec.Train train)) None ≡ option_map rec.Train (cond b (Some train) None)
@@ -122,6 +126,12 @@ nothing_now =
 pub recomputes_second : (records : Key → Option Rec) → IsOutcomeOf track_a (input.Bad 1) records refused
 recomputes_second records w are = bad_step w
 
+-- and the first, from a new desk
+pub recomputes_first : IsOutcomeOf track_a (input.Enrol 7 2000) (λ k. None) enrolled
+recomputes_first w are =
+    subst (λ (v : World). IsStep track_a (input.Enrol 7 2000) v enrolled.result enrolled.writes enrolled.messages)
+    (sym (new_by w are.well_formed (are.same key.Roster) (are.same key.Stops) (are.same key.Limits))) enrol_step
+
 -- an attempt with these three numbers of which the last is not the present one is not fresh
 pub third_is_stale : (notes : List (Key × NumberedRec)) (numbers : Key → ℕ) → stale_try.notes ≡ notes → AreCurrent notes numbers → 2 ≡ numbers (key.Train 7)
 third_is_stale notes numbers same current =
@@ -142,11 +152,11 @@ both_taken events h = (tt, (tt, (tt, ((refl, omega arith, refl), ((refl, omega a
 -- the first input is read for, attempted and committed, however far the second one is
 pub first_turn : (taken : ℕ) (x : Stage Try) → 1 ≤ taken → Follow two_inputs (record start { stages = Out ∷ x ∷ []; taken = taken }) committing_first
 first_turn taken x one = (
-  refl,
+  inl refl,
   (
-    refl,
+    inl refl,
     (
-      refl,
+      inl refl,
       (
         (right_first, record { uncommitted = omega arith; taken = one; at = refl }),
         ((refl, (first_try, record { uncommitted = omega arith; taken = one; at = refl }, nothing_now, refl, refl)), tt),
@@ -158,7 +168,7 @@ first_turn taken x one = (
 pub follow_overtaken : Follow two_inputs start second_overtaken
 follow_overtaken =
     both_taken (Reads 2 (key.Train 7) 0 ∷ Deposits second_try true ∷ committing_first)
-    (refl, ((right_second _, record { uncommitted = omega arith; taken = omega arith; at = refl }), first_turn 2 (Tried second_try) (omega arith)))
+    (inl refl, ((right_second _, record { uncommitted = omega arith; taken = omega arith; at = refl }), first_turn 2 (Tried second_try) (omega arith)))
 
 pub follow_given_up : Follow two_inputs start second_given_up
 follow_given_up = both_taken (Voids 2 true ∷ committing_first) (record { uncommitted = omega arith; taken = omega arith; at = refl }, first_turn 2 Void (omega arith))

@@ -1,9 +1,9 @@
 -- Why an input is computed again (own rule).
-use Rattle.std.specs.Prelude.{◌≡◌, ◌⊎◌, ℕ, ◌<◌, Bool, true, List, [], ◌∷◌, ◌++◌, Contains, IsTrue}
+use Rattle.std.specs.Prelude.{◌≡◌, ◌⊎◌, ℕ, ◌<◌, Bool, true, List, [], ◌∷◌, ◌++◌, Some, Contains, IsTrue}
 use Rattle.std.specs.List.{fold, list_any}
 use Rattle.rbc_records.specs.declared.record.Key.{Key}
 use Rattle.rbc_records.specs.Notes.{same_key}
-use Rattle.rbc_versions.specs.Entries.{NumberedRec}
+use Rattle.rbc_versions.specs.Entries.{NumberedRec, number_for}
 use Rattle.rbc_rule.specs.declared.outcome.Outcome.{Outcome}
 use Rattle.rbc_core.specs.declared.stage.Stage.TheVariants.{Tried}
 use Rattle.rbc_core.specs.Runs.{Run}
@@ -60,11 +60,30 @@ abbrev pub IsOvertaken : State → List Event → Try → Key × NumberedRec →
 IsOvertaken s events a note =
     IsReadOf events a note (λ before since. ((after s before).present note.0 ≡ note.1.number) × ((number : ℕ) × (number < a.number) × Writes (after s before) since number note.0))
 
--- why the next input is computed again: it was given up, or a note of its attempt was overtaken
+-- among these events, from the state s on, the input of this number is computed again
+abbrev pub IsComputedAgain : State → List Event → ℕ → Type 0
+IsComputedAgain s events number =
+    (before : List Event) × (outcome : Outcome) × (writes : List (Key × NumberedRec)) × (behind : List Event)
+    × (events ≡ before ++ Recomputes outcome writes ∷ behind) × (front (after s before) ≡ number)
+
+-- a note was misled: its number was what an attempt at an earlier input puts under its key, and since then that input was computed again, or
+-- an input between the two was committed that wrote the key
+abbrev pub IsMisled : State → List Event → Try → Key × NumberedRec → Type 0
+IsMisled s events a note =
+    IsReadOf events a note (
+    λ before since.
+    (earlier : ℕ) × (other : Try) × (earlier < a.number) × IsAt (after s before) earlier (Tried other) × (number_for other.writes note.0 ≡ Some note.1.number)
+    × (IsComputedAgain (after s before) since earlier ⊎ ((number : ℕ) × (earlier < number) × (number < a.number) × Writes (after s before) since number note.0))
+    )
+
+-- why the next input is computed again: it was given up, or a note of its attempt was overtaken or misled
 abbrev pub IsExplained : State → List Event → Type 0
 IsExplained s events =
     WasVoided events (front (after s events))
-    ⊎ ((a : Try) × IsAt (after s events) (front (after s events)) (Tried a) × ((note : Key × NumberedRec) × Contains a.notes note × IsOvertaken s events a note))
+    ⊎ (
+    (a : Try) × IsAt (after s events) (front (after s events)) (Tried a)
+    × ((note : Key × NumberedRec) × Contains a.notes note × (IsOvertaken s events a note ⊎ IsMisled s events a note))
+    )
 
 -- where what was noted was read, an input is computed again for one of these reasons alone
 abbrev pub EachIsExplained : Type 0

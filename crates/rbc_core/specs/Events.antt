@@ -5,7 +5,7 @@ use Rattle.std.specs.Option.{option_map}
 use Rattle.rbc_records.specs.declared.record.Key.{Key}
 use Rattle.rbc_records.specs.declared.record.Rec.{Rec}
 use Rattle.rbc_versions.specs.declared.log.Version.{Version}
-use Rattle.rbc_versions.specs.Entries.{NumberedRec, AreCurrent, AreOfWrites, numbers_after}
+use Rattle.rbc_versions.specs.Entries.{NumberedRec, AreCurrent, AreOfWrites, number_for, numbers_after}
 use Rattle.rbc_rule.specs.declared.input.Input.{Input}
 use Rattle.rbc_rule.specs.declared.outcome.Outcome.{Outcome}
 use Rattle.rbc_core.specs.declared.stage.Stage.TheVariants.{Free, Out, Tried, Void}
@@ -16,7 +16,7 @@ use Rattle.rbc_core.specs.Runs.{Run, IsInput, IsGoodRun, IsSerialRun}
 use Rattle.rbc_core.specs.Core.{Try, IsRightTry, State, opening, IsAt, front, IsReady, IsStale, with_stage}
 
 -- A version is published under a number. Or a call of a book, with what it answered: a number is taken, or none; the number of what stands
--- under a key is read for an input; an attempt is kept, or handed back; an input is given up, or not. The next input to be committed has
+-- under a key, or of what an attempt before puts there, is read for an input; an attempt is kept, or handed back; an input is given up, or not. The next input to be committed has
 -- the outcome of its attempt, or is computed again, and the numbers of what it writes; it is not ready; there is none; or memory is
 -- refused, and it keeps its attempt or loses it.
 pub data Event : Type 0 where
@@ -31,12 +31,16 @@ pub data Event : Type 0 where
   Ends : Event
   Fails : Bool → Event
 
+-- the number is what a kept attempt at an earlier input, which is not committed, puts under the key
+abbrev pub IsForwarded : State → ℕ → Key → ℕ → Type 0
+IsForwarded s number k answer = (earlier : ℕ) × (a : Try) × (earlier < number) × IsAt s earlier (Tried a) × (number_for a.writes k ≡ Some answer)
+
 -- the event may come: to take an attempt over, nothing but numbers is compared
 abbrev pub May : Run → State → Event → Type 0
 May run s (Publishes number version) = Unit
 May run s (Takes None) = (s.taken ≡ length run.inputs) ⊎ (s.closed ≡ true)
 May run s (Takes (Some number)) = (s.closed ≡ false) × (s.taken < length run.inputs) × (number ≡ s.taken + 1)
-May run s (Reads number key answer) = answer ≡ s.present key
+May run s (Reads number key answer) = (answer ≡ s.present key) ⊎ IsForwarded s number key answer
 May run s (Deposits a true) = IsRightTry run a × IsAt s a.number Out
 May run s (Deposits a false) = IsRightTry run a × ¬ (IsAt s a.number Out)
 May run s (Voids number true) = IsAt s number Out

@@ -83,3 +83,7 @@ after_outcome held outcome = record {
 -- an outcome is that of a step of the world that has these records
 abbrev pub IsOutcomeOf : Plan → Input → (Key → Option Rec) → Outcome → Type 0
 IsOutcomeOf track input records outcome = (w : World) → AreRecordsOf track records w → IsStep track input w outcome.result outcome.writes outcome.messages
+
+-- an input is taken in: what stood there was a desk of the rules, and what stands there now is that desk after the input
+abbrev pub IsTakenIn : Plan → Input → Standing → Standing → Type 0
+IsTakenIn track input old new = (desk : serial.Desk) → Holds track old desk → Holds track new (serial.step track desk input)

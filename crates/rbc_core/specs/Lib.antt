@@ -5,6 +5,8 @@ pub mod Runs
 pub mod Core
 pub mod Events
 pub mod Conflicts
+pub mod Forwards
+pub mod Reaches
 pub mod Books
 pub mod SaidMails
 pub mod Facts

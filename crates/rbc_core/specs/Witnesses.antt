@@ -22,7 +22,8 @@ use Rattle.rbc_core.specs.Runs.{Run}
 use Rattle.rbc_core.specs.Core.{Try, State, opening}
 use Rattle.rbc_core.specs.Events.{Event, Meaning}
 use Rattle.rbc_core.specs.Events.Event.{Publishes, Takes, Reads, Deposits, Voids, Applies, Recomputes, Ends, Fails}
-use Rattle.rbc_core.specs.Conflicts.{after}
+use Rattle.rbc_core.specs.Conflicts.{after, AreAnswered}
+use Rattle.rbc_core.specs.Forwards.{AreLatest, AreAfterDeposits, NoneIsVoided}
 use Rattle.rbc_core.specs.SaidMails.{IsSaidMail, AreSaidMails}
 
 -- from a new desk: train 7 of 200 m is enrolled, and then comes a line that is no input
@@ -147,6 +148,60 @@ stops_read = before_first (Reads 2 key.Stops 0 ∷ Deposits stops_try true ∷ [
 
 abbrev pub nothing_read : List Event
 nothing_read = before_first (Deposits second_try true ∷ [])
+
+-- ---- what is read before it is committed
+
+-- an attempt at the second, for which train 7 was read as the attempt at the first writes it
+abbrev pub forwarded_try : Try
+forwarded_try = record second_try { notes = (key.Train 7, under 2 train_7) ∷ [] }
+
+-- both are taken, and there is an attempt at the first
+abbrev pub first_tried : List Event
+first_tried = publishing ++ Takes (Some 1) ∷ Takes (Some 2) ∷ reading_first ++ Deposits first_try true ∷ []
+
+-- train 7 is read for the second as the first writes it, and then both are committed
+abbrev pub forwarding : List Event
+forwarding = first_tried ++ Reads 2 (key.Train 7) 2 ∷ Deposits forwarded_try true ∷ Applies enrolled enrolled_numbers ∷ []
+
+abbrev pub applying_forwarded : List Event
+applying_forwarded = forwarding ++ Applies refused [] ∷ Ends ∷ []
+
+-- or it is read as it stood before, and the first is committed
+abbrev pub passing_over : List Event
+passing_over = first_tried ++ Reads 2 (key.Train 7) 0 ∷ Deposits second_try true ∷ Applies enrolled enrolled_numbers ∷ []
+
+-- and then the second is computed again
+abbrev pub then_again : List Event → List Event
+then_again events = events ++ Recomputes refused [] ∷ Ends ∷ []
+
+-- all but one of what has to hold, for nothing to be computed again: a note was not read, an input was given up, a read does not give the
+-- latest, or it comes too early
+abbrev pub MissesAnswers : List Event → Type 0
+MissesAnswers events = ¬ (AreAnswered events) × NoneIsVoided events × AreLatest start events × AreAfterDeposits events
+
+abbrev pub MissesAttempts : List Event → Type 0
+MissesAttempts events = AreAnswered events × ¬ (NoneIsVoided events) × AreLatest start events × AreAfterDeposits events
+
+abbrev pub MissesLatest : List Event → Type 0
+MissesLatest events = AreAnswered events × NoneIsVoided events × ¬ (AreLatest start events) × AreAfterDeposits events
+
+abbrev pub MissesDeposits : List Event → Type 0
+MissesDeposits events = AreAnswered events × NoneIsVoided events × AreLatest start events × ¬ (AreAfterDeposits events)
+
+-- before the run a version of the stops was published under number 4
+abbrev pub stops_at_4 : Key → ℕ
+stops_at_4 k = if same_key k key.Stops then 4 else 0
+
+abbrev pub started_with_4 : State
+started_with_4 = opening two_inputs stops_at_4
+
+-- so the attempt at the first is not fresh, and what it writes is published anew, after train 7 was read for the second as the attempt wrote it
+abbrev pub again_numbers : List (Key × NumberedRec)
+again_numbers = (key.Roster, under 5 engines) ∷ (key.Train 7, under 6 train_7) ∷ (key.Unplaced, under 7 engines) ∷ []
+
+abbrev pub second_misled : List Event
+second_misled =
+    publishing ++ Takes (Some 1) ∷ Takes (Some 2) ∷ Deposits first_try true ∷ Reads 2 (key.Train 7) 2 ∷ Deposits forwarded_try true ∷ Recomputes enrolled again_numbers ∷ []
 
 -- ---- states
 

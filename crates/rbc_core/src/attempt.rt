@@ -1,16 +1,20 @@
 //! Attempts at inputs.
 
-ghost use Rattle.std.specs.Prelude.{◌≡◌, ◌↔◌, IsTrue};
+ghost use Rattle.std.specs.Prelude.{◌≡◌, ◌≤◌, ◌↔◌, ℕ, Some, IsTrue};
 ghost use Rattle.std.specs.Option.{option_map};
+ghost use Rattle.rbc_records.specs.declared.record.Key.{Key};
 ghost use Rattle.rbc_records.specs.Notes.{Part, AreNow};
 ghost use Rattle.rbc_versions.specs.Log.{number_of};
-ghost use Rattle.rbc_versions.specs.Entries.{AreOf, AreKeyedOf, AreOfWrites, AreCurrent, StandIn, numbered, records_of, shown, record_of, ticket_in};
+ghost use Rattle.rbc_versions.specs.Entries.{AreOf, AreKeyedOf, AreOfWrites, AreCurrent, StandIn, numbered, number_for, records_of, shown, record_of, ticket_in};
 ghost use Rattle.rbc_rule.specs.Right.{IsRight};
 ghost use Rattle.rbc_rule.specs.Gathered.{AreSendable};
 ghost use Rattle.rbc_core.specs.Runs.{IsInput};
 ghost use Rattle.rbc_core.specs.Core.{IsRightTry};
+ghost use Rattle.rbc_core.specs.Reaches.{reached};
 
+use crate::reach::Reach;
 use crate::run_name::RunName;
+use rbc_records::Key;
 use rbc_rule::{Input, Outcome};
 use rbc_track::Track;
 use rbc_versions::{Notes, Present, Published, VersionLog};
@@ -82,6 +86,26 @@ impl<N: RunName> Attempt<N> {
     /// How much was published for it.
     pub(crate) fn weight(&self) -> usize {
         self.published.weight()
+    }
+
+    /// The number that it puts under a key: 0 where it removes what stands there. `None` if it does not write the key.
+    pub(crate) fn number_for(&self, key: Key) -> Option<u64>
+        ensures { result ≡ number_for self.now.writes key }
+    {
+        self.published.number(key)
+    }
+
+    /// Raises the bounds for the keys that it writes. Takes no memory.
+    pub(crate) fn raise(&self, reach: &mut Reach)
+        ensures here { (k : Key) (n : ℕ) → number_for self.now.writes k ≡ Some n → self.now.number ≤ reached reach.new k }
+        ensures more { (k : Key) → reached reach.old k ≤ reached reach.new k }
+    {
+        let Attempt {
+            number,
+            published,
+            ..
+        } = self;
+        reach.raise_all(published, *number);
     }
 
     /// Whether the numbers of all that was read, also of absent records, are the present ones. Nothing but numbers is compared.

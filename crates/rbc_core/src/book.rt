@@ -1,6 +1,6 @@
 //! The book of a run: its inputs are taken and attempted in any order, and committed in their own.
 
-ghost use Rattle.std.specs.Prelude.{◌≡◌, ◌+◌, ◌<◌, ◌↔◌, IsTrue, Some, length, replicate, set, slice_get, is_ok, IfOk, IfErr, OnOk, OnErr};
+ghost use Rattle.std.specs.Prelude.{◌≡◌, ◌+◌, ◌<◌, ◌≤◌, ◌↔◌, ◌-◌, ℕ, IsTrue, Some, None, length, replicate, set, slice_get, is_ok, IfOk, IfErr, IfSome, OnOk, OnErr};
 ghost use Rattle.std.specs.Prelude.{List};
 ghost use Rattle.rbc_records.specs.declared.record.Key.{Key};
 ghost use Rattle.rbc_records.specs.Notes.{record_in};
@@ -12,12 +12,15 @@ ghost use Rattle.rbc_core.specs.Held.{standing};
 ghost use Rattle.rbc_core.specs.Runs.{IsGoodRun, IsSerialRun};
 ghost use Rattle.rbc_core.specs.Core.{Try, opening};
 ghost use Rattle.rbc_core.specs.Books.{IsBook, ArePresent, state_of, number_now, IsOutIn, IsJudged, Judges, IsMemoryOf, IsOutcomeAt, IsCarriedOut};
+ghost use Rattle.rbc_core.specs.Reaches.{IsLatestIn, NoneWritesIn, number_put};
+ghost use Rattle.rbc_core.specs.Forwards.{IsLatest};
 ghost use Rattle.rbc_core.specs.SaidMails.{IsSaidSince};
 ghost use Rattle.rbc_core.specs.Events.{Happens, Commits};
 ghost use Rattle.rbc_core.specs.Events.Event.{Takes, Reads, Deposits, Voids};
 
 use crate::attempt::Attempt;
 use crate::desk::{Desk, MAX_RESULTS};
+use crate::reach::Reach;
 use crate::run_name::RunName;
 use crate::spent::Spent;
 use crate::stage::Stage;
@@ -42,7 +45,7 @@ pub struct Stats {
 pub enum Commit {
     /// The outcome of the attempt was taken over: the number of all that was read for it is the present one.
     Applied,
-    /// The input was computed here: it was given up, or the number of something that was read is not the present one any more.
+    /// The input was computed here: it was given up, or the number of something that was read is not the present one.
     Recomputed,
     /// The input is neither attempted nor given up. Nothing changed.
     NotReady,
@@ -65,6 +68,7 @@ pub struct Book<'a, N: RunName> {
     taken: u32,
     recomputed: u32,
     is_closed: bool,
+    reach: Reach,
     weight: usize,
     spent: Spent,
 }
@@ -72,13 +76,15 @@ pub struct Book<'a, N: RunName> {
 impl<'a, N: RunName> Model for Book<'a, N> {
     ghost use Rattle.std.specs.Prelude.{◌≡◌};
     ghost use Rattle.rbc_core.specs.Books as books;
+    ghost use Rattle.rbc_core.specs.Reaches.{AreWithin};
 
     ghost Value = { books.BookValue };
 
     ghost view = { λ b. record { desk = b.desk; present = b.present.tickets; stages = b.stages.items; committed = b.committed; taken = b.taken; recomputed = b.recomputed; closed = b.is_closed } };
 
-    // The inputs and the log are those of the run, and what is held is the serial run of the inputs that are committed.
-    ghost invariant = { λ b. (b.log.now ≡ N.log) × (b.inputs.now ≡ N.run.inputs) × books.IsBook N.run N.log (record { desk = b.desk; present = b.present.tickets; stages = b.stages.items; committed = b.committed; taken = b.taken; recomputed = b.recomputed; closed = b.is_closed }) };
+    // The inputs and the log are those of the run, and what is held is the serial run of the inputs that are committed. No attempt at an
+    // input above a key's bound writes the key.
+    ghost invariant = { λ b. (b.log.now ≡ N.log) × (b.inputs.now ≡ N.run.inputs) × books.IsBook N.run N.log (record { desk = b.desk; present = b.present.tickets; stages = b.stages.items; committed = b.committed; taken = b.taken; recomputed = b.recomputed; closed = b.is_closed }) × AreWithin b.stages.items b.reach };
 }
 
 impl<'a, N: RunName> Book<'a, N> {
@@ -106,6 +112,9 @@ impl<'a, N: RunName> Book<'a, N> {
         let Ok(stages) = all_free(alloc, inputs.len()) else {
             return Err(desk);
         };
+        let Ok(reach) = Reach::new(alloc) else {
+            return Err(desk);
+        };
         let Ok(present) = Present::of_store(rt, alloc, log, desk.store()) else {
             return Err(desk);
         };
@@ -119,6 +128,7 @@ impl<'a, N: RunName> Book<'a, N> {
             taken: 0,
             recomputed: 0,
             is_closed: false,
+            reach,
             weight: 0,
             spent: Spent::nothing(),
         })
@@ -136,13 +146,19 @@ impl<'a, N: RunName> Book<'a, N> {
         Some(self.taken)
     }
 
-    /// The number of the record that stands under a key now, or 0 if there is none; read for an input. Takes no memory.
+    /// The number of the record that stands under a key as an input is to see it, or 0 if there is none: what the attempt at the latest
+    /// earlier input puts there, of those that were deposited, are not committed and write the key; and else what stands there now. It
+    /// takes no memory, and where no such attempt has written a key of the same bucket, no longer than a look at what stands there.
     pub fn present(&self, input: u32, key: Key) -> u64
         ensures event { Happens N.run (state_of self.now) (Reads input key result) (state_of self.now) }
+        ensures latest { IsLatest (state_of self.now) input key result }
         ensures book { IsBook N.run N.log self.now }
     {
-        let _ = input;
-        self.present.number(key)
+        let last = last_before(input, self.taken, self.reach.of(key));
+        match forwarded(&self.stages, self.committed, last, key) {
+            Some(number) => number,
+            None => self.present.number(key),
+        }
     }
 
     /// Keeps an attempt at an input that was taken, and is neither attempted nor given up. Any other attempt is handed back, and
@@ -156,6 +172,7 @@ impl<'a, N: RunName> Book<'a, N> {
             return Err(attempt);
         }
         self.weight = self.weight.saturating_add(attempt.weight());
+        attempt.raise(&mut self.reach);
         self.stages[number as usize - 1] = Stage::Tried(attempt);
         Ok(())
     }
@@ -264,6 +281,7 @@ impl<'a, N: RunName> Book<'a, N> {
             taken: _,
             recomputed: _,
             is_closed: _,
+            reach: _,
             weight: _,
             spent: _,
         } = self;
@@ -287,6 +305,49 @@ fn is_out<N: RunName>(stages: &Vec<Stage<Attempt<N>>>, number: u32) -> bool
     ensures { IsTrue result ↔ IsOutIn stages.now.items number }
 {
     number > 0 && matches!(stages.get(number as usize - 1), Some(Stage::Out))
+}
+
+/// The number of the last input before one that may have an attempt which writes a key, with so many inputs taken, by the bound of the
+/// key; 0 where there is none.
+fn last_before(input: u32, taken: u32, reach: u32) -> u32
+    ensures before { result ≤ input - 1 }
+    ensures taken { result ≤ taken }
+    ensures all { (number : ℕ) → result < number → number < input → number ≤ taken → reach < number }
+{
+    let before = input.saturating_sub(1);
+    let last = if before < taken { before } else { taken };
+    if reach < last { reach } else { last }
+}
+
+/// The number that the attempt of a stage puts under a key.
+fn put_by<N: RunName>(stage: &Stage<Attempt<N>>, key: Key) -> Option<u64>
+    ensures { result ≡ number_put stage.now key }
+{
+    match stage {
+        Stage::Tried(attempt) => attempt.number_for(key),
+        Stage::Free | Stage::Out | Stage::Void => None,
+    }
+}
+
+/// The number that the attempt at the latest input puts under a key, of those above the ones that are committed and up to the last one.
+fn forwarded<N: RunName>(
+    stages: &Vec<Stage<Attempt<N>>>,
+    committed: u32,
+    last: u32,
+    key: Key,
+) -> Option<u64>
+    requires { last ≤ length stages.now.items }
+    ensures some { IfSome result (λ number. IsLatestIn stages.now.items committed last key number) }
+    ensures none { result ≡ None → NoneWritesIn stages.now.items committed last key }
+{
+    let mut at = last;
+    while at > committed {
+        if let Some(number) = put_by(&stages[at as usize - 1], key) {
+            return Some(number);
+        }
+        at -= 1;
+    }
+    None
 }
 
 /// Whether the next input is ready to be committed, and then whether by its attempt.

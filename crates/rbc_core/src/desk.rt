@@ -1,14 +1,14 @@
 //! The desk: everything that is known, every answer given, and every message sent.
 
 ghost use Rattle.std.specs.Prelude.{◌≡◌, ◌+◌, ◌<◌, ◌≤◌, [], length, IfOk, IfErr, OnOk, OnErr, Some, slice_get};
-ghost use Rattle.rbc_track.specs.Plan.{Plan};
+ghost use Rattle.rbc_track.specs.Plan.{Plan, IsPlan};
 ghost use Rattle.rbc_maps.specs.Maps.{value_or};
 ghost use Rattle.rbc_records.specs.Notes.{record_in};
 ghost use Rattle.rbc_records.specs.Writes.{replaced};
 ghost use Rattle.rbc_rule.specs.Inputs.{Fits};
 ghost use Rattle.rbc_rule.specs.Gathered.{AreSendable};
 ghost use Rattle.rbc_core.specs.Serial as serial;
-ghost use Rattle.rbc_core.specs.Held.{Holds, IsInOrder, standing, IsOutcomeOf, after_outcome};
+ghost use Rattle.rbc_core.specs.Held.{Holds, IsInOrder, IsTakenIn, standing, IsOutcomeOf, after_outcome};
 ghost use Rattle.rbc_core.specs.Books.{IsMemoryOf};
 ghost use Rattle.rbc_core.specs.Sendable as mails;
 
@@ -110,8 +110,31 @@ impl Desk {
         ensures fit { IfOk result (λ outcome. AreSendable outcome.messages) }
         ensures memory { IfErr result (λ fault. IsMemoryOf track.now (record_in self.old.records) fault) }
         ensures same { standing self.new ≡ standing self.old }
+        ensures in_order { IsInOrder self.old }
     {
         decide(alloc, track, input, &mut self.records)
+    }
+
+    /// Takes an input in: decides it by the records, and takes its messages, its result and its writes over. There has to be room for
+    /// one more result. If the desk is one of the rules, it is then the one that they give after this input.
+    ///
+    /// # Errors
+    ///
+    /// If the desk is one of the rules, this fails only for lack of memory. After an error nothing is changed, and the same input can
+    /// be taken in again.
+    pub fn take_in(&mut self, alloc: Global, track: &Track, input: &Input) -> Result<(), RuleFault>
+        requires fits { Fits input.now }
+        requires room { length self.old.results < MAX_RESULTS }
+        ensures taken { OnOk result (IsTakenIn track.now input.now (standing self.old) (standing self.new)) }
+        ensures memory { IfErr result (λ fault. IsMemoryOf track.now (record_in self.old.records) fault) }
+        ensures err { OnErr result (standing self.new ≡ standing self.old) }
+    {
+        keeps(track);
+        let outcome = self.decide(alloc, track, input)?;
+        match self.take_over(alloc, outcome) {
+            Ok(_) => Ok(()),
+            Err(_) => Err(RuleFault::OutOfMemory),
+        }
     }
 
     /// Takes an outcome over: its messages, its result and its writes. There has to be room for one more result. Hands back what is
@@ -156,4 +179,11 @@ impl Desk {
             }
         }
     }
+}
+
+/// Says in its contract what every track satisfies, because a step keeps the records in order only on such a track.
+fn keeps(track: &Track)
+    ensures { IsPlan track.now }
+{
+    let _ = track.horizon();
 }

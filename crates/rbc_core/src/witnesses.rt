@@ -5,14 +5,16 @@ ghost use Rattle.std.specs.List.{All};
 ghost use Rattle.rbc_records.specs.declared.record.Key.TheVariants as key;
 ghost use Rattle.rbc_rule.specs.Witnesses.{stop_before, stop_now, revoke};
 ghost use Rattle.rbc_core.specs.Serial.{mail};
-ghost use Rattle.rbc_core.specs.Events.{May, Follow, Meaning, AreMeant, IsMeant, IsOpeningIn};
+ghost use Rattle.rbc_core.specs.Events.{May, Follow, Meaning, AreMeant, IsMeant, IsOpeningIn, IsForwarded};
 ghost use Rattle.rbc_core.specs.Events.Event.{Takes, Deposits, Applies, Recomputes, Waits, Ends};
 ghost use Rattle.rbc_core.specs.Facts.{KeepsAttempts, KeepsRecords, KeepsNumbers, KeepsClosed};
-ghost use Rattle.rbc_core.specs.Conflicts.{AreAnswered, WasVoided, IsOvertaken, IsExplained};
-ghost use Rattle.rbc_core.specs.Witnesses.{two_inputs, engines, enrolled, refused, absent, under, enrolled_numbers, means, two_under_one, no_numbers, start};
+ghost use Rattle.rbc_core.specs.Conflicts.{AreAnswered, WasVoided, IsOvertaken, IsMisled, IsExplained};
+ghost use Rattle.rbc_core.specs.Forwards.{IsForwarding};
+ghost use Rattle.rbc_core.specs.Witnesses.{two_inputs, engines, train_7, enrolled, refused, absent, under, enrolled_numbers, means, two_under_one, no_numbers, start};
 ghost use Rattle.rbc_core.specs.Witnesses.{first_try, second_try, stops_try, computing_again, applying, failing, after_events, one_stale, published_again, second_first};
 ghost use Rattle.rbc_core.specs.Witnesses.{both_tried, first_committed, first_lost, none_tried, second_enrols, second_gone, second_changed, engines_there, stops_there, stops_numbered};
 ghost use Rattle.rbc_core.specs.Witnesses.{second_overtaken, second_given_up, giving_up, again_for_nothing, stops_read, nothing_read};
+ghost use Rattle.rbc_core.specs.Witnesses.{forwarded_try, first_tried, forwarding, applying_forwarded, passing_over, then_again, MissesAnswers, MissesAttempts, MissesLatest, MissesDeposits, started_with_4, second_misled};
 ghost use Rattle.rbc_core.specs.Witnesses.{stop_told, stop_revoked, IsSaidThere, AreSaidThere};
 
 /// From a new desk train 7 is enrolled, and then comes a line that is no input. The three records of the first are published under the
@@ -81,10 +83,12 @@ pub fn staying_law_witnesses()
 /// The first of those inputs is committed by its attempt, and then it is the turn of the second one.
 ///
 /// Right: it was read for the second that there is no train 7, and then the first was committed, which writes that record, so the
-/// attempt at the second is overtaken; and the second was given up. Each note of an attempt was read.
+/// attempt at the second is overtaken; and the second was given up. Each note of an attempt was read. Or train 7 was read for the second as
+/// the attempt at the first wrote it, and then the first was computed again, so that the attempt at the second is misled.
 ///
 /// Wrong: the first is computed again though its attempt is fresh; a note of stops is overtaken, which nobody writes; a note is overtaken
-/// that was never read; and a note that was never read is answered.
+/// that was never read; a note that was never read is answered; and the attempt at the second is misled where the first is committed by its
+/// attempt.
 pub fn conflict_law_witnesses()
     ensures answered { AreAnswered second_overtaken }
     ensures overtaken { IsOvertaken start second_overtaken second_try (key.Train 7, absent) }
@@ -97,6 +101,33 @@ pub fn conflict_law_witnesses()
     ensures unwritten { IsOvertaken start stops_read stops_try (key.Stops, absent) → ⊥ }
     ensures unread { IsOvertaken start nothing_read second_try (key.Train 7, absent) → ⊥ }
     ensures unanswered { AreAnswered nothing_read → ⊥ }
+    ensures misled { IsMisled started_with_4 second_misled forwarded_try (key.Train 7, under 2 train_7) }
+    ensures misled_again { Follow two_inputs started_with_4 (then_again second_misled) }
+    ensures not_misled { IsMisled start forwarding forwarded_try (key.Train 7, under 2 train_7) → ⊥ }
+{}
+
+/// Both of those inputs are taken.
+///
+/// Right: train 7 is read for the second after the first is attempted, as that attempt writes it and before it is committed; and nothing is
+/// computed again.
+///
+/// Wrong, and computed again: nothing was read for the second, though its attempt has a note; the second was given up; train 7 was read for
+/// the second as it stood before, though the first was attempted; and it was read before the first was attempted. In each of these all else
+/// holds that has to.
+pub fn forward_law_witnesses()
+    ensures forwarding { Follow two_inputs start applying_forwarded }
+    ensures all_met { IsForwarding start applying_forwarded }
+    ensures never { (after_events applying_forwarded).recomputed ≡ 0 }
+    ensures forwarded { IsForwarded (after_events first_tried) 2 (key.Train 7) 2 }
+    ensures not_present { (after_events first_tried).present (key.Train 7) ≡ 0 }
+    ensures unread { MissesAnswers nothing_read }
+    ensures unread_again { Follow two_inputs start (then_again nothing_read) }
+    ensures given_up { MissesAttempts second_given_up }
+    ensures given_up_again { Follow two_inputs start (then_again second_given_up) }
+    ensures passed_over { MissesLatest passing_over }
+    ensures passed_over_again { Follow two_inputs start (then_again passing_over) }
+    ensures too_early { MissesDeposits second_overtaken }
+    ensures too_early_again { Follow two_inputs start (then_again second_overtaken) }
 {}
 
 /// Train 7 stands 200 m beyond balise group 5, facing up. Stop 1 of 20000 to 21000 becomes active, and is released.

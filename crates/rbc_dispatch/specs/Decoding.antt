@@ -5,7 +5,7 @@ use Rattle.hex.specs.Hex.{decode_of}
 use Rattle.ertms_codec.specs.Texts.{HasText, IsRefused}
 use Rattle.ertms_codec.specs.declared.error.DecodeError.{DecodeError}
 use Rattle.rbc_dispatch.specs.declared.fault.Fault.{Fault}
-use Rattle.rbc_dispatch.specs.declared.fault.Fault.TheVariants.{Batch, BadHex, Decode, Write, OutOfMemory, Track, TrackUnreadable}
+use Rattle.rbc_dispatch.specs.declared.fault.Fault.TheVariants.{Batch, BadHex, Decode, Write, OutOfMemory, Track, TrackUnreadable, TrackWarnings}
 
 -- the word stands for bytes with this text
 abbrev pub SpellsText : List ℕ → List ℕ → Type 0
@@ -23,6 +23,7 @@ Decodes word old new (Err OutOfMemory) = ⊤
 Decodes word old new (Err (Batch e)) = ⊥
 Decodes word old new (Err (Track e)) = ⊥
 Decodes word old new (Err TrackUnreadable) = ⊥
+Decodes word old new (Err (TrackWarnings count)) = ⊥
 
 -- refused bytes are answered by their refusal, unless memory runs out
 abbrev pub MeetsRefusal : {E : Type 0} → DecodeError → Result E Fault → Type 0
@@ -38,3 +39,4 @@ IsUntouched (Err OutOfMemory) old new = new ≡ old
 IsUntouched (Err (Batch e)) old new = new ≡ old
 IsUntouched (Err (Track e)) old new = new ≡ old
 IsUntouched (Err TrackUnreadable) old new = new ≡ old
+IsUntouched (Err (TrackWarnings count)) old new = new ≡ old

@@ -10,8 +10,9 @@ use Rattle.hex.specs.declared.error.FromHexError.{FromHexError}
 use Rattle.hex.specs.declared.error.FromHexError.TheVariants as hex
 use Rattle.rbc_batch.specs.Process.{fault_text}
 use Rattle.rbc_track.specs.Plan.{name_of as name_of_track}
+use Rattle.rbc_words.specs.Units.{count_text}
 use Rattle.rbc_dispatch.specs.declared.fault.Fault.{Fault}
-use Rattle.rbc_dispatch.specs.declared.fault.Fault.TheVariants.{Batch, BadHex, Decode, Write, OutOfMemory, Track, TrackUnreadable}
+use Rattle.rbc_dispatch.specs.declared.fault.Fault.TheVariants.{Batch, BadHex, Decode, Write, OutOfMemory, Track, TrackUnreadable, TrackWarnings}
 
 -- the line of a fault, without its line feed
 abbrev pub line_of : Fault → List ℕ
@@ -22,6 +23,7 @@ line_of (Write sent) = codes "write fault after " ++ decimal sent ++ codes " byt
 line_of OutOfMemory = codes "out of memory"
 line_of (Track error) = codes "track: " ++ name_of_track error
 line_of TrackUnreadable = codes "track: unreadable"
+line_of (TrackWarnings count) = codes "track: " ++ count_text count (codes "warning")
 
 -- the fault by what the hexadecimal decoder answers
 abbrev pub fault_of_hex : FromHexError → Fault

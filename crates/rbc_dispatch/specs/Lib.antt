@@ -1,3 +1,4 @@
+pub mod Checking
 pub mod Decoding
 pub mod Ending
 pub mod Fault

@@ -8,7 +8,7 @@ use Rattle.rbc_track.specs.Reading.{IsTrackOf, RefusesTrack}
 use Rattle.rbc_track.specs.declared.error.TrackError.{TrackError}
 use Rattle.rbc_track.specs.declared.error.TrackError.TheVariants as track
 use Rattle.rbc_dispatch.specs.declared.fault.Fault.{Fault}
-use Rattle.rbc_dispatch.specs.declared.fault.Fault.TheVariants.{Batch, BadHex, Decode, Write, OutOfMemory, Track, TrackUnreadable}
+use Rattle.rbc_dispatch.specs.declared.fault.Fault.TheVariants.{Batch, BadHex, Decode, Write, OutOfMemory, Track, TrackUnreadable, TrackWarnings}
 
 -- the batch is answered by so many workers, on the track that the text is
 abbrev pub AnswersOn : List ℕ → ℕ → Option (List ℕ) → Option (List ℕ) → Option (List ℕ) → Option (List ℕ) → Result Stats ProcessError → Type 0
@@ -25,6 +25,7 @@ RunsOn text workers read_old read_new old new (Ok done) = (stats : Stats) × Ans
 RunsOn text workers read_old read_new old new (Err (Batch error)) = AnswersOn text workers read_old read_new old new (Err error)
 RunsOn text workers read_old read_new old new (Err (Track error)) = IsNoTrack text error
 RunsOn text workers read_old read_new old new (Err TrackUnreadable) = ⊥
+RunsOn text workers read_old read_new old new (Err (TrackWarnings count)) = ⊥
 RunsOn text workers read_old read_new old new (Err OutOfMemory) = ⊥
 RunsOn text workers read_old read_new old new (Err BadHex) = ⊥
 RunsOn text workers read_old read_new old new (Err (Decode e)) = ⊥
@@ -48,6 +49,7 @@ Keeps (Ok done) read_old read_new old new = ⊤
 Keeps {E = E} (Err (Batch error)) read_old read_new old new = IsUnwritten {E = E} (Err error) old new
 Keeps (Err (Track error)) read_old read_new old new = (read_new ≡ read_old) × (new ≡ old)
 Keeps (Err TrackUnreadable) read_old read_new old new = (read_new ≡ read_old) × (new ≡ old)
+Keeps (Err (TrackWarnings count)) read_old read_new old new = (read_new ≡ read_old) × (new ≡ old)
 Keeps (Err OutOfMemory) read_old read_new old new = (read_new ≡ read_old) × (new ≡ old)
 Keeps (Err BadHex) read_old read_new old new = (read_new ≡ read_old) × (new ≡ old)
 Keeps (Err (Decode e)) read_old read_new old new = (read_new ≡ read_old) × (new ≡ old)

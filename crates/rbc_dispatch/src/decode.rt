@@ -12,7 +12,7 @@ use rbc_batch::write_text;
 use std::alloc::Global;
 use std::io::Write;
 
-/// Writes the text of the message whose bytes a hexadecimal word stands for.
+/// Writes the text of the message whose bytes a hexadecimal word is an encoding of.
 ///
 /// # Errors
 ///

@@ -11,7 +11,7 @@ use std::process::ExitCode;
 pub enum Ending {
     /// The words ask for help, or are no words of the program's.
     Words(clap::Error),
-    /// The task that the words name met a fault.
+    /// The task that the arguments name met a fault.
     Fault(Fault),
 }
 
@@ -20,7 +20,7 @@ impl Ending {
     ghost use Rattle.std.specs.Process.{exit_status};
     ghost use Rattle.rbc_dispatch.specs.Ending.{PrintsFault, status_of};
 
-    /// The exit status: 0 for help, 2 for wrong words and 1 for a fault.
+    /// The exit status: 0 for help and the version, 2 for bad arguments and 1 for a fault.
     pub fn exit_code(&self) -> ExitCode
         ensures { exit_status result ≡ status_of self.now }
     {
@@ -31,7 +31,7 @@ impl Ending {
         }
     }
 
-    /// Prints help on `output`, and on `errors` the text on wrong words or the line of the fault.
+    /// Prints help on `output`, and on `errors` the text on bad arguments or the line of the fault.
     /// An error may leave a part of it printed.
     pub fn print<O: Write, E: Write>(&self, output: &mut O, errors: &mut E) -> io::Result<()>
         ensures line { OnOk result

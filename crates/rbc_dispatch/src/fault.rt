@@ -3,15 +3,19 @@ use ertms_codec::{DecodeError, DescribeError};
 use hex::FromHexError;
 use rbc_batch::ProcessError;
 use rbc_track::TrackError;
+use rbc_words::Count;
+use std::alloc::AllocError;
 use std::{fmt, io};
 
-/// Why a task that the words named was not done. Its `Display` is the line for the user.
+/// Why a task that the arguments named was not done. Its `Display` is the line for the user.
 #[derive(Clone, Copy, Debug, PartialEq, Eq)]
 pub enum Fault {
     /// The track file could not be read, or is no UTF-8. Nothing was read or written.
     TrackUnreadable,
     /// The text of the track file is no track. Nothing was read or written.
     Track(TrackError),
+    /// The track is good, and its report, which is written, has so many warnings.
+    TrackWarnings { count: usize },
     /// The batch was not done.
     Batch(ProcessError),
     /// The word is no hexadecimal text of whole bytes.
@@ -34,6 +38,13 @@ impl fmt::Display for Fault {
         match self {
             Fault::TrackUnreadable => write!(f, "track: unreadable"),
             Fault::Track(error) => write!(f, "track: {}", error.name()),
+            Fault::TrackWarnings { count } => {
+                let warnings = Count {
+                    number: *count,
+                    noun: "warning",
+                };
+                write!(f, "track: {warnings}")
+            }
             Fault::Batch(error) => write!(f, "{error}"),
             Fault::BadHex => write!(f, "bad hex"),
             Fault::Decode(error) => write!(f, "decode: {error}"),
@@ -67,6 +78,17 @@ impl From<TrackError> for Fault {
 
     fn from(error: TrackError) -> Fault {
         Fault::Track(error)
+    }
+}
+
+impl From<AllocError> for Fault {
+    ghost use Rattle.std.specs.Prelude.{◌≡◌};
+    ghost use Rattle.rbc_dispatch.specs.declared.fault.Fault.TheVariants.{OutOfMemory};
+
+    ghost from_gives = { λ _ fault. fault ≡ OutOfMemory };
+
+    fn from(_refused: AllocError) -> Fault {
+        Fault::OutOfMemory
     }
 }
 

@@ -1,15 +1,18 @@
 //! `dispatch`, the program. `dispatch run --track FILE --workers N` reads a batch from standard input
 //! and writes what the dispatcher answers on the track in the file to standard output.
-//! `dispatch decode HEX` writes the text of one message there.
+//! `dispatch check --track FILE` says what a track file says, and what is wrong with it.
+//! `dispatch decode HEX` writes the text of one message, and `dispatch codes` what each code means.
 //!
 //! Workers are threads that work on several inputs at once, 1 to 16 of them, and 1 where N is not
 //! given. What is written does not hang on their number.
 //!
-//! The exit status is 0 where the task was done and for help, 1 for a fault, and 2 for words that
-//! the program does not take. A fault is one line on standard error.
+//! The exit status is 0 where the task was done, for help and for the version, 1 for a fault, and 2
+//! for bad arguments. A fault is one line on standard error.
 #![tactic(auto)]
 
 mod arguments;
+mod check;
+mod codes;
 mod decode;
 mod ending;
 mod fault;

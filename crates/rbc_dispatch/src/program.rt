@@ -2,11 +2,14 @@
 ghost use Rattle.std.specs.Prelude.{◌≡◌, ◌≢◌, ◌≤◌, ℕ, List, [], IfErr, OnOk, map, string_bytes};
 ghost use Rattle.std.specs.Process.{exit_status};
 ghost use Rattle.clap.specs.Words.{fault_of};
+ghost use Rattle.rbc_dispatch.specs.Checking.{Checks, IsUnreported};
 ghost use Rattle.rbc_dispatch.specs.Decoding.{Decodes, IsUntouched};
 ghost use Rattle.rbc_dispatch.specs.Ending.{AtTask, status_of};
 ghost use Rattle.rbc_dispatch.specs.Running.{IsUnread, Keeps, Runs, RunsOn};
-ghost use Rattle.rbc_dispatch.specs.Words.{AsksToDecode, AsksToRun, command_line};
+ghost use Rattle.rbc_dispatch.specs.Words.{AsksToCheck, AsksToDecode, AsksToRun, command_line};
 
+use crate::check::check_text;
+use crate::codes::write_codes;
 use crate::decode::decode;
 use crate::ending::Ending;
 use crate::fault::Fault;
@@ -23,7 +26,7 @@ use std::rt::Files;
 use std::sync::Wait;
 use std::thread::Threads;
 
-/// Does what the words of the process ask for, and returns the exit status. `output` should have no
+/// Does what the arguments of the process ask for, and returns the exit status. `output` should have no
 /// buffer of its own, so that what a write fault counts is what went out.
 pub fn run<R, I, O, E>(rt: &R, input: &mut I, output: &mut O, errors: &mut E) -> ExitCode
 where
@@ -58,7 +61,7 @@ where
     }
 }
 
-/// Does the task that the words after the program's name ask for. Words that are refused leave the
+/// Does the task that the arguments ask for. Arguments that are refused leave the
 /// streams untouched.
 fn perform<R, I, O>(rt: &R, words: &[String], input: &mut I, output: &mut O) -> Result<(), Ending>
 where
@@ -74,14 +77,30 @@ where
         → AtTask (Decodes word (O.contents output.old) (O.contents output.new)) result }
     ensures unread { (word : List ℕ) → AsksToDecode word (map string_bytes words.now)
         → (input.new ≡ input.old) × AtTask (λ r. IsUntouched r output.old output.new) result }
+    ensures check { (file : List ℕ) → AsksToCheck file (map string_bytes words.now)
+        → (input.new ≡ input.old) × AtTask Checks result }
     ensures only { OnOk result (fault_of command_line (map string_bytes words.now) ≡ []) }
     ensures refused { fault_of command_line (map string_bytes words.now) ≢ []
         → (input.new ≡ input.old) × (output.new ≡ output.old) }
 {
     match words::parse(rt.alloc(), words)? {
         Task::Run { track, workers } => Ok(run_file(rt, track, workers, input, output)?),
+        Task::Check { track, other_keys } => Ok(check_file(rt, track, other_keys, output)?),
         Task::Decode(word) => Ok(decode(rt.alloc(), word, output)?),
+        Task::Codes => Ok(write_codes(rt.alloc(), output)?),
     }
+}
+
+/// Reports on the track in a file. Nothing is written where the file is not read.
+fn check_file<R, O>(rt: &R, file: &str, other_keys: bool, output: &mut O) -> Result<(), Fault>
+where
+    R: AllocGlobal + Files,
+    O: Write,
+    ensures checks { Checks result }
+    ensures unreported { IsUnreported result output.old output.new }
+{
+    let text = track_text(rt, file)?;
+    check_text(rt.alloc(), text.as_str(), other_keys, output)
 }
 
 /// Does a batch by so many workers on the track in a file. The track is known before anything of the batch is read.

@@ -1,54 +1,124 @@
-//! The words that the program takes.
+//! The arguments that the program takes.
 ghost use Rattle.std.specs.Prelude.{◌≡◌, ◌⊎◌, ℕ, List, [], false, IfErr, IfNone, IfOk, IfSome, OnOk, map, option_map, string_bytes};
 ghost use Rattle.clap.specs.Words.{app_of, fault_of, rule_of, shape_of, subcommand_rows_of};
 ghost use Rattle.clap.specs.declared.builder.command.Command.TheViews.{out-Command as fields_of};
 ghost use Rattle.rbc_dispatch.specs.Ending.{status_of, status_of_kind};
-ghost use Rattle.rbc_dispatch.specs.Words.{AsksToDecode, AsksToRun, IsDecode, IsFound, IsNoTask, IsRunOn, IsTakenFor, IsWantOfMemory, command_line, decode_shape, finding_in, number_after, run_shape, word_after, workers_rule};
+ghost use Rattle.rbc_dispatch.specs.Words.{AsksToCheck, AsksToDecode, AsksToRun, IsCheckOf, IsDecode, IsFound, IsNoTask, IsRunOn, IsTakenFor, IsWantOfMemory, bare_line, check_shape, codes_shape, command_line, decode_shape, finding_in, number_after, run_shape, track_line, track_rule, word_after, workers_rule};
 
 use crate::arguments::Nameless;
 use crate::ending::Ending;
 use clap::error::ErrorKind;
-use clap::{Arg, ArgMatches, Command, value_parser};
+use clap::{Arg, ArgAction, ArgMatches, Command, value_parser};
 use std::alloc::{AllocError, Global};
 use std::env::Env;
 use std::{env, io};
 
-/// What the words ask the program to do.
+/// What the arguments ask the program to do.
 #[derive(Clone, Copy)]
 pub enum Task<'a> {
     /// `dispatch run --track FILE --workers N`: do the batch on standard input, on the track in the
-    /// file of this name, with so many workers, or with one where the words name no number.
+    /// file of this name, with so many workers, or with one where the arguments name no number.
     Run { track: &'a str, workers: u8 },
-    /// `dispatch decode HEX`: write the text of the message whose bytes this word stands for.
+    /// `dispatch check --track FILE --other-keys`: report on the track in the file of this name, with
+    /// or without the option.
+    Check { track: &'a str, other_keys: bool },
+    /// `dispatch decode HEX`: write the text of the message whose bytes this word is an encoding of.
     Decode(&'a str),
+    /// `dispatch codes`: list what each code and each fault means.
+    Codes,
 }
+
+const AFTER_HELP: &str = "\
+First:    dispatch check --track FILE                 what the track file says
+Then:     dispatch run --track FILE < BATCH           results and messages, as bytes
+More:     README.md, docs/GUIDE.md; `dispatch help COMMAND` for one command.";
+
+const AFTER_RUN: &str = "\
+Reads a batch from standard input, to its end, and writes one line for each input in order,
+`INPUT ok COUNT` or `INPUT refused CODE`, and then one line for each message, by engine number:
+`ENGINE INPUT HEX`. Nothing is written before the whole batch is run.
+
+Workers are threads that work on several inputs at once. The output is the same for every number.
+
+Exit status: 0 done; 1 a fault, one line on standard error; 2 bad arguments.
+`dispatch codes` says what each code and each fault means.";
+
+const AFTER_CHECK: &str = "\
+Writes the lines with their balise groups in order, then warnings and notes. Where the file is
+refused, writes the rule that it breaks and where. Standard input is not read.
+
+Exit status: 0 good, without a warning; 1 refused (`track: RULE` on standard error, as `run` has
+it), or good with warnings (`track: N warnings`); 2 bad arguments.";
+
+const AFTER_DECODE: &str = "\
+Messages 15, 16, 18 and 24 are read as messages to a train, all others as messages from one.
+Writes one line: the message's number, then each variable with its value.
+
+  dispatch decode 1002800000009FFFFFE2
+  16 stamp 2 ack 0 lrbg 16777215 em 1
+
+Exit status: 0 done; 1 a fault: `bad hex`, or `decode: NAME` with NAME Length, Message, Packet or
+Field; 2 bad arguments.";
+
+const AFTER_CODES: &str = "\
+Writes for each its number or its line, its name, what it means and what to do. Reads nothing.
+
+Exit status: 0 done; 1 a fault, one line on standard error; 2 bad arguments.";
 
 /// The command line that the program takes, by the name `dispatch` whatever its file is called.
 fn command<'a>(alloc: Global) -> Result<Command<'a>, AllocError>
     ensures { IfOk result (λ command. app_of command ≡ command_line) }
 {
-    Command::new(alloc, "dispatch")
+    track_commands(alloc)?
+        .subcommand(decode_command(alloc)?)?
+        .subcommand(codes_command(alloc))
+}
+
+/// The command line with those subcommands alone that take a track.
+fn track_commands<'a>(alloc: Global) -> Result<Command<'a>, AllocError>
+    ensures { IfOk result (λ command. app_of command ≡ track_line) }
+{
+    bare_command(alloc)?
+        .subcommand(run_command(alloc)?)?
+        .subcommand(check_command(alloc)?)
+}
+
+/// The command line without its subcommands.
+fn bare_command<'a>(alloc: Global) -> Result<Command<'a>, AllocError>
+    ensures { IfOk result (λ command. app_of command ≡ bare_line) }
+{
+    let command = Command::new(alloc, "dispatch")
         .bin_name("dispatch")?
         .no_binary_name(true)
-        .about("Dispatch emergency stops and speed restrictions to trains")
-        .subcommand_required(true)
-        .subcommand(run_command(alloc)?)?
-        .subcommand(decode_command(alloc)?)
+        .version("1.0.0, rules 1")
+        .about(
+            "Emergency stops and speed restrictions, from a signaller's batch to each train's messages",
+        )
+        .after_help(AFTER_HELP)
+        .subcommand_required(true);
+    Ok(command)
 }
 
 fn run_command<'a>(alloc: Global) -> Result<Command<'a>, AllocError>
     ensures shape { IfOk result (λ command. shape_of command ≡ run_shape) }
     ensures local { IfOk result (λ command. (fields_of command).has_globals ≡ false) }
 {
-    let track = Arg::new(alloc, "track")
+    Command::new(alloc, "run")
+        .about("Run a batch: its results, and each train's messages as bytes")
+        .after_help(AFTER_RUN)
+        .arg(track_option(alloc))?
+        .arg(workers_option(alloc))
+}
+
+fn track_option<'a>(alloc: Global) -> Arg<'a>
+    ensures rule { rule_of result ≡ track_rule }
+    ensures local { result.global ≡ false }
+{
+    Arg::new(alloc, "track")
         .long("track")
         .value_name("FILE")
         .required(true)
-        .help("The track file");
-    Command::new(alloc, "run")
-        .about("Read a batch from standard input and write the answers to standard output")
-        .arg(track)?
-        .arg(workers_option(alloc))
+        .help("The track file, a TOML document")
 }
 
 fn workers_option<'a>(alloc: Global) -> Arg<'a>
@@ -63,6 +133,21 @@ fn workers_option<'a>(alloc: Global) -> Arg<'a>
         .help("How many inputs are worked on at once, 1 to 16")
 }
 
+fn check_command<'a>(alloc: Global) -> Result<Command<'a>, AllocError>
+    ensures shape { IfOk result (λ command. shape_of command ≡ check_shape) }
+    ensures local { IfOk result (λ command. (fields_of command).has_globals ≡ false) }
+{
+    let other_keys = Arg::new(alloc, "other-keys")
+        .long("other-keys")
+        .action(ArgAction::SetTrue)
+        .help("Count unknown keys as notes, not as warnings");
+    Command::new(alloc, "check")
+        .about("Show what a track file says, and what is wrong with it")
+        .after_help(AFTER_CHECK)
+        .arg(track_option(alloc))?
+        .arg(other_keys)
+}
+
 fn decode_command<'a>(alloc: Global) -> Result<Command<'a>, AllocError>
     ensures shape { IfOk result (λ command. shape_of command ≡ decode_shape) }
     ensures local { IfOk result (λ command. (fields_of command).has_globals ≡ false) }
@@ -71,11 +156,21 @@ fn decode_command<'a>(alloc: Global) -> Result<Command<'a>, AllocError>
         .required(true)
         .help("The bytes of the message, two hexadecimal digits each");
     Command::new(alloc, "decode")
-        .about("Write the text of one message to standard output")
+        .about("Show what the bytes of one message mean")
+        .after_help(AFTER_DECODE)
         .arg(hex)
 }
 
-/// The words after the program's name. Where one is not UTF-8, the words are wrong.
+fn codes_command<'a>(alloc: Global) -> Command<'a>
+    ensures shape { shape_of result ≡ codes_shape }
+    ensures local { (fields_of result).has_globals ≡ false }
+{
+    Command::new(alloc, "codes")
+        .about("List all result codes and faults, and what to do about each")
+        .after_help(AFTER_CODES)
+}
+
+/// The arguments, as words. Where one is not UTF-8, they are bad.
 pub fn read<R: Env + AllocGlobal>(rt: &R) -> Result<Vec<String>, Ending>
     ensures { IfErr result (λ ending. IsWantOfMemory ending ⊎ (status_of ending ≡ 2)) }
 {
@@ -98,13 +193,15 @@ fn refuse(alloc: Global, kind: ErrorKind, message: &str) -> Result<Ending, Alloc
     Ok(Ending::Words(command(alloc)?.error(kind, message)?))
 }
 
-/// The task that the words after the program's name ask for. The error is help, where they ask for
-/// that, what is wrong with them, or want of memory.
+/// The task that the arguments ask for. The error is help, where they ask for that, what is wrong
+/// with them, or out of memory.
 pub fn parse<'a>(alloc: Global, words: &'a [String]) -> Result<Task<'a>, Ending>
     ensures run { (file : List ℕ) (workers : ℕ) → AsksToRun file workers (map string_bytes words.now)
         → IsTakenFor (IsRunOn file workers) result }
     ensures decode { (word : List ℕ) → AsksToDecode word (map string_bytes words.now)
         → IsTakenFor (IsDecode word) result }
+    ensures check { (file : List ℕ) → AsksToCheck file (map string_bytes words.now)
+        → IsTakenFor (IsCheckOf file) result }
     ensures only { OnOk result (fault_of command_line (map string_bytes words.now) ≡ []) }
     ensures task { IfOk result (IsFound (finding_in (map string_bytes words.now))) }
 {
@@ -125,7 +222,17 @@ fn task_of<'a>(matches: &ArgMatches<'a>) -> Option<Task<'a>>
         let workers = number_after(matches, "run", "workers");
         return Some(Task::Run { track, workers });
     }
-    Some(Task::Decode(word_after(matches, "decode", "HEX")?))
+    if let Some(hex) = word_after(matches, "decode", "HEX") {
+        return Some(Task::Decode(hex));
+    }
+    if let Some(track) = word_after(matches, "check", "track") {
+        let other_keys = has_flag_after(matches, "check", "other-keys");
+        return Some(Task::Check { track, other_keys });
+    }
+    if matches.subcommand_matches("codes").is_some() {
+        return Some(Task::Codes);
+    }
+    None
 }
 
 // The word that an argument was given after the subcommand of this name, if that one was named.
@@ -144,5 +251,13 @@ fn number_after<'a>(matches: &ArgMatches<'a>, name: &str, id: &str) -> u8
     match matches.subcommand_matches(name) {
         Some(found) => found.get_one::<u8>(id).unwrap_or(0),
         None => 0,
+    }
+}
+
+// Whether a flag stands after the subcommand of this name.
+fn has_flag_after(matches: &ArgMatches<'_>, name: &str, id: &str) -> bool {
+    match matches.subcommand_matches(name) {
+        Some(found) => found.get_flag(id),
+        None => false,
     }
 }

@@ -1,3 +1,4 @@
 pub mod Fronts
 pub mod Ends
 pub mod Stretches
+pub mod OneByOne

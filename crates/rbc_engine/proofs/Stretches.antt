@@ -38,7 +38,7 @@ onward run n m mid new good before after =
     (serial, said_since run (n + m) (standing new) good serial)
 
 -- each input has one result
-results_of : (track : Plan) (desk : Desk) (inputs : List Input) → length (serial track desk inputs).results ≡ length desk.results + length inputs
+pub results_of : (track : Plan) (desk : Desk) (inputs : List Input) → length (serial track desk inputs).results ≡ length desk.results + length inputs
 results_of track desk [] = omega arith
 results_of track desk (input ∷ inputs) =
     let rest = results_of track (step track desk input) inputs in

@@ -59,7 +59,7 @@ impl<'a, 'b, N: RunName, G: Gate, R: Wait> Job<'a, 'b, N, G, R> {
         let Ok(published) = publish_all(rt, alloc, log, &outcome.writes) else {
             return Err(RuleFault::OutOfMemory);
         };
-        self.pace.note(input, &outcome.writes);
+        self.pace.note_writes(input, &outcome.writes);
         let notes = recorder.into_notes();
         Ok(Attempt::of(self.track, number, input, notes, outcome, published))
     }
@@ -72,6 +72,7 @@ impl<'a, 'b, N: RunName, G: Gate, R: Wait> Job<'a, 'b, N, G, R> {
             Ok(attempt) => {
                 self.gate.before_deposit(number);
                 let _refused = lock(self.rt, self.book).deposit(attempt);
+                self.progress.tell_attempt(number);
                 self.gate.after_deposit(number);
             }
             Err(_) => {

@@ -1,7 +1,10 @@
 //! How many workers a stretch is worth.
 
-use rbc_records::{Rec, Writes};
+use ertms_codec::FromTrain;
+use rbc_core::Desk;
+use rbc_records::{Key, Rec, Writes};
 use rbc_rule::Input;
+use rbc_settle::TrainRec;
 use std::sync::atomic::{AtomicU64, Ordering};
 
 /// How many stops and restrictions a train has to be told of, on average, so that several workers are faster than one. A message of a train
@@ -28,28 +31,66 @@ impl Pace {
     }
 
     /// Notes what an input writes, if it is a message from a train.
-    pub(crate) fn note(&self, input: &Input, writes: &Writes) {
+    pub(crate) fn note_writes(&self, input: &Input, writes: &Writes) {
         if self.workers > 1 && matches!(input, Input::Received(_)) {
-            self.messages.fetch_add(1, Ordering::SeqCst);
-            self.weight
-                .fetch_add(told_in(writes) as u64, Ordering::SeqCst);
+            self.note(told_in(writes));
         }
     }
 
-    /// How many workers share the next stretch: one behind an open gate, if the trains before were told of few stops and restrictions, and else
-    /// all.
-    pub(crate) fn workers(&self, is_open: bool) -> u8 {
-        let messages = self.messages.load(Ordering::SeqCst);
-        let weight = self.weight.load(Ordering::SeqCst);
-        // What came long before counts less.
-        self.messages.store(messages / 2, Ordering::SeqCst);
-        self.weight.store(weight / 2, Ordering::SeqCst);
-        if is_open && weight / HEAVY <= messages {
-            1
-        } else {
-            self.workers
+    /// Notes the train that an input came from, after it was taken in by a desk.
+    pub(crate) fn note_taken_in(&self, input: &Input, desk: &Desk) {
+        if self.workers == 1 {
+            return;
+        }
+        let Some(engine) = sender(input) else {
+            return;
+        };
+        if let Some(Rec::Train(train)) = desk.store().get(Key::Train(engine)) {
+            self.note(told_to(train));
         }
     }
+
+    /// Notes a message of a train that is told of so many stops and restrictions.
+    fn note(&self, told: usize) {
+        self.messages.fetch_add(1, Ordering::SeqCst);
+        self.weight.fetch_add(told as u64, Ordering::SeqCst);
+    }
+
+    /// Whether the next stretch is faster by one worker: if only one can be had, or if the trains before were told of few stops and
+    /// restrictions.
+    pub(crate) fn is_for_one(&self) -> bool {
+        let messages = self.messages.load(Ordering::SeqCst);
+        let weight = self.weight.load(Ordering::SeqCst);
+        self.workers == 1 || weight / HEAVY <= messages
+    }
+
+    /// Halves what was noted, so that what came long before counts less.
+    pub(crate) fn fade(&self) {
+        let messages = self.messages.load(Ordering::SeqCst);
+        let weight = self.weight.load(Ordering::SeqCst);
+        self.messages.store(messages / 2, Ordering::SeqCst);
+        self.weight.store(weight / 2, Ordering::SeqCst);
+    }
+
+    /// How many workers can be had.
+    pub(crate) fn workers(&self) -> u8 {
+        self.workers
+    }
+}
+
+/// The engine (NID_ENGINE) that an input is a message from.
+fn sender(input: &Input) -> Option<u32> {
+    match input {
+        Input::Received(FromTrain::Report { engine, .. })
+        | Input::Received(FromTrain::Ack { engine, .. })
+        | Input::Received(FromTrain::StopAck { engine, .. }) => Some(*engine),
+        _ => None,
+    }
+}
+
+/// Of how many stops and restrictions a train is told.
+fn told_to(train: &TrainRec) -> usize {
+    train.stops.held().saturating_add(train.limits.held())
 }
 
 /// Of how many stops and restrictions the trains are told that are written.
@@ -57,8 +98,7 @@ fn told_in(writes: &Writes) -> usize {
     let mut told = 0usize;
     for index in 0..writes.len() {
         if let (_, Some(Rec::Train(train))) = writes.at(index) {
-            told = told.saturating_add(train.stops.held());
-            told = told.saturating_add(train.limits.held());
+            told = told.saturating_add(told_to(train));
         }
     }
     told

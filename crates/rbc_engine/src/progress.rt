@@ -1,7 +1,8 @@
-//! How far the inputs of a stretch are committed, for workers whose attempts would else be in vain.
+//! How far the inputs of a stretch are, for workers whose attempts would else be in vain.
 
 use ertms_codec::FromTrain;
 use rbc_rule::Input;
+use std::alloc::Global;
 use std::hint::spin_loop;
 use std::sync::atomic::{AtomicU32, Ordering};
 use std::thread::yield_now;
@@ -16,6 +17,9 @@ const LOOKS: u32 = 10_000;
 const SPINS: u32 = 32;
 
 const LOOKS_A_TURN: u32 = 16;
+
+/// For how many inputs it is kept whether they are attempted: for more than are begun before those in front of them are committed.
+const KEPT: usize = 256;
 
 /// What an input may write, as far as can be told from itself.
 #[derive(Clone, Copy)]
@@ -46,22 +50,25 @@ impl Scope {
     }
 }
 
-/// How many inputs are committed. It is an advice to those who wait, and no more: nothing that is proved hangs on it, and nobody waits
-/// long.
+/// How many inputs are committed, and which ones are attempted. It is an advice to those who wait, and no more: nothing that is proved hangs
+/// on it, and nobody waits long.
 #[derive(Drop)]
 pub(crate) struct Progress {
     committed: AtomicU32,
     /// How many were committed when somebody waited in vain.
     stuck: AtomicU32,
+    /// The number of an input that is attempted, for each remainder of numbers by `KEPT`. Empty where there was no memory for it.
+    attempted: Vec<AtomicU32>,
     ahead: u32,
 }
 
 impl Progress {
-    /// None is committed, and so many workers wait.
-    pub(crate) fn new(workers: u8) -> Self {
+    /// None is committed or attempted, and so many workers wait.
+    pub(crate) fn new(alloc: Global, workers: u8) -> Self {
         Progress {
             committed: AtomicU32::new(0),
             stuck: AtomicU32::new(u32::MAX),
+            attempted: none_attempted(alloc),
             ahead: AHEAD * u32::from(workers),
         }
     }
@@ -71,43 +78,69 @@ impl Progress {
         self.committed.store(committed, Ordering::SeqCst);
     }
 
-    /// How many inputs should be committed before that of a number is begun: those that are likely to write what it reads, and those
-    /// that are too far in front of it.
-    fn wanted(&self, number: u32, inputs: &[Input]) -> u32 {
+    /// Tells that an attempt at the input of a number is deposited.
+    pub(crate) fn tell_attempt(&self, number: u32) {
+        if let Some(last) = self.attempted.get(number as usize % KEPT) {
+            last.store(number, Ordering::SeqCst);
+        }
+    }
+
+    /// Whether an attempt at the input of a number is deposited, as far as is known.
+    fn is_attempted(&self, number: u32) -> bool {
+        match self.attempted.get(number as usize % KEPT) {
+            Some(last) => last.load(Ordering::SeqCst) == number,
+            None => false,
+        }
+    }
+
+    /// The index of the first input, from one index on and before another, that is likely to write what an input of a scope reads and is
+    /// not attempted yet. Where there is none, the other index.
+    fn awaited(&self, scope: Scope, from: u32, last: u32, inputs: &[Input]) -> u32 {
+        for index in from..last {
+            let Some(earlier) = inputs.get(index as usize) else {
+                return last;
+            };
+            if scope.follows(Scope::of(earlier)) && !self.is_attempted(index + 1) {
+                return index;
+            }
+        }
+        last
+    }
+
+    /// Waits, but not for long, until the input of a number can be begun: until those that are too far in front of it are committed, and
+    /// those that are likely to write what it reads are attempted. Once somebody has waited in vain, nobody waits any more until the
+    /// next input is committed.
+    pub(crate) fn wait(&self, number: u32, inputs: &[Input]) {
         let last = number.saturating_sub(1);
         let first = last.saturating_sub(self.ahead);
         let Some(input) = inputs.get(last as usize) else {
-            return first;
+            return;
         };
         let scope = Scope::of(input);
-        for index in (first..last).rev() {
-            let Some(earlier) = inputs.get(index as usize) else {
-                return first;
-            };
-            if scope.follows(Scope::of(earlier)) {
-                return index + 1;
-            }
-        }
-        first
-    }
-
-    /// Waits, but not for long, until the input of a number can be begun. Once somebody has waited in vain, nobody waits any more until
-    /// the next input is committed.
-    pub(crate) fn wait(&self, number: u32, inputs: &[Input]) {
-        let mut committed = self.committed.load(Ordering::SeqCst);
-        if committed.saturating_add(1) >= number {
-            return;
-        }
-        let wanted = self.wanted(number, inputs);
+        let mut awaited = first;
         for look in 0..LOOKS {
-            if committed >= wanted || committed == self.stuck.load(Ordering::SeqCst) {
+            let committed = self.committed.load(Ordering::SeqCst);
+            awaited = self.awaited(scope, awaited.max(committed), last, inputs);
+            let can_begin = committed >= first && awaited >= last;
+            if can_begin || committed == self.stuck.load(Ordering::SeqCst) {
                 return;
             }
             pause(look);
-            committed = self.committed.load(Ordering::SeqCst);
         }
+        let committed = self.committed.load(Ordering::SeqCst);
         self.stuck.store(committed, Ordering::SeqCst);
     }
+}
+
+/// None of the inputs is attempted for which that is kept. Nothing is kept where memory is refused.
+fn none_attempted(alloc: Global) -> Vec<AtomicU32> {
+    let mut attempted = Vec::new(alloc);
+    if attempted.reserve(KEPT).is_ok() {
+        for _ in 0..KEPT {
+            let _ = attempted.push(AtomicU32::new(0));
+        }
+    }
+    attempted
 }
 
 /// Lets a moment pass between two looks.

@@ -3,7 +3,7 @@
 ghost use Rattle.std.specs.Prelude.{◌≡◌, [], IfSome};
 ghost use Rattle.rbc_versions.specs.Log.{IsOf, number_of};
 ghost use Rattle.rbc_versions.specs.Entries.{AreOf};
-ghost use Rattle.rbc_engine.specs.Reading.{HasStood};
+ghost use Rattle.rbc_engine.specs.Reading.{WasLatest};
 
 use crate::gate::Gate;
 use crate::locking::lock;
@@ -82,10 +82,11 @@ impl<'a, 'b, N: RunName, G: Gate, R: Wait> Recorder<'a, 'b, N, G, R> {
         notes
     }
 
-    /// The ticket of what stands under a key while the book is locked, or that nothing does. `None` if the number is not in the log.
+    /// The ticket of what stands under a key while the book is locked, as the input is to see it, or that nothing does. `None` if the
+    /// number is not in the log.
     fn read(&self, key: Key) -> Option<Option<Ticket>>
         ensures here { IfSome result (λ ticket. IfSome ticket (IsOf N.log)) }
-        ensures stood { IfSome result (λ ticket. HasStood N.run N.log key (number_of ticket)) }
+        ensures stood { IfSome result (λ ticket. WasLatest N.run N.log self.now.input key (number_of ticket)) }
     {
         let number = lock(self.rt, self.book).present(self.input, key);
         if number == 0 {

@@ -11,6 +11,7 @@ ghost use Rattle.rbc_core.specs.Runs.{IsGoodRun};
 ghost use Rattle.rbc_engine.specs.Answers.{IsOpening, IsRun, IsStretch, IsFinished};
 ghost use Rattle.rbc_engine.specs.Fronts.{IsWaiting, IsGivenUp, IsNext, IsAtItsEnd};
 
+use crate::alone::run_alone;
 use crate::gate::{Behind, Gate};
 use crate::job::Job;
 use crate::pace::Pace;
@@ -162,8 +163,8 @@ fn run_named<N: RunName + Send + Sync, G: Gate + Sync, R: Threads + Wait + Sync>
     match Book::<N>::new(rt, alloc, opening, inputs, log) {
         Ok(book) => {
             let lock = Mutex::new(book);
-            let workers = pace.workers(gate.is_open());
-            let progress = Progress::new(workers);
+            let workers = pace.workers();
+            let progress = Progress::new(alloc, workers);
             let job = Job {
                 rt,
                 alloc,
@@ -185,7 +186,8 @@ fn run_named<N: RunName + Send + Sync, G: Gate + Sync, R: Threads + Wait + Sync>
     }
 }
 
-/// Runs a stretch of a run on a log of its own, which is dropped with it.
+/// Runs a stretch of a run: by one worker on the desk itself, if nobody sees it and it is no slower, and else by all workers on a log of
+/// its own, which is dropped with it.
 fn run_stretch<G: Gate + Sync, R: Threads + Wait + Sync>(
     rt: &R,
     alloc: Global,
@@ -198,6 +200,11 @@ fn run_stretch<G: Gate + Sync, R: Threads + Wait + Sync>(
     requires good { IsGoodRun (record { track = track.now; opening = desk.old; inputs = inputs.now }) }
     ensures { IsStretch (record { track = track.now; opening = desk.old; inputs = inputs.now }) result desk.new }
 {
+    let is_alone = gate.is_open() && pace.is_for_one();
+    pace.fade();
+    if is_alone {
+        return run_alone(alloc, track, desk, inputs, pace);
+    }
     let Ok(log) = VersionLog::new(alloc) else {
         return Err(RunError::OutOfMemory { committed: 0 });
     };

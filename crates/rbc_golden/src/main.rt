@@ -1,8 +1,8 @@
 //! Runs golden batches by 1, 2 and 16 workers, of which each takes part. An independent model of the rules has given their outputs; says of each batch whether
 //! every output is right.
 //!
-//! `rbc_golden RUNS` runs each batch so many times by each number of workers, once if no number is given. If there are more runs than
-//! one, it says on standard error how many inputs of a batch were computed again.
+//! `rbc_golden RUNS WORKERS` runs each batch so many times, once if no number is given, and by so many workers; by 1, 2 and 16 if no number
+//! of workers is given. If there are more runs than one, it says on standard error how many inputs of a batch were computed again.
 #![tactic(auto)]
 
 use anyhow::{Context, Result};
@@ -59,8 +59,20 @@ where
     })
 }
 
+/// Runs a case by each number of workers, and adds what came of it.
+fn run_by_each<R>(rt: &R, case: &Case, workers: &[u8], tally: Tally) -> Result<Tally>
+where
+    R: AllocGlobal + Threads + Wait + Sync,
+{
+    let mut tally = tally;
+    for count in workers {
+        tally = run_by(rt, case, *count, tally)?;
+    }
+    Ok(tally)
+}
+
 /// Runs a case so many times by each number of workers.
-fn run_case<R>(rt: &R, case: &Case, runs: u32) -> Result<Tally>
+fn run_case<R>(rt: &R, case: &Case, runs: u32, workers: &[u8]) -> Result<Tally>
 where
     R: AllocGlobal + Threads + Wait + Sync,
 {
@@ -69,9 +81,7 @@ where
         recomputed: 0,
     };
     for _ in 0..runs {
-        tally = run_by(rt, case, 1, tally)?;
-        tally = run_by(rt, case, 2, tally)?;
-        tally = run_by(rt, case, 16, tally)?;
+        tally = run_by_each(rt, case, workers, tally)?;
     }
     Ok(tally)
 }
@@ -81,10 +91,14 @@ fn main(rt: HostRuntime) -> Result<()> {
         Some(word) => word.parse::<u32>().context("a number of runs")?,
         None => 1,
     };
+    let workers = match env::args(&rt)?.nth(2) {
+        Some(word) => vec![in rt.alloc(); word.parse::<u8>().context("a number of workers")?]?,
+        None => vec![in rt.alloc(); 1u8, 2, 16]?,
+    };
     let cases = fs::read_to_string(&rt, "cases.txt")?;
     for line in cases.lines() {
         let (name, track) = line.split_once(' ').context("a case and its track")?;
-        let tally = run_case(&rt, &case_of(&rt, name, track)?, runs)?;
+        let tally = run_case(&rt, &case_of(&rt, name, track)?, runs, &workers)?;
         let answer = if tally.is_right { "right" } else { "wrong" };
         println!(rt; "{name} on {track} {answer}")?;
         if runs > 1 {

@@ -1,6 +1,7 @@
 -- What is found in a table decides what is told and what is revoked.
 use Rattle.std.proofs.Common.{◌≡◌, ℕ, Bool, true, false, not, ◌||◌, cond, eqb, if◌then◌else◌, List, [], ◌∷◌, map, Option, Some, None, is_none, is_some, option_map, option_copied, Bor, refl, ap}
-use Rattle.std.specs.List.{find}
+use Rattle.std.specs.List.{find, zip}
+use Rattle.std.specs.Prelude.{slice_get}
 use Rattle.rbc_maps.specs.Maps.{has, value_of}
 use Rattle.rbc_ids.specs.Table.{Slots, tells, is_told, identifier_of}
 use Rattle.rbc_ids.specs.declared.slot.Slot.{Slot}
@@ -43,6 +44,17 @@ limit_told_already horizon train limit e = ap (λ b. if b then None else option_
 pub limit_not_told : (horizon : ℕ) (train : TrainRec) (limit : ℕ × Limit) → is_told train.limits limit.0 ≡ false
     → limit_to_tell horizon train limit ≡ option_map (λ told. (limit.0, told)) (limit_told_to horizon train.place limit.1)
 limit_not_told horizon train limit e = ap (λ b. if b then None else option_map (λ (told : Part). (limit.0, told)) (limit_told_to horizon train.place limit.1)) e
+
+-- nothing is paired where there is no first identifier
+none_zipped : {A K : Type 0} (make : K × ℕ → A) (wanted : List K) (free : List ℕ) → None ≡ slice_get free 0 → [] ≡ map make (zip wanted free)
+none_zipped make [] free e = refl
+none_zipped make (one ∷ wanted) [] e = refl
+none_zipped make (one ∷ wanted) (id ∷ free) e = absurd (cc e)
+
+pub none_paired : {A K : Type 0} (make : K × ℕ → A) (wanted : List K) (free : List ℕ) (first : Option ℕ) (gone : Bool) → is_some first ≡ not gone → gone ≡ true → first ≡ slice_get free 0 → [] ≡ map make (zip wanted free)
+none_paired make wanted free None gone found none e = none_zipped make wanted free e
+none_paired make wanted free (Some id) true found none e = absurd (cc found)
+none_paired make wanted free (Some id) false found none e = absurd (cc none)
 
 -- one map after another
 pub map_of_map : {A B C : Type 0} (g : B → C) (f : A → B) (xs : List A) → map g (map f xs) ≡ map (λ x. g (f x)) xs

@@ -67,14 +67,17 @@ fn is_used_by_gone_stop(stops: &Stops, slot: Slot) -> bool
 }
 
 /// Pairs the stops that have to be told, in ascending order of the numbers, with the free identifiers, in ascending order. The
-/// pairs end with the shorter of both lists.
+/// pairs end with the shorter of both lists, so no stop is looked at where no identifier is free.
 fn stops_told(alloc: Global, stops: &Stops, train: &TrainRec) -> Result<Vec<Action>, AllocError>
     ensures actions { IfOk result (λ found. found.items ≡ stops_told stops.now train.now) }
     ensures sound { AreNumbered stops.now }
 {
+    let active = stops.active();
+    if train.stops.least_free().is_none() {
+        return Ok(Vec::new(alloc));
+    }
     let free = (0..15).filter(|id| train.stops.slot(*id).is_none());
-    stops
-        .active()
+    active
         .iter()
         .filter_map(|stop| stop_to_tell(train, stop.0, &stop.1))
         .zip(free)
@@ -121,9 +124,12 @@ fn limits_told(
     ensures actions { IfOk result (λ found. found.items ≡ limits_told horizon limits.now train.now) }
     ensures sound { AreNumbered limits.now }
 {
+    let active = limits.active();
+    if train.limits.least_free().is_none() {
+        return Ok(Vec::new(alloc));
+    }
     let free = (0..255).filter(|id| train.limits.slot(*id).is_none());
-    limits
-        .active()
+    active
         .iter()
         .filter_map(|limit| limit_to_tell(horizon, train, limit.0, &limit.1))
         .zip(free)

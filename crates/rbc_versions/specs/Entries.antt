@@ -59,6 +59,11 @@ abbrev pub numbers_after : List (Key × NumberedRec) → (Key → ℕ) → Key �
 numbers_after [] numbers k = numbers k
 numbers_after (entry ∷ entries) numbers k = numbers_after entries (λ other. if same_key other entry.0 then entry.1.number else numbers other) k
 
+-- the number that entries put under a key, of which the last with the key counts; none where no entry has it
+abbrev pub number_for : List (Key × NumberedRec) → Key → Option ℕ
+number_for [] k = None
+number_for (entry ∷ entries) k = elim (number_for entries k) [ Some number ↦ Some number | None ↦ if same_key k entry.0 then Some entry.1.number else None ]
+
 -- the number of each entry is the one that stands under its key: nothing else is compared
 abbrev pub AreCurrent : List (Key × NumberedRec) → (Key → ℕ) → Type 0
 AreCurrent entries numbers = All (λ entry. entry.1.number ≡ numbers entry.0) entries

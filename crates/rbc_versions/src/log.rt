@@ -82,14 +82,6 @@ impl VersionLog {
         }
     }
 
-    /// Makes room for so many versions more. Fails only for lack of memory.
-    pub fn reserve(&self, additional: usize) -> Result<(), OutOfMemory> {
-        match self.versions.reserve(additional) {
-            Ok(()) => Ok(()),
-            Err(_) => Err(OutOfMemory),
-        }
-    }
-
     /// How many versions were published, or are about to be.
     pub fn count(&self) -> usize {
         self.versions.count()

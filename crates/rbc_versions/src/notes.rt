@@ -44,13 +44,6 @@ impl Notes {
         }
     }
 
-    /// Forgets all notes, and keeps their room. Takes no memory.
-    pub fn clear(&mut self)
-        ensures { self.new ≡ [] }
-    {
-        self.all.clear();
-    }
-
     /// Adds a note behind the others: what was read under a key that is not noted yet. Fails only for lack of memory, and
     /// then changes nothing.
     pub fn add(&mut self, key: Key, ticket: Option<Ticket>) -> Result<(), OutOfMemory>

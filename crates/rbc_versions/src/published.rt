@@ -5,7 +5,7 @@ ghost use Rattle.std.specs.Option.{option_map};
 ghost use Rattle.indexmap.specs.IndexMap.{insert_entry, spare};
 ghost use Rattle.rbc_records.specs.Notes.{IsNotedOnce, same_key};
 ghost use Rattle.rbc_versions.specs.Log.{IsOf};
-ghost use Rattle.rbc_versions.specs.Entries.{numbered, shown, record_of, AreKeyedOf, AreOfWrites};
+ghost use Rattle.rbc_versions.specs.Entries.{numbered, number_for, shown, record_of, AreKeyedOf, AreOfWrites};
 
 use crate::log::{OutOfMemory, Ticket, VersionLog};
 use indexmap::IndexMap;
@@ -60,6 +60,18 @@ impl Published {
     {
         let (key, ticket) = self.all.get_index(index).unwrap();
         (*key, ticket.as_ref())
+    }
+
+    /// The number that the publication puts under a key: 0 where it removes what stands there. `None` if it names no such key. Takes no
+    /// memory.
+    pub fn number(&self, key: Key) -> Option<u64>
+        ensures { result ≡ number_for (numbered self.now) key }
+    {
+        match self.all.get(&key) {
+            Some(Some(ticket)) => Some(ticket.number()),
+            Some(None) => Some(0),
+            None => None,
+        }
     }
 }
 

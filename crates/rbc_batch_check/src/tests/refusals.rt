@@ -6,7 +6,7 @@
 use super::same;
 use ertms_codec::{FromTrain, Position};
 use rbc_batch::{ProcessError, parse_batch, process};
-use rbc_engine::{OpenGate, RunError};
+use rbc_engine::{AllWorkers, RunError};
 use rbc_rule::Input;
 use rbc_track::{Track, track_from_toml};
 use rbc_zones::{Dirs, Segment};
@@ -155,7 +155,7 @@ where
     R: Abort + AllocGlobal + Threads + Wait + Sync,
 {
     let mut reader = batch.as_bytes();
-    match process(rt, track, &mut reader, written, 1, &OpenGate) {
+    match process(rt, track, &mut reader, written, 1, &AllWorkers) {
         Ok(_) => {
             same(rt, written.as_slice(), output.as_bytes());
             false

@@ -26,6 +26,8 @@ pub(crate) enum Call {
     Take(Option<u32>),
     /// The number of what stands under a key is asked for: where it comes from.
     Number(Key, Origin),
+    /// The number of what stands under a key, as an input is to see it, is asked for: where it comes from.
+    Seen(u32, Key, Origin),
     /// The number of what stands under a key is asked for: it is not the first one there, but its record is the same.
     Again(Key),
     /// A key is read for an input, whose attempt is made later.
@@ -78,6 +80,21 @@ fn deposit<N: RunName, R: Abort + Wait>(
     }
 }
 
+/// Asserts where the number comes from that stands under a key, as an input is to see it.
+fn assert_origin<N: RunName, R: Abort>(
+    scene: &Scene<'_, N, R>,
+    book: &Book<'_, N>,
+    kept: &mut Kept<N>,
+    input: u32,
+    key: Key,
+    wanted: Origin,
+) -> Result<(), Fail> {
+    let number = book.present(input, key);
+    let origin = kept.numbers.origin(scene.rt, key, number)?;
+    same(scene.rt, origin, wanted);
+    Ok(())
+}
+
 /// Asserts that the record under a key is the first one that is known there, published once more.
 fn assert_again<N: RunName, R: Abort>(
     scene: &Scene<'_, N, R>,
@@ -99,10 +116,8 @@ fn make_call<N: RunName, R: Abort + Wait>(
     let rt = scene.rt;
     match call {
         Call::Take(wanted) => same(rt, book.take(), wanted),
-        Call::Number(key, wanted) => {
-            let number = book.present(1, key);
-            same(rt, kept.numbers.origin(rt, key, number)?, wanted);
-        }
+        Call::Number(key, wanted) => assert_origin(scene, book, kept, 1, key, wanted)?,
+        Call::Seen(input, key, wanted) => assert_origin(scene, book, kept, input, key, wanted)?,
         Call::Again(key) => assert_again(scene, book, &kept.numbers, key),
         Call::Read(input, key) => kept.ahead = read_ahead(scene, book, input, key)?,
         Call::Deposit(number, wanted) => {

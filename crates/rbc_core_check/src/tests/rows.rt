@@ -99,6 +99,62 @@ fn second_first(rt: HostRuntime) -> Result<(), Fail> {
     assert_left(&rt, alloc, &inputs, &calls, &left)
 }
 
+// the second input is attempted after the first is, and before that one is committed
+#[test]
+fn read_before_it_is_committed(rt: HostRuntime) -> Result<(), Fail> {
+    let alloc = rt.alloc();
+    let inputs = [enrol(7), stop(alloc, 1)?];
+    let calls = [
+        Call::Take(Some(1)),
+        Call::Take(Some(2)),
+        Call::Deposit(1, true),
+        Call::Deposit(2, true),
+        APPLIED,
+        APPLIED,
+        AT_END,
+    ];
+    let left = Left {
+        taken: 2,
+        recomputed: 0,
+        results: &[DONE, TOLD],
+        mails: &[stopped(2, 1, 0)],
+    };
+    assert_left(&rt, alloc, &inputs, &calls, &left)
+}
+
+// the third input is attempted after the second is, which is attempted before the first and computed again
+#[test]
+fn misled(rt: HostRuntime) -> Result<(), Fail> {
+    let alloc = rt.alloc();
+    let inputs = [enrol(8), enrol(7), stop(alloc, 1)?];
+    let calls = [
+        Call::Take(Some(1)),
+        Call::Take(Some(2)),
+        Call::Take(Some(3)),
+        Call::Deposit(2, true),
+        Call::Seen(3, Key::Train(7), Origin::Attempt(2)),
+        Call::Deposit(3, true),
+        Call::Deposit(1, true),
+        APPLIED,
+        RECOMPUTED,
+        RECOMPUTED,
+        AT_END,
+    ];
+    let (desk, stats) = run(&rt, alloc, &inputs, &calls)?;
+    let wanted = Stats {
+        taken: 3,
+        recomputed: 2,
+    };
+    same(&rt, stats, wanted);
+    same(&rt, desk.results(), [DONE, DONE, Reply::Done(2)].as_slice());
+    same(&rt, desk.outboxes(), 2);
+    let mail = stopped(3, 1, 0);
+    assert_spelled(&rt, &mail, b"\x10\x02\x80\x00\x00\x00\x5F\xFF\xFF\xE0");
+    assert_outbox(&rt, &desk, 0, 7, &[mail]);
+    assert_outbox(&rt, &desk, 1, 8, &[mail]);
+    Ok(())
+}
+
 // the second input is read for in part before the first is committed, and in part behind it
 #[test]
 fn read_in_between(rt: HostRuntime) -> Result<(), Fail> {
@@ -339,4 +395,40 @@ fn dropped_numbers(rt: HostRuntime) -> Result<(), Fail> {
         AT_END,
     ];
     assert_silent(&rt, rt.alloc(), &inputs, &calls, 1)
+}
+
+// an input sees what the attempt at the latest input before it writes, a removal too, and nothing of its own or of a later one
+#[test]
+fn the_latest_before(rt: HostRuntime) -> Result<(), Fail> {
+    let leaving = Input::Withdraw { engine: 7 };
+    let inputs = [enrol(7), leaving, enrol(7), enrol(9)];
+    let calls = [
+        Call::Take(Some(1)),
+        Call::Take(Some(2)),
+        Call::Take(Some(3)),
+        Call::Take(Some(4)),
+        Call::Deposit(1, true),
+        Call::Seen(0, Key::Train(7), Origin::Nowhere),
+        Call::Seen(1, Key::Train(7), Origin::Nowhere),
+        Call::Seen(2, Key::Train(7), Origin::Attempt(1)),
+        Call::Seen(4, Key::Train(7), Origin::Attempt(1)),
+        Call::Deposit(2, true),
+        Call::Seen(2, Key::Train(7), Origin::Attempt(1)),
+        Call::Seen(3, Key::Train(7), Origin::Nowhere),
+        Call::Deposit(3, true),
+        Call::Seen(3, Key::Roster, Origin::Nowhere),
+        Call::Seen(4, Key::Roster, Origin::Attempt(3)),
+        Call::Seen(4, Key::Stops, Origin::Nowhere),
+        Call::Deposit(4, true),
+        APPLIED,
+        Call::Seen(1, Key::Train(7), Origin::Attempt(1)),
+        Call::Seen(3, Key::Train(7), Origin::Nowhere),
+        APPLIED,
+        APPLIED,
+        APPLIED,
+        Call::Number(Key::Roster, Origin::Attempt(4)),
+        Call::Number(Key::Train(7), Origin::Attempt(3)),
+        AT_END,
+    ];
+    assert_silent(&rt, rt.alloc(), &inputs, &calls, 0)
 }

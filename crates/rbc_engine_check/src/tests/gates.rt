@@ -1,4 +1,4 @@
-//! A gate that holds a worker.
+//! Gates that hold workers.
 
 use rbc_engine::Gate;
 use rbc_records::Key;
@@ -76,5 +76,31 @@ impl<'a, R: Clock> Gate for Hold<'a, R> {
 
     fn after_deposit(&self, input: u32) {
         self.pass(Moment::AfterDeposit(input));
+    }
+}
+
+/// Two holds, the one before the other where a worker comes to a moment of both.
+#[derive(Drop)]
+pub(super) struct Both<'a, R> {
+    pub(super) one: Hold<'a, R>,
+    pub(super) other: Hold<'a, R>,
+}
+
+impl<'a, R: Clock> Gate for Both<'a, R> {
+    fn before_rule(&self, input: u32) {
+        self.one.before_rule(input);
+        self.other.before_rule(input);
+    }
+
+    fn after_read(&self, _input: u32, _key: Key) {}
+
+    fn before_deposit(&self, input: u32) {
+        self.one.before_deposit(input);
+        self.other.before_deposit(input);
+    }
+
+    fn after_deposit(&self, input: u32) {
+        self.one.after_deposit(input);
+        self.other.after_deposit(input);
     }
 }

@@ -8,8 +8,9 @@ use super::runs::{TRACK, new_desk};
 use super::same;
 use rbc_batch::parse_batch;
 use rbc_core::{Desk, Stats};
-use rbc_engine::{OpenGate, RunError, run};
+use rbc_engine::{AllWorkers, Gate, OpenGate, RunError, run};
 use rbc_track::{Track, track_from_toml};
+use std::process::Abort;
 use std::sync::Wait;
 use std::test::Fail;
 use std::thread::Threads;
@@ -21,15 +22,17 @@ const BAD_LINES: usize = 20_000;
 #[derive(Debug, Drop)]
 struct Refused;
 
-/// Runs so many lines that are no input.
-fn run_bad_lines<R>(
+/// Runs so many lines that are no input, by one worker.
+fn run_bad_lines<R, G>(
     rt: &R,
     track: &Track,
     desk: &mut Desk,
     count: usize,
+    gate: &G,
 ) -> Result<Result<Stats, RunError>, Fail>
 where
     R: AllocGlobal + Threads + Wait + Sync,
+    G: Gate + Sync,
     requires { IsOpening track.now desk.old }
     ensures { IsOpening track.now desk.new }
 {
@@ -38,24 +41,38 @@ where
         batch.push('\n')?;
     }
     let inputs = parse_batch(rt, batch.as_bytes())?;
-    Ok(run(rt, track, desk, &inputs, 1, &OpenGate))
+    Ok(run(rt, track, desk, &inputs, 1, gate))
 }
 
-#[test]
-fn runs_stretches_or_tells_what_is_done(rt: HostRuntime) -> Result<(), Fail> {
+/// Runs more lines than one stretch takes, and the rest where memory was refused.
+fn run_or_tell<R, G>(rt: &R, gate: &G) -> Result<(), Fail>
+where
+    R: Abort + AllocGlobal + Threads + Wait + Sync,
+    G: Gate + Sync,
+{
     let track = track_from_toml(rt.alloc(), TRACK)?;
     let mut desk = new_desk(rt.alloc(), &track);
-    let Err(error) = run_bad_lines(&rt, &track, &mut desk, BAD_LINES)? else {
-        same(&rt, desk.results().len(), BAD_LINES);
+    let Err(error) = run_bad_lines(rt, &track, &mut desk, BAD_LINES, gate)? else {
+        same(rt, desk.results().len(), BAD_LINES);
         return Ok(());
     };
     let RunError::OutOfMemory { committed } = error else {
         return Err(Fail::from("another error"));
     };
-    same(&rt, desk.results().len(), committed as usize);
+    same(rt, desk.results().len(), committed as usize);
     let left = BAD_LINES.saturating_sub(committed as usize);
-    let again = run_bad_lines(&rt, &track, &mut desk, left)?;
-    same(&rt, again.is_ok(), true);
-    same(&rt, desk.results().len(), BAD_LINES);
+    let again = run_bad_lines(rt, &track, &mut desk, left, gate)?;
+    same(rt, again.is_ok(), true);
+    same(rt, desk.results().len(), BAD_LINES);
     Err(Fail::from(Refused))
+}
+
+#[test]
+fn runs_stretches_or_tells_what_is_done(rt: HostRuntime) -> Result<(), Fail> {
+    run_or_tell(&rt, &AllWorkers)
+}
+
+#[test]
+fn runs_alone_or_tells_what_is_done(rt: HostRuntime) -> Result<(), Fail> {
+    run_or_tell(&rt, &OpenGate)
 }

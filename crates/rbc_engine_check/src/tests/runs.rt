@@ -2,7 +2,7 @@
 
 ghost use Rattle.rbc_engine.specs.Answers.{IsOpening};
 
-use super::gates::{Hold, Moment};
+use super::gates::{Both, Hold, Moment};
 use super::same;
 use rbc_batch::{parse_batch, process, render};
 use rbc_core::{Desk, Stats};
@@ -86,6 +86,23 @@ fn computes_again_what_went_stale(rt: HostRuntime) {
     };
     same(&rt, stats, wanted);
     same(&rt, gate.was_passed(), true);
+}
+
+// The second input reads what the attempt at the first one writes, which is not committed yet: nothing is computed again.
+#[test]
+fn reads_what_is_not_committed(rt: HostRuntime) {
+    let gate = Both {
+        one: Hold::new(&rt, Moment::BeforeRule(2), Moment::AfterDeposit(1)),
+        other: Hold::new(&rt, Moment::AfterDeposit(1), Moment::AfterDeposit(2)),
+    };
+    let stats = assert_answers(&rt, ENROL_AND_STOP, 2, &gate, STOPPED);
+    let wanted = Stats {
+        taken: 2,
+        recomputed: 0,
+    };
+    same(&rt, stats, wanted);
+    same(&rt, gate.one.was_passed(), true);
+    same(&rt, gate.other.was_passed(), true);
 }
 
 // The second enrolment is deposited after the stop, which has read that there is no such train.
@@ -206,19 +223,31 @@ fn goes_on_from_the_desk_of_an_earlier_run(rt: HostRuntime) {
     }
 }
 
-// One worker takes each input after all before it are committed.
-#[test]
-fn computes_nothing_twice_alone(rt: HostRuntime) {
-    let track = track(&rt);
+/// Ten stops that begin, by one worker.
+fn ten_stops_by_one<R, G>(rt: &R, gate: &G)
+where
+    R: Abort + AllocGlobal + Threads + Wait + Sync,
+    G: Gate + Sync,
+{
+    let track = track(rt);
     let mut desk = new_desk(rt.alloc(), &track);
-    let stats = run_lines(&rt, &track, &mut desk, &stops(&rt, 0, 10), 1, &OpenGate);
+    let stats = run_lines(rt, &track, &mut desk, &stops(rt, 0, 10), 1, gate);
     let wanted = Stats {
         taken: 10,
         recomputed: 0,
     };
-    same(&rt, stats, Ok(wanted));
-    let text = render(rt.alloc(), &desk).expect(&rt, "memory");
-    same(&rt, text.ends_with(b"7 10 1002800000025FFFFFF0\n"), true);
+    same(rt, stats, Ok(wanted));
+    let text = render(rt.alloc(), &desk).expect(rt, "memory");
+    same(rt, text.ends_with(b"7 10 1002800000025FFFFFF0\n"), true);
+}
+
+// One worker takes each input after all before it are committed: in the book of a run, and on the desk itself behind an open gate.
+#[test]
+fn computes_nothing_twice_alone(rt: HostRuntime) {
+    ten_stops_by_one(&rt, &AllWorkers);
+    ten_stops_by_one(&rt, &OpenGate);
+    let track = track(&rt);
+    let mut desk = new_desk(rt.alloc(), &track);
     let none = run_lines(&rt, &track, &mut desk, "", 16, &OpenGate);
     let wanted = Stats {
         taken: 0,

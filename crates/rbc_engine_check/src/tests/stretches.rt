@@ -152,42 +152,43 @@ impl<'a, R: Clock> Gate for HoldFirst<'a, R> {
     }
 }
 
-/// How many stops are given, and how many of these are attempted before the log of their stretch is full: each writes all trains, with
-/// one stop each, and the list of stops, which weigh 2,002.
-const STOPS: u32 = 210;
+/// How many commands are given, and how many of these are attempted before the log of their stretch is full: each writes the list of all
+/// trains and that of the trains without a place. One that takes a train away weighs 2,000, and one that enrols it again 2,003.
+const COMMANDS: u32 = 210;
 
-const FIRST_STOPS: u32 = 200;
+const FIRST_COMMANDS: u32 = 200;
 
-// One worker holds the first input, while the other attempts stops until the log is full: then it takes no more, and the first input
-// and all stops that were attempted are committed in this stretch. Fifteen stops can be told to each train.
+// One worker holds the first input, while the other attempts commands, each of which reads what the one before writes, until the log is
+// full: then it takes no more, and the first input and all commands that were attempted are committed in this stretch.
 #[test]
 fn ends_a_stretch_while_an_input_is_out(rt: HostRuntime) {
     let track = track(&rt);
     let mut batch = String::new(rt.alloc());
     batch.push('\n').expect(&rt, "memory");
-    for number in 1..=STOPS {
-        writeln!(batch, "stop {number} 0:0-10").expect(&rt, "memory");
+    for _ in 0..COMMANDS / 2 {
+        writeln!(batch, "withdraw {TRAINS}").expect(&rt, "memory");
+        writeln!(batch, "enrol {TRAINS} 2000").expect(&rt, "memory");
     }
     let mut alone = with_trains(&rt, &track);
     let mut desk = with_trains(&rt, &track);
     let of_one = run_lines(&rt, &track, &mut alone, &batch, 1, &OpenGate);
     let wanted = Stats {
-        taken: STOPS + 1,
+        taken: COMMANDS + 1,
         recomputed: 0,
     };
     same(&rt, of_one, Ok(wanted));
-    let gate = HoldFirst::new(&rt, FIRST_STOPS + 1);
+    let gate = HoldFirst::new(&rt, FIRST_COMMANDS + 1);
     let of_two = run_lines(&rt, &track, &mut desk, &batch, 2, &gate);
-    same(&rt, of_two.ok().map(|stats| stats.taken), Some(STOPS + 1));
+    same(
+        &rt,
+        of_two.ok().map(|stats| stats.taken),
+        Some(COMMANDS + 1),
+    );
     same(&rt, gate.hold.was_passed(), true);
     same(&rt, gate.was_begun.load(Ordering::SeqCst), true);
     same(&rt, gate.was_begun_early.load(Ordering::SeqCst), false);
     let text = text_of(&rt, &desk);
     same(&rt, text.as_slice(), text_of(&rt, &alone).as_slice());
-    same(
-        &rt,
-        text.ends_with(b"\n1000 1015 100280000004DFFFFFF8\n"),
-        false,
-    );
-    same(&rt, desk.results().len(), (TRAINS + STOPS + 1) as usize);
+    same(&rt, text.ends_with(b"\n1210 ok 0\n1211 ok 0\n"), true);
+    same(&rt, desk.results().len(), (TRAINS + COMMANDS + 1) as usize);
 }

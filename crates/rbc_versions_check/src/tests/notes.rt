@@ -82,13 +82,3 @@ fn assert_empty(rt: &impl Abort, notes: &Notes) {
         same(rt, under(notes, key), None);
     }
 }
-
-#[test]
-fn nothing_is_noted_after_all_is_forgotten(rt: HostRuntime) {
-    let log = empty_log(&rt, rt.alloc());
-    let numbers = read_each(&rt, rt.alloc(), &log);
-    let mut notes = noted(&rt, rt.alloc(), &log, &numbers);
-    same(&rt, notes.len(), READ.len());
-    notes.clear();
-    assert_empty(&rt, &notes);
-}

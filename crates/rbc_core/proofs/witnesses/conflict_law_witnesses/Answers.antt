@@ -1,31 +1,19 @@
-use Rattle.std.proofs.Common.{true, List, [], ◌∷◌, ◌++◌, Some, refl, sym, append_assoc, arith, inl, inr}
-use Rattle.std.proofs.lemmas.List.Elements.{All-nil, All-cons, Contains-get_or}
+use Rattle.std.proofs.Common.{◌≡◌, true, [], ◌∷◌, ◌++◌, refl, arith, inl, inr}
+use Rattle.std.proofs.lemmas.List.Elements.{All-nil, All-cons, All-head, All-tail, Contains-get_or}
 use Rattle.rbc_records.specs.declared.record.Key.{Key}
 use Rattle.rbc_records.specs.declared.record.Key.TheVariants as key
-use Rattle.rbc_versions.specs.Entries.{NumberedRec}
-use Rattle.rbc_core.specs.Events.{Event}
-use Rattle.rbc_core.specs.Events.Event.{Takes, Reads, Deposits, Voids, Applies, Recomputes, Ends}
-use Rattle.rbc_core.specs.Conflicts.{IsOvertaken, WasVoided}
-use Rattle.rbc_core.specs.Witnesses.{two_inputs, absent, enrolled, refused, publishing, enrolled_numbers, start, first_try, reading_first, committing_first, second_try, stops_try, after_events, second_overtaken, second_given_up, stops_read, nothing_read}
+use Rattle.rbc_versions.specs.Entries.{NumberedRec, AreCurrent}
+use Rattle.rbc_rule.specs.declared.input.Input.TheVariants as input
+use Rattle.rbc_rule.proofs.WitnessSays.{differ}
+use Rattle.rbc_core.specs.Core.{State}
+use Rattle.rbc_core.specs.Events.Event.{Reads, Deposits, Voids, Applies, Recomputes, Ends}
+use Rattle.rbc_core.specs.Conflicts.{after, IsOvertaken, WasVoided}
+use Rattle.rbc_core.specs.Witnesses.{two_inputs, absent, enrolled, refused, enrolled_numbers, start, first_try, reading_first, committing_first, second_try, stops_try, after_events, second_overtaken, second_given_up, stops_read, nothing_read, train_7, under, forwarded_try, forwarding, started_with_4, stops_at_4, again_numbers, second_misled}
 use Rattle.rbc_core.proofs.Fates.{follow_append}
-use Rattle.rbc_core.proofs.WitnessEvents.{follow_given_up, again}
-use Rattle.rbc_core.proofs.WitnessConflicts.{Each, WasRead, IsAnswered, are_answered, IsOther, not_read, not_written}
+use Rattle.rbc_core.proofs.WitnessEvents.{follow_given_up, again, right_first, right_second, recomputes_first}
+use Rattle.rbc_core.proofs.WitnessConflicts.{Each, WasRead, IsAnswered, are_answered, IsOther, not_read, not_written, taken, first_answered}
+use Rattle.rbc_core.proofs.WitnessForwards.{not_misled}
 use Rattle.rbc_core.proofs.witnesses.conflict_law_witnesses.Goals as goal
-
--- both inputs are taken
-abbrev taken : List Event
-taken = publishing ++ Takes (Some 1) ∷ Takes (Some 2) ∷ []
-
--- each note of each attempt was read
-first_answered : (before : List Event) → IsAnswered (before ++ reading_first) (Deposits first_try true)
-first_answered before =
-    let P : Key × NumberedRec → Type 0 = WasRead (before ++ reading_first) first_try in
-    let roster : Event = Reads 1 key.Roster 0 in
-    let stops : Event = Reads 1 key.Stops 0 in
-    let limits : Event = Reads 1 key.Limits 0 in
-    All-cons P (key.Roster, absent) ((key.Stops, absent) ∷ (key.Limits, absent) ∷ []) (before, stops ∷ limits ∷ [], refl)
-    (All-cons P (key.Stops, absent) ((key.Limits, absent) ∷ []) (before ++ roster ∷ [], limits ∷ [], sym (append_assoc before (roster ∷ []) (stops ∷ limits ∷ [])))
-    (All-cons P (key.Limits, absent) [] (before ++ roster ∷ stops ∷ [], [], sym (append_assoc before (roster ∷ stops ∷ []) (limits ∷ []))) (All-nil P)))
 
 second_answered : IsAnswered (taken ++ Reads 2 (key.Train 7) 0 ∷ []) (Deposits second_try true)
 second_answered =
@@ -52,7 +40,7 @@ returns-clause-explained c =
     inr (
       second_try,
       record { uncommitted = omega arith; taken = omega arith; at = refl },
-      ((key.Train 7, absent), Contains-get_or second_try.notes 0 (key.Train 7, absent) (omega arith), overtaken),
+      ((key.Train 7, absent), Contains-get_or second_try.notes 0 (key.Train 7, absent) (omega arith), inl overtaken),
     )
 
 pub returns-clause-giving_up : goal.returns-clause-giving_up
@@ -88,3 +76,36 @@ returns-clause-unanswered c h =
     let other : Each (IsOther 2 (key.Train 7) 0) [] taken = ((λ e. cc e), ((λ e. cc e), ((λ e. cc e), ((λ e. cc e), ((λ e. cc e), tt))))) in
     let read = h taken committing_first second_try refl (key.Train 7, absent) (Contains-get_or second_try.notes 0 (key.Train 7, absent) (omega arith)) in
     not_read 2 (key.Train 7) 0 taken read.0 read.1 other read.2
+
+pub returns-clause-misled : goal.returns-clause-misled
+returns-clause-misled c = (
+  taken ++ Deposits first_try true ∷ [],
+  [],
+  Recomputes enrolled again_numbers ∷ [],
+  refl,
+  (
+    1,
+    first_try,
+    omega arith,
+    record { uncommitted = omega arith; taken = omega arith; at = refl },
+    refl,
+    inl (Deposits forwarded_try true ∷ [], enrolled, again_numbers, [], refl, refl),
+  ),
+)
+
+pub returns-clause-misled_again : goal.returns-clause-misled_again
+returns-clause-misled_again c =
+    let stale : AreCurrent first_try.notes stops_at_4 → ⊥ =
+    λ current. differ 0 4 refl (
+    All-head (λ (e : Key × NumberedRec). e.1.number ≡ stops_at_4 e.0) (key.Stops, absent) ((key.Limits, absent) ∷ [])
+    (All-tail (λ (e : Key × NumberedRec). e.1.number ≡ stops_at_4 e.0) (key.Roster, absent) ((key.Stops, absent) ∷ (key.Limits, absent) ∷ []) current)
+    ) in
+    let s : State = after started_with_4 second_misled in
+    let other : AreCurrent forwarded_try.notes s.present → ⊥ =
+    λ current. differ 2 6 refl (All-head (λ (e : Key × NumberedRec). e.1.number ≡ s.present e.0) (key.Train 7, under 2 train_7) [] current) in
+    follow_append two_inputs started_with_4 second_misled (Recomputes refused [] ∷ Ends ∷ [])
+    (tt, (tt, (tt, ((refl, omega arith, refl), ((refl, omega arith, refl), ((right_first, record { uncommitted = omega arith; taken = omega arith; at = refl }), (inr (1, first_try, omega arith, record { uncommitted = omega arith; taken = omega arith; at = refl }, refl), ((right_second _, record { uncommitted = omega arith; taken = omega arith; at = refl }), ((refl, inr (first_try, record { uncommitted = omega arith; taken = omega arith; at = refl }, stale), (input.Enrol 7 2000, record { first = omega arith; there = refl }, recomputes_first), λ records k. refl), tt)))))))))
+    (again s refl refl (inr (forwarded_try, record { uncommitted = omega arith; taken = omega arith; at = refl }, other)))
+
+pub returns-clause-not_misled : goal.returns-clause-not_misled
+returns-clause-not_misled c h = not_misled forwarding forwarded_try (key.Train 7, under 2 train_7) refl (tt, (tt, (tt, (tt, (tt, (tt, (tt, (tt, (tt, (tt, (tt, (tt, tt)))))))))))) h

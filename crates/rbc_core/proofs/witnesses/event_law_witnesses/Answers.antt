@@ -33,11 +33,11 @@ returns-clause-applying c =
 pub returns-clause-failing : goal.returns-clause-failing
 returns-clause-failing c =
     both_taken (reading_first ++ Deposits first_try true ∷ Fails false ∷ Voids 2 true ∷ Voids 1 false ∷ Takes None ∷ Fails true ∷ []) (
-      refl,
+      inl refl,
       (
-        refl,
+        inl refl,
         (
-          refl,
+          inl refl,
           (
             (right_first, record { uncommitted = omega arith; taken = omega arith; at = refl }),
             (

@@ -12,10 +12,10 @@ use Rattle.clap.specs.declared.error.kind.ErrorKind.{ErrorKind}
 use Rattle.clap.specs.declared.parser.matches.ArgMatches.{ArgMatches}
 use Rattle.clap.proofs.OnLiterals.{clap_on_literals}
 use Rattle.rbc_dispatch.specs.Ending.{ending_of}
-use Rattle.rbc_dispatch.specs.Words.{Finding, IsDecode, IsFound, IsRunOn, IsTakenFor, IsWantOfMemory, command_line, finding_in, number_after, word_after}
+use Rattle.rbc_dispatch.specs.Words.{Finding, IsCheckOf, IsDecode, IsFound, IsRunOn, IsTakenFor, IsWantOfMemory, command_line, finding_in, number_after, word_after}
 use Rattle.rbc_dispatch.specs.declared.ending.Ending.{Ending}
 use Rattle.rbc_dispatch.specs.declared.words.Task.{Task}
-use Rattle.rbc_dispatch.specs.declared.words.Task.TheVariants.{Run, Decode}
+use Rattle.rbc_dispatch.specs.declared.words.Task.TheVariants.{Run, Check, Decode, Codes}
 use Rattle.rbc_dispatch.proofs.words.parse.Goals as goal
 
 line_is_simple_and_free : is_simple_and_free command_line ≡ true
@@ -40,14 +40,19 @@ chosen : (b : Bool) (rows : List Row) (f : List Row → Option Text) (a : Text) 
 chosen true rows f a is = refl
 chosen false rows f a is = cc
 
-not_both : (found : Finding) (file hex : Text) → word_after (codes "run") (codes "track") found ≡ Some file
-    → word_after (codes "decode") (codes "HEX") found ≡ Some hex → ⊥
-not_both None file hex run decode = cc
-not_both (Some p) file hex run decode =
-    let name : p.0 ≡ codes "run" = (bytes_eq-Decides p.0 (codes "run")).0 (chosen _ p.1 (first_of (codes "track")) file run) in
-    let other : bytes_eq p.0 (codes "decode") ≡ true = chosen _ p.1 (first_of (codes "HEX")) hex decode in
-    let bad : false ≡ true = subst (λ (n : Text). bytes_eq n (codes "decode") ≡ true) name other in
+not_both : (name other id more : Text) (found : Finding) (one two : Text) → bytes_eq name other ≡ false
+    → word_after name id found ≡ Some one → word_after other more found ≡ Some two → ⊥
+not_both name other id more None one two apart first second = cc
+not_both name other id more (Some p) one two apart first second =
+    let is : p.0 ≡ name = (bytes_eq-Decides p.0 name).0 (chosen _ p.1 (first_of id) one first) in
+    let also : bytes_eq p.0 other ≡ true = chosen _ p.1 (first_of more) two second in
+    let bad : bytes_eq name other ≡ true = subst (λ (n : Text). bytes_eq n other ≡ true) is also in
     cc
+
+-- what was not found was not asked for
+not_found : (o : Option Text) (word : Text) → o ≡ None → o ≡ Some word → ⊥
+not_found None word none some = cc
+not_found (Some x) word none some = cc
 
 -- the task that was found is the one that the words ask for
 some_now : (a b : Text) → Some a ≡ Some b → a ≡ b
@@ -56,12 +61,23 @@ some_now a b same = ap (λ (o : Option Text). unwrap_or o []) same
 run_found : (found : Finding) (task : Task) → IsFound found task → (file : Text) (workers : ℕ)
     → word_after (codes "run") (codes "track") found ≡ Some file → number_after (codes "run") (codes "workers") found ≡ workers → IsRunOn file workers task
 run_found found (Run track number) is file workers asked count = (some_now _ _ (sym is.0 ∙ asked), sym is.1 ∙ count)
-run_found found (Decode hex) is file workers asked count = not_both found file hex.now asked is
+run_found found (Check track other) is file workers asked count = not_found _ file is.0.0 asked
+run_found found (Decode hex) is file workers asked count = not_both (codes "run") (codes "decode") (codes "track") (codes "HEX") found file hex.now refl asked is
+run_found found Codes is file workers asked count = not_found _ file is.0.0 asked
 
 decode_found : (found : Finding) (task : Task) → IsFound found task → (word : Text)
     → word_after (codes "decode") (codes "HEX") found ≡ Some word → IsDecode word task
-decode_found found (Run track number) is word asked = not_both found track.now word is.0 asked
+decode_found found (Run track number) is word asked = not_both (codes "run") (codes "decode") (codes "track") (codes "HEX") found track.now word refl is.0 asked
+decode_found found (Check track other) is word asked = not_found _ word is.0.1 asked
 decode_found found (Decode hex) is word asked = some_now _ _ (sym is ∙ asked)
+decode_found found Codes is word asked = not_found _ word is.0.1 asked
+
+check_found : (found : Finding) (task : Task) → IsFound found task → (file : Text)
+    → word_after (codes "check") (codes "track") found ≡ Some file → IsCheckOf file task
+check_found found (Run track number) is file asked = not_both (codes "run") (codes "check") (codes "track") (codes "track") found track.now file refl is.0 asked
+check_found found (Check track other) is file asked = some_now _ _ (sym is.1 ∙ asked)
+check_found found (Decode hex) is file asked = not_both (codes "decode") (codes "check") (codes "HEX") (codes "track") found hex.now file refl is asked
+check_found found Codes is file asked = not_found _ file is.1 asked
 
 -- words without a fault are not taken only where memory runs out
 memory_alone : (e : Error) → HasKind [] e → IsWantOfMemory (ending_of e)
@@ -91,6 +107,18 @@ returns-in-Some-clause-decode c = λ word asked.
     let words = map string_bytes c.args.words.now in
     let found = found_here _ words _ c.in_ok-command.ensures c.in_ok-matches.ensures.matches in
     decode_found (finding_in words) _ (subst (λ (f : Finding). IsFound f c.in-Some.task) found c.in-Some.ensures.found) word asked.1
+
+pub returns-in-Some-clause-check : goal.returns-in-Some-clause-check
+returns-in-Some-clause-check c = λ file asked.
+    let words = map string_bytes c.args.words.now in
+    let found = found_here _ words _ c.in_ok-command.ensures c.in_ok-matches.ensures.matches in
+    check_found (finding_in words) _ (subst (λ (f : Finding). IsFound f c.in-Some.task) found c.in-Some.ensures.found) file asked.1
+
+pub returns-in_err-matches-clause-check : goal.returns-in_err-matches-clause-check
+returns-in_err-matches-clause-check c = λ file asked.
+    let e = c.in_err-matches.field-0.0 in
+    let kinds = kinds_here _ (map string_bytes c.args.words.now) (λ ks. HasKind ks e) c.in_ok-command.ensures c.in_err-matches.ensures.kinds in
+    only_memory _ (IsCheckOf file) (ending_of e) c.from_residual-in_err-matches.ensures.1 (memory_alone e (subst (λ (ks : List ErrorKind). HasKind ks e) asked.0 kinds))
 
 pub returns-in_err-matches-clause-run : goal.returns-in_err-matches-clause-run
 returns-in_err-matches-clause-run c = λ file workers asked.

@@ -2,6 +2,7 @@ use Rattle.std.proofs.Common.{◌≡◌, ◌+◌, ◌-◌, ◌∙◌, refl, sym,
 use Rattle.rbc_core.specs.declared.stage.Stage.TheVariants.{Tried}
 use Rattle.rbc_core.specs.Books.{IsOutIn, state_of}
 use Rattle.rbc_core.proofs.Books.{keeps, deposits}
+use Rattle.rbc_core.proofs.Reaching.{within_put}
 use Rattle.rbc_core.proofs.book.Book.deposit.Goals as goal
 
 pub invariant_of-self : goal.invariant_of-self
@@ -10,8 +11,12 @@ invariant_of-self g c =
     let out : IsOutIn c.self.inside.stages.items c.number-number.result = c.if-not-is_out.ensures.0 refl in
     let turn = i.2.kept.stages (c.number-number.result - 1) _ out.1 in
     let first = out.0 in
-    let number : c.args.attempt.number ≡ c.number-number.result - 1 + 1 = sym c.number-number.ensures.number ∙ omega (arith, first) in
-    (i.0, i.1, record { kept = keeps _ _ _ (Tried c.args.attempt) i.2.kept (turn.0, turn.1, number); present = i.2.present })
+    let number : c.args.attempt.number ≡ c.number-number.result - 1 + 1 = sym c.number-number.ensures.number ∙ omega (arith, first) in (
+      i.0,
+      i.1,
+      record { kept = keeps _ _ _ (Tried c.args.attempt) i.2.kept (turn.0, turn.1, number); present = i.2.present },
+      within_put c.self.inside.stages.items c.self.inside.reach c.raise.new.reach (c.number-number.result - 1) c.args.attempt i.3 number c.raise.ensures.here c.raise.ensures.more,
+    )
 
 pub returns-clause-event : goal.returns-clause-event
 returns-clause-event g c =

@@ -1,6 +1,6 @@
 use Rattle.rbc_batch.specs.BatchText.{words_of}
 use Rattle.rbc_batch.proofs.LineFits.{command_or_bad_fits}
-use Rattle.rbc_batch.proofs.parse.input.Goals as goal
+use Rattle.rbc_batch.proofs.parse.parse_line.Goals as goal
 
 pub returns-in_ok-found-in-Some-2-clause-fits : goal.returns-in_ok-found-in-Some-2-clause-fits
 returns-in_ok-found-in-Some-2-clause-fits c =

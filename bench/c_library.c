@@ -1,0 +1,221 @@
+/* Feeds a batch to a live desk and prints what `dispatch run` prints for it; or refuses memory to it; or times it.
+
+   c_library TRACK              room is asked for first, where a line sends messages
+   c_library TRACK refuse       each line is fed again and again: the first time its first allocation is refused, then its second, and so
+                                on, until it is taken; opening too. The number of refusals goes to standard error
+   c_library TRACK time         prints no answer, but how many ns a line took, and how many bytes are resident
+   c_library TRACK many COUNT   feeds COUNT lines, those of the batch over and over on one desk, and prints ten times how
+                                many bytes are resident
+
+   Linked with -Wl,--wrap=malloc,--wrap=realloc. The batch is on standard input. The exit status is 1 where a call does not do as
+   rbc.h says. */
+#define _POSIX_C_SOURCE 200809L
+#include "rbc.h"
+
+#include <stdio.h>
+#include <stdlib.h>
+#include <string.h>
+#include <time.h>
+
+enum { ROOM = 1 << 16, MAILS = 1 << 20 };
+
+struct mail {
+    size_t number, line;
+    rbc_message message;
+};
+
+static uint8_t track[1 << 24], batch[(1 << 24) + 1];
+static rbc_message out[ROOM], before[ROOM];
+static struct mail mails[MAILS];
+static size_t count_of_mails, refusals;
+static long refused_at, calls;
+
+void *__real_malloc(size_t size);
+void *__real_realloc(void *block, size_t size);
+
+void *__wrap_malloc(size_t size) {
+    return ++calls == refused_at ? NULL : __real_malloc(size);
+}
+
+void *__wrap_realloc(void *block, size_t size) {
+    return ++calls == refused_at ? NULL : __real_realloc(block, size);
+}
+
+static void stop(const char *what, size_t line, unsigned code) {
+    fprintf(stderr, "c_library: line %zu: %s: %u\n", line, what, code);
+    exit(1);
+}
+
+static size_t read_all(FILE *stream, uint8_t *bytes, size_t room) {
+    size_t length = fread(bytes, 1, room, stream);
+    if (length == room)
+        stop("the input is too long", 0, 0);
+    return length;
+}
+
+static long resident(void) {
+    long pages = 0;
+    FILE *file = fopen("/proc/self/statm", "r");
+    if (!file || fscanf(file, "%*d %ld", &pages) != 1)
+        stop("no /proc/self/statm", 0, 0);
+    fclose(file);
+    return pages * 4096;
+}
+
+static void open_desk(rbc_desk *desk, size_t length, int refuse) {
+    rbc_answer answer = {77, 77};
+    if (rbc_feed(desk, batch, 0, out, 0, &answer) != RBC_NOT_NOW || answer.count != 77)
+        stop("a desk that is not open took a line", 0, 0);
+    if (rbc_close(desk) != RBC_NOT_NOW)
+        stop("a desk that is not open was closed", 0, 0);
+    for (refused_at = refuse; refused_at; refused_at++) {
+        calls = 0;
+        uint32_t code = rbc_open(desk, track, length);
+        if (code == RBC_DONE)
+            break;
+        refusals++;
+        if (code != RBC_MEMORY || rbc_close(desk) != RBC_NOT_NOW)
+            stop("memory was refused, and the desk was not", 0, code);
+    }
+    refused_at = 0;
+    if (!refuse && rbc_open(desk, track, length) != RBC_DONE)
+        stop("the track was refused", 0, 0);
+    if (rbc_open(desk, track, length) != RBC_NOT_NOW)
+        stop("an open desk was opened", 0, 0);
+}
+
+/* Feeds a line into so much room. With `refuse` its first allocation is refused, then, where that changed nothing, its second, and so
+   on, until the call has all that it asks for. */
+static uint32_t feed_into(rbc_desk *desk, size_t line, const uint8_t *text, size_t length, size_t room, int refuse, rbc_answer *answer) {
+    if (!refuse)
+        return rbc_feed(desk, text, length, out, room, answer);
+    memcpy(before, out, room * sizeof *out);
+    for (refused_at = 1;; refused_at++) {
+        *answer = (rbc_answer){77, 77};
+        calls = 0;
+        uint32_t code = rbc_feed(desk, text, length, out, room, answer);
+        if (code != RBC_MEMORY) {
+            refused_at = 0;
+            return code;
+        }
+        refusals++;
+        if (answer->refused != 77 || answer->count != 77 || memcmp(before, out, room * sizeof *out) != 0)
+            stop("memory was refused, and something was changed", line, code);
+    }
+}
+
+/* Feeds a line with exactly the room that it needs, after it was refused for want of room. */
+static void feed(rbc_desk *desk, size_t line, const uint8_t *text, size_t length, int refuse, rbc_answer *answer) {
+    uint32_t code = feed_into(desk, line, text, length, 0, refuse, answer);
+    if (code == RBC_ROOM) {
+        size_t room = answer->count;
+        if (answer->refused != 0 || room == 0 || room > ROOM)
+            stop("a wrong count of messages", line, code);
+        if (rbc_feed(desk, text, length, out, room - 1, answer) != RBC_ROOM || answer->count != room)
+            stop("room for one message too few", line, 0);
+        code = feed_into(desk, line, text, length, room, refuse, answer);
+        if (answer->count != room)
+            stop("another count of messages", line, code);
+    } else if (answer->count != 0) {
+        stop("messages without room", line, code);
+    }
+    if (code != RBC_DONE)
+        stop("not taken", line, code);
+}
+
+static void print(size_t line, const rbc_answer *answer) {
+    if (answer->refused)
+        printf("%zu refused %u\n", line, (unsigned)answer->refused);
+    else
+        printf("%zu ok %zu\n", line, answer->count);
+    for (size_t i = 0; i < answer->count; i++, count_of_mails++) {
+        if (count_of_mails == MAILS)
+            stop("too many messages", line, 0);
+        mails[count_of_mails] = (struct mail){count_of_mails, line, out[i]};
+    }
+}
+
+static int by_engine(const void *a, const void *b) {
+    const struct mail *x = a, *y = b;
+    if (x->message.engine != y->message.engine)
+        return x->message.engine < y->message.engine ? -1 : 1;
+    return x->number < y->number ? -1 : 1;
+}
+
+static void print_mails(void) {
+    qsort(mails, count_of_mails, sizeof *mails, by_engine);
+    for (size_t i = 0; i < count_of_mails; i++) {
+        printf("%u %zu ", (unsigned)mails[i].message.engine, mails[i].line);
+        for (uint32_t k = 0; k < mails[i].message.length; k++)
+            printf("%02X", mails[i].message.bytes[k]);
+        putchar('\n');
+    }
+}
+
+/* The next line of a text, and what stands behind it. */
+static const uint8_t *line_at(const uint8_t *at, const uint8_t *end, size_t *length) {
+    const uint8_t *feed_at = memchr(at, '\n', (size_t)(end - at));
+    *length = (size_t)((feed_at ? feed_at : end) - at);
+    return feed_at ? feed_at + 1 : end;
+}
+
+static void run(rbc_desk *desk, const uint8_t *end, int refuse) {
+    size_t line = 0, length;
+    for (const uint8_t *at = batch; at < end;) {
+        const uint8_t *text = at;
+        rbc_answer answer;
+        at = line_at(at, end, &length);
+        feed(desk, ++line, text, length, refuse, &answer);
+        print(line, &answer);
+    }
+    print_mails();
+}
+
+static void measure(rbc_desk *desk, const uint8_t *end, size_t wanted, int times) {
+    struct timespec from, to;
+    size_t lines = 0, sent = 0, length, step = wanted / 10 ? wanted / 10 : 1;
+    clock_gettime(CLOCK_MONOTONIC, &from);
+    do {
+        for (const uint8_t *at = batch; at < end && (!wanted || lines < wanted);) {
+            const uint8_t *text = at;
+            rbc_answer answer;
+            at = line_at(at, end, &length);
+            uint32_t code = rbc_feed(desk, text, length, out, ROOM, &answer);
+            if (code != RBC_DONE)
+                stop("not taken", lines, code);
+            sent += answer.count;
+            lines++;
+            if (wanted && lines % step == 0)
+                printf("%zu lines, %zu messages, %ld bytes resident\n", lines, sent, resident());
+        }
+    } while (wanted && lines < wanted);
+    clock_gettime(CLOCK_MONOTONIC, &to);
+    double ns = (double)(to.tv_sec - from.tv_sec) * 1e9 + (double)(to.tv_nsec - from.tv_nsec);
+    if (times)
+        printf("%zu lines, %zu messages, %.0f ns a line, %ld bytes resident\n", lines, sent, ns / (double)lines, resident());
+}
+
+int main(int argc, char **argv) {
+    FILE *file = argc > 1 ? fopen(argv[1], "rb") : NULL;
+    const char *mode = argc > 2 ? argv[2] : "";
+    if (!file)
+        stop("usage: c_library TRACK [refuse|time|many COUNT] < BATCH", 0, 0);
+    size_t length = read_all(file, track, sizeof track);
+    const uint8_t *end = batch + read_all(stdin, batch, sizeof batch);
+    fclose(file);
+
+    rbc_desk desk = RBC_NONE;
+    int refuse = strcmp(mode, "refuse") == 0;
+    open_desk(&desk, length, refuse);
+    if (strcmp(mode, "time") == 0)
+        measure(&desk, end, 0, 1);
+    else if (strcmp(mode, "many") == 0 && argc > 3)
+        measure(&desk, end, (size_t)atoll(argv[3]), 1);
+    else
+        run(&desk, end, refuse);
+    if (rbc_close(&desk) != RBC_DONE || rbc_close(&desk) != RBC_NOT_NOW)
+        stop("the desk was not closed once", 0, 0);
+    if (refuse)
+        fprintf(stderr, "%zu refusals\n", refusals);
+    return 0;
+}

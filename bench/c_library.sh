@@ -1,0 +1,73 @@
+#!/usr/bin/env bash
+# Feeds batches to the library for C, line by line, and compares with the program: bench/c_library.sh [--built] [CASES]
+#
+# CASES is a folder with NAME.toml, NAME.batch and NAME.expected, the output text of NAME.batch on the track NAME.toml; without it
+# examples/ is taken. For each batch, as bench/c_library.c tells: room for messages is asked for first; the output is the
+# expected one. The first three batches are then fed with each allocation refused in turn, and, of CASES, under valgrind, where that
+# is there, with room and with refusals. It ends with status 1 at the first difference or finding.
+#
+# The libraries are proved and built first, which takes minutes in a fresh clone; with --built those that are there are taken. It needs
+# cc, and the kit's archive of heap.c, which lies beside rt.
+set -euo pipefail
+
+here=$(cd "$(dirname "$(readlink -f "$0")")" && pwd)
+root=$(dirname "$here")
+work=$(mktemp -d)
+trap 'rm -r "$work"' EXIT
+
+built=
+[[ ${1-} == --built ]] && built=yes && shift
+cases=${1-}
+if [[ -z $built ]]; then
+    for crate in ertms_c rbc_c; do
+        (cd "$root/crates/$crate" && rt lib) > "$work/log" 2>&1 || { tail -n 20 "$work/log" >&2; exit 1; }
+    done
+fi
+heap=$(dirname "$(rt doc)")/c/liblibc_c.a
+library=("$root/crates/rbc_c/out/librbc_c.a" "$heap")
+cc -O2 -std=c11 -Wall -Wextra -Werror -I "$root/include" "$here/c_library.c" "${library[@]}" -Wl,--wrap=malloc,--wrap=realloc -o "$work/c_library"
+cc -O2 -std=c11 -Wall -Wextra -Werror -I "$root/include" "$root/examples/c/live.c" "${library[@]}" -o "$work/live"
+
+# Prints the track, the batch and the expected output of each case, a line each.
+list() {
+    local batch name
+    if [[ -n $cases ]]; then
+        for batch in "$cases"/*.batch; do
+            name=${batch%.batch}
+            printf '%s %s %s\n' "$name.toml" "$batch" "$name.expected"
+        done
+    else
+        for batch in "$root"/examples/*.batch; do
+            printf '%s %s %s\n' "$root/examples/main_line.toml" "$batch" "${batch%.batch}.expected"
+        done
+    fi
+}
+
+# Runs a program on a case, with words behind the track, and compares what it writes.
+compare() {
+    local track=$1 batch=$2 expected=$3
+    shift 3
+    "$@" < "$batch" > "$work/output" 2> "$work/errors" || { echo "$batch: $*: status $?" >&2; cat "$work/errors" >&2; exit 1; }
+    cmp "$work/output" "$expected" >&2 || { echo "$batch: $*: another output" >&2; exit 1; }
+}
+
+count=0
+lines=0
+refusals=0
+while read -r track batch expected; do
+    compare "$track" "$batch" "$expected" "$work/c_library" "$track"
+    compare "$track" "$batch" "$expected" "$work/live" "$track"
+    count=$((count + 1))
+    lines=$((lines + $(grep -c '' "$batch" || true)))
+    if ((count <= 3)); then
+        compare "$track" "$batch" "$expected" "$work/c_library" "$track" refuse
+        read -r some _ < "$work/errors"
+        refusals=$((refusals + some))
+        if [[ -n $cases ]] && command -v valgrind > /dev/null; then
+            watched=(valgrind --quiet --error-exitcode=9 --leak-check=full --errors-for-leak-kinds=all)
+            compare "$track" "$batch" "$expected" "${watched[@]}" "$work/c_library" "$track"
+            compare "$track" "$batch" "$expected" "${watched[@]}" "$work/c_library" "$track" refuse
+        fi
+    fi
+done < <(list)
+printf '%s batches of %s lines as expected, fed line by line; %s allocations refused\n' "$count" "$lines" "$refusals"

@@ -1,0 +1,81 @@
+//! The codec for callers in C: one message at a time, in structs of fixed layout, without memory. `ertms.h` is the header.
+#![tactic(auto)]
+
+ghost use Rattle.std.specs.Prelude.{◌≡◌, ◌<◌, drop};
+ghost use Rattle.ertms_codec.specs.ToTrain as to_train;
+ghost use Rattle.ertms_codec.specs.FromTrain as from_train;
+ghost use Rattle.ertms_codec.specs.declared.to_train.ToTrain.{ToTrain};
+ghost use Rattle.ertms_codec.specs.declared.from_train.FromTrain.{FromTrain};
+ghost use Rattle.ertms_c.specs.ToTrainFields as to_train_fields;
+ghost use Rattle.ertms_c.specs.FromTrainFields as from_train_fields;
+ghost use Rattle.ertms_c.specs.Faults.{code_of};
+
+mod from_train;
+mod to_train;
+
+use ertms_codec::{DecodeError, read_from_train, read_to_train, write_to_train};
+use from_train::FromTrainFields;
+use to_train::ToTrainFields;
+
+/// The code of a refusal.
+fn code_of(fault: DecodeError) -> u32
+    ensures value { result ≡ code_of fault }
+    ensures positive { 0 < result }
+{
+    match fault {
+        DecodeError::Length => 1,
+        DecodeError::Message => 2,
+        DecodeError::Packet => 3,
+        DecodeError::Field => 4,
+    }
+}
+
+/// Decodes the bytes of one message to a train. Answers 0, and `fields` are those of the message; or the number of the first step
+/// that fails, 1 to 4, and `fields` stay.
+#[unsafe(no_mangle)]
+pub extern "C" fn ertms_read_to_train(bytes: &[u8], fields: &mut ToTrainFields) -> u32
+    ensures read { result ≡ 0 → to_train_fields.AreRead bytes.now fields.new }
+    ensures only { (m : ToTrain) → to_train.Spells bytes.now m → (result ≡ 0) × (fields.new ≡ to_train_fields.fields_of m) }
+    ensures refused { 0 < result → to_train_fields.IsRefused bytes.now result }
+    ensures stays { 0 < result → fields.new ≡ fields.old }
+{
+    match read_to_train(bytes) {
+        Ok(message) => {
+            *fields = to_train::fields_of(&message);
+            0
+        }
+        Err(fault) => code_of(fault),
+    }
+}
+
+/// Encodes one message to a train. Answers how many bytes it has, at most 32, which stand at the front of `bytes`; or 0 where no
+/// message has these fields. What stands behind the message stays.
+#[unsafe(no_mangle)]
+pub extern "C" fn ertms_write_to_train(fields: &ToTrainFields, bytes: &mut [u8; 32]) -> u32
+    ensures written { 0 < result → to_train_fields.AreWritten fields.now result bytes.new }
+    ensures none { result ≡ 0 → to_train_fields.AreOfNone fields.now }
+    ensures behind { drop result bytes.new ≡ drop result bytes.old }
+{
+    match to_train::message_of(fields) {
+        Some(message) => write_to_train(&message, bytes) as u32,
+        None => 0,
+    }
+}
+
+/// Decodes the bytes of one message from a train. Answers 0, and `fields` are those of the message; or the number of the first step
+/// that fails, 1 to 4, and `fields` stay.
+#[unsafe(no_mangle)]
+pub extern "C" fn ertms_read_from_train(bytes: &[u8], fields: &mut FromTrainFields) -> u32
+    ensures read { result ≡ 0 → from_train_fields.AreRead bytes.now fields.new }
+    ensures only { (m : FromTrain) → from_train.Spells bytes.now m → (result ≡ 0) × (fields.new ≡ from_train_fields.fields_of m) }
+    ensures refused { 0 < result → from_train_fields.IsRefused bytes.now result }
+    ensures stays { 0 < result → fields.new ≡ fields.old }
+{
+    match read_from_train(bytes) {
+        Ok(message) => {
+            *fields = from_train::fields_of(&message);
+            0
+        }
+        Err(fault) => code_of(fault),
+    }
+}

@@ -1,0 +1,4 @@
+pub mod Opens
+pub mod Messages
+pub mod Feeds
+pub mod Closes

@@ -1,0 +1,38 @@
+//! The codes that calls answer.
+
+ghost use Rattle.std.specs.Prelude.{◌≡◌, ◌<◌};
+ghost use Rattle.rbc_c.specs.Opens.{code_of};
+
+use rbc_track::TrackError;
+
+/// All is done.
+pub const DONE: u32 = 0;
+
+/// Memory was refused.
+pub const MEMORY: u32 = 1;
+
+/// The handle has no desk; or, where one is to be opened, it has one.
+pub const NOT_NOW: u32 = 2;
+
+/// There are more messages than room for them.
+pub const ROOM: u32 = 3;
+
+/// The text of a track is not UTF-8.
+pub const NOT_UTF8: u32 = 5;
+
+/// The code of a track that is refused.
+pub fn code_of(fault: TrackError) -> u32
+    ensures value { result ≡ code_of fault }
+    ensures positive { 0 < result }
+{
+    match fault {
+        TrackError::OutOfMemory => MEMORY,
+        TrackError::Text => 10,
+        TrackError::Shape => 11,
+        TrackError::TooManyLines => 12,
+        TrackError::TooManyGroups => 13,
+        TrackError::BadLength => 14,
+        TrackError::GroupOffLine => 15,
+        TrackError::GroupTwice => 16,
+    }
+}

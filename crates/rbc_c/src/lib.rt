@@ -1,0 +1,95 @@
+//! A live desk for callers in C. `rbc.h` is the header.
+#![tactic(auto)]
+
+ghost use Rattle.std.specs.Prelude.{◌≡◌, None, IfOk, IfErr};
+ghost use Rattle.rbc_c.specs.Opens.{Opens, IsNew, IsWhyNot};
+ghost use Rattle.rbc_c.specs.Feeds.{Feeds};
+ghost use Rattle.rbc_c.specs.Closes.{Closes};
+
+mod faults;
+mod feed;
+mod handle;
+mod message;
+
+use faults::{DONE, MEMORY, NOT_NOW, NOT_UTF8, code_of};
+use feed::{Answer, feed_desk};
+use handle::Handle;
+use message::Message;
+use rbc_live::LiveDesk;
+use std::alloc::Global;
+use std::str;
+
+/// Makes a desk on the heap, on the track of a text; or answers the code that says why not.
+fn desk_on(alloc: Global, track: &[u8]) -> Result<Box<LiveDesk>, u32>
+    ensures new { IfOk result (λ desk. IsNew track.now desk.value) }
+    ensures why_not { IfErr result (λ code. IsWhyNot track.now code) }
+{
+    let Ok(text) = str::from_utf8(track) else {
+        return Err(NOT_UTF8);
+    };
+    match LiveDesk::open(alloc, text) {
+        Ok(desk) => match Box::new(alloc, desk) {
+            Ok(desk) => Ok(desk),
+            Err(_) => Err(MEMORY),
+        },
+        Err(fault) => Err(code_of(fault)),
+    }
+}
+
+/// Opens a desk on the track that a text in TOML writes. Answers 0, and the handle has the desk; or the code of a fault, and the
+/// handle is as it was. A handle that has a desk keeps it, and the call is refused.
+#[unsafe(no_mangle)]
+pub extern "C" fn rbc_open(handle: &mut Handle, alloc: Global, track: &[u8]) -> u32
+    ensures { Opens handle.old.memory.live track.now result handle.new.memory.live }
+{
+    if let Some(desk) = handle.take(alloc) {
+        *handle = Handle::of(desk);
+        return NOT_NOW;
+    }
+    match desk_on(alloc, track) {
+        Ok(desk) => {
+            *handle = Handle::of(desk);
+            DONE
+        }
+        Err(code) => code,
+    }
+}
+
+/// Gives one line to the desk of a handle. Answers 0: `answer` says what it led to, and its messages stand at the front of `out`. At
+/// the code of a fault the desk and `out` are as they were; where `out` has no room `answer` says for how many messages. A handle with
+/// no desk is refused.
+#[unsafe(no_mangle)]
+pub extern "C" fn rbc_feed(
+    handle: &mut Handle,
+    alloc: Global,
+    line: &[u8],
+    out: &mut [Message],
+    answer: &mut Answer,
+) -> u32
+    ensures { Feeds handle.old.memory.live line.now out.old answer.old result handle.new.memory.live out.new answer.new }
+{
+    let Some(mut desk) = handle.take(alloc) else {
+        return NOT_NOW;
+    };
+    let code = feed_desk(&mut desk, alloc, line, out, answer);
+    *handle = Handle::of(desk);
+    code
+}
+
+/// Gives back the memory of a handle's desk. A handle with no desk is refused. It has none then.
+#[unsafe(no_mangle)]
+pub extern "C" fn rbc_close(handle: &mut Handle, alloc: Global) -> u32
+    ensures { Closes handle.old.memory.live result handle.new.memory.live }
+{
+    match handle.take(alloc) {
+        Some(_) => DONE,
+        None => NOT_NOW,
+    }
+}
+
+fn sends<T: Send>(_: &T) {}
+
+/// A handle may go from thread to thread.
+fn handle_sends(handle: &Handle) {
+    sends(handle);
+}

@@ -1,0 +1,41 @@
+-- Bounds on the attempts that write a key (own rule).
+use Rattle.std.specs.Prelude.{◌≡◌, ℕ, ◌+◌, ◌<◌, ◌≤◌, ◌%◌, List, length, Option, Some, None, slice_get, slice_index}
+use Rattle.rbc_records.specs.declared.record.Key.{Key}
+use Rattle.rbc_records.specs.declared.record.Key.TheVariants as key
+use Rattle.rbc_versions.specs.Entries.{number_for}
+use Rattle.rbc_core.specs.declared.stage.Stage.{Stage}
+use Rattle.rbc_core.specs.declared.stage.Stage.TheVariants.{Free, Out, Tried, Void}
+use Rattle.rbc_core.specs.Core.{Try}
+
+-- where a key stands among buckets: the trains behind all others
+abbrev pub place_of : Key → ℕ
+place_of key.Roster = 0
+place_of (key.Train engine) = 260 + engine
+place_of key.Stops = 1
+place_of key.Limits = 2
+place_of (key.Line line) = 4 + line
+place_of key.Unplaced = 3
+
+-- the bound of a key's bucket
+abbrev pub reached : List ℕ → Key → ℕ
+reached bounds k = slice_index bounds (place_of k % length bounds)
+
+-- no attempt at an input above a key's bound writes the key
+abbrev pub AreWithin : List (Stage Try) → List ℕ → Type 0
+AreWithin stages bounds = (i : ℕ) (a : Try) (k : Key) (n : ℕ) → slice_get stages i ≡ Some (Tried a) → number_for a.writes k ≡ Some n → i + 1 ≤ reached bounds k
+
+-- the number that the attempt of a stage puts under a key
+abbrev pub number_put : Stage Try → Key → Option ℕ
+number_put Free k = None
+number_put Out k = None
+number_put (Tried a) k = number_for a.writes k
+number_put Void k = None
+
+-- of the inputs from one index on and below another, none has an attempt that writes the key
+abbrev pub NoneWritesIn : List (Stage Try) → ℕ → ℕ → Key → Type 0
+NoneWritesIn stages first last k = (i : ℕ) (g : Stage Try) → first ≤ i → i < last → slice_get stages i ≡ Some g → number_put g k ≡ None
+
+-- it is the number that the attempt at the latest of them puts there
+abbrev pub IsLatestIn : List (Stage Try) → ℕ → ℕ → Key → ℕ → Type 0
+IsLatestIn stages first last k number =
+    (i : ℕ) × (g : Stage Try) × (first ≤ i) × (i < last) × (slice_get stages i ≡ Some g) × (number_put g k ≡ Some number) × NoneWritesIn stages (i + 1) last k

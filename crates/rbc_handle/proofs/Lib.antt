@@ -1,0 +1,2 @@
+pub mod RawBoxes
+pub mod DeskPointers

@@ -1,0 +1,111 @@
+//! The live desk.
+
+ghost use Rattle.std.specs.Prelude.{◌≡◌, ◌≤◌, ◌⊎◌, [], length, IfOk, OnErr, IfErr};
+ghost use Rattle.rbc_track.specs.Plan.{IsPlan};
+ghost use Rattle.rbc_track.specs.Reading.{IsTrackOf, RefusesTrack};
+ghost use Rattle.rbc_rule.specs.Gathered.{AreSendable};
+ghost use Rattle.rbc_live.specs.Serial.{IsSerial};
+ghost use Rattle.rbc_live.specs.History.{IsFed, AreSame, IsFaultOf};
+
+use rbc_batch::parse_line;
+use rbc_records::{PlainStore, apply};
+use rbc_rule::{Reply, RuleFault, SentList, decide, step_law};
+use rbc_track::{Track, TrackError, track_from_toml};
+use std::alloc::{AllocError, Global};
+
+/// A track, and the records of all that is known: those after the inputs that were taken, one after another, from a new desk. Neither
+/// answers nor messages are kept, so the memory of a desk is bounded by its trains, stops and restrictions, however long it lives.
+#[derive(Drop)]
+pub struct LiveDesk {
+    pub track: Track,
+    pub records: PlainStore,
+    pub ghost serial: { ∥ IsSerial track records ∥₁ },
+}
+
+/// Why a line was not taken. Nothing that counts is changed then, and the line may be fed again.
+#[derive(Clone, Copy, Debug, PartialEq, Eq)]
+pub enum LiveFault {
+    /// Memory was refused.
+    Memory,
+    /// The line sends this many messages, more than are wanted.
+    Room(usize),
+}
+
+impl From<AllocError> for LiveFault {
+    ghost use Rattle.std.specs.Prelude.{◌≡◌};
+    ghost use Rattle.rbc_live.specs.declared.desk.LiveFault.TheVariants.{Memory};
+
+    ghost from_gives = { λ _ fault. fault ≡ Memory };
+
+    fn from(_: AllocError) -> LiveFault {
+        LiveFault::Memory
+    }
+}
+
+/// What a line led to: the answer to it, and the messages that it sent, in the order in which they are sent.
+#[derive(Debug, Drop)]
+pub struct Answer {
+    pub reply: Reply,
+    pub messages: SentList,
+}
+
+/// What each track keeps: a step rests on it.
+fn is_plan(track: &Track)
+    ensures { IsPlan track.now }
+{
+    let _ = track.horizon();
+}
+
+impl LiveDesk {
+    /// Opens a desk on the track that a text in TOML writes: no train, no stop, no restriction.
+    ///
+    /// # Errors
+    ///
+    /// Those of `track_from_toml`.
+    pub fn open(alloc: Global, text: &str) -> Result<LiveDesk, TrackError>
+        ensures track { IfOk result (λ desk. IsTrackOf text.now desk.track) }
+        ensures empty { IfOk result (λ desk. desk.records ≡ []) }
+        ensures refused { IfErr result (λ e. (e ≡ TrackError.OutOfMemory) ⊎ RefusesTrack text.now e) }
+    {
+        let track = track_from_toml(alloc, text)?;
+        let records = PlainStore::new(alloc);
+        Ok(LiveDesk { track, records })
+    }
+
+    /// Takes one line, without its line feed, which may send at most `most` messages. The answer, the messages and the records after
+    /// it are those of the rule's step (own rule; see `step` of rbc_rule) for the input of the line.
+    ///
+    /// # Errors
+    ///
+    /// `Memory` where memory was refused; `Room` with the number of messages where there are more than `most`. The desk is then as it
+    /// was, and the line may be fed again.
+    pub fn feed(&mut self, alloc: Global, line: &[u8], most: usize) -> Result<Answer, LiveFault>
+        ensures step { IfOk result (λ answer. IsFed self.old.track line.now self.old.records self.new.records answer.reply answer.messages) }
+        ensures fit { IfOk result (λ answer. AreSendable answer.messages) }
+        ensures few { IfOk result (λ answer. length answer.messages ≤ most) }
+        ensures track { self.new.track ≡ self.old.track }
+        ensures fault { IfErr result (λ fault. IsFaultOf self.old.track line.now self.old.records most fault) }
+        ensures stays { OnErr result (AreSame self.old.records self.new.records) }
+    {
+        let input = parse_line(alloc, line)?;
+        is_plan(&self.track);
+        step_law();
+        let outcome = match decide(alloc, &self.track, &input, &mut self.records) {
+            Ok(outcome) => outcome,
+            Err(RuleFault::OutOfMemory) => return Err(LiveFault::Memory),
+            // A desk's records are those of a world, and a store of all records never fails.
+            Err(RuleFault::Torn) => unreachable!(),
+            Err(RuleFault::Reader) => unreachable!(),
+        };
+        if outcome.messages.len() > most {
+            return Err(LiveFault::Room(outcome.messages.len()));
+        }
+        match apply(&mut self.records, outcome.writes) {
+            Ok(()) => Ok(Answer {
+                reply: outcome.result,
+                messages: outcome.messages,
+            }),
+            Err(_) => Err(LiveFault::Memory),
+        }
+    }
+}

@@ -1,0 +1,8 @@
+//! A desk that lives as long as its owner: it is fed one line after another, and answers each at once.
+#![tactic(auto)]
+
+mod desk;
+mod law;
+
+pub use desk::{Answer, LiveDesk, LiveFault};
+pub use law::history_law;
