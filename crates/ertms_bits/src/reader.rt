@@ -46,7 +46,7 @@ impl<'a> BitReader<'a> {
     ///
     /// # Errors
     ///
-    /// `ShortBits` only where fewer bits are left: then the reader stays as it was.
+    /// `ShortBits` only where fewer bits are left: then the reader is unchanged.
     #[inline]
     pub fn take(&mut self, width: u32) -> Result<u64, ShortBits>
         requires { (1 ≤ width) × (width ≤ 64) }
@@ -71,7 +71,7 @@ impl<'a> BitReader<'a> {
     ///
     /// # Errors
     ///
-    /// `ShortBits` only where fewer bits are left: then the reader stays as it was.
+    /// `ShortBits` only where fewer bits are left: then the reader is unchanged.
     pub fn skip(&mut self, count: usize) -> Result<(), ShortBits>
         ensures fits { IsOk result ↔ (count ≤ length self.old) }
         ensures rest { OnOk result (self.new ≡ drop count self.old) }

@@ -18,16 +18,16 @@ use crate::reading::{message_number, next};
 use crate::variable::{NID_EM, NID_ENGINE, Q_EMERGENCYSTOP, T_TRAIN};
 use ertms_bits::BitReader;
 
-/// The message from a train that some bytes spell, all of them; fill bits are not looked at, and packets
-/// behind the position are passed over. It takes no memory (SUBSET-026, chapters 7 and 8).
+/// The message from a train that some bytes encode, all of them; fill bits are ignored, and packets
+/// behind the position are skipped. It takes no memory (SUBSET-026, chapters 7 and 8).
 ///
 /// # Errors
 ///
 /// The first step that fails: `Length`, `Message`, `Length` (of that message), `Packet`, `Field`.
 pub fn read_from_train(bytes: &[u8]) -> Result<FromTrain, DecodeError>
-    // What is read is spelled so.
+    // What is read is so encoded.
     ensures found { IfOk result (λ m. Spells bytes.now m) }
-    // What is spelled so is read; so no bytes spell two messages.
+    // What is so encoded is read; so no bytes are an encoding of two messages.
     ensures only { (m : Received) → Spells bytes.now m → result ≡ Ok m }
     // A refusal is the first step that fails.
     ensures refused { IfErr result (λ e. Refuses bytes.now e) }

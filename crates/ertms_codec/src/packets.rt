@@ -19,7 +19,7 @@ use ertms_bits::BitReader;
 /// How many bits packet 0 has at least.
 const POSITION_WIDTH: u64 = 114;
 
-/// The position packet with which the bits begin. All packets behind it are passed over, whatever they are.
+/// The position packet with which the bits begin. All packets behind it are skipped, whatever they are.
 ///
 /// # Errors
 ///

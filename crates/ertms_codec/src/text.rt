@@ -150,7 +150,7 @@ impl fmt::Display for FromTrain {
     }
 }
 
-/// The message that some bytes spell, as one line of text: 15, 16, 18 or 24 as the first byte is for a
+/// The message whose encoding some bytes are, as one line of text: 15, 16, 18 or 24 as the first byte is for a
 /// message to a train, all else for one from a train (own rule).
 pub fn describe(alloc: Global, bytes: &[u8]) -> Result<Vec<u8>, DescribeError>
     ensures text { IfOk result (λ text. HasText bytes.now text.items) }

@@ -21,16 +21,16 @@ use crate::variable::{
 };
 use ertms_bits::BitReader;
 
-/// The message to a train that some bytes spell, all of them; fill bits are not looked at. It takes no
+/// The message to a train that some bytes encode, all of them; fill bits are ignored. It takes no
 /// memory (SUBSET-026, chapters 7 and 8).
 ///
 /// # Errors
 ///
 /// The first step that fails: `Length`, `Message`, `Length` (of that message), `Packet`, `Field`.
 pub fn read_to_train(bytes: &[u8]) -> Result<ToTrain, DecodeError>
-    // What is read is spelled so.
+    // What is read is so encoded.
     ensures found { IfOk result (λ m. Spells bytes.now m) }
-    // What is spelled so is read; so no bytes spell two messages.
+    // What is so encoded is read; so no bytes are an encoding of two messages.
     ensures only { (m : Sent) → Spells bytes.now m → result ≡ Ok m }
     // A refusal is the first step that fails.
     ensures refused { IfErr result (λ e. Refuses bytes.now e) }

@@ -77,7 +77,7 @@ impl From<RunError> for ProcessError {
     }
 }
 
-/// Runs inputs on a track from a new desk, and returns the desk with the counts of the run.
+/// Runs inputs on a track from the empty state, and returns the desk with the counts of the run.
 fn run_all<G: Gate + Sync>(
     rt: &(impl AllocGlobal + Threads + Wait + Sync),
     track: &Track,
@@ -95,7 +95,7 @@ fn run_all<G: Gate + Sync>(
     }
 }
 
-/// Reads a batch to its end, runs its lines on a track, from a new desk, by so many workers (1 to 16), and writes the output
+/// Reads a batch to its end, runs its lines on a track, from the empty state, by so many workers (1 to 16), and writes the output
 /// text: that of the lines run one after another. Nothing is written before the whole output is known.
 ///
 /// # Errors

@@ -37,7 +37,7 @@ fn desk_on(alloc: Global, track: &[u8]) -> Result<Box<LiveDesk>, u32>
 }
 
 /// Opens a desk on the track that a text in TOML writes. Answers 0, and the handle has the desk; or the code of a fault, and the
-/// handle is as it was. A handle that has a desk keeps it, and the call is refused.
+/// handle is unchanged. A handle that has a desk keeps it, and the call is refused.
 #[unsafe(no_mangle)]
 pub extern "C" fn rbc_open(handle: &mut Handle, alloc: Global, track: &[u8]) -> u32
     ensures { Opens handle.old.memory.live track.now result handle.new.memory.live }

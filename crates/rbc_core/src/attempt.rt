@@ -21,7 +21,7 @@ use rbc_versions::{Notes, Present, Published, VersionLog};
 use std::marker::{Model, PhantomData};
 
 /// An attempt at an input of a run: the numbers that were read, what the input does where these stand, and the numbers of what it
-/// writes. Each attempt is right: in every well-formed world that has the records that were read, its outcome is that of the input's
+/// writes. Each attempt is right: in every valid state that has the records that were read, its outcome is that of the input's
 /// step, and its numbers mean what the outcome writes.
 #[derive(Drop)]
 pub struct Attempt<N: RunName> {

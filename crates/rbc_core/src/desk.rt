@@ -80,7 +80,7 @@ impl Desk {
     }
 
     /// The engine (NID_ENGINE) and the messages of the outbox at an index below `outboxes`, in ascending order of the engine. None is
-    /// empty. Each message is what its bytes spell.
+    /// empty. Each message is what its bytes encode.
     pub fn outbox_at(&self, index: usize) -> (u32, &[Mail])
         requires { index < length self.now.outboxes }
         ensures outbox { slice_get self.now.outboxes index ≡ Some (result.0, result.1.now) }
@@ -90,7 +90,7 @@ impl Desk {
         (*engine, outbox.mails())
     }
 
-    /// The messages that were sent to an engine (NID_ENGINE), in order; none if it has no outbox. Each is what its bytes spell.
+    /// The messages that were sent to an engine (NID_ENGINE), in order; none if it has no outbox. Each is what its bytes encode.
     pub fn outbox(&self, engine: u32) -> &[Mail]
         ensures mails { result.now ≡ value_or [] self.now.outboxes engine }
         ensures sendable { mails.AreSendable result.now }
@@ -98,7 +98,7 @@ impl Desk {
         outbox::mails_of(&self.outboxes, engine)
     }
 
-    /// Decides an input by the records, and changes nothing. If the desk holds a well-formed world, this fails only for lack of memory.
+    /// Decides an input by the records, and changes nothing. If the desk holds a valid state, this fails only for lack of memory.
     pub(crate) fn decide(
         &mut self,
         alloc: Global,

@@ -38,7 +38,7 @@ impl Model for Outbox {
 
     ghost use Rattle.rbc_core.specs.Sendable.{AreSendable};
 
-    // Each message can be written, and is what its bytes spell.
+    // Each message can be written, and is what its bytes encode.
     ghost invariant = { λ o. AreSendable o.mails.items };
 }
 
@@ -106,7 +106,7 @@ fn has_room(message: ToTrain)
     }
 }
 
-/// Says in its contract that a message that fits is what its own bytes spell.
+/// Says in its contract that a message that fits is what its own bytes encode.
 fn spells(message: ToTrain)
     requires { Fits message }
     ensures { Spells (spelling_of message) message }

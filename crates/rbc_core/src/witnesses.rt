@@ -17,7 +17,7 @@ ghost use Rattle.rbc_core.specs.Witnesses.{second_overtaken, second_given_up, gi
 ghost use Rattle.rbc_core.specs.Witnesses.{forwarded_try, first_tried, forwarding, applying_forwarded, passing_over, then_again, MissesAnswers, MissesAttempts, MissesLatest, MissesDeposits, started_with_4, second_misled};
 ghost use Rattle.rbc_core.specs.Witnesses.{stop_told, stop_revoked, IsSaidThere, AreSaidThere};
 
-/// From a new desk train 7 is enrolled, and then comes a line that is no input. The three records of the first are published under the
+/// From the empty state train 7 is enrolled, and then comes a line that is no input. The three records of the first are published under the
 /// numbers 1, 2 and 3.
 ///
 /// Right: both are attempted, the second one first, from a read that does not stand any more when its turn comes, so that it is

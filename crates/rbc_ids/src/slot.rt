@@ -46,7 +46,7 @@ impl Slot {
     }
 }
 
-/// Why no identifier was issued. The table stays as it was.
+/// Why no identifier was issued. The table is unchanged.
 #[derive(Clone, Copy, Debug, PartialEq, Eq, Error)]
 pub enum IssueError {
     /// Every identifier is held.

@@ -105,7 +105,7 @@ impl<const N: usize> IdTable<N> {
     ///
     /// # Errors
     ///
-    /// `Full` exactly if every identifier is held, else `OutOfMemory`. Either leaves the table as it was.
+    /// `Full` exactly if every identifier is held, else `OutOfMemory`. Either leaves the table unchanged.
     pub fn issue(&mut self, number: u32, stamp: u32, kind: Kind) -> Result<u8, IssueError>
         requires { is_told self.old number ≡ false }
         ensures issued { IfOk result (λ id. IsIssued N self.old number stamp kind id self.new) }
@@ -128,7 +128,7 @@ impl<const N: usize> IdTable<N> {
     }
 
     /// Uses an identifier for a number, told by a message of this kind with this stamp (T_TRAIN, 10 ms). The identifier must
-    /// be free and below `N`. Fails only for lack of memory, which leaves the table as it was.
+    /// be free and below `N`. Fails only for lack of memory, which leaves the table unchanged.
     pub fn tell(&mut self, id: u8, number: u32, stamp: u32, kind: Kind) -> Result<(), AllocError>
         requires below { id < N }
         requires free { has self.old id ≡ false }

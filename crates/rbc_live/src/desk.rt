@@ -13,7 +13,7 @@ use rbc_rule::{Reply, RuleFault, SentList, decide, step_law};
 use rbc_track::{Track, TrackError, track_from_toml};
 use std::alloc::{AllocError, Global};
 
-/// A track, and the records of all that is known: those after the inputs that were taken, one after another, from a new desk. Neither
+/// A track, and the records of all that is known: those after the inputs that were taken, one after another, from the empty state. Neither
 /// answers nor messages are kept, so the memory of a desk is bounded by its trains, stops and restrictions, however long it lives.
 #[derive(Drop)]
 pub struct LiveDesk {

@@ -9,7 +9,7 @@ use std::alloc::{AllocError, Global};
 use std::marker::Model;
 
 /// Notes of what was read under some keys: a record, or that there is none. They stand in the order of reading, and no
-/// key stands twice. In contracts a list of pairs.
+/// key occurs twice. In contracts a list of pairs.
 #[derive(Debug, Drop)]
 pub struct Notes {
     all: IndexMap<Key, Option<Rec>>,
@@ -26,7 +26,7 @@ impl Model for Notes {
 
     ghost use Rattle.rbc_records.specs.Notes.{IsNotedOnce};
 
-    // Each key stands once.
+    // Each key occurs once.
     ghost invariant = { λ notes. IsNotedOnce notes.all.entries };
 }
 

@@ -96,7 +96,7 @@ fn answered(train: TrainRec, id: u8, answer: u8) -> Result<TrainRec, NotChanged>
     }
 }
 
-/// Returns the train after its message, or why the message is refused. The given record stays as it was.
+/// Returns the train after its message, or why the message is refused. The given record is unchanged.
 pub(crate) fn heard(
     alloc: Global,
     track: &Track,

@@ -4,7 +4,7 @@ ghost use Rattle.rbc_rule.specs.Laws.{EachStepKeepsWorlds};
 ghost use Rattle.rbc_rule.specs.SaidFor.{EachStepSays, EachMessageSaysOneThing};
 ghost use Rattle.rbc_rule.specs.Told.{EachStepTells};
 
-/// A step of a well-formed world leaves a well-formed world, in which every train is settled.
+/// A step of a valid state leaves a valid state, in which every train is settled.
 pub fn step_law()
     ensures { EachStepKeepsWorlds }
 {}

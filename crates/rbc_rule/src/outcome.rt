@@ -141,7 +141,7 @@ impl Outcome {
 pub enum RuleFault {
     /// Memory was refused.
     OutOfMemory,
-    /// No well-formed world has the records that were read.
+    /// No valid state has the records that were read.
     Torn,
     /// The reader failed.
     Reader,

@@ -15,7 +15,7 @@ use rbc_track::Track;
 use std::alloc::Global;
 
 /// Decides an input on a track by the records that it reads (own rule): the answer, the records to write and the messages to send.
-/// The outcome is that of a step of each well-formed world that has the records that were read. An input that is refused writes
+/// The outcome is that of a step of each valid state that has the records that were read. An input that is refused writes
 /// nothing and sends nothing, whatever was read. Each write changes what stands under its key, but that of the train that sent a
 /// message, which is written in any case. A stop that begins reads the trains without a place and those on the lines of its segments,
 /// a restriction that begins those on its line; what ends reads all trains. Nothing is written to the store, and records that were
@@ -23,7 +23,7 @@ use std::alloc::Global;
 ///
 /// # Errors
 ///
-/// `OutOfMemory` for lack of memory; `Torn` only if no well-formed world has the records that were read; `Reader` only if the reader
+/// `OutOfMemory` for lack of memory; `Torn` only if no valid state has the records that were read; `Reader` only if the reader
 /// failed in this call. Then nothing was decided.
 pub fn decide<S: Reader>(
     alloc: Global,

@@ -53,7 +53,7 @@ pub fn says_law_witnesses()
 
 /// Stop 1 of 20000 to 21000 on line 0 is active, and train 7 stands 200 m beyond balise group 5 and faces it.
 ///
-/// Right: the stop is told to the train; it is not, and the train's stamps have ended.
+/// Right: the stop is told to the train; it is not, and the train's stamps are used up.
 ///
 /// Wrong: the stop is not told; nor is it to a train without a place; a stop is told that is not active any more; a restriction
 /// that concerns the train is not told.

@@ -69,7 +69,7 @@ pub fn settled(
 }
 
 /// Brings a train up to date as `settled` does, and returns the messages that do it, in their order. Takes memory only if there
-/// is something to do. Fails only for lack of memory, which leaves the train as it was.
+/// is something to do. Fails only for lack of memory, which leaves the train unchanged.
 pub fn settle(
     alloc: Global,
     track: &Track,

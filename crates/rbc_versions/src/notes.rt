@@ -13,7 +13,7 @@ use std::alloc::Global;
 use std::marker::Model;
 
 /// Notes of what was read under some keys: the ticket of a record, or that there is none. They stand in the order of reading, and no
-/// key stands twice. In contracts a list of pairs.
+/// key occurs twice. In contracts a list of pairs.
 #[derive(Drop)]
 pub struct Notes {
     all: IndexMap<Key, Option<Ticket>>,
@@ -30,7 +30,7 @@ impl Model for Notes {
 
     ghost view = { λ notes. notes.all.entries };
 
-    // Each key stands once.
+    // Each key occurs once.
     ghost invariant = { λ notes. IsNotedOnce (shown notes.all.entries) };
 }
 

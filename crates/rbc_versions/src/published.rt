@@ -33,7 +33,7 @@ impl Model for Published {
 
     ghost view = { λ published. published.all.entries };
 
-    // Each key stands once.
+    // Each key occurs once.
     ghost invariant = { λ published. IsNotedOnce (shown published.all.entries) };
 }
 

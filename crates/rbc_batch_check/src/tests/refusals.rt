@@ -1,4 +1,4 @@
-//! Worked batches where memory may be refused: a call ends with the right answer, or with the fault for want of memory, and
+//! Worked batches where memory may be refused: a call ends with the right answer, or with the fault for lack of memory, and
 //! made once more it ends with the right answer. A test in which the call that it is about was refused memory ends with
 //! `Refused`; so where memory is ample, each passes by the right answers alone. `bench/refusals.sh` refuses one allocation
 //! after another.

@@ -175,7 +175,7 @@ fn make_calls<N: RunName, R: Abort + Wait>(
     Ok((book.close(), stats))
 }
 
-/// Runs inputs from a new desk by these calls of a book.
+/// Runs inputs from the empty state by these calls of a book.
 pub(crate) fn run<R: Abort + Wait>(
     rt: &R,
     alloc: Global,

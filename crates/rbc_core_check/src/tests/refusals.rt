@@ -181,7 +181,7 @@ fn run_all<N: RunName, R: Abort + Wait>(
     })
 }
 
-/// Runs inputs from a desk on which the records of a well-formed world stand, to the first commit that is refused memory.
+/// Runs inputs from a desk on which the records of a valid state stand, to the first commit that is refused memory.
 fn run_from<R: Abort + Wait>(
     rt: &R,
     alloc: Global,
@@ -213,7 +213,7 @@ fn assert_same_desk(rt: &impl Abort, desk: &Desk, wanted: &Desk) {
     }
 }
 
-/// Runs inputs from a new desk. Where a commit is refused memory, asserts that the desk is that of the inputs before, and runs
+/// Runs inputs from the empty state. Where a commit is refused memory, asserts that the desk is that of the inputs before, and runs
 /// the others from there.
 fn run_to_end(
     rt: &(impl Abort + Wait),

@@ -179,7 +179,7 @@ fn read_in_between(rt: HostRuntime) -> Result<(), Fail> {
     assert_left(&rt, alloc, &inputs, &calls, &left)
 }
 
-// the last input is attempted before the train leaves and comes again: each record is as it was, and has another number
+// the last input is attempted before the train leaves and comes again: each record is unchanged, and has another number
 #[test]
 fn there_and_back(rt: HostRuntime) -> Result<(), Fail> {
     let alloc = rt.alloc();

@@ -325,7 +325,7 @@ restriction 2: Used { number: 3, stamp: 390, kind: Restriction, acked: false }
     assert_transcript(&rt, rt.alloc(), transcript);
 }
 
-// nothing where there is nothing to do; then the train to which a stop is told, while the borrowed one stays as it was
+// nothing where there is nothing to do; then the train to which a stop is told, while the borrowed one is unchanged
 #[test]
 fn a_borrowed_train_stays_as_it_is(rt: HostRuntime) {
     let transcript = "> train lost 20
