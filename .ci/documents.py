@@ -3,7 +3,8 @@
 
     python3 .ci/documents.py            prints each fault on a line, and one line of summary; status 1 where there is a fault
     python3 .ci/documents.py --count    also lists the definitions of each class of docs/MODEL.md, with the number of their lines
-    python3 .ci/documents.py --write    first puts into docs/MODEL.md how many lines have to be believed
+    python3 .ci/documents.py --write    first puts into docs/MODEL.md how many lines have to be believed, and into docs/ASSESSMENT.md
+                                        how many faulty variants each crate has
 
 What is checked:
 - each path, module, file and link that a document names is there, and so is each name in backticks: a function, a type, a
@@ -12,11 +13,13 @@ What is checked:
 - docs/MODEL.md names each definition that a public contract or a law reaches, in the part and the section where its class
   belongs (documents_reach.py), each specs file, and each word of the kit that is not of everyday use; and it says how many
   lines have to be believed;
+- docs/ASSESSMENT.md says how many faulty variants each crate has;
 - the table of docs/ARCHITECTURE.md says what crates.txt says, and an output in README.md is that of its file;
 - no file cites a paper, or a demand by its number.
 """
 import re
 import sys
+import textwrap
 from pathlib import Path
 
 sys.path.insert(0, str(Path(__file__).resolve().parent))
@@ -187,6 +190,24 @@ def output_faults(root, text):
             yield match.start(), f"shows another text than {match.group(1)} has"
 
 
+VARIANTS = re.compile(r"^Faulty variants by crate: [^\n]*(?:\n[^\n]+)*", flags=re.M)
+
+
+def variants(root):
+    """The paragraph that says how many faulty variants each crate has."""
+    counts = {}
+    for edit in sorted(root.glob("crates/*/must-fail/*.edit")):
+        counts[edit.parts[-3]] = counts.get(edit.parts[-3], 0) + 1
+    listed = ", ".join(f"{crate} {count}" for crate, count in counts.items())
+    return textwrap.fill(f"Faulty variants by crate: {listed}; {sum(counts.values())} in all.", 140, break_on_hyphens=False)
+
+
+def variant_faults(root, text):
+    said = VARIANTS.search(text)
+    if said is None or said.group() != variants(root):
+        yield said and said.start(), f"does not say: {variants(root)}"
+
+
 def citation_faults(root):
     for path in files(root):
         if path.suffix not in CITED_IN or "data" in path.parts or path.resolve() == Path(__file__).resolve():
@@ -209,6 +230,8 @@ def faults(root, world):
         found = [*path_faults(root, document, text), *name_faults(world, known, text), *owned_faults(world, text), *output_faults(root, whole)]
         if document.name == "MODEL.md":
             found += model.faults(world, whole)
+        if document.name == "ASSESSMENT.md":
+            found += variant_faults(root, whole)
         if document.name == "ARCHITECTURE.md":
             found += table_faults(root, whole)
         for place, fault in found:
@@ -223,6 +246,8 @@ def main():
     world = reach.World(root)
     if "--write" in sys.argv[1:]:
         model.write(world, root / "docs" / "MODEL.md")
+        assessment = root / "docs" / "ASSESSMENT.md"
+        assessment.write_text(VARIANTS.sub(lambda _: variants(root), assessment.read_text()))
     if "--count" in sys.argv[1:]:
         model.count(world)
     broken = 0

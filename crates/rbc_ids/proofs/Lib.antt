@@ -1,3 +1,4 @@
 pub mod Gaps
 pub mod Tables
+mod Near
 mod Same

@@ -34,7 +34,7 @@ pub enum Slot {
 
 impl Slot {
     ghost use Rattle.std.specs.Prelude.{◌≡◌};
-    ghost use Rattle.rbc_ids.specs.Table.{stamp_of};
+    ghost use Rattle.rbc_ids.specs.Table.{stamp_of, tells};
 
     /// Returns the stamp of the message that told the number or revoked it.
     pub fn stamp(&self) -> u32
@@ -43,6 +43,13 @@ impl Slot {
         match self {
             Slot::Used { stamp, .. } | Slot::Revoking { stamp } => *stamp,
         }
+    }
+
+    /// Whether the slot is used by a number. A slot that is being revoked is not.
+    pub fn tells(&self, number: u32) -> bool
+        ensures { result ≡ tells number self.now }
+    {
+        matches!(self, Slot::Used { number: told, .. } if *told == number)
     }
 }
 

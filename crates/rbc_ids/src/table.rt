@@ -1,6 +1,6 @@
 //! The table of a train's identifiers.
 
-ghost use Rattle.std.specs.Prelude.{◌≡◌, ◌<◌, ◌≤◌, ◌↔◌, ◌==◌, false, not, [], length, IsTrue, IfOk, IfErr, OnOk, OnErr};
+ghost use Rattle.std.specs.Prelude.{◌≡◌, ◌<◌, ◌≤◌, ◌↔◌, ◌==◌, false, not, [], length, is_some, IsTrue, IfSome, IfOk, IfErr, OnOk, OnErr};
 ghost use Rattle.std.specs.List.{position_or_len, enumerate_from};
 ghost use Rattle.rbc_maps.specs.Maps.{has, index_for, value_of, with_value, without};
 ghost use Rattle.rbc_ids.specs.declared.slot.IssueError.TheVariants.{Full};
@@ -9,6 +9,7 @@ ghost use Rattle.rbc_ids.specs.Table.{IsTable, is_told, is_used_at, least_free, 
 
 use crate::slot::{IdAck, IssueError, Kind, Slot, StampAck};
 use std::alloc::{AllocError, Global};
+use std::cell::Cell;
 use std::marker::Model;
 
 /// The identifiers 0 to `N - 1` of one train. Each is free, or held by a slot. Takes memory only for those that are held.
@@ -96,8 +97,29 @@ impl<const N: usize> IdTable<N> {
     {
         self.held
             .iter()
-            .find(|held| matches!(held.1, Slot::Used { number: told, .. } if told == number))
+            .find(|held| held.1.tells(number))
             .map(|held| held.0)
+    }
+
+    /// Whether an identifier is used by a number. A number whose slot is being revoked is not found.
+    ///
+    /// The search begins at the index `near` among the held identifiers, and goes round. Where it finds the number, `near` is
+    /// then the index after it. So numbers that are asked for in the order of their identifiers are found at once; the answer is the
+    /// same wherever the search begins.
+    pub fn tells(&self, number: u32, near: &Cell<usize>) -> bool
+        ensures { result ≡ is_told self.now number }
+    {
+        let start = near.get().min(self.held.len());
+        let (before, behind) = (&self.held[..start], &self.held[start..]);
+        if let Some(at) = index_of_number(behind, number) {
+            near.set(start + at + 1);
+            return true;
+        }
+        let Some(at) = index_of_number(before, number) else {
+            return false;
+        };
+        near.set(at + 1);
+        true
     }
 
     /// Uses the least free identifier for a number, told by a message of this kind with this stamp (T_TRAIN, 10 ms), and
@@ -272,4 +294,12 @@ impl<const N: usize> IdTable<N> {
             .position(|(at, held)| usize::from(held.0) != at)
             .unwrap_or(self.held.len())
     }
+}
+
+/// Returns the least index of a slot that is used by a number.
+fn index_of_number(held: &[(u8, Slot)], number: u32) -> Option<usize>
+    ensures told { is_some result ≡ is_told held.now number }
+    ensures below { IfSome result (λ at. at < length held.now) }
+{
+    held.iter().position(|held| held.1.tells(number))
 }

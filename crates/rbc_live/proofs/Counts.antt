@@ -1,5 +1,5 @@
 -- How many messages a step sends in all.
-use Rattle.std.proofs.Common.{◌≡◌, ℕ, ◌+◌, Bool, true, false, cond, not, eqb, leb, List, [], ◌∷◌, length, map, refl, sym, ap, ◌∙◌, subst, arith}
+use Rattle.std.proofs.Common.{◌≡◌, ℕ, ◌+◌, true, false, cond, not, eqb, leb, List, [], ◌∷◌, length, map, refl, sym, ap, ◌∙◌, subst, arith}
 use Rattle.std.specs.List.{filter, fold}
 use Rattle.std.proofs.lemmas.Bool.{eq-eqb, eqb-true, and_parts}
 use Rattle.ertms_codec.specs.declared.to_train.ToTrain.{ToTrain}
@@ -9,13 +9,11 @@ use Rattle.rbc_maps.proofs.MapPlaces.{absent_below, value_or-absent}
 use Rattle.rbc_settle.specs.declared.upkeep.Sent.{Sent}
 use Rattle.rbc_records.specs.declared.record.Key.{Key}
 use Rattle.rbc_records.specs.declared.record.Rec.{Rec}
-use Rattle.rbc_records.specs.Notes.{Whole, Extends, record_in}
+use Rattle.rbc_records.specs.Notes.{Whole, Extends}
 use Rattle.rbc_rule.specs.declared.input.Input.{Input}
 use Rattle.rbc_rule.specs.declared.outcome.Reply.{Reply}
-use Rattle.rbc_rule.specs.World.{World}
 use Rattle.rbc_rule.specs.Right.{IsRight, messages_to}
 use Rattle.rbc_rule.specs.Step.{step, count_sent}
-use Rattle.rbc_core.specs.Held.{AreRecordsOf}
 use Rattle.rbc_core.proofs.Sends.{sent_ascends}
 use Rattle.rbc_batch.specs.BatchText.{line_of, IsInput}
 use Rattle.rbc_live.specs.History.{AreSentBy}

@@ -1,3 +1,4 @@
 pub mod Steps
+mod Witness
 pub mod Runs
 pub mod Counts

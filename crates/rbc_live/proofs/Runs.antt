@@ -18,7 +18,7 @@ use Rattle.rbc_core.proofs.Begins.{begins}
 use Rattle.rbc_core.proofs.Posts.{posted_alike, ones_keep}
 use Rattle.rbc_core.proofs.Sends.{sent_ascends}
 use Rattle.rbc_live.specs.Serial.{IsSerial}
-use Rattle.rbc_live.specs.History.{AreSame, IsStepOf, Taken, IsHistory, posted, IsSerialRunOf, EachHistoryIsSerial}
+use Rattle.rbc_live.specs.History.{AreSame, IsStepOf, Taken, IsHistory, posted, EachHistoryIsSerial}
 use Rattle.rbc_live.proofs.Steps.{same_world}
 
 -- one input more
@@ -27,7 +27,7 @@ fold_snoc f a [] x = refl
 fold_snoc f a (y ∷ xs) x = fold_snoc f (f a y) xs x
 
 -- the opening
-no_records : (plan : Plan) → AreRecordsOf plan (record_in []) new_desk.world
+pub no_records : (plan : Plan) → AreRecordsOf plan (record_in []) new_desk.world
 no_records plan = record { well_formed = (begins plan).well_formed; same = λ k. (begins plan).agrees k refl }
 
 pub opens : (plan : Plan) → IsSerial plan []

@@ -1,2 +1,3 @@
 pub mod Serial
 pub mod History
+pub mod Witnesses

@@ -3,6 +3,8 @@
 
 mod desk;
 mod law;
+mod witnesses;
 
 pub use desk::{Answer, LiveDesk, LiveFault};
 pub use law::history_law;
+pub use witnesses::history_law_witnesses;

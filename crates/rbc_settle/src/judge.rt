@@ -18,6 +18,7 @@ use rbc_zones::{
     stop_field,
 };
 use std::alloc::{AllocError, Global};
+use std::cell::Cell;
 
 /// The last stamp that a message may have. The number after it means that the time is unknown.
 const LAST_STAMP: u32 = 4_294_967_294;
@@ -76,10 +77,11 @@ fn stops_told(alloc: Global, stops: &Stops, train: &TrainRec) -> Result<Vec<Acti
     if train.stops.least_free().is_none() {
         return Ok(Vec::new(alloc));
     }
+    let near = Cell::new(0);
     let free = (0..15).filter(|id| train.stops.slot(*id).is_none());
     active
         .iter()
-        .filter_map(|stop| stop_to_tell(train, stop.0, &stop.1))
+        .filter_map(|stop| stop_to_tell(train, stop.0, &stop.1, &near))
         .zip(free)
         .map(|((number, told), id)| Action::TellStop { id, number, told })
         .collect(alloc)
@@ -128,24 +130,31 @@ fn limits_told(
     if train.limits.least_free().is_none() {
         return Ok(Vec::new(alloc));
     }
+    let near = Cell::new(0);
     let free = (0..255).filter(|id| train.limits.slot(*id).is_none());
     active
         .iter()
-        .filter_map(|limit| limit_to_tell(horizon, train, limit.0, &limit.1))
+        .filter_map(|limit| limit_to_tell(horizon, train, limit.0, &limit.1, &near))
         .zip(free)
         .map(|((number, told), id)| Action::TellLimit { id, number, told })
         .collect(alloc)
 }
 
-/// Returns a stop and how it is told, if it is not told yet and concerns the train.
-fn stop_to_tell(train: &TrainRec, number: u32, area: &Area) -> Option<(u32, ToldStop)>
+/// Returns a stop and how it is told, if it is not told yet and concerns the train. Whether it is told is searched for from `near` on,
+/// which is moved.
+fn stop_to_tell(
+    train: &TrainRec,
+    number: u32,
+    area: &Area,
+    near: &Cell<usize>,
+) -> Option<(u32, ToldStop)>
     ensures { result ≡ stop_to_tell train.now (number, area.now) }
 {
-    if train.stops.of_number(number).is_some() {
-        return None;
-    }
     let place = train.place.as_ref();
     let told = told_stop(place, concern(area, train.forced.has(number), place))?;
+    if train.stops.tells(number, near) {
+        return None;
+    }
     Some((number, told))
 }
 
@@ -161,20 +170,21 @@ fn told_stop(place: Option<&Place>, concern: Concern) -> Option<ToldStop>
     }
 }
 
-/// Returns a restriction and how it is told, if it is not told yet and concerns the train.
+/// Returns a restriction and how it is told, as `stop_to_tell` does a stop.
 fn limit_to_tell(
     horizon: u32,
     train: &TrainRec,
     number: u32,
     limit: &Limit,
+    near: &Cell<usize>,
 ) -> Option<(u32, ToldLimit)>
     ensures { result ≡ limit_to_tell horizon train.now (number, limit.now) }
 {
     let told = told_limit(horizon, train.place.as_ref()?, limit)?;
-    match train.limits.of_number(number) {
-        Some(_) => None,
-        None => Some((number, told)),
+    if train.limits.tells(number, near) {
+        return None;
     }
+    Some((number, told))
 }
 
 /// How a restriction is told, if it concerns a train at this place. The horizon is in units of 10 cm.

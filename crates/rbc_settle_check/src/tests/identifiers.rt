@@ -5,6 +5,7 @@ ghost use Rattle.std.specs.Prelude.{◌≤◌};
 use super::same;
 use rbc_ids::{IdAck, IdTable, IssueError, Kind, Slot, StampAck};
 use std::alloc::{AllocError, Global};
+use std::cell::Cell;
 use std::process::Abort;
 use std::test::Fail;
 
@@ -264,6 +265,26 @@ fn finds_numbers_that_are_told(rt: HostRuntime) -> Result<(), Fail> {
         Some(Ok(3)),
     );
     same(&rt, table.of_number(1), Some(3));
+    Ok(())
+}
+
+// numbers 0 and 2, and 1 again, after its first identifier is being revoked; each with the index behind its slot
+#[test]
+fn finds_numbers_wherever_the_search_begins(rt: HostRuntime) -> Result<(), Fail> {
+    let mut table = stops::<15>(&rt, rt.alloc(), 3)?;
+    assert!(rt; revoke(&mut table, 1, 9));
+    same(
+        &rt,
+        issue(&mut table, 1, 10, Kind::Conditional),
+        Some(Ok(3)),
+    );
+    for start in [0, 1, 2, 3, 4, 5, usize::MAX] {
+        for (number, behind) in [(0, Some(1)), (1, Some(4)), (2, Some(3)), (9, None)] {
+            let near = Cell::new(start);
+            same(&rt, table.tells(number, &near), behind.is_some());
+            same(&rt, near.get(), behind.unwrap_or(start));
+        }
+    }
     Ok(())
 }
 

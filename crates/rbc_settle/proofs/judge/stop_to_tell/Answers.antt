@@ -1,25 +1,23 @@
-use Rattle.std.proofs.Common.{◌≡◌, true, false, Option, Some, is_some, option_map, option_copied, sym, ap, ◌∙◌}
+use Rattle.std.proofs.Common.{◌≡◌, true, false, Option, Some, option_map, option_copied, sym, ap, ◌∙◌}
 use Rattle.rbc_place.specs.Placing.{Place}
 use Rattle.rbc_zones.specs.Concerns.{concern_of}
 use Rattle.rbc_ids.specs.Table.{is_told}
 use Rattle.rbc_settle.specs.Numbers.{has_number}
 use Rattle.rbc_settle.specs.declared.action.ToldStop.{ToldStop}
 use Rattle.rbc_settle.specs.Settling.{told_stop}
-use Rattle.rbc_settle.proofs.Judging.{identifier_is_some, stop_told_already, stop_not_told}
+use Rattle.rbc_settle.proofs.Judging.{stop_told_already, stop_not_told}
 use Rattle.rbc_settle.proofs.judge.stop_to_tell.Goals as goal
 
-pub returns-then-is_some : goal.returns-then-is_some
-returns-then-is_some c =
+pub returns-then-tells : goal.returns-then-tells
+returns-then-tells c =
     let train = c.args.train.now in
-    let is : is_told train.stops c.args.number ≡ true =
-    sym (identifier_is_some train.stops c.args.number) ∙ ap is_some (sym c.of_number.ensures) ∙ sym c.is_some.ensures ∙ c.if-is_some.true in
+    let is : is_told train.stops c.args.number ≡ true = sym c.tells.ensures ∙ c.if-tells.true in
     sym (stop_told_already train (c.args.number, c.args.area.now) is)
 
 pub returns : goal.returns
 returns c =
     let train = c.args.train.now in
-    let is : is_told train.stops c.args.number ≡ false =
-    sym (identifier_is_some train.stops c.args.number) ∙ ap is_some (sym c.of_number.ensures) ∙ sym c.is_some.ensures ∙ c.if-is_some.false in
+    let is : is_told train.stops c.args.number ≡ false = sym c.tells.ensures ∙ c.if-tells.false in
     let area = c.args.area.now in
     let place : option_copied c.as_ref-place.result ≡ train.place = c.as_ref-place.ensures.value in
     let told : told_stop train.place (concern_of area (has_number train.forced c.args.number) train.place) ≡ Some c.in_ok-told.told =
