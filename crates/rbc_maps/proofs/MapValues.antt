@@ -1,5 +1,5 @@
 -- The value at a key, and a map that lacks it.
-use Rattle.std.proofs.Common.{◌≡◌, ℕ, suc, ◌+◌, ◌<◌, ◌≤◌, true, false, not, cond, eqb, ltb, leb, List, [], ◌∷◌, ◌++◌, length, get_or, refl, sym, ap, ◌∙◌, subst, arith, inl, inr, Some, None}
+use Rattle.std.proofs.Common.{◌≡◌, ℕ, zero, suc, ◌+◌, ◌<◌, ◌≤◌, true, false, not, cond, eqb, ltb, leb, List, [], ◌∷◌, ◌++◌, length, get_or, refl, sym, ap, ◌∙◌, subst, arith, inl, inr, Some, None}
 use Rattle.std.specs.List.{All, remove}
 use Rattle.std.proofs.lemmas.Bool.{cases_lt, or_parts, ne_eqb, and_parts, and_from, leb-true, le-leb, eq-eqb, eqb-true, ltb-true}
 use Rattle.std.proofs.lemmas.Bool.Decides.{nat_tests}
@@ -7,7 +7,7 @@ use Rattle.std.proofs.lemmas.List.Elements.{All-head, All-tail, All-cons, All-we
 use Rattle.rbc_maps.specs.Maps.{has, index_for, keys, rises_from, value_of, without}
 use Rattle.rbc_maps.specs.Numbered.{Numbered, AreNumbered}
 use Rattle.rbc_maps.proofs.MapFacts.{rises_from-lower}
-use Rattle.rbc_maps.proofs.MapPlaces.{absent_below, has_is}
+use Rattle.rbc_maps.proofs.MapPlaces.{absent_below, has_is, rises_above}
 
 module _ {V : Type 0} where
   place_after : (key : ℕ) (pair : ℕ × V) (pairs : List (ℕ × V)) → pair.0 < key → index_for key (pair ∷ pairs) ≡ suc (index_for key pairs)
@@ -15,6 +15,15 @@ module _ {V : Type 0} where
 
   place_here : (key : ℕ) (pair : ℕ × V) (pairs : List (ℕ × V)) → key ≤ pair.0 → index_for key (pair ∷ pairs) ≡ 0
   place_here key pair pairs not_below = grind (arith, nat_tests)
+
+  -- an index at which the key stands is its place
+  pub place_at : (least : ℕ) (pairs : List (ℕ × V)) → rises_from least (keys pairs) ≡ true → (i : ℕ) (d : ℕ × V) → i < length pairs → (key : ℕ) → (get_or pairs i d).0 ≡ key → i ≡ index_for key pairs
+  place_at least [] rises i d within key same = absurd (omega arith)
+  place_at least (pair ∷ pairs) rises zero d within key same = sym (place_here key pair pairs (omega (arith, same)))
+  place_at least (pair ∷ pairs) rises (suc i) d within key same =
+      let parts = and_parts (leb least pair.0) (rises_from (pair.0 + 1) (keys pairs)) rises in
+      let above = rises_above (pair.0 + 1) pairs parts.1 i d (omega arith) in
+      ap suc (place_at (pair.0 + 1) pairs parts.1 i d (omega arith) key same) ∙ sym (place_after key pair pairs (omega (arith, above, same)))
 
   -- the value at the key's place
   pub value_of-here : (key : ℕ) (pairs : List (ℕ × V)) (d : ℕ × V) → index_for key pairs < length pairs → (get_or pairs (index_for key pairs) d).0 ≡ key → value_of pairs key ≡ Some ((get_or pairs (index_for key pairs) d).1)

@@ -3,12 +3,26 @@
 ghost use Rattle.std.specs.Prelude.{◌≡◌, option_copied};
 ghost use Rattle.rbc_maps.specs.Maps.{IsMap, has, index_for, value_of, without};
 
+use std::cell::Cell;
+
 /// The index of a key, or the index at which it would be inserted. The keys ascend.
 pub fn index_for<V>(pairs: &[(u32, V)], key: u32) -> usize
     requires { IsMap pairs.now }
     ensures { result ≡ index_for key pairs.now }
 {
     pairs.partition_point(|pair| pair.0 < key)
+}
+
+/// The same as `index_for`, found at once if `near` is the index of the key.
+fn index_near<V>(pairs: &[(u32, V)], key: u32, near: usize) -> usize
+    requires { IsMap pairs.now }
+    ensures { result ≡ index_for key pairs.now }
+{
+    if near < pairs.len() && pairs[near].0 == key {
+        near
+    } else {
+        index_for(pairs, key)
+    }
 }
 
 /// Whether the map has a value at a key.
@@ -28,6 +42,23 @@ pub fn value_of<V>(pairs: &[(u32, V)], key: u32) -> Option<&V>
     let at = index_for(pairs, key);
     if at < pairs.len() && pairs[at].0 == key {
         Some(&pairs[at].1)
+    } else {
+        None
+    }
+}
+
+/// The value at a key, if the map has one.
+///
+/// It is looked for at the index `near` first, and then everywhere. If it is found, `near` is the index behind it from then on. So
+/// keys that are asked for in ascending order are found at once; the answer is the same whatever `near` is.
+pub fn value_near<'a, V>(pairs: &'a [(u32, V)], key: u32, near: &Cell<usize>) -> Option<&'a V>
+    requires { IsMap pairs.now }
+    ensures { option_copied result ≡ value_of pairs.now key }
+{
+    let found = index_near(pairs, key, near.get());
+    if found < pairs.len() && pairs[found].0 == key {
+        near.set(found + 1);
+        Some(&pairs[found].1)
     } else {
         None
     }

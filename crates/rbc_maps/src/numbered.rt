@@ -7,6 +7,7 @@ ghost use Rattle.rbc_maps.specs.Numbered.{AreNumbered, none_numbered};
 use crate::lookup;
 use crate::same::{Same, have_same_pairs};
 use std::alloc::{AllocError, Global};
+use std::cell::Cell;
 use std::marker::Model;
 
 /// The active values by their numbers, which are above 0, and the last number that was ever given. A number that was
@@ -67,6 +68,16 @@ impl<V> Numbered<V> {
         ensures { option_copied result ≡ value_of self.now.active number }
     {
         lookup::value_of(&self.active, number)
+    }
+
+    /// The value that is active under a number, if there is one, as `get` finds it.
+    ///
+    /// It is looked for at the index `near` among the active values first. If it is found, `near` is the index behind it from then on.
+    /// So numbers that are asked for in ascending order are found at once; the answer is the same whatever `near` is.
+    pub fn get_near(&self, number: u32, near: &Cell<usize>) -> Option<&V>
+        ensures { option_copied result ≡ value_of self.now.active number }
+    {
+        lookup::value_near(&self.active, number, near)
     }
 
     /// The number and the active value at an index below the count, in ascending order of the number.

@@ -48,21 +48,23 @@ fn stops_revoked(alloc: Global, stops: &Stops, train: &TrainRec) -> Result<Vec<A
     ensures actions { IfOk result (λ found. found.items ≡ stops_revoked stops.now train.now) }
     ensures sound { IsTable stop_identifiers train.now.stops }
 {
+    let near = Cell::new(0);
     train
         .stops
         .slots()
         .iter()
-        .filter(|held| is_used_by_gone_stop(stops, held.1))
+        .filter(|held| is_used_by_gone_stop(stops, held.1, &near))
         .map(|held| Action::RevokeStop { id: held.0 })
         .collect(alloc)
 }
 
-/// Whether a slot is used by a stop that is not active, and so has to be revoked.
-fn is_used_by_gone_stop(stops: &Stops, slot: Slot) -> bool
+/// Whether a slot is used by a stop that is not active, and so has to be revoked. The stop is searched for from `near` on, which is
+/// moved.
+fn is_used_by_gone_stop(stops: &Stops, slot: Slot, near: &Cell<usize>) -> bool
     ensures { result ≡ is_used_by (is_stop_gone stops.now) slot }
 {
     match slot {
-        Slot::Used { number, .. } => stops.get(number).is_none(),
+        Slot::Used { number, .. } => stops.get_near(number, near).is_none(),
         Slot::Revoking { .. } => false,
     }
 }
@@ -97,21 +99,27 @@ fn limits_revoked(
     ensures actions { IfOk result (λ found. found.items ≡ limits_revoked limits.now train.now) }
     ensures sound { IsTable limit_identifiers train.now.limits }
 {
+    let near = Cell::new(0);
     train
         .limits
         .slots()
         .iter()
-        .filter(|held| is_used_by_gone_limit(limits, train.place.as_ref(), held.1))
+        .filter(|held| is_used_by_gone_limit(limits, train.place.as_ref(), held.1, &near))
         .map(|held| Action::RevokeLimit { id: held.0 })
         .collect(alloc)
 }
 
-/// Whether a slot is used by a restriction that has to be revoked.
-fn is_used_by_gone_limit(limits: &Limits, place: Option<&Place>, slot: Slot) -> bool
+/// Whether a slot is used by a restriction that has to be revoked. The restriction is searched for from `near` on, which is moved.
+fn is_used_by_gone_limit(
+    limits: &Limits,
+    place: Option<&Place>,
+    slot: Slot,
+    near: &Cell<usize>,
+) -> bool
     ensures { result ≡ is_used_by (is_limit_gone limits.now (option_copied place.entry)) slot }
 {
     match slot {
-        Slot::Used { number, .. } => is_limit_gone(limits, place, number),
+        Slot::Used { number, .. } => is_limit_gone(limits, place, number, near),
         Slot::Revoking { .. } => false,
     }
 }
@@ -233,10 +241,10 @@ fn direction_of(place: &Place) -> u8
 }
 
 /// Whether a told restriction has to be revoked, because it is not active or is clear of the train.
-fn is_limit_gone(limits: &Limits, place: Option<&Place>, number: u32) -> bool
+fn is_limit_gone(limits: &Limits, place: Option<&Place>, number: u32, near: &Cell<usize>) -> bool
     ensures { result ≡ is_limit_gone limits.now (option_copied place.entry) number }
 {
-    match (limits.get(number), place) {
+    match (limits.get_near(number, near), place) {
         (None, _) => true,
         (Some(_), None) => false,
         (Some(limit), Some(place)) => limit_clear(limit, place),
