@@ -13,6 +13,7 @@ use ertms_codec::ToTrain;
 use rbc_rule::SentList;
 use rbc_settle::Sent;
 use std::alloc::{AllocError, Global};
+use std::cell::Cell;
 use std::marker::Model;
 
 /// A message that was sent, and the number of the input, from 1, that caused it.
@@ -114,13 +115,14 @@ fn spells(message: ToTrain)
     has_room(message);
 }
 
-/// Puts a message into its engine's outbox. An engine gets an outbox with its first message. Fails only for lack of
-/// memory, and then changes nothing.
+/// Puts a message into its engine's outbox. An engine gets an outbox with its first message. It is looked for at the index `near`
+/// first, which is the index behind it from then on. Fails only for lack of memory, and then changes nothing.
 fn post(
     alloc: Global,
     outboxes: &mut Vec<(u32, Outbox)>,
     engine: u32,
     mail: Mail,
+    near: &Cell<usize>,
 ) -> Result<(), AllocError>
     requires outboxes { AreOutboxes outboxes.old.items }
     requires fit { Fits mail.message }
@@ -128,7 +130,8 @@ fn post(
     ensures outboxes { AreOutboxes outboxes.new.items }
     ensures err { OnErr result (outboxes.new.items ≡ outboxes.old.items) }
 {
-    let at = rbc_maps::index_for(outboxes, engine);
+    let at = rbc_maps::index_near(outboxes, engine, near.get());
+    near.set(at.saturating_add(1));
     if at < outboxes.len() && outboxes[at].0 == engine {
         outboxes[at].1.add(mail)?;
     } else {
@@ -178,9 +181,10 @@ pub(crate) fn post_all(
     ensures outboxes { AreOutboxes outboxes.new.items }
     ensures err { OnErr result (outboxes.new.items ≡ outboxes.old.items) }
 {
+    let near = Cell::new(0);
     for index in 0..messages.len() {
         let Sent { engine, message } = *messages.at(index);
-        if post(alloc, outboxes, engine, Mail { input, message }).is_err() {
+        if post(alloc, outboxes, engine, Mail { input, message }, &near).is_err() {
             take_back_all(outboxes, messages, index);
             return Err(AllocError);
         }

@@ -5,6 +5,6 @@ mod lookup;
 mod numbered;
 mod same;
 
-pub use lookup::{has, index_for, remove, value_of};
+pub use lookup::{has, index_for, index_near, remove, value_of};
 pub use numbered::Numbered;
 pub use same::Same;

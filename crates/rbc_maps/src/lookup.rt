@@ -13,8 +13,8 @@ pub fn index_for<V>(pairs: &[(u32, V)], key: u32) -> usize
     pairs.partition_point(|pair| pair.0 < key)
 }
 
-/// The same as `index_for`, found at once if `near` is the index of the key.
-fn index_near<V>(pairs: &[(u32, V)], key: u32, near: usize) -> usize
+/// The same as `index_for`, found at once if `near` is the index of the key. The keys ascend.
+pub fn index_near<V>(pairs: &[(u32, V)], key: u32, near: usize) -> usize
     requires { IsMap pairs.now }
     ensures { result ≡ index_for key pairs.now }
 {

@@ -17,32 +17,32 @@ insert-requires c =
 
 pub returns-in_ok-add-clause-posted : goal.returns-in_ok-add-clause-posted
 returns-in_ok-add-clause-posted c =
-    let is : c.index_for-at.result ≡ index_for c.args.engine c.args.outboxes.now.items = c.index_for-at.ensures ∙ ap (index_for c.args.engine) c.deref.ensures.value in
-    let within : c.index_for-at.result < length c.args.outboxes.now.items = subst (λ xs. c.index_for-at.result < length xs) c.deref.ensures.value (omega arith) in
-    posted_there c.args.engine c.args.mail c.args.outboxes.now.items c.index_for-at.result is c.index.result.now c.index_mut.result.now c.add.new.self within c.index.ensures c.if-index-engine.true c.index_mut.ensures.value c.in_ok-add.ensures.ok
+    let is : c.index_near-at.result ≡ index_for c.args.engine c.args.outboxes.now.items = c.index_near-at.ensures ∙ ap (index_for c.args.engine) c.deref.ensures.value in
+    let within : c.index_near-at.result < length c.args.outboxes.now.items = subst (λ xs. c.index_near-at.result < length xs) c.deref.ensures.value (omega arith) in
+    posted_there c.args.engine c.args.mail c.args.outboxes.now.items c.index_near-at.result is c.index.result.now c.index_mut.result.now c.add.new.self within c.index.ensures c.if-index-engine.true c.index_mut.ensures.value c.in_ok-add.ensures.ok
 
 pub returns-in_ok-add-clause-outboxes : goal.returns-in_ok-add-clause-outboxes
 returns-in_ok-add-clause-outboxes c =
-    let is : c.index_for-at.result ≡ index_for c.args.engine c.args.outboxes.now.items = c.index_for-at.ensures ∙ ap (index_for c.args.engine) c.deref.ensures.value in
-    let within : c.index_for-at.result < length c.args.outboxes.now.items = subst (λ xs. c.index_for-at.result < length xs) c.deref.ensures.value (omega arith) in
-    let posted = posted_there c.args.engine c.args.mail c.args.outboxes.now.items c.index_for-at.result is c.index.result.now c.index_mut.result.now c.add.new.self within c.index.ensures c.if-index-engine.true c.index_mut.ensures.value c.in_ok-add.ensures.ok in
+    let is : c.index_near-at.result ≡ index_for c.args.engine c.args.outboxes.now.items = c.index_near-at.ensures ∙ ap (index_for c.args.engine) c.deref.ensures.value in
+    let within : c.index_near-at.result < length c.args.outboxes.now.items = subst (λ xs. c.index_near-at.result < length xs) c.deref.ensures.value (omega arith) in
+    let posted = posted_there c.args.engine c.args.mail c.args.outboxes.now.items c.index_near-at.result is c.index.result.now c.index_mut.result.now c.add.new.self within c.index.ensures c.if-index-engine.true c.index_mut.ensures.value c.in_ok-add.ensures.ok in
     subst AreOutboxes (sym posted) (outboxes_with c.args.engine _ c.args.outboxes.now.items (longer (value_or [] c.args.outboxes.now.items c.args.engine) c.args.mail) c.requires.outboxes)
 
 pub returns-in_ok-insert-clause-posted : goal.returns-in_ok-insert-clause-posted
 returns-in_ok-insert-clause-posted c =
-    let is : c.index_for-at.result ≡ index_for c.args.engine c.args.outboxes.now.items = c.index_for-at.ensures ∙ ap (index_for c.args.engine) c.deref.ensures.value in
-    let other : (d : ℕ × List Mail) → c.index_for-at.result < length c.args.outboxes.now.items → (get_or c.args.outboxes.now.items c.index_for-at.result d).0 ≢ c.args.engine =
+    let is : c.index_near-at.result ≡ index_for c.args.engine c.args.outboxes.now.items = c.index_near-at.ensures ∙ ap (index_for c.args.engine) c.deref.ensures.value in
+    let other : (d : ℕ × List Mail) → c.index_near-at.result < length c.args.outboxes.now.items → (get_or c.args.outboxes.now.items c.index_near-at.result d).0 ≢ c.args.engine =
     λ d within same. elim c.else-at-len.branch [
       | else-at-len-via-then-at-len+else-index-engine w ↦ w.if-index-engine.false (ap (λ (p : ℕ × List Mail). p.0) (w.index.ensures ∙ get_or_default _ _ _ d within) ∙ same)
       | else-at-len-via-else-at-len w ↦ absurd (omega (arith, ap length c.deref.ensures.value))
     ] in
     let absent : has c.args.outboxes.now.items c.args.engine ≡ false = elim c.else-at-len.branch [
       | else-at-len-via-then-at-len+else-index-engine w ↦
-          let within : c.index_for-at.result < length c.args.outboxes.now.items = omega (arith, ap length c.deref.ensures.value) in
-          sym (has_here c.args.engine c.args.outboxes.now.items c.index_for-at.result w.index.result.now c.requires.outboxes.ascending is within) ∙ ne_eqb _ _ (other w.index.result.now within)
-      | else-at-len-via-else-at-len w ↦ has_past c.args.engine c.args.outboxes.now.items c.index_for-at.result c.requires.outboxes.ascending is (omega (arith, ap length c.deref.ensures.value))
+          let within : c.index_near-at.result < length c.args.outboxes.now.items = omega (arith, ap length c.deref.ensures.value) in
+          sym (has_here c.args.engine c.args.outboxes.now.items c.index_near-at.result w.index.result.now c.requires.outboxes.ascending is within) ∙ ne_eqb _ _ (other w.index.result.now within)
+      | else-at-len-via-else-at-len w ↦ has_past c.args.engine c.args.outboxes.now.items c.index_near-at.result c.requires.outboxes.ascending is (omega (arith, ap length c.deref.ensures.value))
     ] in
-    c.in_ok-insert.ensures.items ∙ posted_new c.args.engine c.args.mail c.args.outboxes.now.items c.index_for-at.result is _ (search rules) absent other
+    c.in_ok-insert.ensures.items ∙ posted_new c.args.engine c.args.mail c.args.outboxes.now.items c.index_near-at.result is _ (search rules) absent other
 
 pub returns-in_ok-insert-clause-outboxes : goal.returns-in_ok-insert-clause-outboxes
 returns-in_ok-insert-clause-outboxes c =
