@@ -156,9 +156,13 @@ pub fn limit_concerns(limit: &Limit, place: &Place, horizon: u32) -> bool
     ensures { result ≡ concerns limit.now place.now horizon }
 {
     let segment = limit.segment;
-    let near = match place.facing() {
-        Way::Up => segment.to > place.at() && segment.from <= place.hi().saturating_add(horizon),
-        Way::Down => segment.from < place.at() && segment.to.saturating_add(horizon) >= place.lo(),
-    };
-    near && !limit_clear(limit, place)
+    !limit_clear(limit, place)
+        && match place.facing() {
+            Way::Up => {
+                segment.to > place.at() && segment.from <= place.hi().saturating_add(horizon)
+            }
+            Way::Down => {
+                segment.from < place.at() && segment.to.saturating_add(horizon) >= place.lo()
+            }
+        }
 }
