@@ -69,7 +69,8 @@ pub fn push_notes(remarks: &mut Remarks<'_>, draft: &Draft<'_>) {
 
 /// Adds a note for each two neighbours at one place.
 fn push_same_places(remarks: &mut Remarks<'_>, groups: &[GroupDraft<'_>]) {
-    for (one, next) in groups.iter().zip(groups.iter().skip(1)) {
+    for index in 1..groups.len() {
+        let (one, next) = (groups[index - 1], groups[index]);
         if one.line == next.line && one.at == next.at {
             remarks.note(Remark::SamePlace {
                 nids: (one.nid, next.nid),
@@ -83,27 +84,36 @@ fn push_same_places(remarks: &mut Remarks<'_>, groups: &[GroupDraft<'_>]) {
 /// Adds a note on the widest gap where it is above the horizon.
 fn push_wide_gap(remarks: &mut Remarks<'_>, horizon: u32, groups: &[GroupDraft<'_>]) {
     let gap = widest_gap(groups);
-    if horizon < gap.to.saturating_sub(gap.from) {
+    if horizon < gap.width() {
         remarks.note(Remark::WideGap { horizon, gap });
     }
 }
 
-/// The first two neighbours on one line with the most between them.
+/// The first gap between two neighbours on one line that is as wide as any.
 fn widest_gap(groups: &[GroupDraft<'_>]) -> Gap {
     let mut widest = Gap {
         line: 0,
         from: 0,
         to: 0,
     };
-    for (one, next) in groups.iter().zip(groups.iter().skip(1)) {
-        let most = widest.to.saturating_sub(widest.from);
-        if one.line == next.line && most < next.at.saturating_sub(one.at) {
-            widest = Gap {
-                line: one.line,
-                from: one.at,
-                to: next.at,
-            };
+    for index in 1..groups.len() {
+        let gap = gap_between(&groups[index - 1], &groups[index]);
+        if widest.width() < gap.width() {
+            widest = gap;
         }
     }
     widest
+}
+
+/// The gap between two neighbours, which has no width where they are on two lines.
+fn gap_between(one: &GroupDraft<'_>, next: &GroupDraft<'_>) -> Gap {
+    Gap {
+        line: one.line,
+        from: one.at,
+        to: if one.line == next.line {
+            next.at
+        } else {
+            one.at
+        },
+    }
 }

@@ -14,6 +14,13 @@ pub struct Gap {
     pub to: u32,
 }
 
+impl Gap {
+    /// How wide it is.
+    pub fn width(self) -> u32 {
+        self.to.saturating_sub(self.from)
+    }
+}
+
 /// What is doubtful about a track file. Lengths and places are in units of 10 cm.
 #[derive(Clone, Copy)]
 pub enum Remark<'a> {
@@ -222,7 +229,7 @@ fn push_wide_gap(sheet: &mut Sheet, horizon: u32, gap: Gap) {
         .words("The horizon, ")
         .length(horizon)
         .words(" km, is less than the ")
-        .length(gap.to.saturating_sub(gap.from))
+        .length(gap.width())
         .words(" km between two balise groups of line ")
         .number(gap.line as usize)
         .words(",\n      km ")
