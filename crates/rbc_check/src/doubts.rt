@@ -2,113 +2,118 @@
 
 use crate::draft::{Draft, GroupDraft, Place, rows_under};
 use crate::names::has_hidden_name;
-use crate::remark::Remark;
+use crate::remark::{Gap, Remark, Remarks};
 use crate::table::count_on;
-use std::alloc::AllocError;
 use toml::{Table, Value};
 
 /// A horizon below which a fast train may need more to brake, in units of 10 cm.
 const NEAR: u32 = 20_000;
 
-/// Adds a remark for each name that cannot be shown.
-pub fn push_hidden_names(
-    remarks: &mut Vec<Remark<'_>>,
-    document: &Table,
-) -> Result<(), AllocError> {
+/// Adds a warning for each name that cannot be shown.
+pub fn push_hidden_names(remarks: &mut Remarks<'_>, document: &Table) {
     if has_hidden_name(document) {
-        remarks.push(Remark::HiddenName(Place::Document))?;
+        remarks.warn(Remark::HiddenName(Place::Document));
     }
     for (index, row) in rows_under(document, "line").iter().enumerate() {
-        push_hidden(remarks, Place::Line(index), row)?;
+        push_hidden(remarks, Place::Line(index), row);
     }
-    push_hidden_in_groups(remarks, rows_under(document, "group"))
+    push_hidden_in_groups(remarks, rows_under(document, "group"));
 }
 
-fn push_hidden_in_groups(remarks: &mut Vec<Remark<'_>>, rows: &[Value]) -> Result<(), AllocError> {
+fn push_hidden_in_groups(remarks: &mut Remarks<'_>, rows: &[Value]) {
     for (index, row) in rows.iter().enumerate() {
-        push_hidden(remarks, Place::Group(index), row)?;
+        push_hidden(remarks, Place::Group(index), row);
     }
-    Ok(())
 }
 
-fn push_hidden(remarks: &mut Vec<Remark<'_>>, place: Place, row: &Value) -> Result<(), AllocError> {
+fn push_hidden(remarks: &mut Remarks<'_>, place: Place, row: &Value) {
     if let Value::Table(table) = row
         && has_hidden_name(table)
     {
-        remarks.push(Remark::HiddenName(place))?;
+        remarks.warn(Remark::HiddenName(place));
     }
-    Ok(())
 }
 
 /// Adds a warning where there is no line or no balise group, and else one for each line without one.
-pub fn push_bare(remarks: &mut Vec<Remark<'_>>, draft: &Draft<'_>) -> Result<(), AllocError> {
+pub fn push_bare(remarks: &mut Remarks<'_>, draft: &Draft<'_>) {
     if draft.lines.is_empty() {
-        return Ok(remarks.push(Remark::NoLine)?);
+        remarks.warn(Remark::NoLine);
+    } else if draft.groups.is_empty() {
+        remarks.warn(Remark::NoGroup);
+    } else {
+        push_bare_lines(remarks, draft.lines.len(), draft.groups.as_slice());
     }
-    if draft.groups.is_empty() {
-        return Ok(remarks.push(Remark::NoGroup)?);
-    }
-    for index in 0..draft.lines.len() {
-        if count_on(draft.groups.as_slice(), index) == 0 {
-            remarks.push(Remark::BareLine(index))?;
+}
+
+fn push_bare_lines(remarks: &mut Remarks<'_>, lines: usize, groups: &[GroupDraft<'_>]) {
+    for index in 0..lines {
+        if count_on(groups, index) == 0 {
+            remarks.warn(Remark::BareLine(index));
         }
     }
-    Ok(())
 }
 
 /// Adds the notes on a track whose balise groups are in order.
-pub fn push_notes(
-    remarks: &mut Vec<Remark<'_>>,
-    draft: &Draft<'_>,
-    groups: &[GroupDraft<'_>],
-) -> Result<(), AllocError> {
-    push_same_places(remarks, groups)?;
+pub fn push_notes(remarks: &mut Remarks<'_>, draft: &Draft<'_>) {
+    let groups = draft.groups.as_slice();
     let horizon = draft.horizon;
+    push_same_places(remarks, groups);
     if !draft.lines.is_empty() && draft.lines.iter().all(|line| line.length <= horizon) {
-        remarks.push(Remark::FarHorizon(horizon))?;
+        remarks.note(Remark::FarHorizon(horizon));
     }
     if horizon < NEAR {
-        remarks.push(Remark::NearHorizon(horizon))?;
+        remarks.note(Remark::NearHorizon(horizon));
     }
-    match widest_gap(groups) {
-        Some((from, to)) if horizon < to.at.saturating_sub(from.at) => {
-            Ok(remarks.push(Remark::WideGap {
-                horizon,
-                line: from.line,
-                from: from.at,
-                to: to.at,
-            })?)
-        }
-        _ => Ok(()),
-    }
+    push_wide_gap(remarks, horizon, groups);
 }
 
-fn push_same_places(
-    remarks: &mut Vec<Remark<'_>>,
-    groups: &[GroupDraft<'_>],
-) -> Result<(), AllocError> {
-    for (one, next) in groups.iter().zip(groups.iter().skip(1)) {
+/// Adds a note for each two neighbours at one place.
+fn push_same_places(remarks: &mut Remarks<'_>, groups: &[GroupDraft<'_>]) {
+    for index in 1..groups.len() {
+        let (one, next) = (groups[index - 1], groups[index]);
         if one.line == next.line && one.at == next.at {
-            remarks.push(Remark::SamePlace {
+            remarks.note(Remark::SamePlace {
                 nids: (one.nid, next.nid),
                 line: one.line,
                 at: one.at,
-            })?;
+            });
         }
     }
-    Ok(())
 }
 
-/// The first two neighbours on one line with the most between them.
-fn widest_gap<'a>(groups: &[GroupDraft<'a>]) -> Option<(GroupDraft<'a>, GroupDraft<'a>)> {
-    let mut widest = None;
-    let mut most = 0;
-    for (one, next) in groups.iter().zip(groups.iter().skip(1)) {
-        let between = next.at.saturating_sub(one.at);
-        if one.line == next.line && most < between {
-            most = between;
-            widest = Some((*one, *next));
+/// Adds a note on the widest gap where it is above the horizon.
+fn push_wide_gap(remarks: &mut Remarks<'_>, horizon: u32, groups: &[GroupDraft<'_>]) {
+    let gap = widest_gap(groups);
+    if horizon < gap.width() {
+        remarks.note(Remark::WideGap { horizon, gap });
+    }
+}
+
+/// The first gap between two neighbours on one line that is as wide as any.
+fn widest_gap(groups: &[GroupDraft<'_>]) -> Gap {
+    let mut widest = Gap {
+        line: 0,
+        from: 0,
+        to: 0,
+    };
+    for index in 1..groups.len() {
+        let gap = gap_between(&groups[index - 1], &groups[index]);
+        if widest.width() < gap.width() {
+            widest = gap;
         }
     }
     widest
+}
+
+/// The gap between two neighbours, which has no width where they are on two lines.
+fn gap_between(one: &GroupDraft<'_>, next: &GroupDraft<'_>) -> Gap {
+    Gap {
+        line: one.line,
+        from: one.at,
+        to: if one.line == next.line {
+            next.at
+        } else {
+            one.at
+        },
+    }
 }

@@ -1,7 +1,7 @@
-//! A document read table by table, with names, or the first place where it is not what it has to be.
+//! A document read table by table, with names, and the first place where it is not what it has to be.
 
 use crate::names::name_in;
-use std::alloc::{AllocError, AllocFailed, Global};
+use std::alloc::Global;
 use toml::{Table, Value};
 
 /// The greatest length of a line, and the greatest horizon, in units of 10 cm.
@@ -11,7 +11,7 @@ pub const MAX_LENGTH: u32 = 3_000_000;
 const MAX_NID: u32 = 16_777_214;
 
 /// Where something stands in a document. Tables of one kind are counted from 0 in their order.
-#[derive(Clone, Copy, Debug, PartialEq, Eq)]
+#[derive(Clone, Copy)]
 pub enum Place {
     /// At the top of the document.
     Document,
@@ -22,7 +22,7 @@ pub enum Place {
 }
 
 /// What a value has to be.
-#[derive(Clone, Copy, Debug, PartialEq, Eq)]
+#[derive(Clone, Copy)]
 pub enum Wanted {
     /// A length of a line, or the horizon.
     Length,
@@ -42,7 +42,7 @@ pub enum Wanted {
     Table,
 }
 
-/// The first value of a document that is missing, or is not what it has to be.
+/// A value of a document that is missing, or is not what it has to be.
 #[derive(Clone, Copy)]
 pub struct Misfit<'a> {
     /// Where its key is to stand.
@@ -53,27 +53,6 @@ pub struct Misfit<'a> {
     pub value: Option<&'a Value>,
     /// What has to stand there.
     pub wanted: Wanted,
-}
-
-/// Why there is no draft of a document.
-#[derive(Clone, Copy)]
-pub enum Unread<'a> {
-    /// A value is missing, or is not what it has to be.
-    Misfit(Misfit<'a>),
-    /// Memory ran out.
-    OutOfMemory,
-}
-
-impl From<AllocError> for Unread<'_> {
-    fn from(_refused: AllocError) -> Self {
-        Unread::OutOfMemory
-    }
-}
-
-impl<T: Drop> From<AllocFailed<T>> for Unread<'_> {
-    fn from(_refused: AllocFailed<T>) -> Self {
-        Unread::OutOfMemory
-    }
 }
 
 /// A line, as the document has it. The length is in units of 10 cm.
@@ -93,13 +72,17 @@ pub struct GroupDraft<'a> {
     pub name: Option<&'a str>,
 }
 
-/// A document in which each value is of the right kind. Rules on whole lists may still be broken.
+/// What a document has. With no misfit each value is of the right kind, and only rules on whole lists may be broken.
 #[derive(Drop)]
 pub struct Draft<'a> {
     pub name: Option<&'a str>,
     pub horizon: u32,
     pub lines: Vec<LineDraft<'a>>,
     pub groups: Vec<GroupDraft<'a>>,
+    /// The first value that is missing, or is not what it has to be. It counts as 0, or as an empty text.
+    pub misfit: Option<Misfit<'a>>,
+    /// Whether memory was refused to a line or a balise group.
+    pub is_cut: bool,
 }
 
 /// A table, where it stands.
@@ -110,68 +93,28 @@ struct Here<'a> {
 }
 
 impl<'a> Here<'a> {
-    /// The misfit of a key of the table.
-    fn misfit(self, key: &'static str, wanted: Wanted) -> Unread<'a> {
-        Unread::Misfit(Misfit {
-            place: self.place,
-            key: Some(key),
-            value: self.table.get(key),
-            wanted,
-        })
-    }
-
     /// The whole number from 0 to `high` under a key.
-    fn number(self, key: &'static str, high: u32, wanted: Wanted) -> Result<u32, Unread<'a>> {
+    fn number(self, key: &str, high: u32) -> Option<u32> {
         match self.table.get(key) {
             Some(Value::Integer(number)) => match u32::try_from(*number) {
-                Ok(number) if number <= high => Ok(number),
-                _ => Err(self.misfit(key, wanted)),
+                Ok(number) if number <= high => Some(number),
+                _ => None,
             },
-            _ => Err(self.misfit(key, wanted)),
+            _ => None,
         }
     }
 
     /// The direction under the key `nominal`.
-    fn nominal(self) -> Result<&'a str, Unread<'a>> {
+    fn nominal(self) -> Option<&'a str> {
         match self.table.get("nominal") {
-            Some(Value::String(word)) if word.as_str() == "up" || word.as_str() == "down" => {
-                Ok(word.as_str())
-            }
-            _ => Err(self.misfit("nominal", Wanted::Way)),
+            Some(Value::String(word)) if is_way(word.as_str()) => Some(word.as_str()),
+            _ => None,
         }
-    }
-
-    /// The line in a table of `line`. Its length is checked with the others.
-    fn line(self) -> Result<LineDraft<'a>, Unread<'a>> {
-        Ok(LineDraft {
-            length: self.number("length", u32::MAX, Wanted::Length)?,
-            name: name_in(self.table),
-        })
-    }
-
-    /// The balise group in a table of `group`. Its line and place are checked with the others.
-    fn group(self) -> Result<GroupDraft<'a>, Unread<'a>> {
-        Ok(GroupDraft {
-            nid: self.number("nid", MAX_NID, Wanted::Nid)?,
-            line: self.number("line", u32::MAX, Wanted::Line)?,
-            at: self.number("at", u32::MAX, Wanted::At)?,
-            nominal: self.nominal()?,
-            name: name_in(self.table),
-        })
     }
 }
 
-/// A row of an array as a table, where it stands.
-fn table_at(row: &Value, place: Place) -> Result<Here<'_>, Unread<'_>> {
-    match row {
-        Value::Table(table) => Ok(Here { place, table }),
-        _ => Err(Unread::Misfit(Misfit {
-            place,
-            key: None,
-            value: Some(row),
-            wanted: Wanted::Table,
-        })),
-    }
+fn is_way(word: &str) -> bool {
+    word == "up" || word == "down"
 }
 
 /// The rows under a key that are to be tables. Without the key there are none.
@@ -182,52 +125,141 @@ pub fn rows_under<'a>(document: &'a Table, key: &str) -> &'a [Value] {
     }
 }
 
-/// The horizon, under the key `horizon`.
-fn horizon_in(document: Here<'_>) -> Result<u32, Unread<'_>> {
-    match document.number("horizon", MAX_LENGTH, Wanted::Length)? {
-        0 => Err(document.misfit("horizon", Wanted::Length)),
-        horizon => Ok(horizon),
+impl<'a> Draft<'a> {
+    /// Keeps a misfit, unless there was one before.
+    fn keep(&mut self, misfit: Misfit<'a>) {
+        if self.misfit.is_none() {
+            self.misfit = Some(misfit);
+        }
     }
-}
 
-fn lines_in<'a>(alloc: Global, document: Here<'a>) -> Result<Vec<LineDraft<'a>>, Unread<'a>> {
-    let Some(Value::Array(rows)) = document.table.get("line") else {
-        return Err(document.misfit("line", Wanted::Lines));
-    };
-    let mut lines = Vec::new(alloc);
-    for (index, row) in rows.iter().enumerate() {
-        lines.push(table_at(row, Place::Line(index))?.line()?)?;
+    /// Keeps the misfit of a key.
+    fn miss(&mut self, here: Here<'a>, key: &'static str, wanted: Wanted) {
+        self.keep(Misfit {
+            place: here.place,
+            key: Some(key),
+            value: here.table.get(key),
+            wanted,
+        });
     }
-    Ok(lines)
-}
 
-fn groups_in<'a>(alloc: Global, document: Here<'a>) -> Result<Vec<GroupDraft<'a>>, Unread<'a>> {
-    let rows = match document.table.get("group") {
-        None => return Ok(Vec::new(alloc)),
-        Some(Value::Array(rows)) => rows,
-        Some(_) => return Err(document.misfit("group", Wanted::Groups)),
-    };
-    let mut groups = Vec::new(alloc);
-    for (index, row) in rows.iter().enumerate() {
-        groups.push(table_at(row, Place::Group(index))?.group()?)?;
+    /// The whole number from 0 to `high` under a key.
+    fn number(&mut self, here: Here<'a>, key: &'static str, high: u32, wanted: Wanted) -> u32 {
+        match here.number(key, high) {
+            Some(number) => number,
+            None => {
+                self.miss(here, key, wanted);
+                0
+            }
+        }
     }
-    Ok(groups)
+
+    /// The direction under the key `nominal`.
+    fn nominal(&mut self, here: Here<'a>) -> &'a str {
+        match here.nominal() {
+            Some(word) => word,
+            None => {
+                self.miss(here, "nominal", Wanted::Way);
+                ""
+            }
+        }
+    }
+
+    /// A row of an array as a table, where it stands.
+    fn table_at(&mut self, row: &'a Value, place: Place) -> Option<Here<'a>> {
+        match row {
+            Value::Table(table) => Some(Here { place, table }),
+            _ => {
+                self.keep(Misfit {
+                    place,
+                    key: None,
+                    value: Some(row),
+                    wanted: Wanted::Table,
+                });
+                None
+            }
+        }
+    }
+
+    fn read_horizon(&mut self, document: Here<'a>) {
+        self.horizon = self.number(document, "horizon", MAX_LENGTH, Wanted::Length);
+        if self.horizon == 0 {
+            self.miss(document, "horizon", Wanted::Length);
+        }
+    }
+
+    fn read_lines(&mut self, document: Here<'a>) {
+        if !matches!(document.table.get("line"), Some(Value::Array(_))) {
+            self.miss(document, "line", Wanted::Lines);
+        }
+        for (index, row) in rows_under(document.table, "line").iter().enumerate() {
+            if let Some(here) = self.table_at(row, Place::Line(index)) {
+                self.read_line(here);
+            }
+        }
+    }
+
+    /// Reads a table of `line`. Its length is checked with the others.
+    fn read_line(&mut self, here: Here<'a>) {
+        let length = self.number(here, "length", u32::MAX, Wanted::Length);
+        let name = name_in(here.table);
+        if self.lines.push(LineDraft { length, name }).is_err() {
+            self.is_cut = true;
+        }
+    }
+
+    fn read_groups(&mut self, document: Here<'a>) {
+        if !matches!(document.table.get("group"), None | Some(Value::Array(_))) {
+            self.miss(document, "group", Wanted::Groups);
+        }
+        for (index, row) in rows_under(document.table, "group").iter().enumerate() {
+            if let Some(here) = self.table_at(row, Place::Group(index)) {
+                self.read_group(here);
+            }
+        }
+    }
+
+    /// Reads a table of `group`. Its line and place are checked with the others.
+    fn read_group(&mut self, here: Here<'a>) {
+        let group = GroupDraft {
+            nid: self.number(here, "nid", MAX_NID, Wanted::Nid),
+            line: self.number(here, "line", u32::MAX, Wanted::Line),
+            at: self.number(here, "at", u32::MAX, Wanted::At),
+            nominal: self.nominal(here),
+            name: name_in(here.table),
+        };
+        if self.groups.push(group).is_err() {
+            self.is_cut = true;
+        }
+    }
+
+    /// Puts the balise groups in order: by line, then by place, then by number.
+    pub fn sort_groups(&mut self) {
+        let sorted = self
+            .groups
+            .sort_by_key(|group| (group.line, group.at, group.nid));
+        if sorted.is_err() {
+            self.is_cut = true;
+        }
+    }
 }
 
 /// Reads a document: horizon, lines and groups, in this order.
-///
-/// # Errors
-///
-/// The first value that is missing or is not what it has to be, or that memory ran out.
-pub fn draft_of(alloc: Global, table: &Table) -> Result<Draft<'_>, Unread<'_>> {
+pub fn draft_of(alloc: Global, table: &Table) -> Draft<'_> {
     let document = Here {
         place: Place::Document,
         table,
     };
-    Ok(Draft {
+    let mut draft = Draft {
         name: name_in(table),
-        horizon: horizon_in(document)?,
-        lines: lines_in(alloc, document)?,
-        groups: groups_in(alloc, document)?,
-    })
+        horizon: 0,
+        lines: Vec::new(alloc),
+        groups: Vec::new(alloc),
+        misfit: None,
+        is_cut: false,
+    };
+    draft.read_horizon(document);
+    draft.read_lines(document);
+    draft.read_groups(document);
+    draft
 }

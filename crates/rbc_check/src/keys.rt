@@ -4,13 +4,13 @@ ghost use Rattle.std.specs.Prelude.{◌≡◌};
 ghost use Rattle.rbc_check.specs.Keys.{is_known};
 
 use crate::draft::{Place, rows_under};
-use crate::remark::Remark;
-use std::alloc::{AllocError, Global};
+use crate::remark::{Remark, Remarks};
+use std::alloc::Global;
 use std::collections::BTreeMap;
 use toml::{Table, Value};
 
 /// The kinds of tables in a track file.
-#[derive(Clone, Copy, Debug, PartialEq, Eq)]
+#[derive(Clone, Copy)]
 pub enum Kind {
     /// The document itself.
     Document,
@@ -40,68 +40,71 @@ struct Found {
     first: usize,
 }
 
-/// Notes the keys of one table that nobody knows.
-fn note_unknown<'a>(
+/// Keeps the keys of one table that nobody knows.
+fn keep_unknown<'a>(
+    remarks: &mut Remarks<'_>,
     found: &mut BTreeMap<&'a str, Found>,
     kind: Kind,
     index: usize,
     table: &'a Table,
-) -> Result<(), AllocError> {
+) {
     for key in table.keys() {
         let key = key.as_str();
-        if is_known(kind, key) {
-            continue;
+        if !is_known(kind, key) {
+            let at = found_once_more(found.get(key), index);
+            if found.insert(key, at).is_err() {
+                remarks.is_cut = true;
+            }
         }
-        let (tables, first) = match found.get(key) {
-            Some(before) => (before.tables.saturating_add(1), before.first),
-            None => (1, index),
-        };
-        found.insert(key, Found { tables, first })?;
     }
-    Ok(())
 }
 
-/// Adds a remark for each key that was noted, in the order of the keys.
-fn push_found<'a>(
-    remarks: &mut Vec<Remark<'a>>,
-    kind: Kind,
-    found: &BTreeMap<&'a str, Found>,
-) -> Result<(), AllocError> {
+/// A key that was found before or not, and is found once more in the table at an index.
+fn found_once_more(before: Option<&Found>, index: usize) -> Found {
+    match before {
+        Some(before) => Found {
+            tables: before.tables.saturating_add(1),
+            first: before.first,
+        },
+        None => Found {
+            tables: 1,
+            first: index,
+        },
+    }
+}
+
+/// Adds a remark for each key that was kept, in the order of the keys.
+fn push_found<'a>(remarks: &mut Remarks<'a>, kind: Kind, found: &BTreeMap<&'a str, Found>) {
     for (key, at) in found {
-        remarks.push(Remark::UnknownKey {
+        remarks.unknown_key(Remark::UnknownKey {
             key: *key,
             kind,
             tables: at.tables,
             first: at.first,
-        })?;
+        });
     }
-    Ok(())
 }
 
 fn push_unknown_in_rows<'a>(
     alloc: Global,
-    remarks: &mut Vec<Remark<'a>>,
+    remarks: &mut Remarks<'a>,
     kind: Kind,
     rows: &'a [Value],
-) -> Result<(), AllocError> {
+) {
     let mut found = BTreeMap::new(alloc);
     for (index, row) in rows.iter().enumerate() {
         if let Value::Table(table) = row {
-            note_unknown(&mut found, kind, index, table)?;
+            keep_unknown(remarks, &mut found, kind, index, table);
         }
     }
-    push_found(remarks, kind, &found)
+    push_found(remarks, kind, &found);
 }
 
 /// Adds a remark for each key that nobody knows: of the document, of lines, of balise groups, each in the order of the keys.
-pub fn push_unknown<'a>(
-    alloc: Global,
-    remarks: &mut Vec<Remark<'a>>,
-    document: &'a Table,
-) -> Result<(), AllocError> {
+pub fn push_unknown<'a>(alloc: Global, remarks: &mut Remarks<'a>, document: &'a Table) {
     let mut found = BTreeMap::new(alloc);
-    note_unknown(&mut found, Kind::Document, 0, document)?;
-    push_found(remarks, Kind::Document, &found)?;
-    push_unknown_in_rows(alloc, remarks, Kind::Line, rows_under(document, "line"))?;
-    push_unknown_in_rows(alloc, remarks, Kind::Group, rows_under(document, "group"))
+    keep_unknown(remarks, &mut found, Kind::Document, 0, document);
+    push_found(remarks, Kind::Document, &found);
+    push_unknown_in_rows(alloc, remarks, Kind::Line, rows_under(document, "line"));
+    push_unknown_in_rows(alloc, remarks, Kind::Group, rows_under(document, "group"));
 }

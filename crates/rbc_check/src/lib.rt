@@ -9,7 +9,7 @@ mod names;
 mod place;
 mod remark;
 mod report;
+mod sheet;
 mod table;
-mod text;
 
 pub use report::{Report, Verdict, check};

@@ -1,17 +1,15 @@
 //! Texts from a track file that are shown: names, and keys and values that may hold anything.
 
-use std::alloc::AllocError;
-use std::fmt::Write;
 use toml::{Table, Value};
 
 /// The most characters of a name that is shown.
 const MAX_NAME: usize = 40;
 
 /// The most characters of any other text from a file.
-const MAX_SHOWN: usize = 40;
+pub const MAX_SHOWN: usize = 40;
 
 /// Whether a character would break a log or turn its order: a control character, a separator, or a mark of direction.
-fn is_unruly(c: char) -> bool {
+pub fn is_unruly(c: char) -> bool {
     let code = u32::from(c);
     matches!(code, 0..=0x1F | 0x7F..=0x9F | 0x200E | 0x200F | 0x2028..=0x202E | 0x2066..=0x2069 | 0xFEFF)
         || code & 0xFFFE == 0xFFFE
@@ -33,23 +31,4 @@ pub fn name_in(table: &Table) -> Option<&str> {
 /// Whether a table has a name that cannot be shown.
 pub fn has_hidden_name(table: &Table) -> bool {
     table.get("name").is_some() && name_in(table).is_none()
-}
-
-/// Adds a name between quotation marks, with a space before it, or nothing.
-pub fn push_name(text: &mut String, name: Option<&str>) -> Result<(), AllocError> {
-    match name {
-        Some(name) => write!(text, " \"{name}\""),
-        None => Ok(()),
-    }
-}
-
-/// Adds a text from a file: its first 40 characters, with a dot for each one that is unruly, and two dots where it is longer.
-pub fn push_shown(text: &mut String, shown: &str) -> Result<(), AllocError> {
-    for (index, c) in shown.chars().enumerate() {
-        if index == MAX_SHOWN {
-            return text.push_str(" ..");
-        }
-        text.push(if is_unruly(c) { '.' } else { c })?;
-    }
-    Ok(())
 }

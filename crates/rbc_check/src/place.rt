@@ -1,11 +1,8 @@
 //! Which rule a refused track breaks, and where.
 
 use crate::draft::{Draft, GroupDraft, MAX_LENGTH, Misfit, Place, Wanted};
-use crate::text::Part::{Nth, Number, Shown, Size, Words};
-use crate::text::push_parts;
+use crate::sheet::Sheet;
 use rbc_track::TrackError;
-use std::alloc::AllocError;
-use std::fmt::Write;
 use toml::Value;
 
 /// The sentence of a rule.
@@ -25,50 +22,39 @@ pub fn sentence_of(rule: TrackError) -> &'static str {
 }
 
 /// Adds where something stands: `[[line]] 2`, counted from 1 as in the file.
-pub fn push_place(text: &mut String, place: Place) -> Result<(), AllocError> {
+pub fn push_place(sheet: &mut Sheet, place: Place) {
     match place {
-        Place::Document => text.push_str("the document"),
-        Place::Line(index) => push_parts(text, &[Words("[[line]] "), Nth(index)]),
-        Place::Group(index) => push_parts(text, &[Words("[[group]] "), Nth(index)]),
-    }
+        Place::Document => sheet.words("the document"),
+        Place::Line(index) => sheet.words("[[line]] ").nth(index),
+        Place::Group(index) => sheet.words("[[group]] ").nth(index),
+    };
 }
 
 /// Adds the beginning of a sentence on something in a document.
-fn push_subject(text: &mut String, place: Place) -> Result<(), AllocError> {
+fn push_subject(sheet: &mut Sheet, place: Place) {
     match place {
-        Place::Document => text.push_str("  The document"),
-        Place::Line(index) => push_parts(
-            text,
-            &[
-                Words("  [[line]] "),
-                Nth(index),
-                Words(" (line "),
-                Size(index),
-                Words(")"),
-            ],
-        ),
-        Place::Group(index) => push_parts(text, &[Words("  [[group]] "), Nth(index)]),
-    }
+        Place::Document => sheet.words("  The document"),
+        Place::Line(index) => sheet
+            .words("  [[line]] ")
+            .nth(index)
+            .words(" (line ")
+            .number(index)
+            .words(")"),
+        Place::Group(index) => sheet.words("  [[group]] ").nth(index),
+    };
 }
 
 /// Adds what a value is.
-fn push_kind(text: &mut String, value: &Value) -> Result<(), AllocError> {
+fn push_kind(sheet: &mut Sheet, value: &Value) {
     match value {
-        Value::String(word) => push_parts(
-            text,
-            &[Words("the text \""), Shown(word.as_str()), Words("\"")],
-        ),
-        Value::Integer(number) => push_integer(text, *number),
-        Value::Float(_) => text.push_str("a number with a point"),
-        Value::Boolean(_) => text.push_str("a boolean"),
-        Value::Datetime(_) => text.push_str("a date or a time"),
-        Value::Array(_) => text.push_str("an array"),
-        Value::Table(_) => text.push_str("a table"),
-    }
-}
-
-fn push_integer(text: &mut String, number: i64) -> Result<(), AllocError> {
-    write!(text, "the whole number {number}")
+        Value::String(word) => sheet.words("the text \"").shown(word.as_str()).words("\""),
+        Value::Integer(number) => sheet.words("the whole number ").integer(*number),
+        Value::Float(_) => sheet.words("a number with a point"),
+        Value::Boolean(_) => sheet.words("a boolean"),
+        Value::Datetime(_) => sheet.words("a date or a time"),
+        Value::Array(_) => sheet.words("an array"),
+        Value::Table(_) => sheet.words("a table"),
+    };
 }
 
 /// What a value has to be, in words.
@@ -86,173 +72,144 @@ fn words_of(wanted: Wanted) -> &'static str {
 }
 
 /// Adds the two lines on a value that is missing, or is not what it has to be.
-pub fn push_misfit(text: &mut String, misfit: &Misfit<'_>) -> Result<(), AllocError> {
-    push_subject(text, misfit.place)?;
-    match (misfit.key, misfit.value) {
-        (Some(key), None) => push_parts(
-            text,
-            &[Words(": the key `"), Words(key), Words("` is missing")],
-        )?,
-        (Some(key), Some(value)) => {
-            push_parts(text, &[Words(": `"), Words(key), Words("` is ")])?;
-            push_kind(text, value)?;
-        }
-        (None, Some(value)) => {
-            text.push_str(" is ")?;
-            push_kind(text, value)?;
-        }
-        (None, None) => text.push_str(" is missing")?,
+pub fn push_misfit(sheet: &mut Sheet, misfit: &Misfit<'_>) {
+    push_subject(sheet, misfit.place);
+    match misfit.value {
+        Some(value) => push_found(sheet, misfit.key, value),
+        None => push_missing(sheet, misfit.key),
     }
-    push_parts(
-        text,
-        &[
-            Words(".\n  It has to be "),
-            Words(words_of(misfit.wanted)),
-            Words(".\n"),
-        ],
-    )
+    sheet
+        .words(".\n  It has to be ")
+        .words(words_of(misfit.wanted))
+        .words(".\n");
+}
+
+/// Adds what stands under a key, or in place of a whole table.
+fn push_found(sheet: &mut Sheet, key: Option<&str>, value: &Value) {
+    match key {
+        Some(key) => sheet.words(": `").words(key).words("` is "),
+        None => sheet.words(" is "),
+    };
+    push_kind(sheet, value);
+}
+
+fn push_missing(sheet: &mut Sheet, key: Option<&str>) {
+    match key {
+        Some(key) => sheet.words(": the key `").words(key).words("` is missing"),
+        None => sheet.words(" is missing"),
+    };
 }
 
 /// Adds where the rules on whole lists are broken first: the line for this rule.
-pub fn push_list_fault(
-    text: &mut String,
-    rule: TrackError,
-    draft: &Draft<'_>,
-) -> Result<(), AllocError> {
+pub fn push_list_fault(sheet: &mut Sheet, rule: TrackError, draft: &Draft<'_>) {
     match rule {
-        TrackError::TooManyLines => push_tables(text, "line", draft.lines.len()),
-        TrackError::TooManyGroups => push_tables(text, "group", draft.groups.len()),
-        TrackError::BadLength => push_bad_length(text, draft),
-        TrackError::GroupOffLine => push_off_line(text, draft),
-        TrackError::GroupTwice => push_twice(text, draft),
-        TrackError::Text | TrackError::Shape | TrackError::OutOfMemory => Ok(()),
+        TrackError::TooManyLines => push_tables(sheet, "line", draft.lines.len()),
+        TrackError::TooManyGroups => push_tables(sheet, "group", draft.groups.len()),
+        TrackError::BadLength => push_bad_length(sheet, draft),
+        TrackError::GroupOffLine => push_off_line(sheet, draft),
+        TrackError::GroupTwice => push_twice(sheet, draft.groups.as_slice()),
+        TrackError::Text | TrackError::Shape | TrackError::OutOfMemory => {}
     }
 }
 
-fn push_tables(text: &mut String, kind: &str, number: usize) -> Result<(), AllocError> {
-    push_parts(
-        text,
-        &[
-            Words("  There are "),
-            Size(number),
-            Words(" [["),
-            Words(kind),
-            Words("]] tables.\n"),
-        ],
-    )
+fn push_tables(sheet: &mut Sheet, kind: &str, number: usize) {
+    sheet
+        .words("  There are ")
+        .number(number)
+        .words(" [[")
+        .words(kind)
+        .words("]] tables.\n");
 }
 
 /// Adds the first line whose length is out of its range.
-fn push_bad_length(text: &mut String, draft: &Draft<'_>) -> Result<(), AllocError> {
+fn push_bad_length(sheet: &mut Sheet, draft: &Draft<'_>) {
     for (index, line) in draft.lines.iter().enumerate() {
         let length = line.length;
         if !(1..=MAX_LENGTH).contains(&length) {
-            push_subject(text, Place::Line(index))?;
-            return push_parts(
-                text,
-                &[Words(": `length` is "), Number(length), Words(".\n")],
-            );
+            push_subject(sheet, Place::Line(index));
+            sheet
+                .words(": `length` is ")
+                .number(length as usize)
+                .words(".\n");
+            return;
         }
     }
-    Ok(())
 }
 
-/// Adds the first balise group that is on no line of the track.
-fn push_off_line(text: &mut String, draft: &Draft<'_>) -> Result<(), AllocError> {
+/// Adds the first balise group that is on no line of the track, or beyond the end of its line.
+fn push_off_line(sheet: &mut Sheet, draft: &Draft<'_>) {
     for (index, group) in draft.groups.iter().enumerate() {
-        let length = draft.lines.get(group.line as usize).map(|line| line.length);
-        if length.is_none_or(|length| group.at > length) {
-            return push_off(text, index, group, length, draft.lines.len());
-        }
-    }
-    Ok(())
-}
-
-/// Adds a balise group that is beyond the end of its line, or on none of so many lines.
-fn push_off(
-    text: &mut String,
-    index: usize,
-    group: &GroupDraft<'_>,
-    length: Option<u32>,
-    lines: usize,
-) -> Result<(), AllocError> {
-    push_group(text, index, group.nid)?;
-    match length {
-        Some(length) => push_parts(
-            text,
-            &[
-                Words(": `at` is "),
-                Number(group.at),
-                Words(", and line "),
-                Number(group.line),
-                Words(" is "),
-                Number(length),
-                Words(" long.\n"),
-            ],
-        ),
-        None => {
-            push_parts(
-                text,
-                &[
-                    Words(": there is no line "),
-                    Number(group.line),
-                    Words("; "),
-                ],
-            )?;
-            push_lines_there(text, lines)
+        let Some(line) = draft.lines.get(group.line as usize) else {
+            push_no_such_line(sheet, index, group, draft.lines.len());
+            return;
+        };
+        if group.at > line.length {
+            push_beyond(sheet, index, group, line.length);
+            return;
         }
     }
 }
 
-fn push_group(text: &mut String, index: usize, nid: u32) -> Result<(), AllocError> {
-    push_parts(
-        text,
-        &[
-            Words("  [[group]] "),
-            Nth(index),
-            Words(" (nid "),
-            Number(nid),
-            Words(")"),
-        ],
-    )
+/// Adds a balise group that is beyond the end of its line.
+fn push_beyond(sheet: &mut Sheet, index: usize, group: &GroupDraft<'_>, length: u32) {
+    push_group(sheet, index, group.nid);
+    sheet
+        .words(": `at` is ")
+        .number(group.at as usize)
+        .words(", and line ")
+        .number(group.line as usize)
+        .words(" is ")
+        .number(length as usize)
+        .words(" long.\n");
+}
+
+/// Adds a balise group that is on none of so many lines.
+fn push_no_such_line(sheet: &mut Sheet, index: usize, group: &GroupDraft<'_>, lines: usize) {
+    push_group(sheet, index, group.nid);
+    sheet
+        .words(": there is no line ")
+        .number(group.line as usize)
+        .words("; ");
+    push_lines_there(sheet, lines);
+}
+
+fn push_group(sheet: &mut Sheet, index: usize, nid: u32) {
+    sheet
+        .words("  [[group]] ")
+        .nth(index)
+        .words(" (nid ")
+        .number(nid as usize)
+        .words(")");
 }
 
 /// Adds which lines there are, and the end of the sentence.
-fn push_lines_there(text: &mut String, lines: usize) -> Result<(), AllocError> {
+fn push_lines_there(sheet: &mut Sheet, lines: usize) {
     match lines {
-        0 => text.push_str("the track has no line.\n"),
-        1 => text.push_str("the one line is line 0.\n"),
-        _ => push_parts(
-            text,
-            &[
-                Words("the lines are 0 to "),
-                Size(lines.saturating_sub(1)),
-                Words(".\n"),
-            ],
-        ),
-    }
+        0 => sheet.words("the track has no line.\n"),
+        1 => sheet.words("the one line is line 0.\n"),
+        _ => sheet
+            .words("the lines are 0 to ")
+            .number(lines.saturating_sub(1))
+            .words(".\n"),
+    };
 }
 
 /// Adds the first balise group whose number an earlier one has.
-fn push_twice(text: &mut String, draft: &Draft<'_>) -> Result<(), AllocError> {
-    for (index, group) in draft.groups.iter().enumerate() {
-        let nid = group.nid;
-        let first = draft
-            .groups
-            .iter()
-            .take_while(|other| other.nid != nid)
-            .count();
+fn push_twice(sheet: &mut Sheet, groups: &[GroupDraft<'_>]) {
+    for (index, group) in groups.iter().enumerate() {
+        let first = first_with(groups, group.nid);
         if first < index {
-            push_group(text, index, nid)?;
-            return push_parts(
-                text,
-                &[
-                    Words(": [[group]] "),
-                    Nth(first),
-                    Words(" has the same nid.\n"),
-                ],
-            );
+            push_group(sheet, index, group.nid);
+            sheet
+                .words(": [[group]] ")
+                .nth(first)
+                .words(" has the same nid.\n");
+            return;
         }
     }
-    Ok(())
+}
+
+/// The index of the first balise group with a number.
+fn first_with(groups: &[GroupDraft<'_>], nid: u32) -> usize {
+    groups.iter().take_while(|group| group.nid != nid).count()
 }

@@ -3,10 +3,23 @@
 use crate::draft::Place;
 use crate::keys::Kind;
 use crate::place::push_place;
-use crate::text::Part::{Length, Nth, Number, Shown, Size, Words};
-use crate::text::push_parts;
-use std::alloc::AllocError;
-use std::fmt::Write;
+use crate::sheet::Sheet;
+use std::alloc::Global;
+
+/// What lies between two neighbours on a line.
+#[derive(Clone, Copy)]
+pub struct Gap {
+    pub line: u32,
+    pub from: u32,
+    pub to: u32,
+}
+
+impl Gap {
+    /// How wide it is.
+    pub fn width(self) -> u32 {
+        self.to.saturating_sub(self.from)
+    }
+}
 
 /// What is doubtful about a track file. Lengths and places are in units of 10 cm.
 #[derive(Clone, Copy)]
@@ -39,175 +52,189 @@ pub enum Remark<'a> {
     /// The horizon is less than what lies between two neighbours.
     WideGap {
         horizon: u32,
-        line: u32,
-        from: u32,
-        to: u32,
+        gap: Gap,
     },
 }
 
-/// Adds a heading, and below it the remarks, numbered.
-pub fn push_remarks(
-    text: &mut String,
-    heading: &str,
-    remarks: &[Remark<'_>],
-) -> Result<(), AllocError> {
-    if remarks.is_empty() {
-        return push_parts(text, &[Words(heading), Words(": none.\n")]);
-    }
-    push_parts(
-        text,
-        &[
-            Words(heading),
-            Words(": "),
-            Size(remarks.len()),
-            Words(".\n"),
-        ],
-    )?;
-    for (index, remark) in remarks.iter().enumerate() {
-        let number = index.saturating_add(1);
-        write!(text, "{number:>4}. ")?;
-        push_remark(text, remark)?;
-    }
-    Ok(())
+/// The remarks on a track file.
+#[derive(Drop)]
+pub struct Remarks<'a> {
+    pub warnings: Vec<Remark<'a>>,
+    pub notes: Vec<Remark<'a>>,
+    /// Whether keys that nobody knows are notes and no warnings.
+    other_keys: bool,
+    /// Whether memory was refused to a remark.
+    pub is_cut: bool,
 }
 
-fn push_remark(text: &mut String, remark: &Remark<'_>) -> Result<(), AllocError> {
-    match *remark {
+impl<'a> Remarks<'a> {
+    /// No remarks.
+    pub fn new(alloc: Global, other_keys: bool) -> Self {
+        Remarks {
+            warnings: Vec::new(alloc),
+            notes: Vec::new(alloc),
+            other_keys,
+            is_cut: false,
+        }
+    }
+
+    /// Adds a warning.
+    pub fn warn(&mut self, remark: Remark<'a>) {
+        if self.warnings.push(remark).is_err() {
+            self.is_cut = true;
+        }
+    }
+
+    /// Adds a note.
+    pub fn note(&mut self, remark: Remark<'a>) {
+        if self.notes.push(remark).is_err() {
+            self.is_cut = true;
+        }
+    }
+
+    /// Adds what is said of a key that nobody knows.
+    pub fn unknown_key(&mut self, remark: Remark<'a>) {
+        if self.other_keys {
+            self.note(remark);
+        } else {
+            self.warn(remark);
+        }
+    }
+}
+
+/// Adds a heading, and below it the remarks, numbered.
+pub fn push_remarks(sheet: &mut Sheet, heading: &str, remarks: &[Remark<'_>]) {
+    sheet.words(heading);
+    if remarks.is_empty() {
+        sheet.words(": none.\n");
+        return;
+    }
+    sheet.words(": ").number(remarks.len()).words(".\n");
+    for (index, remark) in remarks.iter().enumerate() {
+        sheet.column(4, index.saturating_add(1)).words(". ");
+        push_remark(sheet, *remark);
+    }
+}
+
+fn push_remark(sheet: &mut Sheet, remark: Remark<'_>) {
+    match remark {
         Remark::UnknownKey {
             key,
             kind,
             tables,
             first,
-        } => push_unknown(text, key, kind, tables, first),
-        Remark::HiddenName(place) => push_hidden(text, place),
-        Remark::NoLine => text.push_str(
-            "The track has no line: every stop and every restriction is refused.\n",
-        ),
-        Remark::NoGroup => text.push_str(
-            "There is no balise group: no train can have a place, so each stop stops every train\n      at once, and no restriction is told to any.\n",
-        ),
-        Remark::BareLine(line) => push_parts(
-            text,
-            &[
-                Words("Line "),
-                Size(line),
-                Words(" has no balise group: no train can have a place on it.\n"),
-            ],
-        ),
-        Remark::SamePlace { nids, line, at } => push_parts(
-            text,
-            &[
-                Words("Balise groups "),
-                Number(nids.0),
-                Words(" and "),
-                Number(nids.1),
-                Words(" are at the same place: line "),
-                Number(line),
-                Words(", km "),
-                Length(at),
-                Words(".\n"),
-            ],
-        ),
-        Remark::FarHorizon(horizon) => push_parts(
-            text,
-            &[
-                Words("The horizon, "),
-                Length(horizon),
-                Words(
-                    " km, is not below the longest line: a restriction is told however far\n      ahead it begins.\n",
-                ),
-            ],
-        ),
-        Remark::NearHorizon(horizon) => push_parts(
-            text,
-            &[
-                Words("The horizon, "),
-                Length(horizon),
-                Words(" km, is below 2 km: a fast train may need more than that to brake.\n"),
-            ],
-        ),
-        Remark::WideGap {
-            horizon,
-            line,
-            from,
-            to,
-        } => push_parts(
-            text,
-            &[
-                Words("The horizon, "),
-                Length(horizon),
-                Words(" km, is less than the "),
-                Length(to.saturating_sub(from)),
-                Words(" km between two balise groups of line "),
-                Number(line),
-                Words(",\n      km "),
-                Length(from),
-                Words(" and km "),
-                Length(to),
-                Words(".\n"),
-            ],
-        ),
+        } => push_unknown(sheet, key, kind, tables, first),
+        Remark::HiddenName(place) => push_hidden(sheet, place),
+        Remark::NoLine => push_no_line(sheet),
+        Remark::NoGroup => push_no_group(sheet),
+        Remark::BareLine(line) => push_bare_line(sheet, line),
+        Remark::SamePlace { nids, line, at } => push_same_place(sheet, nids, line, at),
+        Remark::FarHorizon(horizon) => push_far_horizon(sheet, horizon),
+        Remark::NearHorizon(horizon) => push_near_horizon(sheet, horizon),
+        Remark::WideGap { horizon, gap } => push_wide_gap(sheet, horizon, gap),
     }
 }
 
-fn push_unknown(
-    text: &mut String,
-    key: &str,
-    kind: Kind,
-    tables: usize,
-    first: usize,
-) -> Result<(), AllocError> {
-    push_parts(text, &[Words("Unknown key `"), Shown(key), Words("` ")])?;
-    match kind {
-        Kind::Document => text.push_str("at the top of the document")?,
-        Kind::Line => push_tables(text, "line", tables, first)?,
-        Kind::Group => push_tables(text, "group", tables, first)?,
-    }
+fn push_unknown(sheet: &mut Sheet, key: &str, kind: Kind, tables: usize, first: usize) {
+    sheet.words("Unknown key `").shown(key).words("` ");
     let known = match kind {
-        Kind::Document => "group, horizon, line, name",
-        Kind::Line => "length, name",
-        Kind::Group => "at, line, name, nid, nominal",
+        Kind::Document => {
+            sheet.words("at the top of the document");
+            "group, horizon, line, name"
+        }
+        Kind::Line => {
+            push_tables(sheet, "line", tables, first);
+            "length, name"
+        }
+        Kind::Group => {
+            push_tables(sheet, "group", tables, first);
+            "at, line, name, nid, nominal"
+        }
     };
-    push_parts(
-        text,
-        &[
-            Words(".\n      It is ignored. Known there: "),
-            Words(known),
-            Words(".\n"),
-        ],
-    )
+    sheet
+        .words(".\n      It is ignored. Known there: ")
+        .words(known)
+        .words(".\n");
 }
 
-fn push_tables(
-    text: &mut String,
-    kind: &str,
-    tables: usize,
-    first: usize,
-) -> Result<(), AllocError> {
-    if tables == 1 {
-        return push_parts(
-            text,
-            &[Words("in [["), Words(kind), Words("]] "), Nth(first)],
-        );
+fn push_tables(sheet: &mut Sheet, kind: &str, tables: usize, first: usize) {
+    sheet.words("in ");
+    if tables != 1 {
+        sheet
+            .number(tables)
+            .words(" [[")
+            .words(kind)
+            .words("]] tables, first in ");
+    } else {
+        sheet.words("[[").words(kind).words("]] ");
     }
-    push_parts(
-        text,
-        &[
-            Words("in "),
-            Size(tables),
-            Words(" [["),
-            Words(kind),
-            Words("]] tables, first in "),
-            Nth(first),
-        ],
-    )
+    sheet.nth(first);
 }
 
-fn push_hidden(text: &mut String, place: Place) -> Result<(), AllocError> {
-    text.push_str("The name of ")?;
+fn push_hidden(sheet: &mut Sheet, place: Place) {
+    sheet.words("The name of ");
     match place {
-        Place::Document => text.push_str("the track")?,
-        Place::Line(_) | Place::Group(_) => push_place(text, place)?,
+        Place::Document => {
+            sheet.words("the track");
+        }
+        Place::Line(_) | Place::Group(_) => push_place(sheet, place),
     }
-    text.push_str(" is not shown: it has to be a text of 1 to 40 plain characters.\n")
+    sheet.words(" is not shown: it has to be a text of 1 to 40 plain characters.\n");
+}
+
+fn push_no_line(sheet: &mut Sheet) {
+    sheet.words("The track has no line: every stop and every restriction is refused.\n");
+}
+
+fn push_no_group(sheet: &mut Sheet) {
+    sheet.words(
+        "There is no balise group: no train can have a place, so each stop stops every train\n      at once, and no restriction is told to any.\n",
+    );
+}
+
+fn push_bare_line(sheet: &mut Sheet, line: usize) {
+    sheet
+        .words("Line ")
+        .number(line)
+        .words(" has no balise group: no train can have a place on it.\n");
+}
+
+fn push_same_place(sheet: &mut Sheet, nids: (u32, u32), line: u32, at: u32) {
+    sheet
+        .words("Balise groups ")
+        .number(nids.0 as usize)
+        .words(" and ")
+        .number(nids.1 as usize)
+        .words(" are at the same place: line ")
+        .number(line as usize)
+        .words(", km ")
+        .length(at)
+        .words(".\n");
+}
+
+fn push_far_horizon(sheet: &mut Sheet, horizon: u32) {
+    sheet.words("The horizon, ").length(horizon).words(
+        " km, is not below the longest line: a restriction is told however far\n      ahead it begins.\n",
+    );
+}
+
+fn push_near_horizon(sheet: &mut Sheet, horizon: u32) {
+    sheet.words("The horizon, ").length(horizon).words(
+        " km, is below 2 km: a fast train may need more than that to brake.\n",
+    );
+}
+
+fn push_wide_gap(sheet: &mut Sheet, horizon: u32, gap: Gap) {
+    sheet
+        .words("The horizon, ")
+        .length(horizon)
+        .words(" km, is less than the ")
+        .length(gap.width())
+        .words(" km between two balise groups of line ")
+        .number(gap.line as usize)
+        .words(",\n      km ")
+        .length(gap.from)
+        .words(" and km ")
+        .length(gap.to)
+        .words(".\n");
 }

@@ -5,13 +5,12 @@ ghost use Rattle.rbc_track.specs.Reading.{track_of};
 ghost use Rattle.rbc_check.specs.Report.{IsVerdictOn};
 
 use crate::doubts::{push_bare, push_hidden_names, push_notes};
-use crate::draft::{Draft, Misfit, Unread, draft_of};
+use crate::draft::{Draft, Misfit, draft_of};
 use crate::keys::push_unknown;
 use crate::place::{push_list_fault, push_misfit, sentence_of};
-use crate::remark::{Remark, push_remarks};
-use crate::table::{in_order, push_head, push_lines};
-use crate::text::Part::{Size, Words};
-use crate::text::push_parts;
+use crate::remark::{Remarks, push_remarks};
+use crate::sheet::Sheet;
+use crate::table::{push_head, push_lines};
 use rbc_track::{TrackError, track_from_toml};
 use std::alloc::{AllocError, Global};
 use toml::Table;
@@ -88,22 +87,18 @@ fn no_document(
     start: usize,
     message: &str,
 ) -> Result<String, AllocError> {
-    let mut report = String::new(alloc);
-    push_refusal(&mut report, TrackError::Text)?;
     let (line, column) = position(text, start);
-    push_parts(
-        &mut report,
-        &[
-            Words("  line "),
-            Size(line),
-            Words(", column "),
-            Size(column),
-            Words(": "),
-            Words(message),
-            Words(".\n\nWarnings: none.\n"),
-        ],
-    )?;
-    Ok(report)
+    let mut sheet = Sheet::new(alloc);
+    push_refusal(&mut sheet, TrackError::Text);
+    sheet
+        .words("  line ")
+        .number(line)
+        .words(", column ")
+        .number(column)
+        .words(": ")
+        .words(message)
+        .words(".\n\nWarnings: none.\n");
+    sheet.ended()
 }
 
 /// The line and the column, both from 1, of the byte at an index. A column counts characters.
@@ -121,17 +116,14 @@ fn position(text: &str, start: usize) -> (usize, usize) {
     (line, column)
 }
 
-fn push_refusal(report: &mut String, rule: TrackError) -> Result<(), AllocError> {
-    push_parts(
-        report,
-        &[
-            Words("The track is refused: "),
-            Words(rule.name()),
-            Words(".\n  "),
-            Words(sentence_of(rule)),
-            Words("\n"),
-        ],
-    )
+/// Adds which rule a track breaks, in a word and in a sentence.
+fn push_refusal(sheet: &mut Sheet, rule: TrackError) {
+    sheet
+        .words("The track is refused: ")
+        .words(rule.name())
+        .words(".\n  ")
+        .words(sentence_of(rule))
+        .words("\n");
 }
 
 /// The report on a document, and how many warnings it has.
@@ -141,102 +133,79 @@ fn text_on(
     other_keys: bool,
     rule: Option<TrackError>,
 ) -> Result<(String, usize), AllocError> {
-    let mut warnings = Vec::new(alloc);
-    let mut notes = Vec::new(alloc);
-    if other_keys {
-        push_unknown(alloc, &mut notes, document)?;
-    } else {
-        push_unknown(alloc, &mut warnings, document)?;
+    let mut remarks = Remarks::new(alloc, other_keys);
+    push_unknown(alloc, &mut remarks, document);
+    push_hidden_names(&mut remarks, document);
+    let mut draft = draft_of(alloc, document);
+    let mut sheet = Sheet::new(alloc);
+    push_report(&mut sheet, &mut remarks, &mut draft, rule);
+    if remarks.is_cut || draft.is_cut {
+        return Err(AllocError);
     }
-    push_hidden_names(&mut warnings, document)?;
-    match (draft_of(alloc, document), rule) {
-        (Ok(draft), None) => good(alloc, &draft, warnings, notes),
-        (Ok(draft), Some(rule)) => broken(alloc, rule, &draft, &warnings, &notes),
-        (Err(Unread::Misfit(misfit)), _) => misshapen(alloc, &misfit, &warnings, &notes),
-        (Err(Unread::OutOfMemory), _) => Err(AllocError),
+    Ok((sheet.ended()?, remarks.warnings.len()))
+}
+
+/// Adds the report on what a document has: on a good track, or on one that breaks a rule.
+fn push_report<'a>(
+    sheet: &mut Sheet,
+    remarks: &mut Remarks<'a>,
+    draft: &mut Draft<'a>,
+    rule: Option<TrackError>,
+) {
+    match (draft.misfit, rule) {
+        (Some(misfit), _) => push_misshapen(sheet, &misfit, remarks),
+        (None, Some(rule)) => push_broken(sheet, rule, draft, remarks),
+        (None, None) => push_good(sheet, draft, remarks),
     }
 }
 
-/// The report on a good track.
-fn good<'a>(
-    alloc: Global,
-    draft: &Draft<'a>,
-    mut warnings: Vec<Remark<'a>>,
-    mut notes: Vec<Remark<'a>>,
-) -> Result<(String, usize), AllocError> {
-    let groups = in_order(alloc, draft)?;
-    push_bare(&mut warnings, draft)?;
-    push_notes(&mut notes, draft, groups.as_slice())?;
-    let mut report = String::new(alloc);
-    push_head(&mut report, draft)?;
-    push_lines(&mut report, draft, groups.as_slice())?;
-    report.push_str("\n")?;
-    push_remarks(&mut report, "Warnings", warnings.as_slice())?;
-    push_remarks(&mut report, "Notes", notes.as_slice())?;
-    push_end(&mut report, warnings.len())?;
-    Ok((report, warnings.len()))
+/// Adds the report on a good track.
+fn push_good(sheet: &mut Sheet, draft: &mut Draft<'_>, remarks: &mut Remarks<'_>) {
+    draft.sort_groups();
+    push_bare(remarks, draft);
+    push_notes(remarks, draft);
+    push_head(sheet, draft);
+    push_lines(sheet, draft);
+    sheet.words("\n");
+    push_remarks(sheet, "Warnings", remarks.warnings.as_slice());
+    push_remarks(sheet, "Notes", remarks.notes.as_slice());
+    push_end(sheet, remarks.warnings.len());
 }
 
 /// Adds the last line on a good track.
-fn push_end(report: &mut String, warnings: usize) -> Result<(), AllocError> {
+fn push_end(sheet: &mut Sheet, warnings: usize) {
     if warnings == 0 {
-        return report.push_str("The track is good.\n");
+        sheet.words("The track is good.\n");
+        return;
     }
-    let (noun, them) = if warnings == 1 {
-        (" warning", "it")
-    } else {
-        (" warnings", "them")
-    };
-    push_parts(
-        report,
-        &[
-            Words("The track is good, with "),
-            Size(warnings),
-            Words(noun),
-            Words(": read "),
-            Words(them),
-            Words(" before it is used.\n"),
-        ],
-    )
+    let them = if warnings == 1 { "it" } else { "them" };
+    sheet
+        .words("The track is good, with ")
+        .count(warnings, "warning")
+        .words(": read ")
+        .words(them)
+        .words(" before it is used.\n");
 }
 
-/// The report on a track that breaks a rule on whole lists.
-fn broken(
-    alloc: Global,
-    rule: TrackError,
-    draft: &Draft<'_>,
-    warnings: &Vec<Remark<'_>>,
-    notes: &Vec<Remark<'_>>,
-) -> Result<(String, usize), AllocError> {
-    let mut report = String::new(alloc);
-    push_refusal(&mut report, rule)?;
-    push_list_fault(&mut report, rule, draft)?;
-    end_refused(report, warnings.as_slice(), notes.as_slice())
+/// Adds the report on a track that breaks a rule on whole lists.
+fn push_broken(sheet: &mut Sheet, rule: TrackError, draft: &Draft<'_>, remarks: &Remarks<'_>) {
+    push_refusal(sheet, rule);
+    push_list_fault(sheet, rule, draft);
+    push_end_refused(sheet, remarks);
 }
 
-/// The report on a track in which a value is not what it has to be.
-fn misshapen(
-    alloc: Global,
-    misfit: &Misfit<'_>,
-    warnings: &Vec<Remark<'_>>,
-    notes: &Vec<Remark<'_>>,
-) -> Result<(String, usize), AllocError> {
-    let mut report = String::new(alloc);
-    push_refusal(&mut report, TrackError::Shape)?;
-    push_misfit(&mut report, misfit)?;
-    end_refused(report, warnings.as_slice(), notes.as_slice())
+/// Adds the report on a track in which a value is not what it has to be.
+fn push_misshapen(sheet: &mut Sheet, misfit: &Misfit<'_>, remarks: &Remarks<'_>) {
+    push_refusal(sheet, TrackError::Shape);
+    push_misfit(sheet, misfit);
+    push_end_refused(sheet, remarks);
 }
 
-/// The report on a refused track with its warnings, and with its notes where it has any.
-fn end_refused(
-    mut report: String,
-    warnings: &[Remark<'_>],
-    notes: &[Remark<'_>],
-) -> Result<(String, usize), AllocError> {
-    report.push_str("\n")?;
-    push_remarks(&mut report, "Warnings", warnings)?;
-    if !notes.is_empty() {
-        push_remarks(&mut report, "Notes", notes)?;
+/// Adds the warnings on a refused track, and its notes where it has any.
+fn push_end_refused(sheet: &mut Sheet, remarks: &Remarks<'_>) {
+    sheet.words("\n");
+    push_remarks(sheet, "Warnings", remarks.warnings.as_slice());
+    if !remarks.notes.is_empty() {
+        push_remarks(sheet, "Notes", remarks.notes.as_slice());
     }
-    Ok((report, warnings.len()))
 }

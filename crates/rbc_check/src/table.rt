@@ -1,50 +1,28 @@
 //! The lines of a track with their balise groups in order, as a table.
 
 use crate::draft::{Draft, GroupDraft, LineDraft};
-use crate::names::push_name;
-use crate::text::Part::{Length, Size, Words};
-use crate::text::push_parts;
-use rbc_words::Count;
-use std::alloc::{AllocError, Global};
-use std::fmt::Write;
-
-/// The balise groups by line, then by place, then by number.
-pub fn in_order<'a>(alloc: Global, draft: &Draft<'a>) -> Result<Vec<GroupDraft<'a>>, AllocError> {
-    let mut groups = Vec::from_slice(alloc, draft.groups.as_slice())?;
-    groups.sort_by_key(|group| (group.line, group.at, group.nid))?;
-    Ok(groups)
-}
+use crate::sheet::Sheet;
 
 /// Adds what a track is as a whole.
-pub fn push_head(text: &mut String, draft: &Draft<'_>) -> Result<(), AllocError> {
-    text.push_str("Track")?;
-    push_name(text, draft.name)?;
-    text.push_str(": ")?;
-    push_count(text, draft.lines.len(), "line")?;
-    text.push_str(", ")?;
-    push_count(text, draft.groups.len(), "balise group")?;
-    push_parts(
-        text,
-        &[Words(", horizon "), Length(draft.horizon), Words(" km.\n")],
-    )
-}
-
-/// Adds so many of a thing.
-fn push_count(text: &mut String, number: usize, noun: &str) -> Result<(), AllocError> {
-    let count = Count { number, noun };
-    write!(text, "{count}")
+pub fn push_head(sheet: &mut Sheet, draft: &Draft<'_>) {
+    sheet
+        .words("Track")
+        .name(draft.name)
+        .words(": ")
+        .count(draft.lines.len(), "line")
+        .words(", ")
+        .count(draft.groups.len(), "balise group")
+        .words(", horizon ")
+        .length(draft.horizon)
+        .words(" km.\n");
 }
 
 /// Adds each line with its balise groups, which are in order.
-pub fn push_lines(
-    text: &mut String,
-    draft: &Draft<'_>,
-    groups: &[GroupDraft<'_>],
-) -> Result<(), AllocError> {
+pub fn push_lines(sheet: &mut Sheet, draft: &Draft<'_>) {
     for (index, line) in draft.lines.iter().enumerate() {
-        push_line(text, index, line, groups)?;
+        push_line(sheet, index, line);
+        push_groups_of(sheet, index, draft.groups.as_slice());
     }
-    Ok(())
 }
 
 /// How many of the balise groups are on a line.
@@ -55,56 +33,69 @@ pub fn count_on(groups: &[GroupDraft<'_>], index: usize) -> usize {
         .count()
 }
 
-fn push_line(
-    text: &mut String,
-    index: usize,
-    line: &LineDraft<'_>,
-    groups: &[GroupDraft<'_>],
-) -> Result<(), AllocError> {
-    push_parts(text, &[Words("\nLine "), Size(index)])?;
-    push_name(text, line.name)?;
-    push_parts(text, &[Words(": "), Length(line.length), Words(" km, ")])?;
-    let number = count_on(groups, index);
-    if number == 0 {
-        return text.push_str("no balise groups.\n");
-    }
-    push_count(text, number, "balise group")?;
-    text.push_str(":\n        km       nid  NID_C  NID_BG  nominal\n")?;
-    push_groups(text, index, groups)
+fn push_line(sheet: &mut Sheet, index: usize, line: &LineDraft<'_>) {
+    sheet
+        .words("\nLine ")
+        .number(index)
+        .name(line.name)
+        .words(": ")
+        .length(line.length)
+        .words(" km, ");
 }
 
-fn push_groups(
-    text: &mut String,
-    index: usize,
-    groups: &[GroupDraft<'_>],
-) -> Result<(), AllocError> {
+/// Adds how many balise groups are on a line, and below that a row for each.
+fn push_groups_of(sheet: &mut Sheet, index: usize, groups: &[GroupDraft<'_>]) {
+    let number = count_on(groups, index);
+    if number == 0 {
+        sheet.words("no balise groups.\n");
+        return;
+    }
+    sheet
+        .count(number, "balise group")
+        .words(":\n        km       nid  NID_C  NID_BG  nominal\n");
     for group in groups {
         if group.line as usize == index {
-            push_group(text, group)?;
+            push_group(sheet, group);
         }
     }
-    Ok(())
 }
 
 /// Adds a balise group: its place with the points in line, its number, and NID_C and NID_BG, of which that is made.
-fn push_group(text: &mut String, group: &GroupDraft<'_>) -> Result<(), AllocError> {
-    push_km(text, group.at)?;
-    let nid = group.nid;
-    let (country, number) = (nid / 16_384, nid % 16_384);
-    write!(text, "  {nid:>8}  {country:>5}  {number:>6}  ")?;
-    let nominal = group.nominal;
-    match group.name {
-        Some(name) => write!(text, "{nominal:<7}  {name}\n"),
-        None => push_parts(text, &[Words(nominal), Words("\n")]),
+fn push_group(sheet: &mut Sheet, group: &GroupDraft<'_>) {
+    push_km(sheet, group.at);
+    let nid = group.nid as usize;
+    sheet
+        .words("  ")
+        .column(8, nid)
+        .words("  ")
+        .column(5, nid / 16_384)
+        .words("  ")
+        .column(6, nid % 16_384)
+        .words("  ")
+        .words(group.nominal);
+    if let Some(name) = group.name {
+        let room = if group.nominal == "up" {
+            "       "
+        } else {
+            "     "
+        };
+        sheet.words(room).words(name);
     }
+    sheet.words("\n");
 }
 
 /// Adds a place of 10 columns, with its point in the sixth.
-fn push_km(text: &mut String, at: u32) -> Result<(), AllocError> {
-    let (whole, thousandths, last) = (at / 10_000, at / 10 % 1_000, at % 10);
-    write!(text, "{whole:>5}.{thousandths:03}")?;
-    if last == 0 {
-        return text.push_str(" ");
+fn push_km(sheet: &mut Sheet, at: u32) {
+    let units = at as usize;
+    sheet
+        .column(5, units / 10_000)
+        .words(".")
+        .number(units / 1_000 % 10)
+        .number(units / 100 % 10)
+        .number(units / 10 % 10);
+    if units % 10 == 0 {
+        sheet.words(" ");
+    } else {
+        sheet.number(units % 10);
     }
-    write!(text, "{last}")
 }

@@ -1,0 +1,116 @@
+//! The text of a report while it is written.
+
+use crate::names::{MAX_SHOWN, is_unruly};
+use rbc_words::{Count, Km};
+use std::alloc::{AllocError, Global};
+use std::fmt::Write;
+
+/// A text that is written piece by piece. Where memory is refused a piece is missing, and the end of the sheet tells so: a piece
+/// that is added has no result of its own.
+#[derive(Drop)]
+pub struct Sheet {
+    text: String,
+    is_cut: bool,
+}
+
+impl Sheet {
+    /// An empty sheet.
+    pub fn new(alloc: Global) -> Self {
+        Sheet {
+            text: String::new(alloc),
+            is_cut: false,
+        }
+    }
+
+    /// The whole text.
+    ///
+    /// # Errors
+    ///
+    /// Memory was refused to a piece of it.
+    pub fn ended(self) -> Result<String, AllocError> {
+        if self.is_cut {
+            return Err(AllocError);
+        }
+        Ok(self.text)
+    }
+
+    /// Adds words as they are.
+    pub fn words(&mut self, words: &str) -> &mut Self {
+        if self.text.push_str(words).is_err() {
+            self.is_cut = true;
+        }
+        self
+    }
+
+    /// Adds a number in decimal.
+    pub fn number(&mut self, number: usize) -> &mut Self {
+        if write!(self.text, "{number}").is_err() {
+            self.is_cut = true;
+        }
+        self
+    }
+
+    /// Adds a number in decimal, with its sign where it is below 0.
+    pub fn integer(&mut self, number: i64) -> &mut Self {
+        if write!(self.text, "{number}").is_err() {
+            self.is_cut = true;
+        }
+        self
+    }
+
+    /// Adds the number of a table, counted from 1, by its index.
+    pub fn nth(&mut self, index: usize) -> &mut Self {
+        self.number(index.saturating_add(1))
+    }
+
+    /// Adds a place or a length in units of 10 cm, in kilometres.
+    pub fn length(&mut self, units: u32) -> &mut Self {
+        let km = Km(units);
+        if write!(self.text, "{km}").is_err() {
+            self.is_cut = true;
+        }
+        self
+    }
+
+    /// Adds so many of a thing.
+    pub fn count(&mut self, number: usize, noun: &str) -> &mut Self {
+        let count = Count { number, noun };
+        if write!(self.text, "{count}").is_err() {
+            self.is_cut = true;
+        }
+        self
+    }
+
+    /// Adds a number at the right of a column of so many places.
+    pub fn column(&mut self, width: usize, number: usize) -> &mut Self {
+        if write!(self.text, "{number:>width$}").is_err() {
+            self.is_cut = true;
+        }
+        self
+    }
+
+    /// Adds a name between quotation marks, with a space before it, or nothing.
+    pub fn name(&mut self, name: Option<&str>) -> &mut Self {
+        match name {
+            Some(name) => self.words(" \"").words(name).words("\""),
+            None => self,
+        }
+    }
+
+    /// Adds a text from a file: its first 40 characters, with a dot for each one that is unruly, and two dots where it is longer.
+    pub fn shown(&mut self, shown: &str) -> &mut Self {
+        for (index, c) in shown.chars().enumerate() {
+            if index == MAX_SHOWN {
+                return self.words(" ..");
+            }
+            self.character(if is_unruly(c) { '.' } else { c });
+        }
+        self
+    }
+
+    fn character(&mut self, c: char) {
+        if self.text.push(c).is_err() {
+            self.is_cut = true;
+        }
+    }
+}
