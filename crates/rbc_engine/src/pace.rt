@@ -8,8 +8,9 @@ use rbc_settle::TrainRec;
 use std::sync::atomic::{AtomicU64, Ordering};
 
 /// How many stops and restrictions a train has to be told of, on average, so that several workers are faster than one. A message of a train
-/// that is told of fewer is decided faster than its records are handed from one worker to another.
-const HEAVY: u64 = 64;
+/// that is told of fewer is decided faster than its records are handed from one worker to another. With 255 one worker was still twice as
+/// fast as four (docs/INTEGRATION.md); a train is told of 270 at most.
+const HEAVY: u64 = 512;
 
 /// How many messages came from trains, and of how many stops and restrictions these trains are told. It decides how many workers share a
 /// stretch, and no more: nothing that is proved hangs on it.
