@@ -74,14 +74,14 @@ fn push_group(sheet: &mut Sheet, group: &GroupDraft<'_>) {
         .words("  ")
         .words(group.nominal);
     if let Some(name) = group.name {
-        let room = if group.nominal == "up" {
-            "       "
-        } else {
-            "     "
-        };
-        sheet.words(room).words(name);
+        sheet.words(room_after(group.nominal)).words(name);
     }
     sheet.words("\n");
+}
+
+/// What stands between a direction and a name: the column of directions is as wide as its heading.
+fn room_after(nominal: &str) -> &'static str {
+    if nominal == "up" { "       " } else { "     " }
 }
 
 /// Adds a place of 10 columns, with its point in the sixth.
