@@ -1,0 +1,91 @@
+"""Measures what a report of a train costs as other things grow: growth.py FOLDER RUNS PROGRAM
+
+Each table changes one thing, in three sizes: how many reports a batch has, how many trains there are, and how many stops and how many
+restrictions are active on other lines. Trains stand on line 0. What a report costs is the processor time of a batch with reports less that of
+the same batch without them, divided by their number; least and median of the runs.
+"""
+
+import os
+import statistics
+import subprocess
+import sys
+
+from codec_loads import spelled
+from loads import Random
+
+LINES, LENGTH = 64, 3_000_000
+GROUPS = 100  # on line 0
+REPORTS, TRAINS, STOPS, RESTRICTIONS = 60_000, 500, 20, 100  # where nothing else is said
+SIZES = {
+    "reports": (10_000, 30_000, 90_000),
+    "trains": (100, 500, 2_000),
+    "stops": (0, 20, 63),
+    "restrictions": (0, 100, 299),
+}
+
+
+def track():
+    """A track of lines of 300 km, with all balise groups on line 0."""
+    text = ["horizon = 100000\n"] + [f"[[line]]\nlength = {LENGTH}\n"] * LINES
+    for nid in range(GROUPS):
+        text.append(f'[[group]]\nnid = {nid}\nline = 0\nat = {nid * LENGTH // GROUPS}\nnominal = "up"\n')
+    return "".join(text)
+
+
+def report(engine, stamp, group, distance):
+    """A line with message 136: a train some way behind a balise group, facing up."""
+    position = [(0, 8), (114, 13), (0, 2), (group, 24), (distance, 15), (1, 2), (1, 2), (100, 15), (100, 15)]
+    rest = [(0, 2), (0, 7), (1, 2), (0, 4), (2, 3)]
+    return f"recv {spelled(136, [(stamp, 32), (engine, 24), *position, *rest]).hex().upper()}\n"
+
+
+def batch(reports, trains, stops, restrictions):
+    """Enrolments, stops and restrictions on other lines, one report of each train, and then so many more."""
+    random = Random("growth", trains, stops, restrictions)
+    lines = [f"enrol {engine} 2000\n" for engine in range(trains)]
+    lines += [report(engine, 1, random.below(GROUPS), random.below(30_000)) for engine in range(trains)]
+    for number in range(1, stops + 1):
+        low = random.below(LENGTH - 1_000)
+        lines.append(f"stop {number} {random.between(1, LINES - 1)}:{low}-{low + 1_000}\n")
+    for number in range(1, restrictions + 1):
+        low = random.below(LENGTH - 1_000)
+        lines.append(f"restrict {number} {random.between(1, LINES - 1)}:{low}-{low + 1_000} both 40 1\n")
+    for at in range(reports):
+        lines.append(report(at % trains, 2 + at, random.below(GROUPS), random.below(30_000)))
+    return "".join(lines)
+
+
+def seconds(program, folder, text):
+    """The processor time of a run of a batch."""
+    with open(f"{folder}/growth.batch", "w", encoding="ascii") as it:
+        it.write(text)
+    words = [program, "run", "--track", f"{folder}/growth.toml"]
+    with open(f"{folder}/growth.batch", "rb") as given:
+        process = subprocess.Popen(words, stdin=given, stdout=subprocess.DEVNULL)
+        _, status, usage = os.wait4(process.pid, 0)
+    if status != 0:
+        sys.exit(f"the program ended with status {os.waitstatus_to_exitcode(status)}")
+    return usage.ru_utime + usage.ru_stime
+
+
+def nanoseconds(program, folder, runs, sizes):
+    """What a report costs, in each run."""
+    empty, full = batch(0, *sizes[1:]), batch(*sizes)
+    return [1e9 * (seconds(program, folder, full) - seconds(program, folder, empty)) / sizes[0] for _ in range(runs)]
+
+
+def main(folder, runs, program):
+    os.makedirs(folder, exist_ok=True)
+    with open(f"{folder}/growth.toml", "w", encoding="ascii") as it:
+        it.write(track())
+    print("| what grows | to | ns a report, least / median |\n|---|---|---|")
+    for at, (name, values) in enumerate(SIZES.items()):
+        for value in values:
+            sizes = [REPORTS, TRAINS, STOPS, RESTRICTIONS]
+            sizes[at] = value
+            found = nanoseconds(program, folder, runs, sizes)
+            print(f"| {name} | {value:,} | {min(found):.0f} / {statistics.median(found):.0f} |", flush=True)
+
+
+if __name__ == "__main__":
+    main(sys.argv[1], int(sys.argv[2]), sys.argv[3])
