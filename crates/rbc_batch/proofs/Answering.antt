@@ -44,3 +44,12 @@ wrote_part plan workers read_old read_new old new inputs held stats text sent re
     let desk = serial plan new_desk inputs in
     let same : text ≡ text_of plan inputs = is ∙ (ap (λ (xs : List Reply). output_of xs held.outboxes) ran.2.results ∙ ap (λ (boxes : List (ℕ × List Mail)). output_of desk.results boxes) ran.2.outboxes) in
     (inputs, read, ran.0, ran.1, subst (λ (t : List ℕ). sent ≤ length t) same few, subst (λ (t : List ℕ). Appends old new (take sent t)) same out, ran.3)
+
+-- all of the text is out
+pub wrote_all : (plan : Plan) (workers : ℕ) (read_old read_new old new : Option (List ℕ)) (inputs : List Input) (held : Held) (stats : Stats) (text : List ℕ)
+    → AreRead read_old read_new inputs → IsRunOf plan inputs workers (Ok (held, stats)) → text ≡ output_of held.results held.outboxes → Appends old new text
+    → Answers plan workers read_old read_new old new (Ok stats)
+wrote_all plan workers read_old read_new old new inputs held stats text read ran is out =
+    let desk = serial plan new_desk inputs in
+    let same : text ≡ text_of plan inputs = is ∙ (ap (λ (xs : List Reply). output_of xs held.outboxes) ran.2.results ∙ ap (λ (boxes : List (ℕ × List Mail)). output_of desk.results boxes) ran.2.outboxes) in
+    (inputs, read, ran.0, ran.1, subst (λ (t : List ℕ). Appends old new t) same out, ran.3, ran.4)

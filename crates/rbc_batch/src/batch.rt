@@ -1,9 +1,9 @@
 //! Processing a batch, from a reader to a writer.
 
-ghost use Rattle.std.specs.Prelude.{◌<◌, length, IfSome, IsErrOf};
+ghost use Rattle.std.specs.Prelude.{◌<◌, length, IfOk, IfErr, IfSome, IsErrOf};
 ghost use Rattle.std.specs.List.{All};
 ghost use Rattle.rbc_rule.specs.Inputs.{Fits};
-ghost use Rattle.rbc_batch.specs.Process.{Answers, IsRunOf, IsUntouched, max_batch};
+ghost use Rattle.rbc_batch.specs.Process.{Answers, AreRead, IsBeforeWriting, IsRunOf, IsUntouched, max_batch};
 
 use crate::output::render;
 use crate::parse::parse_batch;
@@ -77,6 +77,20 @@ impl From<RunError> for ProcessError {
     }
 }
 
+/// Reads a batch to its end, and returns the inputs of its lines. Its bytes are freed.
+fn read_inputs<R: Read>(
+    rt: &(impl AllocGlobal + Threads + Sync),
+    reader: &mut R,
+) -> Result<Vec<Input>, ProcessError>
+    ensures read { IfOk result (λ inputs. AreRead (R.remaining reader.old) (R.remaining reader.new) inputs.items) }
+    ensures fit { IfOk result (λ inputs. All Fits inputs.items) }
+    ensures too_long { IsErrOf result ProcessError.TooLong → IfSome (R.remaining reader.old) (λ batch. max_batch < length batch) }
+    ensures before { IfErr result (λ e. IsBeforeWriting e) }
+{
+    let batch = read_batch(rt.alloc(), reader)?;
+    Ok(parse_batch(rt, &batch)?)
+}
+
 /// Runs inputs on a track from the empty state, and returns the desk with the counts of the run.
 fn run_all<G: Gate + Sync>(
     rt: &(impl AllocGlobal + Threads + Wait + Sync),
@@ -114,11 +128,11 @@ pub fn process<R: Read, W: Write, G: Gate + Sync>(
     ensures too_long { IsErrOf result ProcessError.TooLong → IfSome (R.remaining reader.old) (λ batch. max_batch < length batch) }
     ensures untouched { IsUntouched result writer.old writer.new }
 {
-    let alloc = rt.alloc();
-    let batch = read_batch(alloc, reader)?;
-    let inputs = parse_batch(rt, &batch)?;
-    let (desk, stats) = run_all(rt, track, &inputs, workers, gate)?;
-    let text = render(alloc, &desk)?;
+    let (desk, stats) = {
+        let inputs = read_inputs(rt, reader)?;
+        run_all(rt, track, &inputs, workers, gate)?
+    };
+    let text = render(rt.alloc(), &desk)?;
     match write_text(writer, &text) {
         Ok(()) => Ok(stats),
         Err(sent) => Err(ProcessError::Write { sent: sent as u64 }),
