@@ -1,7 +1,7 @@
-"""Refuses one allocation after another to the tests of want of memory and to the program, and prints a table:
-refusals_count.py ROOT REFUSE
+"""Refuses one allocation after another to the tests of want of memory and to the program, and one thread after another to the program and
+to that of the golden batches, and prints a table of each: refusals_count.py ROOT REFUSE
 
-ROOT is the repository, whose tests and program are built, and REFUSE is the built refuse.c. The exit status is 1 where a run
+ROOT is the repository, whose tests and programs are built, and REFUSE is the built refuse.c. The exit status is 1 where a run
 ended in another way than with the right answer or with the fault for want of memory.
 """
 
@@ -9,26 +9,40 @@ import collections
 import glob
 import os
 import re
+import shutil
 import subprocess
 import sys
+import tempfile
+
+from codec_loads import spelled
 
 SECONDS = 60  # no run takes so long
 SHOWN = 10  # so many wrong ends are printed of each call
 
 # each call with the crate and the name of its test
 TESTS = {
-    "decide": ("rbc_rule_check", "decides_or_refuses"),
-    "apply": ("rbc_rule_check", "applies_or_hands_back"),
-    "commit": ("rbc_core_check", "commits_or_keeps_the_desk"),
-    "parse_batch": ("rbc_batch_check", "parses_or_gives_no_inputs"),
-    "process": ("rbc_batch_check", "processes_or_writes_nothing"),
-    "run": ("rbc_engine_check", "runs_stretches_or_tells_what_is_done"),
-    "run, alone": ("rbc_engine_check", "runs_alone_or_tells_what_is_done"),
+    "track_from_toml": ("rbc_place_check", "tracks::reads_track_a_or_wants_memory"),
+    "describe": ("ertms_check", "described::describes_or_wants_memory"),
+    "issue": ("rbc_settle_check", "refusals::issues_or_keeps_the_table"),
+    "settle": ("rbc_settle_check", "refusals::settles_or_keeps_the_train"),
+    "Notes::add": ("rbc_versions_check", "notes::notes_or_stays_as_it_was"),
+    "decide": ("rbc_rule_check", "refusals::decides_or_refuses"),
+    "apply": ("rbc_rule_check", "refusals::applies_or_hands_back"),
+    "commit": ("rbc_core_check", "refusals::commits_or_keeps_the_desk"),
+    "parse_batch": ("rbc_batch_check", "refusals::parses_or_gives_no_inputs"),
+    "render": ("rbc_batch_check", "refused_runs::renders_or_gives_no_text"),
+    "process": ("rbc_batch_check", "refusals::processes_or_writes_nothing"),
+    "run, by 1 and by 2 workers": ("rbc_batch_check", "refused_runs::runs_or_tells_what_is_done"),
+    "run, of two stretches": ("rbc_engine_check", "refusals::runs_stretches_or_tells_what_is_done"),
+    "run, alone": ("rbc_engine_check", "refusals::runs_alone_or_tells_what_is_done"),
 }
 
 # the first line on standard error of a test that ended right: its call was refused memory, or what it does beside it was
 OF_CALL = b"error: Refused"
-BESIDE = (b"error: AllocError", b"error: AllocFailed { .. }", b"error: OutOfMemory")
+BESIDE = re.compile(rb"error: (AllocError|AllocFailed \{ \.\. \}|OutOfMemory( \{ committed: \d+ \})?)")
+
+# golden batches to which threads are refused, with their tracks
+GOLDEN = ("contended-1 contended-1.toml", "identifiers identifiers.toml", "limits-1 limits-1.toml")
 
 # the line on standard error of the program, where memory was refused to it, and where it was to the reading of the track
 OF_PROGRAM = re.compile(rb"out of memory( after \d+ inputs)?\n")
@@ -37,10 +51,10 @@ OF_TRACK = b"track: OutOfMemory\n"
 Ended = collections.namedtuple("Ended", "status output errors was_refused")
 
 
-def run(words, text, refuse, number):
-    """Runs a program to which this allocation is refused, if it comes to it."""
+def run(words, text, refuse, what, folder=None):
+    """Runs a program to which something is refused, if it comes to it: what, as the words of refuse.c say it."""
     from_it, to_us = os.pipe()
-    added = {"LD_PRELOAD": refuse, "REFUSE": str(number), "REFUSE_TELLS": str(to_us)}
+    added = {"LD_PRELOAD": refuse, "REFUSE_TELLS": str(to_us), **what}
     try:
         done = subprocess.run(
             words,
@@ -49,6 +63,7 @@ def run(words, text, refuse, number):
             env={**os.environ, **added},
             pass_fds=[to_us],
             timeout=SECONDS,
+            cwd=folder,
         )
     finally:
         os.close(to_us)
@@ -64,7 +79,7 @@ def end_of_test(ended):
     line = ended.errors.split(b"\n")[0]
     if ended.status == 101 and line == OF_CALL:
         return "refused"
-    return "beside" if ended.status == 101 and line in BESIDE else None
+    return "beside" if ended.status == 101 and BESIDE.fullmatch(line) else None
 
 
 def end_of_program(ended, expected):
@@ -83,7 +98,7 @@ def count(name, words, text, refuse, end_of):
     ends, number = collections.Counter(), 0
     while True:
         number += 1
-        ended = run(words, text, refuse, number)
+        ended = run(words, text, refuse, {"REFUSE": str(number)})
         end = end_of(ended)
         # what was refused nothing has to answer
         if end is None or not (ended.was_refused or end == "answered"):
@@ -99,22 +114,99 @@ def count(name, words, text, refuse, end_of):
     return wrong
 
 
-def main():
-    root, refuse = sys.argv[1:]
+def count_threads(name, words, text, refuse, wanted, folder=None):
+    """Refuses to start one thread after another, alone and with all behind it, prints the line of a program, and gives how many runs ended
+    wrong: each has to write the output that is wanted."""
+    tried, wrong = collections.Counter(), 0
+    for rest in ("", "1"):
+        number, was_refused = 0, True
+        while was_refused:
+            number += 1
+            what = {"REFUSE_THREAD": str(number), **({"REFUSE_REST": rest} if rest else {})}
+            ended = run(words, text, refuse, what, folder)
+            was_refused = ended.was_refused
+            tried[rest] += was_refused
+            if ended.status != 0 or ended.output != wanted:
+                wrong += 1
+                print(f"{name}: thread {number} refused, rest {rest!r}: {ended}", file=sys.stderr)
+    print("|", " | ".join([name, str(tried[""]), str(tried["1"]), str(sum(tried.values()) + 2 - wrong)]), "|", flush=True)
+    return wrong
+
+
+def at_tests(root, refuse):
+    """Refuses memory to each test."""
     wrong = 0
-    print("| call | tried | refused | refused beside it | answered |\n|---|---|---|---|---|")
     for call, (crate, test) in TESTS.items():
-        words = [f"{root}/crates/{crate}/out/{crate}_tests", f"tests::refusals::{test}"]
-        wrong += count(f"`{call}`", words, b"", refuse, end_of_test)
+        words = [f"{root}/crates/{crate}/out/{crate}_tests", f"tests::{test}"]
+        name, _, how = call.partition(", ")
+        wrong += count(f"`{name}`" + (how and f", {how}"), words, b"", refuse, end_of_test)
+    return wrong
+
+
+def at_program(root, refuse):
+    """Refuses memory to the program on each batch of examples/."""
+    wrong = 0
     for batch in sorted(glob.glob(f"{root}/examples/*.batch")):
-        with open(batch, "rb") as it:
-            text = it.read()
-        with open(batch.removesuffix("batch") + "expected", "rb") as it:
-            expected = it.read()
+        text, expected = read(batch), read(batch.removesuffix("batch") + "expected")
         words = [f"{root}/crates/rbc_dispatch/out/rbc_dispatch", "run"]
         words += ["--track", f"{root}/examples/main_line.toml"]
         name = f"the program on `{os.path.basename(batch)}`"
         wrong += count(name, words, text, refuse, lambda ended: end_of_program(ended, expected))
+    return wrong
+
+
+def heavy_batch():
+    """Trains on a track of one line, told of many restrictions, that report so often that the second half of them is shared by all workers."""
+    lines = [b"enrol %d 2000" % engine for engine in range(1, 9)]
+    lines += [recv(engine, 1) for engine in range(1, 9)]
+    lines += [b"restrict %d 0:%d-%d both 40 1" % (number, 20_000 + number, 21_000 + number) for number in range(1, 101)]
+    lines += [recv(1 + turn % 8, 1_000 + turn) for turn in range(20_000)]
+    return b"".join(line + b"\n" for line in lines)
+
+
+def recv(engine, stamp):
+    """A train reports that it is 200 m beyond balise group 1, facing up."""
+    place = [(0, 8), (114, 13), (0, 2), (1, 24), (2_000, 15), (1, 2), (1, 2), (0, 15), (0, 15), (0, 2), (0, 7), (1, 2), (0, 4), (3, 3)]
+    return b"recv " + spelled(136, [(stamp, 32), (engine, 24), *place]).hex().encode()
+
+
+HEAVY_TRACK = b'horizon = 100000\n[[line]]\nlength = 300000\n[[group]]\nnid = 1\nline = 0\nat = 10000\nnominal = "up"\n'
+
+
+def at_threads(root, refuse, folder):
+    """Refuses threads to the program on a batch for which it starts some, and to that of the golden batches on some of them."""
+    with open(f"{folder}/heavy.toml", "wb") as it:
+        it.write(HEAVY_TRACK)
+    wrong, batch = 0, heavy_batch()
+    words = [f"{root}/crates/rbc_dispatch/out/rbc_dispatch", "run", "--track", f"{folder}/heavy.toml", "--workers"]
+    expected = subprocess.run([*words, "1"], input=batch, capture_output=True, check=True).stdout
+    for workers in ("2", "4", "16"):
+        name = f"the program, {workers} workers"
+        wrong += count_threads(name, [*words, workers], batch, refuse, expected)
+    shutil.copytree(f"{root}/crates/rbc_golden/data", f"{folder}/golden")
+    for case in GOLDEN:
+        with open(f"{folder}/golden/cases.txt", "w", encoding="ascii") as it:
+            it.write(case + "\n")
+        right = f"{case.replace(' ', ' on ')} right\n".encode()
+        for workers in ("2", "4", "16"):
+            name = f"`{case.split()[0]}`, {workers} workers"
+            words = [f"{root}/crates/rbc_golden/out/rbc_golden", "1", workers]
+            wrong += count_threads(name, words, b"", refuse, right, f"{folder}/golden")
+    return wrong
+
+
+def read(file):
+    with open(file, "rb") as it:
+        return it.read()
+
+
+def main():
+    root, refuse = sys.argv[1:]
+    print("| call | tried | refused | refused beside it | answered |\n|---|---|---|---|---|")
+    wrong = at_tests(root, refuse) + at_program(root, refuse)
+    print("\n| program | threads refused, one a run | and all behind it | right outputs |\n|---|---|---|---|")
+    with tempfile.TemporaryDirectory() as folder:
+        wrong += at_threads(root, refuse, folder)
     return 1 if wrong else 0
 
 

@@ -1,6 +1,10 @@
-/* Loaded before a program: refuses its allocation number REFUSE, counted from 1, and tells that by a byte on descriptor
-   REFUSE_TELLS. A refused block that was to grow stays as it was. All other allocations are the C library's. */
+/* Loaded before a program: refuses its allocation number REFUSE, counted from 1, or refuses to start its thread number REFUSE_THREAD, or with
+   REFUSE_REST that one and each behind it, and tells that by a byte on descriptor REFUSE_TELLS. A refused block that was to grow stays as it
+   was. All other allocations and threads are the C library's. */
+#define _GNU_SOURCE
+#include <dlfcn.h>
 #include <errno.h>
+#include <pthread.h>
 #include <stdatomic.h>
 #include <stddef.h>
 #include <stdlib.h>
@@ -10,8 +14,13 @@ void *__libc_malloc(size_t size);
 void *__libc_calloc(size_t count, size_t size);
 void *__libc_realloc(void *block, size_t size);
 
-static atomic_long left;
+typedef int starter(pthread_t *, const pthread_attr_t *, void *(*)(void *), void *);
+
+static atomic_long blocks;
+static atomic_long threads;
+static int is_rest;
 static int tells = -1;
+static starter *start;
 
 static long number(const char *name, long missing) {
     const char *word = getenv(name);
@@ -19,19 +28,43 @@ static long number(const char *name, long missing) {
 }
 
 __attribute__((constructor)) static void begin(void) {
+    start = (starter *)dlsym(RTLD_NEXT, "pthread_create");
     tells = (int)number("REFUSE_TELLS", -1);
-    left = number("REFUSE", 0);
+    is_rest = number("REFUSE_REST", 0) != 0;
+    threads = number("REFUSE_THREAD", 0);
+    blocks = number("REFUSE", 0);
+}
+
+/* Tells that something was refused. */
+static void tell(void) {
+    if (tells >= 0 && write(tells, "r", 1) != 1) {
+        abort();
+    }
 }
 
 /* Counts an allocation, and tells whether it is the one. */
 static int is_refused(void) {
-    if (left <= 0 || atomic_fetch_sub(&left, 1) != 1) {
+    if (blocks <= 0 || atomic_fetch_sub(&blocks, 1) != 1) {
         return 0;
     }
-    if (tells >= 0 && write(tells, "r", 1) != 1) {
-        abort();
-    }
+    tell();
     errno = ENOMEM;
+    return 1;
+}
+
+/* Counts a thread, and tells whether it is the one, or comes behind it. */
+static int is_refused_thread(void) {
+    if (threads <= 0) {
+        return 0;
+    }
+    if (is_rest && threads == 1) {
+        tell();
+        return 1;
+    }
+    if (atomic_fetch_sub(&threads, 1) != 1) {
+        return 0;
+    }
+    tell();
     return 1;
 }
 
@@ -45,4 +78,8 @@ void *calloc(size_t count, size_t size) {
 
 void *realloc(void *block, size_t size) {
     return is_refused() ? NULL : __libc_realloc(block, size);
+}
+
+int pthread_create(pthread_t *thread, const pthread_attr_t *how, void *(*what)(void *), void *with) {
+    return is_refused_thread() ? EAGAIN : start(thread, how, what, with);
 }

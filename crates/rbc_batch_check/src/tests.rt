@@ -1,6 +1,7 @@
 mod parsing;
 mod processing;
 mod refusals;
+mod refused_runs;
 mod rows;
 
 use std::fmt::Debug;

@@ -1,5 +1,6 @@
 mod attempting;
 mod calls;
+mod crowd;
 mod numbers;
 mod refusals;
 mod rows;

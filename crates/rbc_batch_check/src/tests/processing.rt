@@ -175,10 +175,11 @@ fn refuses_one_restriction_too_many(rt: HostRuntime) {
     same(&rt, lines.next(), Some(b"303 ok 0".as_slice()));
 }
 
-/// Gives a text in pieces of 7 bytes, and fails at one call.
+/// Gives a text in pieces of so many bytes, and fails at one call.
 #[derive(Drop)]
 struct Pieces<'a> {
     text: &'a [u8],
+    size: usize,
     calls: u32,
     fails_at: u32,
     kind: ErrorKind,
@@ -190,19 +191,31 @@ impl Read for Pieces<'_> {
         if self.calls == self.fails_at {
             return Err(io::Error::from(self.kind));
         }
-        let room = buf.len().min(7);
+        let room = buf.len().min(self.size);
         self.text.read(&mut buf[..room])
     }
 }
 
+/// A batch with 16 stops, of which the first is released, and its identifier is given back.
+fn waited<R: Abort + AllocGlobal>(rt: &R) -> String {
+    let mut batch = stops(rt, 16);
+    batch
+        .push_str("release 1\nrecv 9203800000FA000001C000000400\n")
+        .expect(rt, "memory");
+    batch
+}
+
+// The batch is given in 42 pieces, and the next call gives the end.
 #[test]
 fn fails_where_the_reader_fails(rt: HostRuntime) {
-    let batch = stops(&rt, 3);
+    let batch = waited(&rt);
+    same(&rt, batch.len().div_ceil(7), 42);
     let whole = output(&rt, batch.as_bytes());
-    for fails_at in 1..=12 {
+    for fails_at in 1..=44 {
         for kind in [ErrorKind::Other, ErrorKind::Interrupted] {
             let mut reader = Pieces {
                 text: batch.as_bytes(),
+                size: 7,
                 calls: 0,
                 fails_at,
                 kind,
@@ -218,6 +231,26 @@ fn fails_where_the_reader_fails(rt: HostRuntime) {
                 same(&rt, written.as_slice(), whole.as_slice());
             }
         }
+    }
+}
+
+// One byte a call, and as many as there is room for.
+#[test]
+fn reads_pieces_of_any_size(rt: HostRuntime) {
+    let batch = waited(&rt);
+    let whole = output(&rt, batch.as_bytes());
+    for size in [1, usize::MAX] {
+        let mut reader = Pieces {
+            text: batch.as_bytes(),
+            size,
+            calls: 0,
+            fails_at: 0,
+            kind: ErrorKind::Other,
+        };
+        let mut written = Vec::new(rt.alloc());
+        let result = process(&rt, &track(&rt), &mut reader, &mut written, 1, &OpenGate);
+        same(&rt, result.is_ok(), true);
+        same(&rt, written.as_slice(), whole.as_slice());
     }
 }
 

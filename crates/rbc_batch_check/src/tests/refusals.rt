@@ -17,7 +17,7 @@ use std::test::Fail;
 use std::thread::Threads;
 
 /// Line 0 is 30 km long and has balise group 5 at 1 km, whose nominal direction is up.
-const TRACK: &str = "horizon = 100000
+pub(super) const TRACK: &str = "horizon = 100000
 [[line]]
 length = 300000
 [[group]]
@@ -126,11 +126,37 @@ const FULL_OUTPUT: &str = "1 ok 0
 7 19 1002800000FA5FFFFFE0
 ";
 
+/// A stop is active twice under one number, and a train leaves; each thing that is done twice is refused.
+const TWICE: &str = "enrol 7 2000
+stop 1 0:0-10
+withdraw 7
+release 1
+release 1
+stop 1 0:0-10
+recv 9203800000FA000001C000000080
+withdraw 7
+withdraw 7
+";
+
+const TWICE_OUTPUT: &str = "1 ok 0
+2 ok 1
+3 refused 10
+4 ok 1
+5 refused 14
+6 refused 11
+7 ok 0
+8 ok 0
+9 refused 7
+7 2 1002800000005FFFFFE0
+7 4 120280000000BFFFFFE0
+";
+
 /// Batches with their output texts.
-const WORKED: [(&str, &str); 3] = [
+pub(super) const WORKED: [(&str, &str); 4] = [
     (REJECTED, REJECTED_OUTPUT),
     (RESTRICTED, RESTRICTED_OUTPUT),
     (FULL, FULL_OUTPUT),
+    (TWICE, TWICE_OUTPUT),
 ];
 
 /// No output text of these has more bytes.
@@ -141,7 +167,7 @@ const MAX_OUTPUT: usize = 1_000;
 struct Refused;
 
 /// How a test ends where no answer was wrong.
-fn ending(refused: bool) -> Result<(), Fail> {
+pub(super) fn ending(refused: bool) -> Result<(), Fail> {
     if refused {
         return Err(Fail::from(Refused));
     }

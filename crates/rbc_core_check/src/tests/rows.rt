@@ -5,7 +5,7 @@ use crate::tests::calls::{Call, run};
 use crate::tests::numbers::Origin;
 use crate::tests::setting::{assert_outbox, enrol, revoked, stop, stopped};
 use ertms_codec::{FromTrain, write_to_train};
-use rbc_core::{Commit, Mail, Stats};
+use rbc_core::{Commit, Desk, Mail, Stats};
 use rbc_records::Key;
 use rbc_rule::{Input, Reply};
 use std::alloc::Global;
@@ -27,11 +27,23 @@ const AT_END: Call = Call::Commit(Commit::Done);
 
 /// What a run leaves in which engine 7 alone is told something.
 #[derive(Clone, Copy)]
-struct Left<'a> {
-    taken: u32,
-    recomputed: u32,
-    results: &'a [Reply],
-    mails: &'a [Mail],
+pub(crate) struct Left<'a> {
+    pub(crate) taken: u32,
+    pub(crate) recomputed: u32,
+    pub(crate) results: &'a [Reply],
+    pub(crate) mails: &'a [Mail],
+}
+
+/// Asserts what a run has left.
+pub(crate) fn assert_is_left(rt: &impl Abort, desk: &Desk, stats: Stats, left: &Left<'_>) {
+    let counts = Stats {
+        taken: left.taken,
+        recomputed: left.recomputed,
+    };
+    same(rt, stats, counts);
+    same(rt, desk.results(), left.results);
+    same(rt, desk.outboxes(), 1);
+    assert_outbox(rt, desk, 0, 7, left.mails);
 }
 
 /// Runs inputs by these calls of a book, and asserts what is left.
@@ -43,14 +55,7 @@ fn assert_left(
     left: &Left<'_>,
 ) -> Result<(), Fail> {
     let (desk, stats) = run(rt, alloc, inputs, calls)?;
-    let counts = Stats {
-        taken: left.taken,
-        recomputed: left.recomputed,
-    };
-    same(rt, stats, counts);
-    same(rt, desk.results(), left.results);
-    same(rt, desk.outboxes(), 1);
-    assert_outbox(rt, &desk, 0, 7, left.mails);
+    assert_is_left(rt, &desk, stats, left);
     Ok(())
 }
 
@@ -210,7 +215,7 @@ fn there_and_back(rt: HostRuntime) -> Result<(), Fail> {
 }
 
 /// Stops take all 15 identifiers of engine 7; one more waits until the train acknowledges that the first one is revoked.
-fn one_waits(alloc: Global) -> Result<Vec<Input>, Fail> {
+pub(crate) fn one_waits(alloc: Global) -> Result<Vec<Input>, Fail> {
     let mut inputs = vec![in alloc; enrol(7)]?;
     for number in 1..=16 {
         inputs.push(stop(alloc, number)?)?;
@@ -235,22 +240,36 @@ fn void_each(alloc: Global, count: u32) -> Result<Vec<Call>, Fail> {
     Ok(calls)
 }
 
-#[test]
-fn voided(rt: HostRuntime) -> Result<(), Fail> {
-    let alloc = rt.alloc();
+/// What these inputs are answered.
+pub(crate) fn answers_to_waiting(alloc: Global) -> Result<Vec<Reply>, Fail> {
     let mut results = vec![in alloc; DONE]?;
+    for _ in 1..=15 {
+        results.push(TOLD)?;
+    }
+    results.extend_from_slice(&[DONE, TOLD, TOLD])?;
+    Ok(results)
+}
+
+/// What engine 7 is told.
+pub(crate) fn mails_of_waiting(rt: &impl Abort, alloc: Global) -> Result<Vec<Mail>, Fail> {
     let mut mails = Vec::new(alloc);
     for number in 1..=15u8 {
         let stamp = u32::from(number);
-        results.push(TOLD)?;
         mails.push(stopped(stamp + 1, stamp, number - 1))?;
     }
-    results.extend_from_slice(&[DONE, TOLD, TOLD])?;
     let opened = revoked(18, 16, 0);
     let told_late = stopped(19, 1_001, 0);
-    assert_spelled(&rt, &opened, b"\x12\x02\x80\x00\x00\x04\x3F\xFF\xFF\xE0");
-    assert_spelled(&rt, &told_late, b"\x10\x02\x80\x00\x00\xFA\x5F\xFF\xFF\xE0");
+    assert_spelled(rt, &opened, b"\x12\x02\x80\x00\x00\x04\x3F\xFF\xFF\xE0");
+    assert_spelled(rt, &told_late, b"\x10\x02\x80\x00\x00\xFA\x5F\xFF\xFF\xE0");
     mails.extend_from_slice(&[opened, told_late])?;
+    Ok(mails)
+}
+
+#[test]
+fn voided(rt: HostRuntime) -> Result<(), Fail> {
+    let alloc = rt.alloc();
+    let results = answers_to_waiting(alloc)?;
+    let mails = mails_of_waiting(&rt, alloc)?;
     let left = Left {
         taken: 19,
         recomputed: 19,

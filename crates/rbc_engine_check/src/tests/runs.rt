@@ -2,7 +2,7 @@
 
 ghost use Rattle.rbc_engine.specs.Answers.{IsOpening};
 
-use super::gates::{Both, Hold, Moment};
+use super::gates::{Both, Hold, Idle, Moment, Site};
 use super::same;
 use rbc_batch::{parse_batch, process, render};
 use rbc_core::{Desk, Stats};
@@ -176,11 +176,72 @@ fn stops<R: Abort + AllocGlobal>(rt: &R, from: usize, count: usize) -> String {
     part
 }
 
-/// The mails of its end: the first stop is revoked, and the last one told.
-const LAST: &str = "7 16 100280000003DFFFFFFC
+/// What it gives: a stop for each identifier, and at the end the first one revoked and the last one told.
+const WAITED: &str = "1 ok 0
+2 ok 1
+3 ok 1
+4 ok 1
+5 ok 1
+6 ok 1
+7 ok 1
+8 ok 1
+9 ok 1
+10 ok 1
+11 ok 1
+12 ok 1
+13 ok 1
+14 ok 1
+15 ok 1
+16 ok 1
+17 ok 0
+18 ok 1
+19 ok 1
+7 2 1002800000005FFFFFE0
+7 3 1002800000009FFFFFE2
+7 4 100280000000DFFFFFE4
+7 5 1002800000011FFFFFE6
+7 6 1002800000015FFFFFE8
+7 7 1002800000019FFFFFEA
+7 8 100280000001DFFFFFEC
+7 9 1002800000021FFFFFEE
+7 10 1002800000025FFFFFF0
+7 11 1002800000029FFFFFF2
+7 12 100280000002DFFFFFF4
+7 13 1002800000031FFFFFF6
+7 14 1002800000035FFFFFF8
+7 15 1002800000039FFFFFFA
+7 16 100280000003DFFFFFFC
 7 18 1202800000043FFFFFE0
 7 19 1002800000FA5FFFFFE0
 ";
+
+// Sixteen workers lose time in one call of their gate, in each of the four by turns.
+#[test]
+fn answers_the_same_where_workers_idle(rt: HostRuntime) {
+    let batch = stops(&rt, 0, 19);
+    for at in [
+        Site::BeforeRule,
+        Site::AfterRead,
+        Site::BeforeDeposit,
+        Site::AfterDeposit,
+    ] {
+        let stats = assert_answers(&rt, &batch, 16, &Idle { at }, WAITED);
+        same(&rt, stats.taken, 19);
+    }
+}
+
+// The first input is begun after attempts at all others are deposited, each of which has read what it writes.
+#[test]
+fn computes_all_again_behind_a_late_first_input(rt: HostRuntime) {
+    let gate = Hold::new(&rt, Moment::BeforeRule(1), Moment::AfterDeposit(19));
+    let stats = assert_answers(&rt, &stops(&rt, 0, 19), 2, &gate, WAITED);
+    let wanted = Stats {
+        taken: 19,
+        recomputed: 18,
+    };
+    same(&rt, stats, wanted);
+    same(&rt, gate.was_passed(), true);
+}
 
 // A run of all lines leaves what two runs of their parts leave.
 #[test]
@@ -216,10 +277,8 @@ fn goes_on_from_the_desk_of_an_earlier_run(rt: HostRuntime) {
             &AllWorkers,
         );
         same(&rt, (first.is_ok(), second.is_ok()), (true, true));
-        let text = render(alloc, &whole).expect(&rt, "memory");
-        same(&rt, text.ends_with(LAST.as_bytes()), true);
-        let of_parts = render(alloc, &parts).expect(&rt, "memory");
-        same(&rt, of_parts.as_slice(), text.as_slice());
+        assert_desk(&rt, &whole, WAITED);
+        assert_desk(&rt, &parts, WAITED);
     }
 }
 
