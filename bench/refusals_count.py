@@ -39,7 +39,7 @@ TESTS = {
 
 # the first line on standard error of a test that ended right: its call was refused memory, or what it does beside it was
 OF_CALL = b"error: Refused"
-BESIDE = re.compile(rb"error: (AllocError|AllocFailed \{ \.\. \}|OutOfMemory( \{ committed: \d+ \})?)")
+BESIDE = re.compile(rb'error: (AllocError|AllocFailed \{ \.\. \}|OutOfMemory( \{ committed: \d+ \})?|"no serial run"|"memory")')
 
 # golden batches to which threads are refused, with their tracks
 GOLDEN = ("contended-1 contended-1.toml", "identifiers identifiers.toml", "limits-1 limits-1.toml")

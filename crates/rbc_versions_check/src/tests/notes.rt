@@ -7,6 +7,7 @@ use rbc_versions::{Notes, VersionLog};
 use std::alloc::Global;
 use std::process::Abort;
 use std::sync::Wait;
+use std::test::Fail;
 
 /// The keys that are noted, in turn, and whether there was a record.
 const READ: [(Key, bool); 6] = [
@@ -72,6 +73,44 @@ fn notes_stand_in_the_order_of_reading(rt: HostRuntime) {
     for key in [Key::Stops, Key::Train(8), Key::Line(5)] {
         same(&rt, under(&notes, key), None);
     }
+}
+
+/// Memory was refused in the call that a test is about, and all was right otherwise.
+#[derive(Debug, Drop)]
+struct Refused;
+
+/// Notes that there is no record, once more where memory was refused, which leaves the notes. Tells whether it was.
+fn note_twice(rt: &impl Abort, notes: &mut Notes, key: Key) -> bool {
+    let before = notes.len();
+    assert!(rt; notes.get(key).is_none());
+    let refused = notes.add(key, None).is_err();
+    if refused {
+        same(rt, (notes.len(), under(notes, key)), (before, None));
+        assert!(rt; notes.get(key).is_none());
+        notes.add(key, None).expect(rt, "memory");
+    }
+    same(rt, notes.len(), before.wrapping_add(1));
+    same(rt, under(notes, key), Some(0));
+    refused
+}
+
+// Where memory may be refused, notes stay as they were. `bench/refusals.sh` refuses one allocation after another.
+#[test]
+fn notes_or_stays_as_it_was(rt: HostRuntime) -> Result<(), Fail> {
+    let mut notes = Notes::new(rt.alloc());
+    let mut refused = false;
+    for line in 0..60u8 {
+        if note_twice(&rt, &mut notes, Key::Line(line)) {
+            refused = true;
+        }
+    }
+    for line in 0..60u8 {
+        same(&rt, at(&notes, line as usize), Some((Key::Line(line), 0)));
+    }
+    if refused {
+        return Err(Fail::from(Refused));
+    }
+    Ok(())
 }
 
 /// Asserts that nothing is noted.
