@@ -21,10 +21,6 @@ SHOWN = 10  # so many wrong ends are printed of each call
 
 # each call with the crate and the name of its test
 TESTS = {
-    "track_from_toml": ("rbc_place_check", "tracks::reads_track_a_or_wants_memory"),
-    "describe": ("ertms_check", "described::describes_or_wants_memory"),
-    "issue": ("rbc_settle_check", "refusals::issues_or_keeps_the_table"),
-    "settle": ("rbc_settle_check", "refusals::settles_or_keeps_the_train"),
     "Notes::add": ("rbc_versions_check", "notes::notes_or_stays_as_it_was"),
     "decide": ("rbc_rule_check", "refusals::decides_or_refuses"),
     "apply": ("rbc_rule_check", "refusals::applies_or_hands_back"),
@@ -40,6 +36,12 @@ TESTS = {
 # the first line on standard error of a test that ended right: its call was refused memory, or what it does beside it was
 OF_CALL = b"error: Refused"
 BESIDE = re.compile(rb'error: (AllocError|AllocFailed \{ \.\. \}|OutOfMemory( \{ committed: \d+ \})?|"no serial run"|"memory")')
+
+# messages, and what they say
+DESCRIBED = {
+    "1804C00000FA600000A82811C0000000FA2200": b"24 stamp 1001 ack 1 lrbg 5 65 dir 1 scale 0 tsr 0 start 0 length 1000 front 1 speed 8\n",
+    "8806000000FA000001C000E400000287D0500C8019000830": b"136 stamp 1000 engine 7 0 scale 0 lrbg 5 distance 2000 dir 1 side 1 over 100 under 100\n",
+}
 
 # golden batches to which threads are refused, with their tracks
 GOLDEN = ("contended-1 contended-1.toml", "identifiers identifiers.toml", "limits-1 limits-1.toml")
@@ -144,12 +146,14 @@ def at_tests(root, refuse):
 
 
 def at_program(root, refuse):
-    """Refuses memory to the program on each batch of examples/."""
-    wrong = 0
+    """Refuses memory to the program on each batch of examples/, and where it describes messages."""
+    program, wrong = f"{root}/crates/rbc_dispatch/out/rbc_dispatch", 0
+    for message, text in DESCRIBED.items():
+        name = f"the program on message {text.split()[0].decode()}"
+        wrong += count(name, [program, "decode", message], b"", refuse, lambda ended: end_of_program(ended, text))
     for batch in sorted(glob.glob(f"{root}/examples/*.batch")):
         text, expected = read(batch), read(batch.removesuffix("batch") + "expected")
-        words = [f"{root}/crates/rbc_dispatch/out/rbc_dispatch", "run"]
-        words += ["--track", f"{root}/examples/main_line.toml"]
+        words = [program, "run", "--track", f"{root}/examples/main_line.toml"]
         name = f"the program on `{os.path.basename(batch)}`"
         wrong += count(name, words, text, refuse, lambda ended: end_of_program(ended, expected))
     return wrong
