@@ -160,7 +160,7 @@ def at_program(root, refuse):
 
 
 def heavy_batch():
-    """Trains on a track of one line, told of many restrictions, that report so often that the second half of them is shared by all workers."""
+    """Trains on a track of one line, told of many restrictions, that report so often that the lines of the batch are read in threads."""
     lines = [b"enrol %d 2000" % engine for engine in range(1, 9)]
     lines += [recv(engine, 1) for engine in range(1, 9)]
     lines += [b"restrict %d 0:%d-%d both 40 1" % (number, 20_000 + number, 21_000 + number) for number in range(1, 101)]
