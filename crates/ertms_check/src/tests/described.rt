@@ -2,6 +2,8 @@
 
 use ertms_codec::{DecodeError, DescribeError, FromTrain, Position, describe};
 use std::alloc::AllocError;
+use std::process::Abort;
+use std::test::Fail;
 
 #[test]
 fn describes_messages_to_a_train(rt: HostRuntime) -> Result<(), DescribeError> {
@@ -98,5 +100,49 @@ fn shows_what_few_messages_have(rt: HostRuntime) -> Result<(), AllocError> {
     };
     let text = "146 stamp 8 engine 7 acked 4294967295";
     assert_eq!(rt; format!(in rt.alloc(); "{ack}")?.as_str(), text);
+    Ok(())
+}
+
+/// Memory was refused in the call that a test is about, and all was right otherwise.
+#[derive(Debug, Drop)]
+struct Refused;
+
+/// Describes a message, once more where memory was refused, and asserts the text. Tells whether it was.
+fn describe_twice<R: Abort + AllocGlobal>(
+    rt: &R,
+    bytes: &[u8],
+    text: &str,
+) -> Result<bool, DescribeError> {
+    match describe(rt.alloc(), bytes) {
+        Ok(described) => {
+            assert_eq!(rt; described.as_slice(), text.as_bytes());
+            Ok(false)
+        }
+        Err(error) => {
+            assert_eq!(rt; error, DescribeError::OutOfMemory);
+            let described = describe(rt.alloc(), bytes)?;
+            assert_eq!(rt; described.as_slice(), text.as_bytes());
+            Ok(true)
+        }
+    }
+}
+
+// Where memory may be refused, that is the only other answer. `bench/refusals.sh` refuses one allocation after another.
+#[test]
+fn describes_or_wants_memory(rt: HostRuntime) -> Result<(), Fail> {
+    let at_once = b"\x10\x02\x80\0\0\0\x5f\xff\xff\xe0";
+    let limit = b"\x18\x04\xc0\0\0\xfa\x60\0\0\xa8\x28\x11\xc0\0\0\0\xfa\x22\0";
+    let report = b"\x88\x06\0\0\0\xfa\0\0\x01\xc0\0\xe4\0\0\x02\x87\xd0\x50\x0c\x80\x19\0\x08\x30";
+    let stop_text = "16 stamp 1 ack 0 lrbg 16777215 em 0\n";
+    let limit_text =
+        "24 stamp 1001 ack 1 lrbg 5 65 dir 1 scale 0 tsr 0 start 0 length 1000 front 1 speed 8\n";
+    let report_text =
+        "136 stamp 1000 engine 7 0 scale 0 lrbg 5 distance 2000 dir 1 side 1 over 100 under 100\n";
+    let of_stop = describe_twice(&rt, at_once, stop_text)?;
+    let of_limit = describe_twice(&rt, limit, limit_text)?;
+    let of_report = describe_twice(&rt, report, report_text)?;
+    if of_stop || of_limit || of_report {
+        return Err(Fail::from(Refused));
+    }
     Ok(())
 }
