@@ -2,6 +2,7 @@ mod desk;
 mod full_tables;
 mod identifiers;
 mod numbers;
+mod refusals;
 mod settling;
 mod trains;
 

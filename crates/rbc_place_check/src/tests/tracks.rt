@@ -108,6 +108,28 @@ fn reads_track_a(rt: HostRuntime) -> Result<(), Fail> {
     Ok(())
 }
 
+/// Memory was refused in the call that a test is about, and all was right otherwise.
+#[derive(Debug, Drop)]
+struct Refused;
+
+// Where memory may be refused, that is the only other answer, and asked once more it is the track. `bench/refusals.sh` refuses one allocation
+// after another.
+#[test]
+fn reads_track_a_or_wants_memory(rt: HostRuntime) -> Result<(), Fail> {
+    match track_from_toml(rt.alloc(), TRACK_A) {
+        Ok(track) => {
+            assert_track_a(&rt, &track);
+            Ok(())
+        }
+        Err(error) => {
+            same(&rt, error, TrackError::OutOfMemory);
+            let track = track_from_toml(rt.alloc(), TRACK_A)?;
+            assert_track_a(&rt, &track);
+            Err(Fail::from(Refused))
+        }
+    }
+}
+
 #[test]
 fn reads_the_order_of_groups_as_it_comes(rt: HostRuntime) -> Result<(), Fail> {
     let text =
