@@ -1,2 +1,3 @@
 pub mod Notes
 pub mod Writes
+pub mod Seeking

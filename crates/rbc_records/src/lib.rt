@@ -4,11 +4,13 @@
 mod notes;
 mod reader;
 mod record;
+mod sought;
 mod store;
 mod writes;
 
 pub use notes::Notes;
 pub use reader::{ReadFault, Reader};
 pub use record::{Key, Rec, same_record};
+pub use sought::Sought;
 pub use store::{PlainStore, apply, exchange};
 pub use writes::Writes;

@@ -1,6 +1,9 @@
 //! Reading single records.
 
 use crate::record::{Key, Rec};
+use crate::sought::Sought;
+use rbc_settle::Numbers;
+use std::alloc::{AllocError, Global};
 
 /// Why a record could not be read.
 #[derive(Clone, Copy, Debug, PartialEq, Eq)]
@@ -13,7 +16,8 @@ pub enum ReadFault {
 
 /// A source of single records that remembers what it has read. What is known under a key never changes.
 pub trait Reader {
-    ghost use Rattle.std.specs.Prelude.{ℕ, ◌≡◌, ◌+◌, ◌<◌, ◌^◌, IsTrue, OnOk, OnErr, option_copied};
+    ghost use Rattle.std.specs.Prelude.{ℕ, ◌≡◌, ◌+◌, ◌<◌, ◌^◌, IsTrue, IfOk, IfSome, OnOk, OnErr, option_copied};
+    ghost use Rattle.rbc_records.specs.Seeking.{AreFound};
     ghost use Rattle.rbc_records.specs.Notes.{Notes, Learns, knows, noted, failures_after};
 
     /// What has been read so far.
@@ -38,4 +42,14 @@ pub trait Reader {
     /// The number of reads that have failed.
     fn failures(&self) -> u64
         ensures { result ≡ failed self.now };
+
+    /// The engines of some trains, among them all that a command seeks. `None` from a reader that keeps no account of what its trains
+    /// were told; also where there are many, so that it is no use. A reader that returns engines knows every key. Fails only for lack
+    /// of memory.
+    fn search(&self, alloc: Global, sought: Sought<'_>) -> Result<Option<Numbers>, AllocError>
+        ensures { IfOk result (λ found. IfSome found (AreFound (notes self.now) sought.entry)) }
+    {
+        let _ = (alloc, sought);
+        Ok(None)
+    }
 }
