@@ -1,5 +1,5 @@
 -- The engines that were read are enough for what begins or ends.
-use Rattle.std.proofs.Common.{◌≡◌, ℕ, ◌≤◌, ◌+◌, ◌*◌, Bool, true, false, leb, List, length, Option, Some, None, All, refl, sym, ap, ◌∙◌, arith}
+use Rattle.std.proofs.Common.{◌≡◌, inl, ℕ, ◌≤◌, ◌+◌, ◌*◌, Bool, true, false, leb, List, length, Option, Some, None, Bor, option_copied, All, refl, sym, ap, ◌∙◌, arith}
 use Rattle.std.specs.List.{list_any, list_all}
 use Rattle.std.specs.Option.{option_map_or}
 use Rattle.std.proofs.lemmas.Bool.{or_parts, and_parts, leb-true}
@@ -7,6 +7,7 @@ use Rattle.std.proofs.lemmas.List.Sums.{AllPass-from_list_all}
 use Rattle.rbc_track.specs.Plan.{Plan}
 use Rattle.rbc_place.specs.Placing.{Place}
 use Rattle.rbc_maps.specs.Maps.{value_of}
+use Rattle.rbc_zones.specs.declared.area.Area.{Area}
 use Rattle.rbc_zones.specs.declared.segment.Segment.{Segment}
 use Rattle.rbc_zones.specs.Segments.{is_good_segment, is_good_area}
 use Rattle.rbc_zones.specs.Limits.{Limit}
@@ -14,6 +15,7 @@ use Rattle.rbc_settle.specs.declared.train.TrainRec.{TrainRec}
 use Rattle.rbc_settle.specs.Numbers.{AreNumbers, has_number}
 use Rattle.rbc_settle.specs.Settling.{Stops, Limits}
 use Rattle.rbc_records.specs.declared.record.Key.TheVariants as key
+use Rattle.rbc_records.specs.declared.sought.Sought.TheVariants as sought
 use Rattle.rbc_records.specs.Notes.{same_key}
 use Rattle.rbc_rule.specs.Bounds.{max_trains}
 use Rattle.rbc_rule.specs.declared.touch.Change.TheVariants as change
@@ -22,11 +24,13 @@ use Rattle.rbc_rule.specs.Effect.{with_less}
 use Rattle.rbc_rule.specs.WellFormed.{IsGoodTrain, IsWellFormed}
 use Rattle.rbc_rule.specs.Records.{list_of}
 use Rattle.rbc_rule.specs.Touching.{HasBegun, is_stop_for, is_limit_for}
-use Rattle.rbc_rule.specs.Lists.{AreEnginesOf, engines_at, may_stop}
+use Rattle.rbc_rule.specs.Lists.{AreEnginesOf, HaveSought, engines_at, may_stop}
 use Rattle.rbc_rule.specs.Gathered.{IsEnough}
 use Rattle.rbc_rule.proofs.KeepsLists.{All-value_of}
 use Rattle.rbc_rule.proofs.Elsewhere.{stop_elsewhere, limit_elsewhere, limit_nowhere}
-use Rattle.rbc_rule.proofs.Engines.{stands_in, enough, roster_has, line_has}
+use Rattle.rbc_rule.proofs.Engines.{stands_in, enough, line_has}
+use Rattle.rbc_rule.proofs.Begun.{stop_changed}
+use Rattle.rbc_rule.proofs.Seeking.{sought_enough}
 
 -- the segments of a good area are good, and not too many
 pub good_lines : (plan : Plan) (segments : List Segment) → is_good_area plan segments ≡ true → All (λ segment. is_good_segment plan segment ≡ true) segments
@@ -82,19 +86,19 @@ module _ (plan : Plan) (w : World) (well : IsWellFormed plan w) where
       (λ n. same n ∙ line_has w limit.segment.line well.ascending n)
       (λ n train found other. limit_quiet limit train other)
 
-  -- what ends may touch each train
-  every : (engines : List ℕ) → ((n : ℕ) → has_number engines n ≡ has_number (engines_at w key.Roster) n) → AreEnginesOf (λ train. true) w engines
-  every engines same n = same n ∙ roster_has w n
+  -- a stop that begins touches those that are sought
+  pub concerned_enough : (stops : Stops) (number : ℕ) (segments : List Segment) (area : Bor Area) (engines : List ℕ) → HasBegun number segments w.stops stops → option_copied (Some area) ≡ value_of stops.active number
+      → AreNumbers engines → HaveSought (sought.Stoppable number area) w engines → IsEnough plan stops w.limits None w.trains engines
+  concerned_enough stops number segments area engines begun is numbers have =
+      sought_enough plan w (sought.Stoppable number area) engines well have (change.Stop number (Some area)) stops w.limits (stop_changed number (Some area) w stops w.limits is (inl (segments, begun)) refl) numbers (λ train. refl)
 
-  none_left_out : (b : Bool) → true ≡ false → b ≡ false
-  none_left_out b bad = absurd cc
-
+  -- what ends touches those that were told
   pub stop_end_enough : (stops : Stops) (number : ℕ) (engines : List ℕ) → stops ≡ with_less number w.stops → AreNumbers engines
-      → ((n : ℕ) → has_number engines n ≡ has_number (engines_at w key.Roster) n) → IsEnough plan stops w.limits (Some number) w.trains engines
-  stop_end_enough stops number engines ended numbers same =
-      enough plan (change.Stop number None) w stops w.limits (λ train. true) engines well (ended, refl) numbers (every engines same) (λ n train found bad. none_left_out _ bad)
+      → HaveSought (sought.ToldOfStop number) w engines → IsEnough plan stops w.limits (Some number) w.trains engines
+  stop_end_enough stops number engines ended numbers have =
+      sought_enough plan w (sought.ToldOfStop number) engines well have (change.Stop number None) stops w.limits (ended, refl) numbers (λ train. refl)
 
   pub limit_end_enough : (limits : Limits) (number : ℕ) (engines : List ℕ) → limits ≡ with_less number w.limits → AreNumbers engines
-      → ((n : ℕ) → has_number engines n ≡ has_number (engines_at w key.Roster) n) → IsEnough plan w.stops limits None w.trains engines
-  limit_end_enough limits number engines ended numbers same =
-      enough plan (change.Limit number None) w w.stops limits (λ train. true) engines well (refl, ended) numbers (every engines same) (λ n train found bad. none_left_out _ bad)
+      → HaveSought (sought.ToldOfLimit number) w engines → IsEnough plan w.stops limits None w.trains engines
+  limit_end_enough limits number engines ended numbers have =
+      sought_enough plan w (sought.ToldOfLimit number) engines well have (change.Limit number None) w.stops limits (refl, ended) numbers (λ train. refl)

@@ -132,7 +132,7 @@ one_more_line w segments i d old new rises within so_far union =
 
 -- ---- engines that are enough
 
-is_there : (p : TrainRec → Bool) (trains : List (ℕ × TrainRec)) (n : ℕ) → option_map_or p (value_of trains n) false ≡ true → has_number (keys trains) n ≡ true
+pub is_there : (p : TrainRec → Bool) (trains : List (ℕ × TrainRec)) (n : ℕ) → option_map_or p (value_of trains n) false ≡ true → has_number (keys trains) n ≡ true
 is_there p trains n e = among_keys trains n ∙ has_any trains n ∙ by (value_of trains n) e
   where
     by : (found : Option TrainRec) → option_map_or p found false ≡ true → option_map_or (λ (train : TrainRec). true) found false ≡ true

@@ -25,6 +25,7 @@ pub mod Quiet
 pub mod Says
 pub mod SaysPlaces
 pub mod SaysTold
+pub mod Seeking
 pub mod SettledPlaces
 pub mod Tells
 pub mod Untouched

@@ -2,7 +2,7 @@
 use Rattle.std.specs.Prelude.{◌≡◌, ℕ, ◌||◌, if◌then◌else◌, Bool, true, false, List, [], ◌∷◌, Option, Some, IsTrue}
 use Rattle.std.specs.List.{list_any, All}
 use Rattle.std.specs.Option.{unwrap_or, option_map_or}
-use Rattle.rbc_maps.specs.Maps.{value_of}
+use Rattle.rbc_maps.specs.Maps.{value_of, keys}
 use Rattle.rbc_zones.specs.declared.segment.Segment.{Segment}
 use Rattle.rbc_settle.specs.declared.train.TrainRec.{TrainRec}
 use Rattle.rbc_settle.specs.Numbers.{has_number, with_number, without_number}
@@ -10,7 +10,9 @@ use Rattle.rbc_records.specs.declared.record.Key.{Key}
 use Rattle.rbc_records.specs.declared.record.Key.TheVariants as key
 use Rattle.rbc_records.specs.declared.record.Rec.{Rec}
 use Rattle.rbc_records.specs.declared.record.Rec.TheVariants as rec
+use Rattle.rbc_records.specs.declared.sought.Sought.{Sought}
 use Rattle.rbc_records.specs.Notes.{Notes, knows, same_key}
+use Rattle.rbc_records.specs.Seeking.{is_sought}
 use Rattle.rbc_rule.specs.World.{World}
 use Rattle.rbc_rule.specs.Records.{engines_record, list_of, record_of}
 
@@ -58,3 +60,8 @@ abbrev pub moves : World → ℕ → Key → Key → List (Key × Option Rec)
 moves w engine left entered =
     if same_key left entered then []
     else (left, engines_record (without_number engine (engines_at w left))) ∷ (entered, engines_record (with_number engine (engines_at w entered))) ∷ []
+
+-- These are engines of trains of the world, and among them are those of all trains that a command seeks.
+pub record HaveSought (what : Sought) (w : World) (engines : List ℕ) : Type 0 where
+  pub enrolled : (engine : ℕ) → has_number engines engine ≡ true → has_number (keys w.trains) engine ≡ true
+  pub none_missed : (engine : ℕ) (train : TrainRec) → value_of w.trains engine ≡ Some train → is_sought what train ≡ true → has_number engines engine ≡ true

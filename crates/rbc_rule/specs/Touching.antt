@@ -6,22 +6,16 @@ use Rattle.rbc_maps.specs.Maps.{has}
 use Rattle.rbc_maps.specs.Numbered.{Numbered}
 use Rattle.rbc_ids.specs.Table.{is_told}
 use Rattle.rbc_zones.specs.declared.segment.Segment.{Segment}
-use Rattle.rbc_zones.specs.declared.edge.Concern.{Concern}
-use Rattle.rbc_zones.specs.declared.edge.Concern.TheVariants as concern
 use Rattle.rbc_zones.specs.Limits.{Limit}
 use Rattle.rbc_settle.specs.declared.train.TrainRec.{TrainRec}
 use Rattle.rbc_settle.specs.Numbers.{has_number}
 use Rattle.rbc_settle.specs.Settling.{Stops, Limits, concern_to, limit_told_to}
+use Rattle.rbc_records.specs.Seeking.{is_concern}
 use Rattle.rbc_rule.specs.declared.change.Restriction.{Restriction}
 use Rattle.rbc_rule.specs.declared.touch.Change.{Change}
 use Rattle.rbc_rule.specs.declared.touch.Change.TheVariants as change
 use Rattle.rbc_rule.specs.World.{World}
 use Rattle.rbc_rule.specs.Effect.{with_next, with_less}
-
-abbrev pub is_concern : Concern → Bool
-is_concern concern.None = false
-is_concern concern.Now = true
-is_concern (concern.Before edge) = true
 
 -- a stop that begins concerns a train that has a free identifier
 abbrev pub is_stop_for : TrainRec → ℕ × List Segment → Bool

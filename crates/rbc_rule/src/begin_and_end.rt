@@ -16,14 +16,14 @@ ghost use Rattle.rbc_rule.specs.Lists.{AreTrainsKnown};
 ghost use Rattle.rbc_rule.specs.Gathered.{AreSendable, IsEnough, settled_outcome};
 
 use crate::change::Restriction;
-use crate::fetch::{fetch, fetch_list, fetch_stoppable};
+use crate::fetch::{fetch, fetch_concerned, fetch_list, fetch_told};
 use crate::input::Segments;
 use crate::lists::line_of;
 use crate::outcome::{Outcome, RuleFault};
 use crate::read;
 use crate::settle_trains::settle_trains;
 use crate::touch::Change;
-use rbc_records::{Key, Reader, Rec};
+use rbc_records::{Key, Reader, Rec, Sought};
 use rbc_settle::Numbers;
 use rbc_track::Track;
 use rbc_zones::{Limits, Stops};
@@ -49,7 +49,7 @@ pub(crate) fn stop_begun<S: Reader>(
     ensures failed { OnOk result (S.failed store.new ≡ S.failed store.old) }
 {
     fetch(store, Key::Limits)?;
-    let engines = fetch_stoppable(alloc, track, segments.as_slice(), store)?;
+    let engines = fetch_concerned(alloc, track, number, segments, &stops, store)?;
     settled_with_stops(alloc, track, number, stops, &engines, store)
 }
 
@@ -71,7 +71,7 @@ pub(crate) fn stop_ended<S: Reader>(
     ensures failed { OnOk result (S.failed store.new ≡ S.failed store.old) }
 {
     fetch(store, Key::Limits)?;
-    let engines = fetch_list(alloc, Key::Roster, store)?;
+    let engines = fetch_told(alloc, Sought::ToldOfStop(number), store)?;
     settled_with_stops(alloc, track, number, stops, &engines, store)
 }
 
@@ -143,7 +143,7 @@ pub(crate) fn limit_ended<S: Reader>(
     ensures failed { OnOk result (S.failed store.new ≡ S.failed store.old) }
 {
     fetch(store, Key::Stops)?;
-    let engines = fetch_list(alloc, Key::Roster, store)?;
+    let engines = fetch_told(alloc, Sought::ToldOfLimit(number), store)?;
     settled_with_limits(alloc, track, number, limits, &engines, store)
 }
 
