@@ -1,5 +1,5 @@
 -- The engines that were read are enough for what begins or ends.
-use Rattle.std.proofs.Common.{◌≡◌, inl, ℕ, ◌≤◌, ◌+◌, ◌*◌, Bool, true, false, leb, List, length, Option, Some, None, Bor, option_copied, All, refl, sym, ap, ◌∙◌, arith}
+use Rattle.std.proofs.Common.{◌≡◌, inl, ℕ, ◌≤◌, ◌+◌, ◌*◌, true, false, leb, List, length, Option, Some, None, Bor, option_copied, All, refl, sym, ap, ◌∙◌, arith}
 use Rattle.std.specs.List.{list_any, list_all}
 use Rattle.std.specs.Option.{option_map_or}
 use Rattle.std.proofs.lemmas.Bool.{or_parts, and_parts, leb-true}

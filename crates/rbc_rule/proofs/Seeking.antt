@@ -1,8 +1,8 @@
 -- The trains among which are all that a command seeks are enough for it.
-use Rattle.std.proofs.Common.{◌≡◌, ℕ, Bool, true, false, List, Option, Some, None, is_some, option_map, All, IsTrue, refl, sym, ap, ◌∙◌}
+use Rattle.std.proofs.Common.{◌≡◌, ℕ, Bool, true, false, List, Option, Some, None, is_some, option_map, IsTrue, refl, sym, ap, ◌∙◌}
 use Rattle.std.specs.Option.{option_map_or}
 use Rattle.rbc_track.specs.Plan.{Plan}
-use Rattle.rbc_maps.specs.Maps.{value_of, keys}
+use Rattle.rbc_maps.specs.Maps.{value_of}
 use Rattle.rbc_settle.specs.declared.train.TrainRec.{TrainRec}
 use Rattle.rbc_settle.specs.Numbers.{AreNumbers, has_number}
 use Rattle.rbc_settle.specs.Settling.{Stops, Limits}
