@@ -49,7 +49,8 @@ pub trait Reader {
     fn search(&self, alloc: Global, sought: Sought<'_>) -> Result<Option<Numbers>, AllocError>
         ensures { IfOk result (λ found. IfSome found (AreFound (notes self.now) sought.entry)) }
     {
-        let _ = (alloc, sought);
+        let _ = alloc;
+        let _ = sought;
         Ok(None)
     }
 }
