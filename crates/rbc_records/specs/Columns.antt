@@ -1,13 +1,17 @@
 -- What stands beside the records, so that a search passes by most trains without looking them up (own rule).
-use Rattle.std.specs.Prelude.{◌≡◌, ℕ, ◌-◌, ◌^◌, ◌/◌, ◌%◌, nat_lt, Bool, true, false, ◌==◌, ◌&&◌, ◌||◌, if◌then◌else◌, List, fold, map, length, None}
+use Rattle.std.specs.Prelude.{◌≡◌, ℕ, ◌-◌, ◌^◌, ◌%◌, nat_lt, nat_le, min, max, Bool, true, false, ◌==◌, ◌&&◌, if◌then◌else◌, List, fold, map, length}
 use Rattle.std.specs.List.{list_any}
+use Rattle.std.specs.Option.{option_map_or}
 use Rattle.std.specs.Int.{bit_at}
 use Rattle.std.specs.Int.Bits.{bit_or}
 use Rattle.rbc_ids.specs.Table.{Slots}
 use Rattle.rbc_ids.specs.declared.slot.Slot.{Slot}
 use Rattle.rbc_ids.specs.declared.slot.Slot.TheVariants.{Used, Revoking}
 use Rattle.rbc_zones.specs.declared.segment.Segment.{Segment}
-use Rattle.rbc_zones.specs.Concerns.{concern_of}
+use Rattle.rbc_track.specs.declared.group.Way.{Way}
+use Rattle.rbc_track.specs.declared.group.Way.TheVariants as way
+use Rattle.rbc_place.specs.Placing.{Place}
+use Rattle.rbc_settle.specs.declared.train.TrainRec.{TrainRec}
 use Rattle.rbc_settle.specs.Numbers.{has_number}
 use Rattle.rbc_records.specs.declared.record.Key.TheVariants as key
 use Rattle.rbc_records.specs.declared.record.Key.{Key}
@@ -15,7 +19,7 @@ use Rattle.rbc_records.specs.declared.record.Rec.TheVariants as rec
 use Rattle.rbc_records.specs.declared.record.Rec.{Rec}
 use Rattle.rbc_records.specs.declared.columns.Told.{Told}
 use Rattle.rbc_records.specs.declared.columns.Standing.{Standing}
-use Rattle.rbc_records.specs.Seeking.{is_concern}
+use Rattle.rbc_records.specs.declared.columns.Standing.TheVariants as standing
 
 -- the bit of a number is set; there are 64 bits
 abbrev pub has_bit : ℕ → ℕ → Bool
@@ -45,16 +49,30 @@ told_of (rec.Train train) = record { stops = fold with_bit (bits_of_slots train.
 told_of (rec.Stops stops) = record { stops = 0; limits = 0 }
 told_of (rec.Limits limits) = record { stops = 0; limits = 0 }
 
--- how a record's train stands to a new stop: whether it has a free stop identifier, whether it rejected a stop, and its place
+-- how a train stands at its place: what lies behind it is nothing to it
+abbrev pub standing_at : Way → Place → Standing
+standing_at way.Up p = standing.Up p.line (min p.lo p.hi)
+standing_at way.Down p = standing.Down p.line (max p.lo p.hi)
+
+-- how a train stands to a new stop: without a free stop identifier it is told of none, and where a stop may be forced on it, of any
+abbrev pub standing_of_train : TrainRec → Standing
+standing_of_train train =
+    if nat_lt (length train.stops) 15 then (if nat_lt 0 (length train.forced) then standing.Anywhere else option_map_or (λ place. standing_at place.facing place) train.place standing.Anywhere)
+    else standing.Full
+
+-- the same of a record, which may be that of no train
 abbrev pub standing_of : Rec → Standing
-standing_of (rec.Engines engines) = record { may_take = false; is_forced = false; place = None }
-standing_of (rec.Train train) = record { may_take = nat_lt (length train.stops) 15; is_forced = nat_lt 0 (length train.forced); place = train.place }
-standing_of (rec.Stops stops) = record { may_take = false; is_forced = false; place = None }
-standing_of (rec.Limits limits) = record { may_take = false; is_forced = false; place = None }
+standing_of (rec.Engines engines) = standing.Full
+standing_of (rec.Train train) = standing_of_train train
+standing_of (rec.Stops stops) = standing.Full
+standing_of (rec.Limits limits) = standing.Full
 
 -- a train that stands so may be told of a stop with this area
 abbrev pub may_be_told : List Segment → Standing → Bool
-may_be_told area standing = standing.may_take && (standing.is_forced || is_concern (concern_of area false standing.place))
+may_be_told area standing.Full = false
+may_be_told area standing.Anywhere = true
+may_be_told area (standing.Up line least) = list_any (λ segment. segment.line == line && nat_le least (max segment.from segment.to)) area
+may_be_told area (standing.Down line most) = list_any (λ segment. segment.line == line && nat_le (min segment.from segment.to) most) area
 
 -- what was told, for each record
 abbrev pub tolds_of : List (Key × Rec) → List Told

@@ -1,13 +1,15 @@
 //! What a search reads of a record, in few bytes.
 
 ghost use Rattle.std.specs.Prelude.{◌≡◌, fold};
-ghost use Rattle.rbc_records.specs.Columns.{has_bit, with_bit, with_slot, bits_of_slots, bits_of_few, told_of, standing_of, may_be_told};
+ghost use Rattle.rbc_records.specs.Columns.{has_bit, with_bit, with_slot, bits_of_slots, bits_of_few, told_of, standing_of, standing_of_train, standing_at, may_be_told};
+ghost use Rattle.rbc_records.specs.declared.columns.Standing.TheVariants.{Up, Down};
 
 use crate::record::Rec;
 use rbc_ids::{IdTable, Slot};
 use rbc_place::Place;
 use rbc_settle::TrainRec;
-use rbc_zones::{Area, Concern, concern};
+use rbc_track::Way;
+use rbc_zones::{Area, Segment};
 
 /// How many stop identifiers (NID_EM) a train has.
 const STOP_IDENTIFIERS: usize = 15;
@@ -26,15 +28,17 @@ pub struct Told {
     pub limits: u64,
 }
 
-/// How a train stands to a stop that it was not told. For a record that is no train, as if no identifier were free.
+/// Which new stops a train may have to be told of.
 #[derive(Clone, Copy, Debug)]
-pub struct Standing {
-    /// Whether the train has a free stop identifier (NID_EM).
-    pub may_take: bool,
-    /// Whether it rejected a stop, so that one may be forced on it.
-    pub is_forced: bool,
-    /// The interval in which it stands, if that is known.
-    pub place: Option<Place>,
+pub enum Standing {
+    /// None: it has no free stop identifier (NID_EM), or the record is no train.
+    Full,
+    /// All of them: it has no place, or it rejected a stop, which may be forced on it.
+    Anywhere,
+    /// It faces up on this line: those with a segment there that does not end below this place.
+    Up { line: u8, least: u32 },
+    /// It faces down on this line: those with a segment there that does not begin above this place.
+    Down { line: u8, most: u32 },
 }
 
 impl Told {
@@ -61,26 +65,75 @@ impl Standing {
         ensures { result ≡ standing_of rec.now }
     {
         match rec {
-            Rec::Train(train) => Standing {
-                may_take: train.stops.held() < STOP_IDENTIFIERS,
-                is_forced: train.forced.len() > 0,
-                place: train.place,
+            Rec::Train(train) => Standing::of_train(train),
+            Rec::Engines(_) | Rec::Stops(_) | Rec::Limits(_) => Standing::Full,
+        }
+    }
+
+    /// How a train stands.
+    fn of_train(train: &TrainRec) -> Self
+        ensures { result ≡ standing_of_train train.now }
+    {
+        if train.stops.held() >= STOP_IDENTIFIERS {
+            return Standing::Full;
+        }
+        if train.forced.len() > 0 {
+            return Standing::Anywhere;
+        }
+        match &train.place {
+            Some(place) => Standing::at(place),
+            None => Standing::Anywhere,
+        }
+    }
+
+    /// How a train with a free stop identifier stands at its place.
+    fn at(place: &Place) -> Self
+        ensures { result ≡ standing_at place.now.facing place.now }
+    {
+        match place.facing() {
+            Way::Up => Standing::Up {
+                line: place.line(),
+                least: place.lo().min(place.hi()),
             },
-            Rec::Engines(_) | Rec::Stops(_) | Rec::Limits(_) => Standing {
-                may_take: false,
-                is_forced: false,
-                place: None,
+            Way::Down => Standing::Down {
+                line: place.line(),
+                most: place.lo().max(place.hi()),
             },
         }
     }
 
     /// Whether the train may have to be told of a stop that closes an area.
+    #[inline(always)]
     pub fn may_be_told(&self, area: &Area) -> bool
         ensures { result ≡ may_be_told area.now self.now }
     {
-        self.may_take
-            && (self.is_forced || concern(area, false, self.place.as_ref()) != Concern::None)
+        match self {
+            Standing::Full => false,
+            Standing::Anywhere => true,
+            Standing::Up { line, least } => ends_from(area.segments(), *line, *least),
+            Standing::Down { line, most } => begins_to(area.segments(), *line, *most),
+        }
     }
+}
+
+/// Whether a segment on a line does not end below a place.
+#[inline(always)]
+fn ends_from(segments: &[Segment], line: u8, least: u32) -> bool
+    ensures { result ≡ may_be_told segments.now (Up line least) }
+{
+    segments.iter().any(|segment| {
+        segment.line == u32::from(line) && least <= segment.from.max(segment.to)
+    })
+}
+
+/// Whether a segment on a line does not begin above a place.
+#[inline(always)]
+fn begins_to(segments: &[Segment], line: u8, most: u32) -> bool
+    ensures { result ≡ may_be_told segments.now (Down line most) }
+{
+    segments.iter().any(|segment| {
+        segment.line == u32::from(line) && segment.from.min(segment.to) <= most
+    })
 }
 
 /// Whether the bit of a number is set.

@@ -1,6 +1,4 @@
-use Rattle.std.proofs.Common.{◌≡◌, ◌∙◌, sym, ap, Option, Some, rules}
-use Rattle.std.specs.Map.Iter.{deref_pair}
-use Rattle.std.specs.Option.{option_map}
+use Rattle.std.proofs.Common.{◌∙◌, sym, rules}
 use Rattle.rbc_records.proofs.Passing.{engine_added}
 use Rattle.rbc_records.proofs.search.add_train.Goals as goal
 

@@ -1,4 +1,4 @@
-use Rattle.std.proofs.Common.{◌≡◌, ◌∙◌, sym, ap, Bool, get_or}
+use Rattle.std.proofs.Common.{◌∙◌, sym}
 use Rattle.rbc_records.specs.Columns.{may_be_told, standing_of}
 use Rattle.rbc_records.specs.declared.columns.Standing.{Standing}
 use Rattle.rbc_records.proofs.Passing.{passed_by, added}
@@ -8,13 +8,11 @@ use Rattle.rbc_records.proofs.search.stoppable.Goals.{else-may_be_told-via-then-
 pub loop-index-preserved : goal.loop-index-preserved
 loop-index-preserved c =
     let test = λ (standing : Standing). may_be_told c.args.area.now standing in
-    let read = c.index-standings-index.result in
-    let tested : test (get_or c.args.standings.now c.loop-index.index read) ≡ c.may_be_told.result = sym (c.may_be_told.ensures ∙ ap test c.index-standings-index.is) in
     elim c.else-may_be_told.branch [
       | else-may_be_told-via-then-may_be_told+in_ok-add_train+else-not-branch w ↦
-          added standing_of test c.args.entries.now.entries c.args.standings.now c.requires c.loop-index.index read c.loop-index-test.true c.loop-index.found w.add_train.new.found _ w.found-is
-          (tested ∙ w.if-may_be_told.true) (w.in_ok-add_train.ensures w.if-not-branch.false) c.loop-index.invariant
+          added standing_of test c.args.entries.now.entries c.args.standings.now c.requires c.loop-index.index _ c.loop-index-test.true c.loop-index.found w.add_train.new.found _ w.found-is
+          (sym c.may_be_told.ensures ∙ w.if-may_be_told.true) (w.in_ok-add_train.ensures w.if-not-branch.false) c.loop-index.invariant
       | else-may_be_told-via-else-may_be_told w ↦
-          passed_by standing_of test c.args.entries.now.entries c.args.standings.now c.requires c.loop-index.index read c.loop-index-test.true c.loop-index.found _ w.found-is
-          (tested ∙ w.if-may_be_told.false) c.loop-index.invariant
+          passed_by standing_of test c.args.entries.now.entries c.args.standings.now c.requires c.loop-index.index _ c.loop-index-test.true c.loop-index.found _ w.found-is
+          (sym c.may_be_told.ensures ∙ w.if-may_be_told.false) c.loop-index.invariant
     ]

@@ -1,5 +1,5 @@
 use Rattle.std.proofs.Common.{take}
-use Rattle.rbc_records.specs.Columns.{has_bit, told_of, standing_of, may_be_told, ArePassing}
+use Rattle.rbc_records.specs.Columns.{standing_of, may_be_told, ArePassing}
 use Rattle.rbc_records.proofs.search.stoppable.Given as goal
 
 -- the engines are those of the entries so far

@@ -1,4 +1,4 @@
-use Rattle.std.proofs.Common.{◌≡◌, ◌∙◌, sym, ap, cond, Some, ◌<◌, ◌≤◌, arith, rules}
+use Rattle.std.proofs.Common.{◌∙◌, ap, cond, Some, rules}
 use Rattle.rbc_records.specs.Columns.{Kept}
 use Rattle.rbc_records.specs.Notes.{record_in, same_key}
 use Rattle.rbc_records.proofs.Beside.{put_over, put_behind}

@@ -1,4 +1,4 @@
-use Rattle.std.proofs.Common.{ap, sym, ◌∙◌}
+use Rattle.std.proofs.Common.{ap}
 use Rattle.rbc_records.specs.Columns.{Kept, has_bit, told_of, standing_of, may_be_told}
 use Rattle.rbc_records.specs.declared.record.Rec.{Rec}
 use Rattle.rbc_records.specs.declared.sought.Sought.TheVariants as sought
