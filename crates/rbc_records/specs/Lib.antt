@@ -1,3 +1,4 @@
 pub mod Notes
 pub mod Writes
 pub mod Seeking
+pub mod Columns

@@ -1,11 +1,14 @@
 //! The single records in which everything known is kept: how they are read, noted, stored and written.
 #![tactic(auto)]
 
+mod columns;
 mod notes;
 mod reader;
 mod record;
+mod search;
 mod sought;
 mod store;
+mod table;
 mod writes;
 
 pub use notes::Notes;

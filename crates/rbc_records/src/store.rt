@@ -1,22 +1,23 @@
 //! A store of all records.
 
 ghost use Rattle.std.specs.Prelude.{◌≡◌, ℕ, ◌+◌, ◌<◌, ◌≤◌, [], length, slice_get, Some, OnOk, OnErr, IfOk, IfErr, IsOk, option_copied};
-ghost use Rattle.indexmap.specs.IndexMap.{spare};
 ghost use Rattle.rbc_records.specs.declared.record.Key.{Key};
 ghost use Rattle.rbc_records.specs.Notes.{record_in};
 ghost use Rattle.rbc_records.specs.Writes.{written, write_over, replaced};
 
 use crate::reader::{ReadFault, Reader};
 use crate::record::{Key, Rec};
+use crate::sought::Sought;
+use crate::table::Table;
 use crate::writes::Writes;
-use indexmap::IndexMap;
-use std::alloc::Global;
+use rbc_settle::Numbers;
+use std::alloc::{AllocError, Global};
 use std::marker::Model;
 
 /// All records by their keys. In contracts a list of pairs, of which the first with a key counts.
 #[derive(Debug, Drop)]
 pub struct PlainStore {
-    records: IndexMap<Key, Rec>,
+    records: Table,
 }
 
 impl Model for PlainStore {
@@ -35,7 +36,7 @@ impl PlainStore {
         ensures { result ≡ [] }
     {
         PlainStore {
-            records: IndexMap::new(alloc),
+            records: Table::new(alloc),
         }
     }
 
@@ -43,7 +44,7 @@ impl PlainStore {
     pub fn get(&self, key: Key) -> Option<&Rec>
         ensures { option_copied result ≡ record_in self.now key }
     {
-        self.records.get(&key)
+        self.records.get(key)
     }
 
     /// The number of records.
@@ -58,8 +59,7 @@ impl PlainStore {
         requires { index < length self.now }
         ensures at { slice_get self.now index ≡ Some (result.0, result.1.now) }
     {
-        let (key, rec) = self.records.get_index(index).unwrap();
-        (*key, rec)
+        self.records.at(index)
     }
 }
 
@@ -85,18 +85,22 @@ impl Reader for PlainStore {
     fn failures(&self) -> u64 {
         0
     }
+
+    fn search(&self, alloc: Global, sought: Sought<'_>) -> Result<Option<Numbers>, AllocError> {
+        self.records.search(alloc, sought)
+    }
 }
 
 /// Does one write, and returns the record that stood under its key. There has to be room for one more record.
-fn write_one(records: &mut IndexMap<Key, Rec>, key: Key, rec: Option<Rec>) -> Option<Rec>
-    requires { 0 < spare records.old }
+fn write_one(records: &mut Table, key: Key, rec: Option<Rec>) -> Option<Rec>
+    requires { 0 < records.old.room }
     ensures records { (k : Key) → record_in records.new.entries k ≡ write_over (key, rec) (record_in records.old.entries) k }
     ensures replaced { result ≡ record_in records.old.entries key }
-    ensures room { spare records.old ≤ spare records.new + 1 }
+    ensures room { records.old.room ≤ records.new.room + 1 }
 {
     match rec {
-        Some(rec) => records.insert(key, rec).unwrap(),
-        None => records.swap_remove(&key),
+        Some(rec) => records.put(key, rec),
+        None => records.remove(key),
     }
 }
 

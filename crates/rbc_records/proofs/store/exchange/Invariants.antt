@@ -1,5 +1,4 @@
 use Rattle.std.proofs.Common.{◌≡◌, ◌≤◌, ◌-◌, ◌++◌, length, take, drop, vec_len}
-use Rattle.indexmap.specs.IndexMap.{spare}
 use Rattle.rbc_records.specs.declared.record.Key.{Key}
 use Rattle.rbc_records.specs.Notes.{record_in}
 use Rattle.rbc_records.specs.Writes.{written, replaced}
@@ -9,7 +8,7 @@ use Rattle.rbc_records.proofs.store.exchange.Given as goal
 abbrev pub invariant-loop-index : goal.invariant-loop-index
 invariant-loop-index l = record {
   all : vec_len l.writes-inside.all ≡ length l.fn.writes;
-  room : vec_len l.writes-inside.all - l.index ≤ spare l.store-inside.records;
+  room : vec_len l.writes-inside.all - l.index ≤ l.store-inside.records.room;
   rest : (k : Key) → written (drop l.index l.writes-inside.all.items) (record_in l.store-inside.records.entries) k ≡ written l.fn.writes (record_in l.fn.store) k;
   left : take l.index l.writes-inside.all.items ++ replaced (drop l.index l.writes-inside.all.items) (record_in l.store-inside.records.entries) ≡ replaced l.fn.writes (record_in l.fn.store);
 }

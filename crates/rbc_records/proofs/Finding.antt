@@ -1,0 +1,142 @@
+-- The engines that pass a column's test are those of all trains that are sought.
+use Rattle.std.proofs.Common.{◌≡◌, ℕ, Bool, true, false, cond, if◌then◌else◌, ◌&&◌, ◌||◌, nat_lt, List, [], ◌∷◌, Option, None, Some, is_some, Result, Ok, Err, IfOk, IfSome, length, suc, arith, refl, sym, ap, ◌∙◌, lt-ltb}
+use Rattle.std.specs.List.{list_any}
+use Rattle.std.specs.Option.{option_map_or}
+use Rattle.rbc_ids.specs.Table.{is_told}
+use Rattle.rbc_place.specs.Placing.{Place}
+use Rattle.rbc_zones.specs.declared.segment.Segment.{Segment}
+use Rattle.rbc_track.specs.declared.group.Way.{Way}
+use Rattle.rbc_track.specs.declared.group.Way.TheVariants.{Up, Down}
+use Rattle.rbc_zones.specs.Concerns.{concern_of, concern_at}
+use Rattle.rbc_settle.specs.declared.train.TrainRec.{TrainRec}
+use Rattle.rbc_settle.specs.Numbers.{has_number}
+use Rattle.rbc_records.specs.declared.record.Key.{Key}
+use Rattle.rbc_records.specs.declared.record.Key.TheVariants as key
+use Rattle.rbc_records.specs.declared.record.Rec.{Rec}
+use Rattle.rbc_records.specs.declared.record.Rec.TheVariants as rec
+use Rattle.rbc_records.specs.declared.sought.Sought.{Sought}
+use Rattle.rbc_records.specs.Notes.{Whole, record_in, same_key}
+use Rattle.rbc_records.specs.Seeking.{AreFound, is_sought, is_concern}
+use Rattle.rbc_records.specs.declared.columns.Standing.{Standing}
+use Rattle.rbc_records.specs.declared.columns.Standing.TheVariants as standing
+use Rattle.rbc_records.specs.Columns.{has_bit, told_of, standing_of, standing_at, may_be_told, is_of_train, ArePassing}
+use Rattle.rbc_records.proofs.Keys.{same_key_sym, same_key_is, same_key_own}
+use Rattle.rbc_records.proofs.Reached.{reaches, unreached}
+use Rattle.rbc_records.proofs.Bits.{told_bit, bits_kept, numbers_bit, few_bit}
+
+-- the entry of a train has its key
+own_key : (engine : ℕ) (k : Key) (r : Rec) → is_of_train engine k r ≡ true → same_key (key.Train engine) k ≡ true
+own_key engine (key.Train number) (rec.Train train) h = same_key_sym (key.Train engine) (key.Train number) ∙ h
+own_key engine (key.Train number) (rec.Engines engines) h = cc
+own_key engine (key.Train number) (rec.Stops stops) h = cc
+own_key engine (key.Train number) (rec.Limits limits) h = cc
+own_key engine key.Roster r h = cc
+own_key engine key.Stops r h = cc
+own_key engine key.Limits r h = cc
+own_key engine (key.Line line) r h = cc
+own_key engine key.Unplaced r h = cc
+
+-- and a train's record under its key is its entry
+own_entry : (engine : ℕ) (train : TrainRec) (k : Key) (r : Rec) → same_key (key.Train engine) k ≡ true → r ≡ rec.Train train → is_of_train engine k r ≡ true
+own_entry engine train k r same is =
+    let of : k ≡ key.Train engine = sym (same_key_is (key.Train engine) k same) in
+    (λ i. is_of_train engine (of i) (is i)) ∙ same_key_own (key.Train engine)
+
+module _ (passes : Rec → Bool) where
+  -- an entry is that of this engine's train and passes
+  abbrev hit : ℕ → Key × Rec → Bool
+  hit engine entry = is_of_train engine entry.0 entry.1 && passes entry.1
+
+  -- there is a record under the key of each engine that passes
+  there : (entries : List (Key × Rec)) (engine : ℕ) → list_any (hit engine) entries ≡ true
+      → is_some (record_in entries (key.Train engine)) ≡ true
+  there [] engine h = cc
+  there (entry ∷ entries) engine h = by (is_of_train engine entry.0 entry.1) (same_key (key.Train engine) entry.0) (own_key engine entry.0 entry.1) h (there entries engine)
+    where
+      by : (b same : Bool) → (b ≡ true → same ≡ true) → (b && passes entry.1 || list_any (hit engine) entries) ≡ true
+          → (list_any (hit engine) entries ≡ true → is_some (record_in entries (key.Train engine)) ≡ true)
+          → is_some (cond same (Some entry.1) (record_in entries (key.Train engine))) ≡ true
+      by b true own h rest = refl
+      by true false own h rest = let never : false ≡ true = own refl in cc
+      by false false own h rest = rest h
+
+  -- no train is missed whose record passes
+  none_missed : (entries : List (Key × Rec)) (engine : ℕ) (train : TrainRec) → record_in entries (key.Train engine) ≡ Some (rec.Train train) → passes (rec.Train train) ≡ true
+      → list_any (hit engine) entries ≡ true
+  none_missed [] engine train h passing = cc
+  none_missed (entry ∷ entries) engine train h passing = by (same_key (key.Train engine) entry.0) refl h (λ found. none_missed entries engine train found passing)
+    where
+      or_true : (b : Bool) → (b || true) ≡ true
+      or_true true = refl
+      or_true false = refl
+
+      by : (same : Bool) → same_key (key.Train engine) entry.0 ≡ same → cond same (Some entry.1) (record_in entries (key.Train engine)) ≡ Some (rec.Train train)
+          → (record_in entries (key.Train engine) ≡ Some (rec.Train train) → list_any (hit engine) entries ≡ true)
+          → (is_of_train engine entry.0 entry.1 && passes entry.1 || list_any (hit engine) entries) ≡ true
+      by true same h rest =
+          let is : entry.1 ≡ rec.Train train = cc in
+          let more = list_any (hit engine) entries in
+          ap (λ (b : Bool). b && passes entry.1 || more) (own_entry engine train entry.0 entry.1 same is)
+          ∙ ap (λ (r : Rec). passes r || more) is ∙ ap (λ (b : Bool). b || more) passing
+      by false same h rest =
+          let more : list_any (hit engine) entries ≡ true = rest h in
+          ap (λ (b : Bool). is_of_train engine entry.0 entry.1 && passes entry.1 || b) more ∙ or_true (is_of_train engine entry.0 entry.1 && passes entry.1)
+
+  -- so these are found, if the test passes each train that is sought
+  pub found_those : (what : Sought) → ((train : TrainRec) → is_sought what train ≡ true → passes (rec.Train train) ≡ true)
+      → {E : Type 0} (entries all : List (Key × Rec)) → entries ≡ all → (result : Result (Option (List ℕ)) E)
+      → IfOk result (λ found. IfSome found (ArePassing passes entries)) → IfOk result (λ found. IfSome found (AreFound (Whole all) what))
+  found_those what asked entries all same (Err e) h = tt
+  found_those what asked entries all same (Ok None) h = tt
+  found_those what asked entries all same (Ok (Some engines)) h =
+      let now : (engine : ℕ) → has_number engines engine ≡ list_any (hit engine) all =
+      λ engine. h engine ∙ ap (λ (kept : List (Key × Rec)). list_any (hit engine) kept) same in
+      record {
+        all_known = λ k. refl;
+        there = λ engine has. there all engine (sym (now engine) ∙ has);
+        none_missed = λ engine train at is. now engine ∙ none_missed all engine train at (asked train is);
+      }
+
+-- the bit of a stop is set in each train that was told of it or rejected it
+pub asked_by_stop : (number : ℕ) (train : TrainRec) → (is_told train.stops number || has_number train.forced number) ≡ true → has_bit (told_of (rec.Train train)).stops number ≡ true
+asked_by_stop number train h = by (is_told train.stops number) refl h
+  where
+    by : (told : Bool) → is_told train.stops number ≡ told → (told || has_number train.forced number) ≡ true → has_bit (told_of (rec.Train train)).stops number ≡ true
+    by true told h = bits_kept train.forced number _ (told_bit train.stops number told)
+    by false told h = numbers_bit train.forced number _ h
+
+-- the bit of a restriction in each that was told of it
+pub asked_by_limit : (number : ℕ) (train : TrainRec) → is_told train.limits number ≡ true → has_bit (told_of (rec.Train train)).limits number ≡ true
+asked_by_limit number train h = few_bit train.limits number h
+
+-- a list with a number is not empty
+not_empty : (numbers : List ℕ) (n : ℕ) → has_number numbers n ≡ true → nat_lt 0 (length numbers) ≡ true
+not_empty [] n h = cc
+not_empty (first ∷ rest) n h = lt-ltb 0 (suc (length rest)) (omega arith)
+
+-- where a train stands tells of the segments that reach it
+reached_at : (way : Way) (p : Place) (area : List Segment) → may_be_told area (standing_at way p) ≡ list_any (reaches way p) area
+reached_at Up p area = refl
+reached_at Down p area = refl
+
+-- a stop that is something to a train reaches it
+reached : (p : Place) (area : List Segment) (b : Bool) → list_any (reaches p.facing p) area ≡ b → is_concern (concern_at area false p) ≡ true → b ≡ true
+reached p area true e h = refl
+reached p area false e h = let bad : true ≡ false = sym h ∙ unreached p area e in cc
+
+-- and a new stop that concerns a train may be told to it
+pub asked_by_place : (number : ℕ) (area : List Segment) (train : TrainRec)
+    → (nat_lt (length train.stops) 15 && is_concern (concern_of area (has_number train.forced number) train.place)) ≡ true → may_be_told area (standing_of (rec.Train train)) ≡ true
+asked_by_place number area train h = by (nat_lt (length train.stops) 15) (nat_lt 0 (length train.forced)) (has_number train.forced number) refl refl train.place h
+  where
+    standing_by : Bool → Bool → Option Place → Standing
+    standing_by free rejected place =
+        if free then (if rejected then standing.Anywhere else option_map_or (λ (p : Place). standing_at p.facing p) place standing.Anywhere) else standing.Full
+
+    by : (free rejected forced : Bool) → nat_lt 0 (length train.forced) ≡ rejected → has_number train.forced number ≡ forced → (place : Option Place)
+        → (free && is_concern (concern_of area forced place)) ≡ true → may_be_told area (standing_by free rejected place) ≡ true
+    by false rejected forced some is place h = cc
+    by true true forced some is place h = refl
+    by true false true some is place h = let bad : true ≡ false = sym (not_empty train.forced number is) ∙ some in cc
+    by true false false some is None h = refl
+    by true false false some is (Some p) h = reached_at p.facing p area ∙ reached p area (list_any (reaches p.facing p) area) refl h

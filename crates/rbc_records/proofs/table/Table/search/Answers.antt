@@ -1,0 +1,22 @@
+use Rattle.std.proofs.Common.{ap}
+use Rattle.rbc_records.specs.Columns.{Kept, has_bit, told_of, standing_of, may_be_told}
+use Rattle.rbc_records.specs.declared.record.Rec.{Rec}
+use Rattle.rbc_records.specs.declared.sought.Sought.TheVariants as sought
+use Rattle.rbc_records.proofs.Finding.{found_those, asked_by_stop, asked_by_limit, asked_by_place}
+use Rattle.rbc_records.proofs.table.Table.search.Goals as goal
+
+pub returns-in-ToldOfStop : goal.returns-in-ToldOfStop
+returns-in-ToldOfStop c =
+    let passes = λ (rec : Rec). has_bit (told_of rec).stops c.in-ToldOfStop.number in
+    rw c.in-ToldOfStop.is (found_those passes (sought.ToldOfStop c.in-ToldOfStop.number) (asked_by_stop c.in-ToldOfStop.number) _ _ (ap (λ (kept : Kept). kept.entries) c.self.view_is) _ c.told_of_stop.ensures)
+
+pub returns-in-ToldOfLimit : goal.returns-in-ToldOfLimit
+returns-in-ToldOfLimit c =
+    let passes = λ (rec : Rec). has_bit (told_of rec).limits c.in-ToldOfLimit.number in
+    rw c.in-ToldOfLimit.is (found_those passes (sought.ToldOfLimit c.in-ToldOfLimit.number) (asked_by_limit c.in-ToldOfLimit.number) _ _ (ap (λ (kept : Kept). kept.entries) c.self.view_is) _ c.told_of_limit.ensures)
+
+pub returns-in-Stoppable : goal.returns-in-Stoppable
+returns-in-Stoppable c =
+    let area = c.in-Stoppable.area in
+    let passes = λ (rec : Rec). may_be_told area.now (standing_of rec) in
+    rw c.in-Stoppable.is (found_those passes (sought.Stoppable c.in-Stoppable.field-0 area) (asked_by_place c.in-Stoppable.field-0 area.now) _ _ (ap (λ (kept : Kept). kept.entries) c.self.view_is) _ c.stoppable.ensures)
