@@ -20,8 +20,8 @@ const PARALLEL_FROM: usize = 10_000;
 /// part is long enough to be worth a buffer of its own.
 const PARTS: usize = 16;
 
-/// The greatest length of the line of a result, in bytes: a number of 10 digits, and `ok` with one of 8.
-const RESULT_LINE: usize = 24;
+/// The greatest length of the line of a result, in bytes: two numbers of 10 digits, and `ok`.
+const RESULT_LINE: usize = 25;
 
 /// The greatest length of the line of a message, in bytes: an engine number of 8 digits, the number of an input of 10, and 64
 /// hexadecimal digits.
