@@ -1,4 +1,5 @@
 pub mod BatchText
 pub mod Pieces
 pub mod OutputText
+pub mod Parts
 pub mod Process

@@ -4,6 +4,7 @@
 mod batch;
 mod output;
 mod parse;
+mod parts;
 mod read;
 mod write;
 

@@ -24,6 +24,9 @@ const MAX_ENGINE: u32 = 16_777_215;
 /// The greatest length of a train, in units of 10 cm.
 const MAX_LENGTH: u32 = 40_000;
 
+/// A message of at most so many bytes is read without allocating. A position report has 23 of them, or 37 with what the longest adds.
+const SHORT_MESSAGE: usize = 64;
+
 /// From this number of lines on a batch is read in threads: for fewer they cost more than they give.
 const PARALLEL_FROM: usize = 10_000;
 
@@ -340,14 +343,45 @@ fn is_hex_word(word: &[u8]) -> bool
     !word.is_empty() && has_no_return(word)
 }
 
-/// The input of a message in hexadecimal digits. Fails only for lack of memory.
-fn message_from(alloc: Global, word: &[u8]) -> Result<Input, AllocError>
+/// The input of a message whose digits are no hexadecimal text.
+fn bad_hex() -> Input
+    ensures { result ≡ Bad 2 }
+{
+    Input::Bad(Refusal::BadHex.code())
+}
+
+/// The input of a short message in hexadecimal digits.
+fn short_message(word: &[u8]) -> Input
+    requires { length word.now ≤ 128 }
+    ensures { IsInput (line_of_hex (decode_of word.now)) result }
+{
+    let mut buffer = [0u8; SHORT_MESSAGE];
+    let bytes = &mut buffer[..word.len() / 2];
+    match hex::decode_to_slice(word, bytes) {
+        Ok(()) => heard(bytes),
+        Err(_) => bad_hex(),
+    }
+}
+
+/// The input of a message of any length in hexadecimal digits. Fails only for lack of memory.
+fn long_message(alloc: Global, word: &[u8]) -> Result<Input, AllocError>
     ensures { IfOk result (λ input. IsInput (line_of_hex (decode_of word.now)) input) }
 {
     match hex::decode(alloc, word) {
         Ok(bytes) => Ok(heard(&bytes)),
         Err(FromHexError::OutOfMemory) => Err(AllocError),
-        Err(_) => Ok(Input::Bad(Refusal::BadHex.code())),
+        Err(_) => Ok(bad_hex()),
+    }
+}
+
+/// The input of a message in hexadecimal digits. Fails only for lack of memory.
+fn message_from(alloc: Global, word: &[u8]) -> Result<Input, AllocError>
+    ensures { IfOk result (λ input. IsInput (line_of_hex (decode_of word.now)) input) }
+{
+    if word.len() <= 2 * SHORT_MESSAGE {
+        Ok(short_message(word))
+    } else {
+        long_message(alloc, word)
     }
 }
 
