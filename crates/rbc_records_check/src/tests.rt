@@ -1,5 +1,6 @@
 mod copies;
 mod notes;
+mod searches;
 mod setting;
 mod stores;
 mod writes;

@@ -30,7 +30,7 @@ fn track(alloc: Global) -> Result<Track, Fail> {
 }
 
 /// Numbers, none twice.
-fn numbers(alloc: Global, all: &[u32]) -> Result<Numbers, Fail> {
+pub(super) fn numbers(alloc: Global, all: &[u32]) -> Result<Numbers, Fail> {
     let mut numbers = Numbers::new(alloc);
     for n in all {
         if numbers.has(*n) {
@@ -47,7 +47,7 @@ pub(super) fn engines(alloc: Global, all: &[u32]) -> Result<Rec, Fail> {
 }
 
 /// Holds the least free identifier for a number that is not told.
-fn issue<const N: usize>(
+pub(super) fn issue<const N: usize>(
     table: &mut IdTable<N>,
     number: u32,
     stamp: u32,
