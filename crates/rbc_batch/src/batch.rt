@@ -5,7 +5,6 @@ ghost use Rattle.std.specs.List.{All};
 ghost use Rattle.rbc_rule.specs.Inputs.{Fits};
 ghost use Rattle.rbc_batch.specs.Process.{Answers, AreRead, IsBeforeWriting, IsRunOf, IsUntouched, max_batch};
 
-
 use crate::parse::parse_batch;
 use crate::parts::render_in_threads;
 use crate::read::read_batch;

@@ -123,13 +123,14 @@ fn total_len(texts: &[Vec<u8>]) -> usize {
     total
 }
 
-/// Texts joined in order. Fails only for lack of memory.
-fn joined(alloc: Global, texts: &[Vec<u8>]) -> Result<Vec<u8>, AllocError>
-    ensures { IfOk result (λ whole. whole.items ≡ flat_map vec_items texts.now) }
+/// Texts joined in order. Each is freed as soon as it is copied, so that they do not stand in memory twice. Fails only for lack of
+/// memory.
+fn joined(alloc: Global, texts: Vec<Vec<u8>>) -> Result<Vec<u8>, AllocError>
+    ensures { IfOk result (λ whole. whole.items ≡ flat_map vec_items texts.items) }
 {
-    let mut whole = Vec::with_capacity(alloc, total_len(texts))?;
+    let mut whole = Vec::with_capacity(alloc, total_len(&texts))?;
     for text in texts {
-        whole.extend_from_slice(text)?;
+        whole.extend_from_slice(&text)?;
     }
     Ok(whole)
 }
@@ -152,6 +153,6 @@ pub(crate) fn render_in_threads(
         render(alloc, desk)
     } else {
         let texts = texts_of_parts(rt, alloc, desk)?;
-        joined(alloc, &texts)
+        joined(alloc, texts)
     }
 }
