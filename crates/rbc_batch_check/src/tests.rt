@@ -1,3 +1,4 @@
+mod long;
 mod parsing;
 mod processing;
 mod refusals;
