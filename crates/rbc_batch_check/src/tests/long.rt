@@ -13,7 +13,9 @@ fn writes_a_long_output_in_threads(rt: HostRuntime) -> Result<(), Fail> {
     for engine in 1..=40u32 {
         writeln!(batch, "enrol {engine} 2000").expect(&rt, "memory");
     }
-    batch.push_str("stop 1 0:0-10\nrelease 1\n").expect(&rt, "memory");
+    batch
+        .push_str("stop 1 0:0-10\nrelease 1\n")
+        .expect(&rt, "memory");
     for _ in 0..10_000u32 {
         batch.push('\n').expect(&rt, "memory");
     }
