@@ -2,7 +2,6 @@ mod Cuts
 mod LineFits
 mod LineInputs
 mod LineWords
-mod JoinedParts
 mod Texts
 pub mod FirstPlaces
 mod Answering

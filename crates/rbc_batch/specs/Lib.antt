@@ -1,5 +1,4 @@
 pub mod BatchText
 pub mod Pieces
 pub mod OutputText
-pub mod Parts
 pub mod Process

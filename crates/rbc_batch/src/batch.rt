@@ -5,8 +5,8 @@ ghost use Rattle.std.specs.List.{All};
 ghost use Rattle.rbc_rule.specs.Inputs.{Fits};
 ghost use Rattle.rbc_batch.specs.Process.{Answers, AreRead, IsBeforeWriting, IsRunOf, IsUntouched, max_batch};
 
+use crate::output::render;
 use crate::parse::parse_batch;
-use crate::parts::render_in_threads;
 use crate::read::read_batch;
 use crate::write::write_text;
 use rbc_core::{Desk, Stats};
@@ -132,7 +132,7 @@ pub fn process<R: Read, W: Write, G: Gate + Sync>(
         let inputs = read_inputs(rt, reader)?;
         run_all(rt, track, &inputs, workers, gate)?
     };
-    let text = render_in_threads(rt, &desk)?;
+    let text = render(rt.alloc(), &desk)?;
     match write_text(writer, &text) {
         Ok(()) => Ok(stats),
         Err(sent) => Err(ProcessError::Write { sent: sent as u64 }),

@@ -4,7 +4,6 @@
 mod batch;
 mod output;
 mod parse;
-mod parts;
 mod read;
 mod write;
 

@@ -1,6 +1,6 @@
 //! Writing a desk as its output text.
 
-ghost use Rattle.std.specs.Prelude.{◌≡◌, ◌++◌, ◌+◌, ◌-◌, ◌*◌, ◌≤◌, ◌<◌, ◌^◌, length, take, drop, OnOk, IfOk, map};
+ghost use Rattle.std.specs.Prelude.{◌≡◌, ◌++◌, ◌*◌, ◌≤◌, ◌<◌, ◌^◌, length, OnOk, IfOk, map};
 ghost use Rattle.std.specs.Fmt.{decimal};
 ghost use Rattle.std.specs.List.{flat_map, enumerate_from};
 ghost use Rattle.hex.specs.Hex.{encode_upper};
@@ -86,32 +86,22 @@ fn push_outbox(text: &mut Vec<u8>, engine: u32, mails: &[Mail]) -> Result<(), Al
     Ok(())
 }
 
-/// Appends the lines of results, of which the first has the number behind `before`.
-pub(crate) fn push_results(
-    text: &mut Vec<u8>,
-    before: u32,
-    results: &[Reply],
-) -> Result<(), AllocError>
-    requires { before + length results.now < 2 ^ 32 }
-    ensures { OnOk result (text.new.items ≡ text.old.items ++ flat_map result_line (enumerate_from (before + 1) results.now)) }
+/// Appends the lines of all results, numbered from 1.
+fn push_results(text: &mut Vec<u8>, results: &[Reply]) -> Result<(), AllocError>
+    requires { length results.now < 2 ^ 32 }
+    ensures { OnOk result (text.new.items ≡ text.old.items ++ flat_map result_line (enumerate_from 1 results.now)) }
 {
     for (place, reply) in results.iter().enumerate() {
-        push_result(text, before + place as u32 + 1, *reply)?;
+        push_result(text, place as u32 + 1, *reply)?;
     }
     Ok(())
 }
 
-/// Appends the lines of the outboxes of a desk from the index `from` on, up to the index `end`.
-pub(crate) fn push_outboxes(
-    text: &mut Vec<u8>,
-    desk: &Desk,
-    from: usize,
-    end: usize,
-) -> Result<(), AllocError>
-    requires { (from ≤ end) × (end ≤ length desk.now.outboxes) }
-    ensures { OnOk result (text.new.items ≡ text.old.items ++ flat_map outbox_lines (take (end - from) (drop from desk.now.outboxes))) }
+/// Appends the lines of all outboxes of a desk.
+fn push_outboxes(text: &mut Vec<u8>, desk: &Desk) -> Result<(), AllocError>
+    ensures { OnOk result (text.new.items ≡ text.old.items ++ flat_map outbox_lines desk.now.outboxes) }
 {
-    for index in from..end {
+    for index in 0..desk.outboxes() {
         let (engine, mails) = desk.outbox_at(index);
         push_outbox(text, engine, mails)?;
     }
@@ -123,7 +113,7 @@ pub fn render(alloc: Global, desk: &Desk) -> Result<Vec<u8>, AllocError>
     ensures { IfOk result (λ text. text.items ≡ output_of desk.now.results desk.now.outboxes) }
 {
     let mut text = Vec::new(alloc);
-    push_results(&mut text, 0, desk.results())?;
-    push_outboxes(&mut text, desk, 0, desk.outboxes())?;
+    push_results(&mut text, desk.results())?;
+    push_outboxes(&mut text, desk)?;
     Ok(text)
 }

@@ -1,4 +1,3 @@
-mod long;
 mod parsing;
 mod processing;
 mod refusals;

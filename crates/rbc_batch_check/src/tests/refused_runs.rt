@@ -53,7 +53,7 @@ where
 }
 
 /// Runs a batch from the empty state, by one worker on the desk itself, and gives the output text.
-pub(super) fn serial_text<R>(rt: &R, track: &Track, batch: &str) -> Result<Vec<u8>, Fail>
+fn serial_text<R>(rt: &R, track: &Track, batch: &str) -> Result<Vec<u8>, Fail>
 where
     R: Abort + AllocGlobal + Threads + Wait + Sync,
 {
