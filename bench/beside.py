@@ -1,0 +1,65 @@
+"""Sets the program beside another one, and prints a table: beside.py FOLDER RUNS OTHER PROGRAM
+
+Times are the least wall ms of whole runs, in turn, with output to a file. The ratio is that of the program by one worker to the other program by
+one. The exit status is 1 where an output differs.
+"""
+
+import glob
+import hashlib
+import os
+import subprocess
+import sys
+import tempfile
+import time
+
+WORKERS = (1, 2, 4)
+
+
+class Variant:
+    """A program by a number of workers, and what its runs of one batch took: least wall ms, and the most MB."""
+
+    def __init__(self, program, workers):
+        self.words = [program, "run", "--workers", str(workers)]
+        self.least, self.peak = float("inf"), 0.0
+
+    def run(self, name, output):
+        """Runs a batch, and returns the digest of the output."""
+        with open(f"{name}.batch", "rb") as given, open(output, "wb") as taken:
+            start = time.perf_counter()
+            process = subprocess.Popen([*self.words, "--track", f"{name}.toml"], stdin=given, stdout=taken)
+            _, status, usage = os.wait4(process.pid, 0)
+            self.least = min(self.least, 1e3 * (time.perf_counter() - start))
+        process.returncode = os.waitstatus_to_exitcode(status)
+        if process.returncode:
+            sys.exit(f"{' '.join(self.words)} on {name}: status {process.returncode}")
+        self.peak = max(self.peak, usage.ru_maxrss / 1024)
+        with open(output, "rb") as it:
+            return hashlib.sha256(it.read()).digest()
+
+
+def row(name, runs, other, program, output):
+    """The row of a batch, and whether all outputs were equal."""
+    base = Variant(other, 1)
+    ours = [Variant(program, workers) for workers in WORKERS]
+    digests = {variant.run(name, output) for _ in range(runs) for variant in [base, *ours]}
+    times = [f"{variant.least:.0f}" for variant in ours]
+    cells = [os.path.basename(name), f"{base.least:.0f}", *times, f"{ours[0].least / base.least:.1f}"]
+    cells += [f"{ours[0].least / ours[-1].least:.2f}", f"{ours[0].peak:.0f} : {base.peak:.0f}"]
+    return f"| {' | '.join(cells)} |", len(digests) == 1
+
+
+def main(folder, runs, other, program):
+    print(f"| batch | the other | {' | '.join(f'by {workers}' for workers in WORKERS)} | ratio by one | 1 : 4 workers | peak MB |")
+    print("|---|---|---|---|---|---|---|---|")
+    equal = True
+    with tempfile.TemporaryDirectory() as room:
+        for batch in sorted(glob.glob(f"{folder}/*.batch")):
+            text, same = row(batch.removesuffix(".batch"), runs, other, program, f"{room}/output")
+            print(text, flush=True)
+            equal = equal and same
+    print("all outputs were equal" if equal else "AN OUTPUT DIFFERS")
+    sys.exit(0 if equal else 1)
+
+
+if __name__ == "__main__":
+    main(sys.argv[1], int(sys.argv[2]), sys.argv[3], sys.argv[4])
