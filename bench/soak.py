@@ -6,6 +6,7 @@ bench/soak.sh tells what it does and prints.
 import collections
 import concurrent.futures
 import os
+import statistics
 import subprocess
 import sys
 import tempfile
@@ -19,7 +20,7 @@ SIZES = (50, 300, 300, 1_000, 3_000, 20_000)  # lines of a batch
 LONG = 20  # seconds that one process runs one batch over and over, so that its memory is seen to stay
 PAUSE = 0.01  # seconds between two looks at the memory of a process
 PATIENCE = 3_600  # seconds that no run takes, on a busy machine too
-SLACK = 8 * 1024  # KiB that memory may grow by in a process that does the same over and over
+SLACK = 4 * 1024  # KiB that memory may grow by in a process that does the same over and over
 
 Ended = collections.namedtuple("Ended", "status output errors looks seconds")
 Batch = collections.namedtuple("Batch", "name lines track text")
@@ -112,14 +113,15 @@ class Soak:
         return ended, ended.status == 0 and ended.output == wanted, f"{names}, {workers} workers, {runs} runs each"
 
     def over_and_over(self, batch, workers):
-        """Runs a batch by one process for some time. Its memory in the last third of the time must be that in the first third."""
+        """Runs a batch by one process for some time. Its memory in the last third of the time must be that in the first third, by the median: a
+        moment in which one worker waits for a processor makes a stretch longer, and its log too."""
         once, is_right, what = self.by_golden([batch], 1, workers)
         self.note(once, is_right, what)
         runs = max(6, int(LONG / max(once.seconds, 0.002)))
         ended, is_right, what = self.by_golden([batch], runs, workers)
         third = len(ended.looks) // 3
         if third:
-            grown = max(ended.looks[-third:]) - max(ended.looks[:third])
+            grown = int(statistics.median(ended.looks[-third:]) - statistics.median(ended.looks[:third]))
             self.growth = max(self.growth, grown)
             is_right = is_right and grown <= SLACK
             what += f", grown by {grown} KiB"
