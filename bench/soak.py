@@ -20,7 +20,7 @@ SIZES = (50, 300, 300, 1_000, 3_000, 20_000)  # lines of a batch
 LONG = 20  # seconds that one process runs one batch over and over, so that its memory is seen to stay
 PAUSE = 0.01  # seconds between two looks at the memory of a process
 PATIENCE = 3_600  # seconds that no run takes, on a busy machine too
-SLACK = 4 * 1024  # KiB that memory may grow by in a process that does the same over and over
+SLACK = 8 * 1024  # KiB that memory may grow by in a process that does the same over and over: what the allocator keeps for each thread at first
 
 Ended = collections.namedtuple("Ended", "status output errors looks seconds")
 Batch = collections.namedtuple("Batch", "name lines track text")
