@@ -7,6 +7,7 @@ one. The exit status is 1 where an output differs.
 import glob
 import hashlib
 import os
+import shutil
 import subprocess
 import sys
 import tempfile
@@ -16,25 +17,33 @@ WORKERS = (1, 2, 4)
 
 
 class Variant:
-    """A program by a number of workers, and what its runs of one batch took: least wall ms, and the most MB."""
+    """A program by a number of workers, and what its runs of one batch took: least wall ms."""
 
     def __init__(self, program, workers):
         self.words = [program, "run", "--workers", str(workers)]
-        self.least, self.peak = float("inf"), 0.0
+        self.least = float("inf")
 
     def run(self, name, output):
         """Runs a batch, and returns the digest of the output."""
         with open(f"{name}.batch", "rb") as given, open(output, "wb") as taken:
             start = time.perf_counter()
             process = subprocess.Popen([*self.words, "--track", f"{name}.toml"], stdin=given, stdout=taken)
-            _, status, usage = os.wait4(process.pid, 0)
+            status = process.wait()
             self.least = min(self.least, 1e3 * (time.perf_counter() - start))
-        process.returncode = os.waitstatus_to_exitcode(status)
-        if process.returncode:
-            sys.exit(f"{' '.join(self.words)} on {name}: status {process.returncode}")
-        self.peak = max(self.peak, usage.ru_maxrss / 1024)
+        if status:
+            sys.exit(f"{' '.join(self.words)} on {name}: status {status}")
         with open(output, "rb") as it:
             return hashlib.sha256(it.read()).digest()
+
+    def peak(self, name):
+        """MB of one more run, by GNU time, which is smaller than this process; a dash where that is not there."""
+        timer = shutil.which("time")
+        if timer is None:
+            return "-"
+        words = [timer, "-f", "%M", *self.words, "--track", f"{name}.toml"]
+        with open(f"{name}.batch", "rb") as given:
+            ran = subprocess.run(words, stdin=given, stdout=subprocess.DEVNULL, stderr=subprocess.PIPE, check=True)
+        return f"{int(ran.stderr.split()[-1]) / 1024:.0f}"
 
 
 def row(name, runs, other, program, output):
@@ -44,7 +53,7 @@ def row(name, runs, other, program, output):
     digests = {variant.run(name, output) for _ in range(runs) for variant in [base, *ours]}
     times = [f"{variant.least:.0f}" for variant in ours]
     cells = [os.path.basename(name), f"{base.least:.0f}", *times, f"{ours[0].least / base.least:.1f}"]
-    cells += [f"{ours[0].least / ours[-1].least:.2f}", f"{ours[0].peak:.0f} : {base.peak:.0f}"]
+    cells += [f"{ours[0].least / ours[-1].least:.2f}", f"{ours[0].peak(name)} : {base.peak(name)}"]
     return f"| {' | '.join(cells)} |", len(digests) == 1
 
 
