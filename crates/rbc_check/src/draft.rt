@@ -193,14 +193,15 @@ impl<'a> Draft<'a> {
             self.miss(document, "line", Wanted::Lines);
         }
         for (index, row) in rows_under(document.table, "line").iter().enumerate() {
-            if let Some(here) = self.table_at(row, Place::Line(index)) {
-                self.read_line(here);
-            }
+            self.read_line(index, row);
         }
     }
 
-    /// Reads a table of `line`. Its length is checked with the others.
-    fn read_line(&mut self, here: Here<'a>) {
+    /// Reads a row of `line`, if it is a table. Its length is checked with the others.
+    fn read_line(&mut self, index: usize, row: &'a Value) {
+        let Some(here) = self.table_at(row, Place::Line(index)) else {
+            return;
+        };
         let length = self.number(here, "length", u32::MAX, Wanted::Length);
         let name = name_in(here.table);
         if self.lines.push(LineDraft { length, name }).is_err() {
@@ -213,14 +214,15 @@ impl<'a> Draft<'a> {
             self.miss(document, "group", Wanted::Groups);
         }
         for (index, row) in rows_under(document.table, "group").iter().enumerate() {
-            if let Some(here) = self.table_at(row, Place::Group(index)) {
-                self.read_group(here);
-            }
+            self.read_group(index, row);
         }
     }
 
-    /// Reads a table of `group`. Its line and place are checked with the others.
-    fn read_group(&mut self, here: Here<'a>) {
+    /// Reads a row of `group`, if it is a table. Its line and place are checked with the others.
+    fn read_group(&mut self, index: usize, row: &'a Value) {
+        let Some(here) = self.table_at(row, Place::Group(index)) else {
+            return;
+        };
         let group = GroupDraft {
             nid: self.number(here, "nid", MAX_NID, Wanted::Nid),
             line: self.number(here, "line", u32::MAX, Wanted::Line),

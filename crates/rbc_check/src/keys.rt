@@ -25,11 +25,9 @@ pub fn is_known(kind: Kind, key: &str) -> bool
     ensures { result ≡ is_known kind key.now }
 {
     match kind {
-        Kind::Document => key == "group" || (key == "horizon" || (key == "line" || key == "name")),
-        Kind::Line => key == "length" || key == "name",
-        Kind::Group => {
-            key == "at" || (key == "line" || (key == "name" || (key == "nid" || key == "nominal")))
-        }
+        Kind::Document => ["group", "horizon", "line", "name"].contains(&key),
+        Kind::Line => ["length", "name"].contains(&key),
+        Kind::Group => ["at", "line", "name", "nid", "nominal"].contains(&key),
     }
 }
 

@@ -6,6 +6,19 @@ use crate::place::push_place;
 use crate::sheet::Sheet;
 use std::alloc::Global;
 
+const NO_LINE: &str = "The track has no line: every stop and every restriction is refused.\n";
+
+const NO_GROUP: &str =
+    "There is no balise group: no train can have a place, so each stop stops every train
+      at once, and no restriction is told to any.
+";
+
+const FAR_HORIZON: &str = "is not below the longest line: a restriction is told however far
+      ahead it begins.
+";
+
+const NEAR_HORIZON: &str = "is below 2 km: a fast train may need more than that to brake.\n";
+
 /// What lies between two neighbours on a line.
 #[derive(Clone, Copy)]
 pub struct Gap {
@@ -125,12 +138,16 @@ fn push_remark(sheet: &mut Sheet, remark: Remark<'_>) {
             first,
         } => push_unknown(sheet, key, kind, tables, first),
         Remark::HiddenName(place) => push_hidden(sheet, place),
-        Remark::NoLine => push_no_line(sheet),
-        Remark::NoGroup => push_no_group(sheet),
+        Remark::NoLine => {
+            sheet.words(NO_LINE);
+        }
+        Remark::NoGroup => {
+            sheet.words(NO_GROUP);
+        }
         Remark::BareLine(line) => push_bare_line(sheet, line),
         Remark::SamePlace { nids, line, at } => push_same_place(sheet, nids, line, at),
-        Remark::FarHorizon(horizon) => push_far_horizon(sheet, horizon),
-        Remark::NearHorizon(horizon) => push_near_horizon(sheet, horizon),
+        Remark::FarHorizon(horizon) => push_horizon(sheet, horizon, FAR_HORIZON),
+        Remark::NearHorizon(horizon) => push_horizon(sheet, horizon, NEAR_HORIZON),
         Remark::WideGap { horizon, gap } => push_wide_gap(sheet, horizon, gap),
     }
 }
@@ -182,16 +199,6 @@ fn push_hidden(sheet: &mut Sheet, place: Place) {
     sheet.words(" is not shown: it has to be a text of 1 to 40 plain characters.\n");
 }
 
-fn push_no_line(sheet: &mut Sheet) {
-    sheet.words("The track has no line: every stop and every restriction is refused.\n");
-}
-
-fn push_no_group(sheet: &mut Sheet) {
-    sheet.words(
-        "There is no balise group: no train can have a place, so each stop stops every train\n      at once, and no restriction is told to any.\n",
-    );
-}
-
 fn push_bare_line(sheet: &mut Sheet, line: usize) {
     sheet
         .words("Line ")
@@ -212,16 +219,12 @@ fn push_same_place(sheet: &mut Sheet, nids: (u32, u32), line: u32, at: u32) {
         .words(".\n");
 }
 
-fn push_far_horizon(sheet: &mut Sheet, horizon: u32) {
-    sheet.words("The horizon, ").length(horizon).words(
-        " km, is not below the longest line: a restriction is told however far\n      ahead it begins.\n",
-    );
-}
-
-fn push_near_horizon(sheet: &mut Sheet, horizon: u32) {
-    sheet.words("The horizon, ").length(horizon).words(
-        " km, is below 2 km: a fast train may need more than that to brake.\n",
-    );
+fn push_horizon(sheet: &mut Sheet, horizon: u32, words: &str) {
+    sheet
+        .words("The horizon, ")
+        .length(horizon)
+        .words(" km, ")
+        .words(words);
 }
 
 fn push_wide_gap(sheet: &mut Sheet, horizon: u32, gap: Gap) {

@@ -7,6 +7,5 @@ mod list;
 mod units;
 
 pub use codes::{Row, other_row_of, row_of, row_of_code};
-pub use faults::{FaultKind, FaultRow};
 pub use list::codes_text;
-pub use units::{Count, Km, Metres};
+pub use units::{Count, Km};

@@ -58,8 +58,7 @@ fn push_row(text: &mut String, row: Row) -> Result<(), AllocError> {
 }
 
 fn push_faults(text: &mut String) -> Result<(), AllocError> {
-    for fault in FAULTS {
-        let row = fault.row();
+    for row in FAULTS {
         text.push_str("   ")?;
         text.push_str(row.line)?;
         text.push_str("\n")?;

@@ -29,25 +29,6 @@ impl fmt::Display for Km {
     }
 }
 
-/// A length in units of 10 cm, shown in metres, with a tenth where it is not 0: `200 m`, `0.5 m`.
-#[derive(Clone, Copy, Debug, PartialEq, Eq)]
-pub struct Metres(pub u32);
-
-impl fmt::Display for Metres {
-    ghost use Rattle.std.specs.Prelude.{Some};
-    ghost use Rattle.rbc_words.specs.Units.{metres_text};
-
-    ghost output = { λ metres. Some (metres_text metres.0) };
-
-    fn fmt<W: fmt::Write>(&self, f: &mut fmt::Formatter<W>) -> fmt::Result {
-        let (whole, tenth) = (self.0 / 10, self.0 % 10);
-        if tenth == 0 {
-            return write!(f, "{whole} m");
-        }
-        write!(f, "{whole}.{tenth} m")
-    }
-}
-
 /// So many of a thing: `1 line`, `2 lines`. The plural of the noun ends in s.
 #[derive(Clone, Copy, Debug, PartialEq, Eq)]
 pub struct Count<'a> {

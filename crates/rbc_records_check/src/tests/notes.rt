@@ -1,12 +1,9 @@
 //! Notes of what was read.
 
 use super::same;
-use crate::tests::setting::{assert_engines, engines, train, train_in};
-use crate::tests::stores::write;
-use rbc_records::{Key, Notes, PlainStore, Rec};
-use std::alloc::Global;
+use crate::tests::setting::{assert_engines, assert_train, engines, train};
+use rbc_records::{Key, Notes, Rec};
 use std::process::Abort;
-use std::test::Fail;
 
 /// The keys that are noted, in turn, and whether there was a record.
 const READ: [(Key, bool); 6] = [
@@ -18,27 +15,24 @@ const READ: [(Key, bool); 6] = [
     (Key::Unplaced, false),
 ];
 
-/// Notes what was read under a key for the first time.
-fn note(rt: &impl Abort, notes: &mut Notes, key: Key, rec: Option<Rec>) -> Result<(), Fail> {
-    assert!(rt; notes.get(key).is_none(), "{key:?}");
-    notes.add(key, rec)?;
-    Ok(())
+/// What is read under a key: engines 7 and 9, train 7 with stamp 20, engine 9 on line 3, and nothing else.
+fn read<R: Abort + AllocGlobal>(rt: &R, key: Key) -> Option<Rec> {
+    match key {
+        Key::Roster => Some(engines(rt, &[7, 9])),
+        Key::Train(7) => Some(train(rt, 7, 20)),
+        Key::Line(3) => Some(engines(rt, &[9])),
+        _ => None,
+    }
 }
 
-/// Notes of engines 7 and 9, of train 7 with stamp 20 and of engine 9 on line 3; and that there are
-/// no train 9, no restrictions and no list of engines without a place.
-fn noted(rt: &impl Abort, alloc: Global) -> Result<Notes, Fail> {
-    let mut notes = Notes::new(alloc);
-    note(rt, &mut notes, Key::Train(9), None)?;
-    let enrolled = engines(alloc, &[7, 9])?;
-    note(rt, &mut notes, Key::Roster, Some(enrolled))?;
-    let train = train(alloc, 7, 20)?;
-    note(rt, &mut notes, Key::Train(7), Some(train))?;
-    note(rt, &mut notes, Key::Limits, None)?;
-    let on_line = engines(alloc, &[9])?;
-    note(rt, &mut notes, Key::Line(3), Some(on_line))?;
-    note(rt, &mut notes, Key::Unplaced, None)?;
-    Ok(notes)
+/// Notes of what is read under each of the keys, each for the first time.
+fn noted<R: Abort + AllocGlobal>(rt: &R) -> Notes {
+    let mut notes = Notes::new(rt.alloc());
+    for (key, _) in READ {
+        assert!(rt; notes.get(key).is_none(), "{key:?}");
+        notes.add(key, read(rt, key)).expect(rt, "memory");
+    }
+    notes
 }
 
 /// The key at an index, and whether there was a record.
@@ -56,55 +50,47 @@ fn under(notes: &Notes, key: Key) -> Option<bool> {
     Some(notes.get(key)?.is_some())
 }
 
-#[test]
-fn notes_stand_in_the_order_of_reading(rt: HostRuntime) -> Result<(), Fail> {
-    let notes = noted(&rt, rt.alloc())?;
-    same(&rt, notes.len(), READ.len());
+/// Asserts that notes are of the keys above, in turn, and of no other.
+fn assert_order(rt: &impl Abort, notes: &Notes) {
+    same(rt, notes.len(), READ.len());
     for (index, (key, there)) in READ.iter().enumerate() {
-        same(&rt, at(&notes, index), Some((*key, *there)));
-        same(&rt, under(&notes, *key), Some(*there));
+        same(rt, at(notes, index), Some((*key, *there)));
+        same(rt, under(notes, *key), Some(*there));
     }
-    same(&rt, at(&notes, READ.len()), None);
-    same(&rt, under(&notes, Key::Stops), None);
-    same(&rt, under(&notes, Key::Train(8)), None);
-    same(&rt, under(&notes, Key::Line(4)), None);
-    Ok(())
+    same(rt, at(notes, READ.len()), None);
+    same(rt, under(notes, Key::Stops), None);
+    same(rt, under(notes, Key::Train(8)), None);
+    same(rt, under(notes, Key::Line(4)), None);
 }
 
 #[test]
-fn each_note_is_what_was_read(rt: HostRuntime) -> Result<(), Fail> {
-    let notes = noted(&rt, rt.alloc())?;
-    let engines = notes.get(Key::Roster).expect(&rt, "the engines");
-    assert_engines(&rt, engines, &[7, 9]);
-    let train = notes.get(Key::Train(7)).expect(&rt, "train 7");
-    let train = train_in(train).expect(&rt, "a train");
-    same(&rt, (train.engine, train.stamp), (7, 20));
-    let on_line = notes.get(Key::Line(3)).expect(&rt, "line 3");
-    assert_engines(&rt, on_line, &[9]);
+fn notes_stand_in_the_order_of_reading(rt: HostRuntime) {
+    assert_order(&rt, &noted(&rt));
+}
+
+/// Asserts what was read under the keys that had a record, and at the indices of the first two of them.
+fn assert_read(rt: &impl Abort, notes: &Notes) {
+    let engines = notes.get(Key::Roster).expect(rt, "the engines");
+    assert_engines(rt, engines, &[7, 9]);
+    let train = notes.get(Key::Train(7)).expect(rt, "train 7");
+    assert_train(rt, train, 7, 20);
+    let on_line = notes.get(Key::Line(3)).expect(rt, "line 3");
+    assert_engines(rt, on_line, &[9]);
     assert!(rt; notes.len() == READ.len());
-    assert_engines(&rt, notes.at(1).1, &[7, 9]);
-    let train = train_in(notes.at(2).1).expect(&rt, "a train");
-    same(&rt, (train.engine, train.stamp), (7, 20));
-    Ok(())
+    assert_engines(rt, notes.at(1).1, &[7, 9]);
+    assert_train(rt, notes.at(2).1, 7, 20);
 }
 
 #[test]
-fn nothing_is_noted_at_first(rt: HostRuntime) -> Result<(), Fail> {
+fn each_note_is_what_was_read(rt: HostRuntime) {
+    assert_read(&rt, &noted(&rt));
+}
+
+#[test]
+fn nothing_is_noted_at_first(rt: HostRuntime) {
     let notes = Notes::new(rt.alloc());
     same(&rt, notes.len(), 0);
     for (key, _) in READ {
         same(&rt, under(&notes, key), None);
-    }
-    Ok(())
-}
-
-/// The record of engines, that of an engine on a line, or that of a train with a stamp; none without
-/// a stamp.
-fn record(alloc: Global, key: Key, stamp: Option<u32>) -> Result<Option<Rec>, Fail> {
-    match (key, stamp) {
-        (_, None) => Ok(None),
-        (Key::Train(engine), Some(stamp)) => Ok(Some(train(alloc, engine, stamp)?)),
-        (Key::Line(_), _) => Ok(Some(engines(alloc, &[9])?)),
-        _ => Ok(Some(engines(alloc, &[7, 9])?)),
     }
 }

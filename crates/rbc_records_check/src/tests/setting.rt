@@ -6,9 +6,7 @@ use rbc_records::Rec;
 use rbc_settle::{Numbers, TrainRec};
 use rbc_track::{Track, track_from_toml};
 use rbc_zones::{Area, Dirs, Limit, Limits, Segment, Stops};
-use std::alloc::Global;
 use std::process::Abort;
-use std::test::Fail;
 
 /// Line 0 is 30 km long.
 const TRACK: &str = "horizon = 100000
@@ -25,94 +23,93 @@ pub(super) fn segment(from: u32) -> Segment {
     }
 }
 
-fn track(alloc: Global) -> Result<Track, Fail> {
-    Ok(track_from_toml(alloc, TRACK)?)
+fn track<R: Abort + AllocGlobal>(rt: &R) -> Track {
+    track_from_toml(rt.alloc(), TRACK).expect(rt, "a good track")
 }
 
 /// Numbers, none twice.
-pub(super) fn numbers(alloc: Global, all: &[u32]) -> Result<Numbers, Fail> {
-    let mut numbers = Numbers::new(alloc);
+pub(super) fn numbers<R: Abort + AllocGlobal>(rt: &R, all: &[u32]) -> Numbers {
+    let mut numbers = Numbers::new(rt.alloc());
     for n in all {
-        if numbers.has(*n) {
-            return Err(Fail::new("a number twice"));
-        }
-        numbers.add(*n)?;
+        assert!(rt; !numbers.has(*n));
+        numbers.add(*n).expect(rt, "memory");
     }
-    Ok(numbers)
+    numbers
 }
 
 /// Engine numbers, none twice.
-pub(super) fn engines(alloc: Global, all: &[u32]) -> Result<Rec, Fail> {
-    Ok(Rec::Engines(numbers(alloc, all)?))
+pub(super) fn engines<R: Abort + AllocGlobal>(rt: &R, all: &[u32]) -> Rec {
+    Rec::Engines(numbers(rt, all))
 }
 
 /// Holds the least free identifier for a number that is not told.
 pub(super) fn issue<const N: usize>(
+    rt: &impl Abort,
     table: &mut IdTable<N>,
     number: u32,
     stamp: u32,
     kind: Kind,
-) -> Result<u8, Fail> {
+) {
     match table.of_number(number) {
-        Some(_) => Err(Fail::new("told already")),
-        None => table
-            .issue(number, stamp, kind)
-            .map_err(|_| Fail::new("no identifier")),
+        Some(_) => panic!(rt; "told already"),
+        None => {
+            let _ = table.issue(number, stamp, kind).expect(rt, "an identifier");
+        }
     }
 }
 
 /// A train of 200 m to which stop 4 is told under its stamp.
-pub(super) fn train(alloc: Global, engine: u32, stamp: u32) -> Result<Rec, Fail> {
-    let mut train = TrainRec::new(alloc, engine, 2_000, stamp);
-    let _ = issue(&mut train.stops, 4, stamp, Kind::Conditional)?;
-    Ok(Rec::Train(train))
+pub(super) fn train<R: Abort + AllocGlobal>(rt: &R, engine: u32, stamp: u32) -> Rec {
+    let mut train = TrainRec::new(rt.alloc(), engine, 2_000, stamp);
+    issue(rt, &mut train.stops, 4, stamp, Kind::Conditional);
+    Rec::Train(train)
 }
 
 /// A train of 200 m that holds each identifier: 0 to 14 for the stops 1 to 15, and 0 to 254 for the restrictions 1 to 255,
 /// each told under a stamp that is the number. It rejected the stops 3 and 9.
-pub(super) fn full_train(alloc: Global) -> Result<Rec, Fail> {
-    let mut train = TrainRec::new(alloc, 16_777_215, 2_000, 1_000);
+pub(super) fn full_train<R: Abort + AllocGlobal>(rt: &R) -> Rec {
+    let mut train = TrainRec::new(rt.alloc(), 16_777_215, 2_000, 1_000);
     for number in 1..=15 {
-        let _ = issue(&mut train.stops, number, number, Kind::Conditional)?;
+        issue(rt, &mut train.stops, number, number, Kind::Conditional);
     }
     for number in 1..=255 {
-        let _ = issue(&mut train.limits, number, number, Kind::Restriction)?;
+        issue(rt, &mut train.limits, number, number, Kind::Restriction);
     }
-    train.forced = numbers(alloc, &[9, 3])?;
-    Ok(Rec::Train(train))
+    train.forced = numbers(rt, &[9, 3]);
+    Rec::Train(train)
 }
 
 /// Stops under ascending numbers, below 20,000. Each is of one segment, which begins at its number.
-pub(super) fn stops(rt: &impl Abort, alloc: Global, numbers: &[u32]) -> Result<Rec, Fail> {
-    let track = track(alloc)?;
-    let mut stops = Stops::new(alloc);
+pub(super) fn stops<R: Abort + AllocGlobal>(rt: &R, numbers: &[u32]) -> Rec {
+    let track = track(rt);
+    let mut stops = Stops::new(rt.alloc());
     for number in numbers {
         let area = Area::new(&track, &[segment(*number)]).expect(rt, "a good area");
         assert!(rt; stops.last() < *number);
-        stops.add(*number, area)?;
+        stops.add(*number, area).expect(rt, "memory");
     }
-    Ok(Rec::Stops(stops))
+    Rec::Stops(stops)
 }
 
 /// Restrictions to 40 km/h under ascending numbers, below 20,000. Each is of a segment that begins at its number.
-pub(super) fn limits(rt: &impl Abort, alloc: Global, numbers: &[u32]) -> Result<Rec, Fail> {
-    let track = track(alloc)?;
-    let mut limits = Limits::new(alloc);
+pub(super) fn limits<R: Abort + AllocGlobal>(rt: &R, numbers: &[u32]) -> Rec {
+    let track = track(rt);
+    let mut limits = Limits::new(rt.alloc());
     for number in numbers {
         let limit = Limit::new(&track, segment(*number), Dirs::Up, 40, true).expect(
             rt,
             "a good restriction",
         );
         assert!(rt; limits.last() < *number);
-        limits.add(*number, limit)?;
+        limits.add(*number, limit).expect(rt, "memory");
     }
-    Ok(Rec::Limits(limits))
+    Rec::Limits(limits)
 }
 
-pub(super) fn engines_in(rec: Option<&Rec>) -> Option<&Numbers> {
+pub(super) fn engines_in<'a>(rt: &impl Abort, rec: &'a Rec) -> &'a Numbers {
     match rec {
-        Some(Rec::Engines(engines)) => Some(engines),
-        _ => None,
+        Rec::Engines(engines) => engines,
+        _ => panic!(rt; "no engines"),
     }
 }
 
@@ -123,17 +120,17 @@ pub(super) fn train_in(rec: Option<&Rec>) -> Option<&TrainRec> {
     }
 }
 
-pub(super) fn stops_in(rec: Option<&Rec>) -> Option<&Stops> {
+pub(super) fn stops_in<'a>(rt: &impl Abort, rec: &'a Rec) -> &'a Stops {
     match rec {
-        Some(Rec::Stops(stops)) => Some(stops),
-        _ => None,
+        Rec::Stops(stops) => stops,
+        _ => panic!(rt; "no stops"),
     }
 }
 
-pub(super) fn limits_in(rec: Option<&Rec>) -> Option<&Limits> {
+pub(super) fn limits_in<'a>(rt: &impl Abort, rec: &'a Rec) -> &'a Limits {
     match rec {
-        Some(Rec::Limits(limits)) => Some(limits),
-        _ => None,
+        Rec::Limits(limits) => limits,
+        _ => panic!(rt; "no restrictions"),
     }
 }
 
@@ -148,9 +145,15 @@ fn at(numbers: &Numbers, index: usize) -> Option<u32> {
 
 /// Asserts that a record is these engine numbers.
 pub(super) fn assert_engines(rt: &impl Abort, rec: Option<&Rec>, wanted: &[u32]) {
-    let engines = engines_in(rec).expect(rt, "engines");
+    let engines = engines_in(rt, rec.expect(rt, "a record"));
     same(rt, engines.len(), wanted.len());
     for (index, n) in wanted.iter().enumerate() {
         same(rt, at(engines, index), Some(*n));
     }
+}
+
+/// Asserts that a record is a train with this engine number and stamp.
+pub(super) fn assert_train(rt: &impl Abort, rec: Option<&Rec>, engine: u32, stamp: u32) {
+    let train = train_in(rec).expect(rt, "a train");
+    same(rt, (train.engine, train.stamp), (engine, stamp));
 }

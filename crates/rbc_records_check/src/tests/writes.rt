@@ -2,25 +2,35 @@
 
 use super::same;
 use crate::tests::setting::{assert_engines, engines};
+use crate::tests::stores::set;
 use rbc_records::{Key, Writes};
-use std::test::Fail;
+use std::process::Abort;
 
-#[test]
-fn writes_stand_in_turn(rt: HostRuntime) -> Result<(), Fail> {
+/// Writes of engine 7, of no train 9, and then of engines 7 and 9.
+fn three<R: Abort + AllocGlobal>(rt: &R) -> Writes {
     let mut writes = Writes::new(rt.alloc());
-    same(&rt, writes.len(), 0);
-    writes.set(Key::Roster, Some(engines(rt.alloc(), &[7])?))?;
-    writes.set(Key::Train(9), None)?;
-    writes.set(Key::Roster, Some(engines(rt.alloc(), &[7, 9])?))?;
-    same(&rt, writes.len(), 3);
+    same(rt, writes.len(), 0);
+    set(rt, &mut writes, Key::Roster, Some(engines(rt, &[7])));
+    set(rt, &mut writes, Key::Train(9), None);
+    set(rt, &mut writes, Key::Roster, Some(engines(rt, &[7, 9])));
+    writes
+}
+
+/// Asserts which these are.
+fn assert_three(rt: &impl Abort, writes: &Writes) {
+    assert!(rt; writes.len() == 3);
     let (first, rec) = writes.at(0);
-    same(&rt, first, Key::Roster);
-    assert_engines(&rt, rec, &[7]);
+    same(rt, first, Key::Roster);
+    assert_engines(rt, rec, &[7]);
     let (second, rec) = writes.at(1);
-    same(&rt, second, Key::Train(9));
+    same(rt, second, Key::Train(9));
     assert!(rt; rec.is_none());
     let (third, rec) = writes.at(2);
-    same(&rt, third, Key::Roster);
-    assert_engines(&rt, rec, &[7, 9]);
-    Ok(())
+    same(rt, third, Key::Roster);
+    assert_engines(rt, rec, &[7, 9]);
+}
+
+#[test]
+fn writes_stand_in_turn(rt: HostRuntime) {
+    assert_three(&rt, &three(&rt));
 }
