@@ -184,16 +184,15 @@ pub(crate) fn read_ahead<N: RunName, R: Abort>(
     book: &Book<'_, N>,
     input: u32,
     key: Key,
-) -> Result<Ahead<N>, ReadFault> {
+) -> Ahead<N> {
     let nothing = Ahead::nothing(scene.alloc, input);
     let mut reader = Direct::new(scene.rt, scene.log, book, nothing);
-    reader.fetch(key)?;
-    let notes = reader.into_notes();
-    Ok(Ahead {
+    reader.fetch(key).expect(scene.rt, "memory");
+    Ahead {
         input,
-        notes,
+        notes: reader.into_notes(),
         of: PhantomData,
-    })
+    }
 }
 
 /// An attempt, and the numbers that were published for it.

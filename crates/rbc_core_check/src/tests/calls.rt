@@ -4,10 +4,10 @@ ghost use Rattle.std.specs.Prelude.{◌≡◌};
 ghost use Rattle.rbc_core.specs.Runs.{IsGoodRun};
 
 use super::same;
-use crate::tests::attempting::{Ahead, Scene, attempt, read_ahead};
+use crate::tests::attempting::{Ahead, Scene, Tried, attempt, read_ahead};
 use crate::tests::numbers::{Numbers, Origin, is_same_version};
-use crate::tests::setting::{all_fit, track};
-use rbc_core::{Book, Commit, Desk, MAX_RESULTS, RunName, Stats};
+use crate::tests::setting::{all_fit, good_track};
+use rbc_core::{Attempt, Book, Commit, Desk, MAX_RESULTS, RunName, Stats};
 use rbc_records::Key;
 use rbc_rule::Input;
 use rbc_track::Track;
@@ -17,7 +17,6 @@ use std::marker::{Brand, PhantomData};
 use std::mem;
 use std::process::Abort;
 use std::sync::Wait;
-use std::test::Fail;
 
 /// A call of a book, with what it has to answer.
 #[derive(Clone, Copy)]
@@ -61,21 +60,31 @@ impl<N: RunName> Kept<N> {
     }
 }
 
-/// Makes an attempt at an input, and deposits it.
+/// Makes an attempt at an input, and keeps the numbers that were published for it.
+fn attempted<N: RunName, R: Abort + Wait>(
+    scene: &Scene<'_, N, R>,
+    book: &Book<'_, N>,
+    kept: &mut Kept<N>,
+    number: u32,
+) -> Attempt<N> {
+    let ahead = kept.take_ahead(scene.alloc, number);
+    let Tried { attempt, numbers } = attempt(scene, book, ahead).expect(scene.rt, "memory");
+    kept.numbers.publish(scene.rt, number, &numbers);
+    attempt
+}
+
+/// Makes an attempt at an input, and deposits it. Tells whether it is kept.
 fn deposit<N: RunName, R: Abort + Wait>(
     scene: &Scene<'_, N, R>,
     book: &mut Book<'_, N>,
     kept: &mut Kept<N>,
     number: u32,
-) -> Result<bool, Fail> {
-    let ahead = kept.take_ahead(scene.alloc, number);
-    let tried = attempt(scene, book, ahead)?;
-    kept.numbers.publish(number, &tried.numbers)?;
-    match book.deposit(tried.attempt) {
-        Ok(()) => Ok(true),
+) -> bool {
+    match book.deposit(attempted(scene, book, kept, number)) {
+        Ok(()) => true,
         Err(back) => {
             same(scene.rt, back.number(), number);
-            Ok(false)
+            false
         }
     }
 }
@@ -88,11 +97,10 @@ fn assert_origin<N: RunName, R: Abort>(
     input: u32,
     key: Key,
     wanted: Origin,
-) -> Result<(), Fail> {
+) {
     let number = book.present(input, key);
-    let origin = kept.numbers.origin(scene.rt, key, number)?;
+    let origin = kept.numbers.origin(scene.rt, key, number);
     same(scene.rt, origin, wanted);
-    Ok(())
 }
 
 /// Asserts that the record under a key is the first one that is known there, published once more.
@@ -106,37 +114,52 @@ fn assert_again<N: RunName, R: Abort>(
     assert!(scene.rt; first != now && is_same_version(scene.log, first, now));
 }
 
+/// Takes what commits have no more use for, which is not counted. Tells whether there was anything.
+fn take_spent<N: RunName>(rt: &impl Abort, book: &mut Book<'_, N>) -> bool {
+    let stats = book.stats();
+    let spent = book.take_spent();
+    same(rt, book.stats(), stats);
+    !spent.is_empty()
+}
+
 /// Makes a call, and asserts its answer.
 fn make_call<N: RunName, R: Abort + Wait>(
     scene: &Scene<'_, N, R>,
     book: &mut Book<'_, N>,
     kept: &mut Kept<N>,
     call: Call,
-) -> Result<(), Fail> {
+) {
     let rt = scene.rt;
     match call {
         Call::Take(wanted) => same(rt, book.take(), wanted),
-        Call::Number(key, wanted) => assert_origin(scene, book, kept, 1, key, wanted)?,
-        Call::Seen(input, key, wanted) => assert_origin(scene, book, kept, input, key, wanted)?,
+        Call::Number(key, wanted) => assert_origin(scene, book, kept, 1, key, wanted),
+        Call::Seen(input, key, wanted) => assert_origin(scene, book, kept, input, key, wanted),
         Call::Again(key) => assert_again(scene, book, &kept.numbers, key),
-        Call::Read(input, key) => kept.ahead = read_ahead(scene, book, input, key)?,
-        Call::Deposit(number, wanted) => {
-            let is_kept = deposit(scene, book, kept, number)?;
-            same(rt, is_kept, wanted);
-        }
+        Call::Read(input, key) => kept.ahead = read_ahead(scene, book, input, key),
+        Call::Deposit(number, wanted) => same(rt, deposit(scene, book, kept, number), wanted),
         Call::Void(number, wanted) => same(rt, book.void(number), wanted),
         Call::Commit(wanted) => same(rt, book.commit(rt, scene.alloc, scene.track), wanted),
-        Call::TakeSpent(wanted) => {
-            let stats = book.stats();
-            let spent = book.take_spent();
-            same(rt, book.stats(), stats);
-            same(rt, !spent.is_empty(), wanted);
-        }
+        Call::TakeSpent(wanted) => same(rt, take_spent(rt, book), wanted),
     }
-    Ok(())
 }
 
-/// Makes calls of a new book, and closes it. All inputs have to be committed then.
+/// Makes calls of a book. All inputs have to be committed then.
+fn make_each<N: RunName, R: Abort + Wait>(
+    scene: &Scene<'_, N, R>,
+    book: &mut Book<'_, N>,
+    calls: &[Call],
+) {
+    let mut kept = Kept {
+        ahead: Ahead::nothing(scene.alloc, 0),
+        numbers: Numbers::new(scene.alloc),
+    };
+    for call in calls {
+        make_call(scene, book, &mut kept, *call);
+    }
+    same(scene.rt, book.committed() as usize, scene.inputs.len());
+}
+
+/// Makes calls of a new book, and closes it.
 fn make_calls<N: RunName, R: Abort + Wait>(
     rt: &R,
     alloc: Global,
@@ -145,7 +168,7 @@ fn make_calls<N: RunName, R: Abort + Wait>(
     inputs: &[Input],
     log: &VersionLog,
     calls: &[Call],
-) -> Result<(Desk, Stats), Fail>
+) -> (Desk, Stats)
     requires track { track.now ≡ N.run.track }
     requires desk { desk ≡ N.run.opening }
     requires inputs { inputs.now ≡ N.run.inputs }
@@ -160,30 +183,23 @@ fn make_calls<N: RunName, R: Abort + Wait>(
         log,
         of: PhantomData,
     };
-    let mut kept = Kept {
-        ahead: Ahead::nothing(alloc, 0),
-        numbers: Numbers::new(alloc),
-    };
     let mut book = Book::<N>::new(rt, alloc, desk, inputs, log)
         .ok()
-        .ok_or("memory")?;
-    for call in calls {
-        make_call(&scene, &mut book, &mut kept, *call)?;
-    }
-    same(rt, book.committed() as usize, inputs.len());
+        .expect(rt, "memory");
+    make_each(&scene, &mut book, calls);
     let stats = book.stats();
-    Ok((book.close(), stats))
+    (book.close(), stats)
 }
 
 /// Runs inputs from the empty state by these calls of a book.
-pub(crate) fn run<R: Abort + Wait>(
+pub(crate) fn run<R: Abort + AllocGlobal + Wait>(
     rt: &R,
-    alloc: Global,
     inputs: &[Input],
     calls: &[Call],
-) -> Result<(Desk, Stats), Fail> {
-    let track = track(alloc)?;
-    let log = VersionLog::new(alloc)?;
+) -> (Desk, Stats) {
+    let alloc = rt.alloc();
+    let track = good_track(rt);
+    let log = VersionLog::new(alloc).expect(rt, "memory");
     assert!(rt; all_fit(inputs));
     let desk = Desk::new(alloc);
     assert!(rt; inputs.len() <= MAX_RESULTS - desk.results().len());

@@ -1,12 +1,11 @@
 //! Threads that share one locked book: two of them take inputs and give each up, and a third commits.
 
 ghost use Rattle.std.specs.Prelude.{◌≡◌};
-ghost use Rattle.rbc_track.specs.Plan.{IsPlan};
 ghost use Rattle.rbc_core.specs.Runs.{IsGoodRun};
 
 use super::same;
-use crate::tests::rows::{Left, answers_to_waiting, assert_is_left, mails_of_waiting, one_waits};
-use crate::tests::setting::{all_fit, track};
+use crate::tests::rows::{assert_waited, one_waits};
+use crate::tests::setting::{all_fit, good_track};
 use rbc_core::{Book, Commit, Desk, MAX_RESULTS, RunName, Stats};
 use rbc_rule::Input;
 use rbc_track::Track;
@@ -15,7 +14,6 @@ use std::alloc::Global;
 use std::marker::Brand;
 use std::process::Abort;
 use std::sync::{Mutex, Wait};
-use std::test::Fail;
 use std::thread::{self, Threads};
 use std::time::{Clock, Duration};
 
@@ -92,7 +90,7 @@ fn close_crowded<N, R>(
     desk: Desk,
     inputs: &[Input],
     log: &VersionLog,
-) -> Result<(Desk, Stats), Fail>
+) -> (Desk, Stats)
 where
     N: RunName + Send + Sync,
     R: Abort + Clock + Threads + Wait + Sync,
@@ -104,7 +102,7 @@ where
 {
     let book = Book::<N>::new(rt, alloc, desk, inputs, log)
         .ok()
-        .ok_or("memory")?;
+        .expect(rt, "memory");
     let lock = Mutex::new(book);
     let crowd = Crowd {
         rt,
@@ -115,40 +113,26 @@ where
     crowd.work_at_once();
     let book = lock.into_inner();
     let stats = book.stats();
-    Ok((book.close(), stats))
+    (book.close(), stats)
 }
 
 /// Runs inputs from the empty state so.
-fn run_crowded<R: Abort + Clock + Threads + Wait + Sync>(
-    rt: &R,
-    alloc: Global,
-    track: &Track,
-    inputs: &[Input],
-) -> Result<(Desk, Stats), Fail>
-    requires { IsPlan track.now }
+fn run_crowded<R>(rt: &R, inputs: &[Input]) -> (Desk, Stats)
+where
+    R: Abort + AllocGlobal + Clock + Threads + Wait + Sync,
 {
+    let alloc = rt.alloc();
+    let track = good_track(rt);
+    let log = VersionLog::new(alloc).expect(rt, "memory");
     assert!(rt; all_fit(inputs));
     let desk = Desk::new(alloc);
     assert!(rt; inputs.len() <= MAX_RESULTS - desk.results().len());
-    let log = VersionLog::new(alloc)?;
-    close_crowded::<Brand, R>(rt, alloc, track, desk, inputs, &log)
+    close_crowded::<Brand, R>(rt, alloc, &track, desk, inputs, &log)
 }
 
 // each input is computed as it is committed, and nothing else comes of it
 #[test]
-fn given_up_by_two_threads(rt: HostRuntime) -> Result<(), Fail> {
-    let alloc = rt.alloc();
-    let results = answers_to_waiting(alloc)?;
-    let mails = mails_of_waiting(&rt, alloc)?;
-    let left = Left {
-        taken: 19,
-        recomputed: 19,
-        results: &results,
-        mails: &mails,
-    };
-    let inputs = one_waits(alloc)?;
-    let track = track(alloc)?;
-    let (desk, stats) = run_crowded(&rt, alloc, &track, &inputs)?;
-    assert_is_left(&rt, &desk, stats, &left);
-    Ok(())
+fn given_up_by_two_threads(rt: HostRuntime) {
+    let (desk, stats) = run_crowded(&rt, &one_waits(&rt));
+    assert_waited(&rt, &desk, stats);
 }

@@ -3,7 +3,7 @@
 use super::same;
 use rbc_records::Key;
 use rbc_versions::VersionLog;
-use std::alloc::{AllocError, Global};
+use std::alloc::Global;
 use std::process::Abort;
 
 /// Where the number comes from that stands under a key.
@@ -41,37 +41,33 @@ impl Numbers {
     }
 
     /// Keeps the numbers that were published for the attempt at an input.
-    pub(crate) fn publish(&mut self, input: u32, numbers: &[(Key, u64)]) -> Result<(), AllocError> {
+    pub(crate) fn publish(&mut self, rt: &impl Abort, input: u32, numbers: &[(Key, u64)]) {
         for (key, number) in numbers {
-            self.known.push(Known {
+            let known = Known {
                 key: *key,
                 number: *number,
                 origin: Origin::Attempt(input),
-            })?;
+            };
+            self.known.push(known).expect(rt, "memory");
         }
-        Ok(())
     }
 
     /// Where a number comes from that stands under a key. No number stands under two keys.
-    pub(crate) fn origin(
-        &mut self,
-        rt: &impl Abort,
-        key: Key,
-        number: u64,
-    ) -> Result<Origin, AllocError> {
+    pub(crate) fn origin(&mut self, rt: &impl Abort, key: Key, number: u64) -> Origin {
         if number == 0 {
-            return Ok(Origin::Nowhere);
+            return Origin::Nowhere;
         }
         if let Some(known) = self.known.iter().find(|known| known.number == number) {
             same(rt, known.key, key);
-            return Ok(known.origin);
+            return known.origin;
         }
-        self.known.push(Known {
+        let known = Known {
             key,
             number,
             origin: Origin::Before,
-        })?;
-        Ok(Origin::Commit)
+        };
+        self.known.push(known).expect(rt, "memory");
+        Origin::Commit
     }
 
     /// The first number above 0 that is known under a key, and 0 if none is.

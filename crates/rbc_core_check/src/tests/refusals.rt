@@ -17,7 +17,7 @@ use rbc_records::{Key, same_record};
 use rbc_rule::{Input, Reply, RuleFault};
 use rbc_track::Track;
 use rbc_versions::VersionLog;
-use std::alloc::Global;
+use std::alloc::{AllocError, Global};
 use std::marker::{Brand, PhantomData};
 use std::process::Abort;
 use std::sync::Wait;
@@ -139,6 +139,25 @@ fn commit<N: RunName, R: Abort + Wait>(
     }
 }
 
+/// Commits each input in turn, to the first commit that is refused memory. Tells whether memory was refused.
+fn commit_all<N: RunName, R: Abort + Wait>(
+    scene: &Scene<'_, N, R>,
+    book: &mut Book<'_, N>,
+    way: Way,
+) -> Result<bool, Fail> {
+    assert!(scene.rt; scene.inputs.len() <= MAX_RESULTS);
+    let mut refused = false;
+    for number in 1..=scene.inputs.len() as u32 {
+        if make_ready(scene, book, number, way)? {
+            refused = true;
+        }
+        if commit(scene, book, way) {
+            return Ok(true);
+        }
+    }
+    Ok(refused)
+}
+
 /// Runs inputs from a desk, to the first commit that is refused memory.
 fn run_all<N: RunName, R: Abort + Wait>(
     rt: &R,
@@ -156,7 +175,6 @@ fn run_all<N: RunName, R: Abort + Wait>(
     requires good { IsGoodRun N.run }
     ensures { IfOk result (λ ended. (d : serial.Desk) × Holds N.run.track (standing ended.desk) d) }
 {
-    assert!(rt; inputs.len() <= MAX_RESULTS);
     let scene = Scene {
         rt,
         alloc,
@@ -165,19 +183,11 @@ fn run_all<N: RunName, R: Abort + Wait>(
         log,
         of: PhantomData,
     };
-    let (mut book, mut refused) = open::<N, R>(&scene, desk)?;
-    for number in 1..=inputs.len() as u32 {
-        if make_ready(&scene, &mut book, number, way)? {
-            refused = true;
-        }
-        if commit(&scene, &mut book, way) {
-            refused = true;
-            break;
-        }
-    }
+    let (mut book, refused_first) = open::<N, R>(&scene, desk)?;
+    let refused = commit_all(&scene, &mut book, way)?;
     Ok(Ended {
         desk: book.close(),
-        refused,
+        refused: refused_first || refused,
     })
 }
 
@@ -213,6 +223,22 @@ fn assert_same_desk(rt: &impl Abort, desk: &Desk, wanted: &Desk) {
     }
 }
 
+/// Asserts that a desk is the one that inputs leave which are computed from the empty state, where no memory is refused.
+fn assert_left_by(
+    rt: &(impl Abort + Wait),
+    alloc: Global,
+    track: &Track,
+    inputs: &[Input],
+    desk: &Desk,
+) -> Result<(), Fail>
+    requires { IsPlan track.now }
+{
+    let wanted = run_from(rt, alloc, track, Desk::new(alloc), inputs, Way::Computing)?;
+    assert_same_desk(rt, desk, &wanted.desk);
+    assert!(rt; !wanted.refused);
+    Ok(())
+}
+
 /// Runs inputs from the empty state. Where a commit is refused memory, asserts that the desk is that of the inputs before, and runs
 /// the others from there.
 fn run_to_end(
@@ -230,10 +256,9 @@ fn run_to_end(
         return Ok(first);
     }
     let (before, after) = inputs.split_at(done);
-    let wanted = run_from(rt, alloc, track, Desk::new(alloc), before, Way::Computing)?;
-    assert_same_desk(rt, &first.desk, &wanted.desk);
+    assert_left_by(rt, alloc, track, before, &first.desk)?;
     let rest = run_from(rt, alloc, track, first.desk, after, way)?;
-    assert!(rt; first.refused && !wanted.refused && !rest.refused);
+    assert!(rt; first.refused && !rest.refused);
     Ok(Ended {
         desk: rest.desk,
         refused: true,
@@ -241,27 +266,52 @@ fn run_to_end(
 }
 
 /// Three trains are enrolled and told of five stops, of which the first is released.
-fn run_worked(rt: &(impl Abort + Wait), alloc: Global, way: Way) -> Result<bool, Fail> {
+fn worked(alloc: Global) -> Result<Vec<Input>, AllocError> {
     let mut inputs = vec![in alloc; enrol(3), enrol(9), enrol(7)]?;
-    let mut results = vec![in alloc; Reply::Done(0), Reply::Done(0), Reply::Done(0)]?;
-    let mut mails = Vec::new(alloc);
-    for number in 1..=5u8 {
-        let stamp = u32::from(number);
-        inputs.push(stop(alloc, stamp)?)?;
-        results.push(Reply::Done(3))?;
-        mails.push(stopped(stamp + 3, stamp, number - 1))?;
+    for number in 1..=5 {
+        inputs.push(stop(alloc, number)?)?;
     }
     inputs.push(Input::Release { number: 1 })?;
-    results.push(Reply::Done(3))?;
-    mails.push(revoked(9, 6, 0))?;
-    let track = track(alloc)?;
-    let Ended { desk, refused } = run_to_end(rt, alloc, &track, &inputs, way)?;
-    same(rt, desk.results(), results.as_slice());
+    Ok(inputs)
+}
+
+/// What these inputs are answered.
+const ANSWERS: [Reply; 9] = [
+    Reply::Done(0),
+    Reply::Done(0),
+    Reply::Done(0),
+    Reply::Done(3),
+    Reply::Done(3),
+    Reply::Done(3),
+    Reply::Done(3),
+    Reply::Done(3),
+    Reply::Done(3),
+];
+
+/// Asserts what they leave.
+fn assert_worked(rt: &impl Abort, desk: &Desk) {
+    let mails = [
+        stopped(4, 1, 0),
+        stopped(5, 2, 1),
+        stopped(6, 3, 2),
+        stopped(7, 4, 3),
+        stopped(8, 5, 4),
+        revoked(9, 6, 0),
+    ];
+    same(rt, desk.results(), ANSWERS.as_slice());
     same(rt, desk.outboxes(), 3);
     for (index, engine) in [3, 7, 9].iter().enumerate() {
-        assert_outbox(rt, &desk, index, *engine, &mails);
+        assert_outbox(rt, desk, index, *engine, &mails);
     }
-    Ok(refused)
+}
+
+/// Runs these inputs. Tells whether memory was refused.
+fn run_worked(rt: &(impl Abort + Wait), alloc: Global, way: Way) -> Result<bool, Fail> {
+    let inputs = worked(alloc)?;
+    let track = track(alloc)?;
+    let ended = run_to_end(rt, alloc, &track, &inputs, way)?;
+    assert_worked(rt, &ended.desk);
+    Ok(ended.refused)
 }
 
 #[test]

@@ -9,11 +9,10 @@ use super::same;
 use ertms_codec::{Head, ToTrain};
 use rbc_core::{Desk, Mail};
 use rbc_rule::{Input, Segments};
-use rbc_track::{Track, track_from_toml};
+use rbc_track::{Track, TrackError, track_from_toml};
 use rbc_zones::Segment;
-use std::alloc::Global;
+use std::alloc::{AllocError, Global};
 use std::process::Abort;
-use std::test::Fail;
 
 /// Line 0 is 30 km long and has balise group 5 at 1 km, whose nominal direction is up.
 const TRACK: &str = "horizon = 100000
@@ -29,12 +28,21 @@ nominal = \"up\"
 /// NID_LRBG of a train without a place.
 const UNKNOWN: u32 = 16_777_215;
 
-pub(crate) fn track(alloc: Global) -> Result<Track, Fail>
+pub(crate) fn track(alloc: Global) -> Result<Track, TrackError>
     ensures { IfOk result (λ track. IsPlan track) }
 {
     let track = track_from_toml(alloc, TRACK)?;
     let _ = track.horizon();
     Ok(track)
+}
+
+/// The same track, where memory suffices.
+pub(crate) fn good_track<R: Abort + AllocGlobal>(rt: &R) -> Track
+    ensures { IsPlan result }
+{
+    let track = track_from_toml(rt.alloc(), TRACK).expect(rt, "a good track");
+    let _ = track.horizon();
+    track
 }
 
 /// A train of 200 m is enrolled.
@@ -46,7 +54,7 @@ pub(crate) fn enrol(engine: u32) -> Input {
 }
 
 /// A stop for the first metre of line 0. A train without a place is told to stop at once.
-pub(crate) fn stop(alloc: Global, number: u32) -> Result<Input, Fail> {
+pub(crate) fn stop(alloc: Global, number: u32) -> Result<Input, AllocError> {
     let mut segments = Segments::new(alloc);
     segments.push(Segment {
         line: 0,

@@ -3,6 +3,3 @@ use Rattle.rbc_core_check.proofs.tests.refusals.run_to_end.Goals as goal
 
 pub run_from-requires-clause-held : goal.run_from-requires-clause-held
 run_from-requires-clause-held g c = (serial.new_desk, c.new.ensures.new c.args.track.now)
-
-pub run_from-requires-2-clause-held : goal.run_from-requires-2-clause-held
-run_from-requires-2-clause-held g c = (serial.new_desk, c.new-2.ensures.new c.args.track.now)
