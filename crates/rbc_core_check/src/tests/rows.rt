@@ -145,7 +145,11 @@ const MISLED: &[Call] = &[
 
 #[test]
 fn misled(rt: HostRuntime) {
-    let inputs = [enrol(8), enrol(7), stop(rt.alloc(), 1).expect(&rt, "memory")];
+    let inputs = [
+        enrol(8),
+        enrol(7),
+        stop(rt.alloc(), 1).expect(&rt, "memory"),
+    ];
     let (desk, stats) = run(&rt, &inputs, MISLED);
     let wanted = Stats {
         taken: 3,
@@ -204,7 +208,12 @@ const THERE_AND_BACK: &[Call] = &[
 #[test]
 fn there_and_back(rt: HostRuntime) {
     let leaving = Input::Withdraw { engine: 7 };
-    let inputs = [enrol(7), leaving, enrol(7), stop(rt.alloc(), 1).expect(&rt, "memory")];
+    let inputs = [
+        enrol(7),
+        leaving,
+        enrol(7),
+        stop(rt.alloc(), 1).expect(&rt, "memory"),
+    ];
     let left = Left {
         taken: 4,
         recomputed: 1,
@@ -310,7 +319,11 @@ const AT_THE_END: &[Call] = &[
 
 #[test]
 fn at_the_end(rt: HostRuntime) {
-    let inputs = [enrol(9), enrol(7), stop(rt.alloc(), 1).expect(&rt, "memory")];
+    let inputs = [
+        enrol(9),
+        enrol(7),
+        stop(rt.alloc(), 1).expect(&rt, "memory"),
+    ];
     let (desk, _) = run(&rt, &inputs, AT_THE_END);
     same(&rt, desk.results(), [DONE, DONE, Reply::Done(2)].as_slice());
     same(&rt, desk.outboxes(), 2);
