@@ -41,14 +41,10 @@ pub fn push_bare(remarks: &mut Remarks<'_>, draft: &Draft<'_>) {
     } else if draft.groups.is_empty() {
         remarks.warn(Remark::NoGroup);
     } else {
-        push_bare_lines(remarks, draft.lines.len(), draft.groups.as_slice());
-    }
-}
-
-fn push_bare_lines(remarks: &mut Remarks<'_>, lines: usize, groups: &[GroupDraft<'_>]) {
-    for index in 0..lines {
-        if count_on(groups, index) == 0 {
-            remarks.warn(Remark::BareLine(index));
+        for index in 0..draft.lines.len() {
+            if count_on(draft.groups.as_slice(), index) == 0 {
+                remarks.warn(Remark::BareLine(index));
+            }
         }
     }
 }
@@ -64,7 +60,10 @@ pub fn push_notes(remarks: &mut Remarks<'_>, draft: &Draft<'_>) {
     if horizon < NEAR {
         remarks.note(Remark::NearHorizon(horizon));
     }
-    push_wide_gap(remarks, horizon, groups);
+    let gap = widest_gap(groups);
+    if horizon < gap.width() {
+        remarks.note(Remark::WideGap { horizon, gap });
+    }
 }
 
 /// Adds a note for each two neighbours at one place.
@@ -78,14 +77,6 @@ fn push_same_places(remarks: &mut Remarks<'_>, groups: &[GroupDraft<'_>]) {
                 at: one.at,
             });
         }
-    }
-}
-
-/// Adds a note on the widest gap where it is above the horizon.
-fn push_wide_gap(remarks: &mut Remarks<'_>, horizon: u32, groups: &[GroupDraft<'_>]) {
-    let gap = widest_gap(groups);
-    if horizon < gap.width() {
-        remarks.note(Remark::WideGap { horizon, gap });
     }
 }
 

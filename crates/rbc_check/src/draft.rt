@@ -92,31 +92,6 @@ struct Here<'a> {
     table: &'a Table,
 }
 
-impl<'a> Here<'a> {
-    /// The whole number from 0 to `high` under a key.
-    fn number(self, key: &str, high: u32) -> Option<u32> {
-        match self.table.get(key) {
-            Some(Value::Integer(number)) => match u32::try_from(*number) {
-                Ok(number) if number <= high => Some(number),
-                _ => None,
-            },
-            _ => None,
-        }
-    }
-
-    /// The direction under the key `nominal`.
-    fn nominal(self) -> Option<&'a str> {
-        match self.table.get("nominal") {
-            Some(Value::String(word)) if is_way(word.as_str()) => Some(word.as_str()),
-            _ => None,
-        }
-    }
-}
-
-fn is_way(word: &str) -> bool {
-    word == "up" || word == "down"
-}
-
 /// The rows under a key that are to be tables. Without the key there are none.
 pub fn rows_under<'a>(document: &'a Table, key: &str) -> &'a [Value] {
     match document.get(key) {
@@ -145,24 +120,25 @@ impl<'a> Draft<'a> {
 
     /// The whole number from 0 to `high` under a key.
     fn number(&mut self, here: Here<'a>, key: &'static str, high: u32, wanted: Wanted) -> u32 {
-        match here.number(key, high) {
-            Some(number) => number,
-            None => {
-                self.miss(here, key, wanted);
-                0
-            }
+        if let Some(Value::Integer(number)) = here.table.get(key)
+            && let Ok(number) = u32::try_from(*number)
+            && number <= high
+        {
+            return number;
         }
+        self.miss(here, key, wanted);
+        0
     }
 
     /// The direction under the key `nominal`.
     fn nominal(&mut self, here: Here<'a>) -> &'a str {
-        match here.nominal() {
-            Some(word) => word,
-            None => {
-                self.miss(here, "nominal", Wanted::Way);
-                ""
-            }
+        if let Some(Value::String(word)) = here.table.get("nominal")
+            && ["up", "down"].contains(&word.as_str())
+        {
+            return word.as_str();
         }
+        self.miss(here, "nominal", Wanted::Way);
+        ""
     }
 
     /// A row of an array as a table, where it stands.
@@ -178,13 +154,6 @@ impl<'a> Draft<'a> {
                 });
                 None
             }
-        }
-    }
-
-    fn read_horizon(&mut self, document: Here<'a>) {
-        self.horizon = self.number(document, "horizon", MAX_LENGTH, Wanted::Length);
-        if self.horizon == 0 {
-            self.miss(document, "horizon", Wanted::Length);
         }
     }
 
@@ -260,7 +229,10 @@ pub fn draft_of(alloc: Global, table: &Table) -> Draft<'_> {
         misfit: None,
         is_cut: false,
     };
-    draft.read_horizon(document);
+    draft.horizon = draft.number(document, "horizon", MAX_LENGTH, Wanted::Length);
+    if draft.horizon == 0 {
+        draft.miss(document, "horizon", Wanted::Length);
+    }
     draft.read_lines(document);
     draft.read_groups(document);
     draft

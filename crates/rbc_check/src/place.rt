@@ -74,30 +74,26 @@ fn words_of(wanted: Wanted) -> &'static str {
 /// Adds the two lines on a value that is missing, or is not what it has to be.
 pub fn push_misfit(sheet: &mut Sheet, misfit: &Misfit<'_>) {
     push_subject(sheet, misfit.place);
-    match misfit.value {
-        Some(value) => push_found(sheet, misfit.key, value),
-        None => push_missing(sheet, misfit.key),
+    match (misfit.key, misfit.value) {
+        (Some(key), Some(value)) => {
+            sheet.words(": `").words(key).words("` is ");
+            push_kind(sheet, value);
+        }
+        (Some(key), None) => {
+            sheet.words(": the key `").words(key).words("` is missing");
+        }
+        (None, Some(value)) => {
+            sheet.words(" is ");
+            push_kind(sheet, value);
+        }
+        (None, None) => {
+            sheet.words(" is missing");
+        }
     }
     sheet
         .words(".\n  It has to be ")
         .words(words_of(misfit.wanted))
         .words(".\n");
-}
-
-/// Adds what stands under a key, or in place of a whole table.
-fn push_found(sheet: &mut Sheet, key: Option<&str>, value: &Value) {
-    match key {
-        Some(key) => sheet.words(": `").words(key).words("` is "),
-        None => sheet.words(" is "),
-    };
-    push_kind(sheet, value);
-}
-
-fn push_missing(sheet: &mut Sheet, key: Option<&str>) {
-    match key {
-        Some(key) => sheet.words(": the key `").words(key).words("` is missing"),
-        None => sheet.words(" is missing"),
-    };
 }
 
 /// Adds where the rules on whole lists are broken first: the line for this rule.
@@ -168,9 +164,15 @@ fn push_no_such_line(sheet: &mut Sheet, index: usize, group: &GroupDraft<'_>, li
     push_group(sheet, index, group.nid);
     sheet
         .words(": there is no line ")
-        .number(group.line as usize)
-        .words("; ");
-    push_lines_there(sheet, lines);
+        .number(group.line as usize);
+    match lines {
+        0 => sheet.words("; the track has no line.\n"),
+        1 => sheet.words("; the one line is line 0.\n"),
+        _ => sheet
+            .words("; the lines are 0 to ")
+            .number(lines.saturating_sub(1))
+            .words(".\n"),
+    };
 }
 
 fn push_group(sheet: &mut Sheet, index: usize, nid: u32) {
@@ -180,18 +182,6 @@ fn push_group(sheet: &mut Sheet, index: usize, nid: u32) {
         .words(" (nid ")
         .number(nid as usize)
         .words(")");
-}
-
-/// Adds which lines there are, and the end of the sentence.
-fn push_lines_there(sheet: &mut Sheet, lines: usize) {
-    match lines {
-        0 => sheet.words("the track has no line.\n"),
-        1 => sheet.words("the one line is line 0.\n"),
-        _ => sheet
-            .words("the lines are 0 to ")
-            .number(lines.saturating_sub(1))
-            .words(".\n"),
-    };
 }
 
 /// Adds the first balise group whose number an earlier one has.

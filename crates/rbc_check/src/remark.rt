@@ -13,6 +13,8 @@ const NO_GROUP: &str =
       at once, and no restriction is told to any.
 ";
 
+const BARE_LINE: &str = " has no balise group: no train can have a place on it.\n";
+
 const FAR_HORIZON: &str = "is not below the longest line: a restriction is told however far
       ahead it begins.
 ";
@@ -144,7 +146,9 @@ fn push_remark(sheet: &mut Sheet, remark: Remark<'_>) {
         Remark::NoGroup => {
             sheet.words(NO_GROUP);
         }
-        Remark::BareLine(line) => push_bare_line(sheet, line),
+        Remark::BareLine(line) => {
+            sheet.words("Line ").number(line).words(BARE_LINE);
+        }
         Remark::SamePlace { nids, line, at } => push_same_place(sheet, nids, line, at),
         Remark::FarHorizon(horizon) => push_horizon(sheet, horizon, FAR_HORIZON),
         Remark::NearHorizon(horizon) => push_horizon(sheet, horizon, NEAR_HORIZON),
@@ -197,13 +201,6 @@ fn push_hidden(sheet: &mut Sheet, place: Place) {
         Place::Line(_) | Place::Group(_) => push_place(sheet, place),
     }
     sheet.words(" is not shown: it has to be a text of 1 to 40 plain characters.\n");
-}
-
-fn push_bare_line(sheet: &mut Sheet, line: usize) {
-    sheet
-        .words("Line ")
-        .number(line)
-        .words(" has no balise group: no train can have a place on it.\n");
 }
 
 fn push_same_place(sheet: &mut Sheet, nids: (u32, u32), line: u32, at: u32) {

@@ -5,7 +5,7 @@ ghost use Rattle.rbc_track.specs.Reading.{track_of};
 ghost use Rattle.rbc_check.specs.Report.{IsVerdictOn};
 
 use crate::doubts::{push_bare, push_hidden_names, push_notes};
-use crate::draft::{Draft, Misfit, draft_of};
+use crate::draft::{Draft, draft_of};
 use crate::keys::push_unknown;
 use crate::place::{push_list_fault, push_misfit, sentence_of};
 use crate::remark::{Remarks, push_remarks};
@@ -16,7 +16,7 @@ use std::alloc::{AllocError, Global};
 use toml::Table;
 
 /// What came of a check.
-#[derive(Clone, Copy, Debug, PartialEq, Eq)]
+#[derive(Clone, Copy)]
 pub enum Verdict {
     /// The track is good, with so many warnings.
     Good { warnings: usize },
@@ -25,7 +25,7 @@ pub enum Verdict {
 }
 
 /// What a track file says, in words.
-#[derive(Debug, Drop)]
+#[derive(Drop)]
 pub struct Report {
     /// What came of the check.
     pub verdict: Verdict,
@@ -153,9 +153,20 @@ fn push_report<'a>(
     rule: Option<TrackError>,
 ) {
     match (draft.misfit, rule) {
-        (Some(misfit), _) => push_misshapen(sheet, &misfit, remarks),
-        (None, Some(rule)) => push_broken(sheet, rule, draft, remarks),
-        (None, None) => push_good(sheet, draft, remarks),
+        (Some(misfit), _) => {
+            push_refusal(sheet, TrackError::Shape);
+            push_misfit(sheet, &misfit);
+        }
+        (None, Some(rule)) => {
+            push_refusal(sheet, rule);
+            push_list_fault(sheet, rule, draft);
+        }
+        (None, None) => return push_good(sheet, draft, remarks),
+    }
+    sheet.words("\n");
+    push_remarks(sheet, "Warnings", remarks.warnings.as_slice());
+    if !remarks.notes.is_empty() {
+        push_remarks(sheet, "Notes", remarks.notes.as_slice());
     }
 }
 
@@ -185,27 +196,4 @@ fn push_end(sheet: &mut Sheet, warnings: usize) {
         .words(": read ")
         .words(them)
         .words(" before it is used.\n");
-}
-
-/// Adds the report on a track that breaks a rule on whole lists.
-fn push_broken(sheet: &mut Sheet, rule: TrackError, draft: &Draft<'_>, remarks: &Remarks<'_>) {
-    push_refusal(sheet, rule);
-    push_list_fault(sheet, rule, draft);
-    push_end_refused(sheet, remarks);
-}
-
-/// Adds the report on a track in which a value is not what it has to be.
-fn push_misshapen(sheet: &mut Sheet, misfit: &Misfit<'_>, remarks: &Remarks<'_>) {
-    push_refusal(sheet, TrackError::Shape);
-    push_misfit(sheet, misfit);
-    push_end_refused(sheet, remarks);
-}
-
-/// Adds the warnings on a refused track, and its notes where it has any.
-fn push_end_refused(sheet: &mut Sheet, remarks: &Remarks<'_>) {
-    sheet.words("\n");
-    push_remarks(sheet, "Warnings", remarks.warnings.as_slice());
-    if !remarks.notes.is_empty() {
-        push_remarks(sheet, "Notes", remarks.notes.as_slice());
-    }
 }

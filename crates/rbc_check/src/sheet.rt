@@ -103,14 +103,11 @@ impl Sheet {
             if index == MAX_SHOWN {
                 return self.words(" ..");
             }
-            self.character(if is_unruly(c) { '.' } else { c });
+            let plain = if is_unruly(c) { '.' } else { c };
+            if self.text.push(plain).is_err() {
+                self.is_cut = true;
+            }
         }
         self
-    }
-
-    fn character(&mut self, c: char) {
-        if self.text.push(c).is_err() {
-            self.is_cut = true;
-        }
     }
 }

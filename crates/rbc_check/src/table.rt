@@ -3,6 +3,12 @@
 use crate::draft::{Draft, GroupDraft, LineDraft};
 use crate::sheet::Sheet;
 
+/// What stands between `up` and a name: the column of directions is as wide as its heading.
+const UP_ROOM: &str = "       ";
+
+/// What stands between `down` and a name.
+const DOWN_ROOM: &str = "     ";
+
 /// Adds what a track is as a whole.
 pub fn push_head(sheet: &mut Sheet, draft: &Draft<'_>) {
     sheet
@@ -74,14 +80,14 @@ fn push_group(sheet: &mut Sheet, group: &GroupDraft<'_>) {
         .words("  ")
         .words(group.nominal);
     if let Some(name) = group.name {
-        sheet.words(room_after(group.nominal)).words(name);
+        let room = if group.nominal == "up" {
+            UP_ROOM
+        } else {
+            DOWN_ROOM
+        };
+        sheet.words(room).words(name);
     }
     sheet.words("\n");
-}
-
-/// What stands between a direction and a name: the column of directions is as wide as its heading.
-fn room_after(nominal: &str) -> &'static str {
-    if nominal == "up" { "       " } else { "     " }
 }
 
 /// Adds a place of 10 columns, with its point in the sixth.

@@ -1,6 +1,6 @@
 //! What has to be done to a train. All of it is judged before the first action.
 
-ghost use Rattle.std.specs.Prelude.{◌≡◌, ◌≤◌, ℕ, IfOk, OnOk, Some, option_copied};
+ghost use Rattle.std.specs.Prelude.{◌≡◌, ◌≤◌, ◌++◌, ℕ, IfOk, OnOk, Some, option_copied};
 ghost use Rattle.rbc_maps.specs.Numbered.{AreNumbered};
 ghost use Rattle.rbc_ids.specs.Table.{IsTable};
 ghost use Rattle.rbc_zones.specs.declared.edge.Concern.TheVariants.{Before};
@@ -36,11 +36,23 @@ pub fn actions(
     ensures sound { OnOk result (HasTables train.now × (AreNumbered stops.now × AreNumbered limits.now)) }
 {
     let mut actions = stops_revoked(alloc, stops, train)?;
-    actions.append(&mut stops_told(alloc, stops, train)?)?;
-    actions.append(&mut limits_revoked(alloc, limits, train)?)?;
-    actions.append(&mut limits_told(alloc, track.horizon(), limits, train)?)?;
+    actions = joined(actions, stops_told(alloc, stops, train)?)?;
+    actions = joined(actions, limits_revoked(alloc, limits, train)?)?;
+    actions = joined(actions, limits_told(alloc, track.horizon(), limits, train)?)?;
     actions.truncate(LAST_STAMP.saturating_sub(train.stamp) as usize);
     Ok(actions)
+}
+
+/// Puts actions behind others. Takes no memory where there are no others.
+fn joined(first: Vec<Action>, mut second: Vec<Action>) -> Result<Vec<Action>, AllocError>
+    ensures { IfOk result (λ both. both.items ≡ first.items ++ second.items) }
+{
+    if first.is_empty() {
+        return Ok(second);
+    }
+    let mut both = first;
+    both.append(&mut second)?;
+    Ok(both)
 }
 
 /// Returns a revocation of each told stop that is not active, in ascending order of the identifiers.

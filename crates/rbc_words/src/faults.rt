@@ -1,7 +1,6 @@
 //! What each fault of the program means, and what to do about it.
 
 /// A fault: the form of its line, what it means and what to do about it.
-#[derive(Clone, Copy)]
 pub struct FaultRow {
     /// The form of the line on standard error.
     pub line: &'static str,
