@@ -4,14 +4,9 @@ use Rattle.std.proofs.lemmas.List.{drop_more}
 use Rattle.std.proofs.Math.Seq.{drop-nil}
 use Rattle.std.proofs.lemmas.Nat.{mod_low, shr_high, shl_below, or_shifted}
 use Rattle.std.proofs.lemmas.Nat.Bits.{bit_at-lt}
-use Rattle.ertms_bits.specs.Bits.{bits_of, bits_of_bytes, number_of}
+use Rattle.ertms_bits.specs.Bits.{bits_of, bits_of_bytes, number_of, AreBits}
 use Rattle.ertms_bits.proofs.Bits.{length-bits_of, length-bits_of_bytes}
 use Rattle.ertms_bits.proofs.Bytes.{number_of-bits_of, number_of-append}
-
--- each is 0 or 1
-abbrev pub AreBits : List ℕ → Type 0
-AreBits [] = Unit {0}
-AreBits (bit ∷ bits) = (bit < 2) × AreBits bits
 
 AreBits-append : (bits more : List ℕ) → AreBits bits → AreBits more → AreBits (bits ++ more)
 AreBits-append [] more are rest = rest

@@ -1,5 +1,5 @@
 -- Bits of numbers and of bytes, the most significant one first. A bit is 0 or 1.
-use Rattle.std.specs.Prelude.{ℕ, zero, suc, ◌+◌, ◌*◌, ◌/◌, ◌^◌, List, [], ◌∷◌, drop}
+use Rattle.std.specs.Prelude.{ℕ, zero, suc, ◌+◌, ◌*◌, ◌/◌, ◌^◌, ◌<◌, List, [], ◌∷◌, drop}
 use Rattle.std.specs.List.{flat_map}
 use Rattle.std.specs.Int.{bit_at}
 
@@ -11,6 +11,11 @@ bits_of (suc width) value = bit_at value width ∷ bits_of width value
 -- the bits of bytes, one byte after the other
 abbrev pub bits_of_bytes : List ℕ → List ℕ
 bits_of_bytes bytes = flat_map (bits_of 8) bytes
+
+-- each is 0 or 1
+abbrev pub AreBits : List ℕ → Type 0
+AreBits [] = Unit {0}
+AreBits (bit ∷ bits) = (bit < 2) × AreBits bits
 
 -- how many bytes so many bits take
 abbrev pub bytes_for : ℕ → ℕ

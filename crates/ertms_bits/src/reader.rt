@@ -1,7 +1,7 @@
 //! Reading bit fields.
 
 ghost use Rattle.std.specs.Prelude.{◌≡◌, ◌+◌, ◌*◌, ◌-◌, ◌<◌, ◌≤◌, ◌^◌, ◌↔◌, IsOk, IfOk, OnOk, OnErr, length, drop, min};
-ghost use Rattle.ertms_bits.specs.Bits.{bits_of_bytes, number_of};
+ghost use Rattle.ertms_bits.specs.Bits.{bits_of_bytes, number_of, AreBits};
 
 use std::marker::Model;
 
@@ -55,6 +55,7 @@ impl<'a> BitReader<'a> {
         ensures small { IfOk result (λ value. value < 2 ^ width) }
         ensures rest { OnOk result (self.new ≡ drop width self.old) }
         ensures err { OnErr result (self.new ≡ self.old) }
+        ensures bits { IfOk result (λ _. AreBits self.old) }
     {
         if width as usize > self.left() {
             return Err(ShortBits);
@@ -108,6 +109,7 @@ impl<'a> BitReader<'a> {
         ensures value { result ≡ number_of width self.old }
         ensures small { result < 2 ^ width }
         ensures rest { self.new ≡ drop width self.old }
+        ensures bits { AreBits self.old }
     {
         let end = self.taken + width;
         let first = first_bits(&self.bytes[self.byte..], end);

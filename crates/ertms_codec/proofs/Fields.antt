@@ -3,10 +3,10 @@ use Rattle.std.proofs.Common.{◌≡◌, ℕ, zero, suc, ◌+◌, ◌*◌, ◌%�
 use Rattle.std.proofs.lemmas.Nat.{shr_high}
 use Rattle.std.proofs.lemmas.List.Sums.{sum_by-cons}
 use Rattle.std.specs.Int.{bit_at}
-use Rattle.ertms_bits.specs.Bits.{bits_of, number_of}
+use Rattle.ertms_bits.specs.Bits.{bits_of, number_of, AreBits}
 use Rattle.ertms_bits.proofs.Bits.{length-bits_of, bits_of-cat_low}
 use Rattle.ertms_bits.proofs.Bytes.{number_of-append, number_of-bits_of}
-use Rattle.ertms_bits.proofs.Numbers.{AreBits, AreBits-drop, number_of-below}
+use Rattle.ertms_bits.proofs.Numbers.{AreBits-drop, number_of-below}
 use Rattle.ertms_codec.specs.Layout.{Field, width_of, bits_of_fields, HoldValues, value_at}
 
 -- the fields have the values that stand at their places, the first from a place on

@@ -1,9 +1,9 @@
 -- What is read of a message from a train is spelled so.
 use Rattle.std.proofs.Common.{◌≡◌, ℕ, ◌+◌, ◌-◌, ◌*◌, ◌≤◌, ◌∙◌, List, ◌++◌, length, take, drop, refl, sym, ap, subst, inl, inr, arith, length-drop, length-take-le, take-append-drop}
 use Rattle.std.proofs.Math.Seq.{take-append-add}
-use Rattle.ertms_bits.specs.Bits.{bits_of_bytes}
+use Rattle.ertms_bits.specs.Bits.{bits_of_bytes, AreBits}
 use Rattle.ertms_bits.proofs.Bits.{length-bits_of_bytes}
-use Rattle.ertms_bits.proofs.Numbers.{AreBits, AreBits-drop, AreBits-bits_of_bytes}
+use Rattle.ertms_bits.proofs.Numbers.{AreBits-drop, AreBits-bits_of_bytes}
 use Rattle.ertms_codec.specs.declared.from_train.FromTrain.{FromTrain}
 use Rattle.ertms_codec.specs.declared.from_train.FromTrain.TheVariants.{Report, Ack, StopAck}
 use Rattle.ertms_codec.specs.Layout.{Field, width_of, bits_of_fields, HoldValues, value_at}

@@ -1,6 +1,7 @@
 -- Lemmas on variables at places.
-use Rattle.std.proofs.Common.{◌≡◌, ℕ, ◌+◌, ◌∙◌, List, drop, ap, drop-drop}
+use Rattle.std.proofs.Common.{◌≡◌, ℕ, ◌+◌, ◌/◌, ◌%◌, ◌^◌, ◌∙◌, List, drop, refl, sym, ap, arith, drop-drop, length-drop}
 use Rattle.ertms_bits.specs.Bits.{number_of}
+use Rattle.ertms_bits.proofs.Numbers.{AreBits-drop, number_of-first, number_of-last, number_of-below}
 use Rattle.ertms_codec.specs.Layout.{value_at}
 use Rattle.ertms_codec.specs.Reading.{Takes}
 
@@ -14,6 +15,30 @@ pub takes_to : {width taken : ℕ} {before after : List ℕ} (whole : List ℕ) 
 takes_to whole place next to at t =
     let taken = takes_at whole place at t in
     (taken.0, taken.1 ∙ ap (λ n. drop n whole) to)
+
+-- of two variables that were taken as one, the first was taken, and then the second
+pub takes_first : (first second : ℕ) {both taken : ℕ} {before after : List ℕ} → taken ≡ both / 2 ^ second → Takes (first + second) before both after → Takes first before taken (drop first before)
+takes_first first second {both} {taken} {before} {after} part t =
+    let is : taken ≡ number_of first before = part ∙ ap (λ n. n / 2 ^ second) t.value ∙ number_of-first first second before t.bits in
+    record {
+      value = is;
+      small = rw is (number_of-below first before t.bits);
+      rest = refl;
+      left = rw length-drop (omega (arith, t.left));
+      bits = t.bits;
+    }
+
+pub takes_second : (first second : ℕ) {both taken : ℕ} {before after : List ℕ} → taken ≡ both % 2 ^ second → Takes (first + second) before both after → Takes second (drop first before) taken after
+takes_second first second {both} {taken} {before} {after} part t =
+    let is : taken ≡ number_of second (drop first before) = part ∙ ap (λ n. n % 2 ^ second) t.value ∙ number_of-last first second before t.bits in
+    let are = AreBits-drop first before t.bits in
+    record {
+      value = is;
+      small = rw is (number_of-below second (drop first before) are);
+      rest = t.rest ∙ sym (drop-drop second first before);
+      left = rw length-drop (omega (arith, t.left));
+      bits = are;
+    }
 
 -- bits behind a place, and then behind some more
 pub further : (whole before after : List ℕ) (place count next : ℕ) → place + count ≡ next → before ≡ drop place whole → after ≡ drop count before → after ≡ drop next whole

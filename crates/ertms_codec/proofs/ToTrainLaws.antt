@@ -4,9 +4,9 @@ use Rattle.std.specs.Prelude.{◌==◌, if◌then◌else◌}
 use Rattle.std.specs.Int.{w16}
 use Rattle.std.proofs.lemmas.Int.{of_z-to_z}
 use Rattle.std.proofs.Math.Facts.{sfits_to_z}
-use Rattle.ertms_bits.specs.Bits.{number_of, bits_of_bytes}
+use Rattle.ertms_bits.specs.Bits.{number_of, bits_of_bytes, AreBits}
 use Rattle.ertms_bits.proofs.Bits.{length-bits_of_bytes}
-use Rattle.ertms_bits.proofs.Numbers.{AreBits, AreBits-drop, AreBits-bits_of_bytes, number_of-below}
+use Rattle.ertms_bits.proofs.Numbers.{AreBits-drop, AreBits-bits_of_bytes, number_of-below}
 use Rattle.ertms_codec.specs.declared.to_train.Head.{Head}
 use Rattle.ertms_codec.specs.declared.to_train.ToTrain.{ToTrain}
 use Rattle.ertms_codec.specs.Layout.{width_of, value_at}

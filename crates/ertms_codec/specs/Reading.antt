@@ -1,6 +1,6 @@
 -- What the readers have found so far.
 use Rattle.std.specs.Prelude.{◌≡◌, ℕ, ◌+◌, ◌<◌, ◌≤◌, ◌^◌, List, length, drop}
-use Rattle.ertms_bits.specs.Bits.{number_of, bits_of_bytes}
+use Rattle.ertms_bits.specs.Bits.{number_of, bits_of_bytes, AreBits}
 use Rattle.ertms_codec.specs.declared.to_train.ToTrain.{ToTrain}
 use Rattle.ertms_codec.specs.declared.error.DecodeError.{DecodeError}
 use Rattle.ertms_codec.specs.declared.error.DecodeError.TheVariants.{Packet, Field}
@@ -18,6 +18,7 @@ pub record Takes (width : ℕ) (before : List ℕ) (taken : ℕ) (after : List �
   pub small : taken < 2 ^ width
   pub rest : after ≡ drop width before
   pub left : length after + width ≡ length before
+  pub bits : AreBits before
 
 -- bits begin with a packet, as long as its L_PACKET says
 pub record BeginsWithPacket (bits : List ℕ) : Type 0 where

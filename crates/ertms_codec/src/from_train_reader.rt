@@ -14,7 +14,7 @@ ghost use Rattle.ertms_codec.specs.Reading.{IsReadFromTrain, IsReadBehind, IsRep
 use crate::error::DecodeError;
 use crate::from_train::FromTrain;
 use crate::packets::position;
-use crate::reading::{message_number, next};
+use crate::reading::{message_number, next, next_two};
 use crate::variable::{NID_EM, NID_ENGINE, Q_EMERGENCYSTOP, T_TRAIN};
 use ertms_bits::BitReader;
 
@@ -45,9 +45,8 @@ fn read(bytes: &[u8]) -> Result<FromTrain, DecodeError>
     let mut bits = BitReader::new(bytes);
     let number = message_number(bytes, &mut bits)?;
     check_length(number, bytes.len())?;
-    let stamp = next(&mut bits, T_TRAIN) as u32;
-    let engine = next(&mut bits, NID_ENGINE) as u32;
-    body(&mut bits, number, stamp, engine)
+    let (stamp, engine) = next_two(&mut bits, T_TRAIN, NID_ENGINE);
+    body(&mut bits, number, stamp as u32, engine as u32)
 }
 
 /// Whether a message of this number can have so many bytes.

@@ -9,7 +9,7 @@ ghost use Rattle.ertms_codec.specs.Reading.{BeginsWithPacket, ReadsPosition, Ref
 
 use crate::error::DecodeError;
 use crate::from_train::Position;
-use crate::reading::{next, pass_over};
+use crate::reading::{apart, next, next_two, pass_over};
 use crate::variable::{
     D_LRBG, L_DOUBTOVER, L_DOUBTUNDER, L_PACKET, L_TRAININT, M_LEVEL, M_MODE, NID_LRBG, NID_NTC,
     NID_PACKET, NID_PRVLRBG, Q_DIRLRBG, Q_DIRTRAIN, Q_DLRBG, Q_LENGTH, Q_SCALE, V_TRAIN,
@@ -18,6 +18,9 @@ use ertms_bits::BitReader;
 
 /// How many bits packet 0 has at least.
 const POSITION_WIDTH: u64 = 114;
+
+/// How many bits the variables from D_LRBG to L_DOUBTUNDER have, which are taken at once.
+const TO_UNDER_WIDTH: u32 = D_LRBG + Q_DIRLRBG + Q_DLRBG + L_DOUBTOVER + L_DOUBTUNDER;
 
 /// The position packet with which the bits begin. All packets behind it are skipped, whatever they are.
 ///
@@ -50,8 +53,7 @@ fn position_packet(bits: &mut BitReader<'_>) -> Result<Position, DecodeError>
     if left < 21 {
         return Err(DecodeError::Packet);
     }
-    let number = next(bits, NID_PACKET);
-    let size = next(bits, L_PACKET);
+    let (number, size) = next_two(bits, NID_PACKET, L_PACKET);
     let least = POSITION_WIDTH + previous_width(number);
     if number > 1 || size < least || size > left as u64 {
         return Err(DecodeError::Packet);
@@ -79,17 +81,21 @@ fn variables(bits: &mut BitReader<'_>, number: u64) -> Position
         → (result ≡ position_at packet) × (bits.new ≡ drop (train_place packet) packet) }
     ensures left { length bits.new + (75 + (if number == 1 then 24 else 0)) ≡ length bits.old }
 {
-    let scale = next(bits, Q_SCALE) as u8;
-    let lrbg = next(bits, NID_LRBG) as u32;
+    let (scale, lrbg) = next_two(bits, Q_SCALE, NID_LRBG);
+    let previous = previous_group(bits, number);
+    let (to_over, under) = apart(next(bits, TO_UNDER_WIDTH), L_DOUBTUNDER);
+    let (to_side, over) = apart(to_over, L_DOUBTOVER);
+    let (to_dir, side) = apart(to_side, Q_DLRBG);
+    let (distance, dir) = apart(to_dir, Q_DIRLRBG);
     Position {
-        previous: previous_group(bits, number),
-        scale,
-        lrbg,
-        distance: next(bits, D_LRBG) as u16,
-        dir: next(bits, Q_DIRLRBG) as u8,
-        side: next(bits, Q_DLRBG) as u8,
-        over: next(bits, L_DOUBTOVER) as u16,
-        under: next(bits, L_DOUBTUNDER) as u16,
+        previous,
+        scale: scale as u8,
+        lrbg: lrbg as u32,
+        distance: distance as u16,
+        dir: dir as u8,
+        side: side as u8,
+        over: over as u16,
+        under: under as u16,
     }
 }
 
@@ -169,8 +175,8 @@ fn pass_over_packet(bits: &mut BitReader<'_>) -> Result<(), DecodeError>
     if left < 21 {
         return Err(DecodeError::Packet);
     }
-    next(bits, NID_PACKET);
-    let size = next(bits, L_PACKET) as usize;
+    let (_, size) = next_two(bits, NID_PACKET, L_PACKET);
+    let size = size as usize;
     if size < 21 || size > left {
         return Err(DecodeError::Packet);
     }

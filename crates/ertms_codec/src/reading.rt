@@ -1,6 +1,6 @@
 //! What both readers share.
 
-ghost use Rattle.std.specs.Prelude.{◌≡◌, ◌+◌, ◌*◌, ◌<◌, ◌≤◌, ◌^◌, length, drop, IfOk, IfErr, OnOk};
+ghost use Rattle.std.specs.Prelude.{◌≡◌, ◌+◌, ◌*◌, ◌/◌, ◌%◌, ◌<◌, ◌≤◌, ◌^◌, length, drop, IfOk, IfErr, OnOk};
 ghost use Rattle.ertms_bits.specs.Bits.{bits_of_bytes};
 ghost use Rattle.ertms_codec.specs.Layout.{value_at};
 ghost use Rattle.ertms_codec.specs.Refusals.{number_in, HasItsLength};
@@ -19,6 +19,26 @@ pub fn next(bits: &mut BitReader<'_>, width: u32) -> u64
     ensures { Takes width bits.old result bits.new }
 {
     bits.take(width).unwrap()
+}
+
+/// The values of two variables that were taken as one, of which the second has so many bits.
+pub fn apart(both: u64, second: u32) -> (u64, u64)
+    requires { second < 64 }
+    ensures { (result.0 ≡ both / 2 ^ second) × (result.1 ≡ both % 2 ^ second) }
+{
+    (both >> second, both % (1 << second))
+}
+
+/// The next two variables of so many bits, of which the caller knows that both are there. They are taken at once.
+pub fn next_two(bits: &mut BitReader<'_>, first: u32, second: u32) -> (u64, u64)
+    requires some { (1 ≤ first) × (1 ≤ second) }
+    requires within { first + second ≤ 64 }
+    requires there { first + second ≤ length bits.old }
+    ensures first { Takes first bits.old result.0 (drop first bits.old) }
+    ensures second { Takes second (drop first bits.old) result.1 bits.new }
+{
+    let both = next(bits, first + second);
+    apart(both, second)
 }
 
 /// Passes over so many bits, of which the caller knows that they are there.
@@ -45,8 +65,7 @@ pub fn message_number(bytes: &[u8], bits: &mut BitReader<'_>) -> Result<u64, Dec
     if bytes.len() < 3 {
         return Err(DecodeError::Length);
     }
-    let number = next(bits, NID_MESSAGE);
-    let length = next(bits, L_MESSAGE);
+    let (number, length) = next_two(bits, NID_MESSAGE, L_MESSAGE);
     if length != bytes.len() as u64 {
         return Err(DecodeError::Length);
     }

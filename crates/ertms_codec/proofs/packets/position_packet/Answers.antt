@@ -12,9 +12,9 @@ begins packet train number size header number_is one size_is at least enough wit
 pub returns-clause-packet : goal.returns-clause-packet
 returns-clause-packet c =
     let bits = c.args.bits.now in
-    let number = takes_at bits 0 refl c.next-number.ensures in
-    let size = takes_at bits 8 number.1 c.next-size.ensures in
+    let number = takes_at bits 0 refl c.next_two-number.ensures.first in
+    let size = takes_at bits 8 number.1 c.next_two-number.ensures.second in
     let position = c.variables-position.ensures.value bits size.1 number.0 in
     let least : c.previous_width-least.result ≡ shift_in bits = c.previous_width-least.ensures ∙ ap (λ n. if n == 1 then 24 else 0) number.0 in
-    begins bits c.variables-position.new.bits c.next-number.result c.next-size.result (omega (arith, c.left-left.ensures)) number.0 (omega arith) size.0 position.1 (omega arith)
+    begins bits c.variables-position.new.bits c.next_two-number.result.0 c.next_two-number.result.1 (omega (arith, c.left-left.ensures)) number.0 (omega arith) size.0 position.1 (omega arith)
     (let enough = c.in_ok-pass_over_train.ensures.enough in omega arith) (omega (arith, c.left-left.ensures))

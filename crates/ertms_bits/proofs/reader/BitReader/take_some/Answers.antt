@@ -1,7 +1,7 @@
 use Rattle.std.proofs.Common.{◌≡◌, ℕ, ◌+◌, ◌*◌, ◌-◌, ◌%◌, ◌^◌, ◌<◌, ◌≤◌, ◌∙◌, List, length, take, drop, sym, ap, arith, drop-drop, length-drop, take_all, mod-eq_of_lt}
 use Rattle.std.proofs.lemmas.Nat.{pow_below}
 use Rattle.ertms_bits.specs.Bits.{bits_of_bytes, number_of}
-use Rattle.ertms_bits.proofs.Numbers.{AreBits-bits_of_bytes, length-left, drop-bits_of_bytes, number_of-last}
+use Rattle.ertms_bits.proofs.Numbers.{AreBits-drop, AreBits-bits_of_bytes, length-left, drop-bits_of_bytes, number_of-last}
 use Rattle.ertms_bits.proofs.reader.BitReader.take_some.Goals as goal
 
 -- the bytes from a place on
@@ -35,3 +35,9 @@ pub returns-clause-value : goal.returns-clause-value
 returns-clause-value c =
     rw (← c.self.view_is)
     (field_is c.self.inside.bytes.now c.self.inside.byte c.self.inside.taken c.args.width c.first_bits-first.result (omega arith) c.first_bits-first.ensures)
+
+pub returns-clause-bits : goal.returns-clause-bits
+returns-clause-bits c =
+    let place : ℕ = 8 * c.self.inside.byte + c.self.inside.taken in
+    let bytes = c.self.inside.bytes.now in
+    rw (← c.self.view_is) (AreBits-drop place (bits_of_bytes bytes) (AreBits-bits_of_bytes bytes))
