@@ -10,9 +10,9 @@ use Rattle.indexmap.specs.IndexMap.{insert_entry, swap_remove_entry}
 use Rattle.rbc_records.specs.declared.record.Key.{Key}
 use Rattle.rbc_records.specs.declared.record.Rec.{Rec}
 use Rattle.rbc_records.specs.declared.columns.Told.{Told}
-use Rattle.rbc_records.specs.declared.columns.Standing.{Standing}
+use Rattle.rbc_records.specs.declared.columns.Extent.{Extent}
 use Rattle.rbc_records.specs.contracts.record.KeyPartialEq.TheImpl.{eq-value}
-use Rattle.rbc_records.specs.Columns.{told_of, standing_of, tolds_of, standings_of, AreBeside}
+use Rattle.rbc_records.specs.Columns.{told_of, extent_of, tolds_of, extents_of, AreBeside}
 
 module _ {K V B : Type 0} (eq : K → K → Bool) (f : V → B) where
   -- the column that tells f of each value
@@ -71,35 +71,35 @@ found_within test (entry ∷ entries) index at =
     let place = position-Some test (keys_of (entry ∷ entries)) index entry.0 at in
     omega (arith, place.0, length-keys_of (entry ∷ entries))
 
-module _ (entries new : List (Key × Rec)) (tolds : List Told) (standings : List Standing) (beside : AreBeside entries tolds standings) where
+module _ (entries new : List (Key × Rec)) (tolds : List Told) (extents : List Extent) (beside : AreBeside entries tolds extents) where
   module _ (k : Key) (rec : Rec) (put : new ≡ insert_entry eq-value.it entries k rec)
       (index : ℕ) (place : index ≡ position_or_len (eq-value.it k) (keys_of entries))
-      (told : Told) (told_is : told ≡ told_of rec) (standing : Standing) (standing_is : standing ≡ standing_of rec) where
-    pub put_over : index < length tolds → AreBeside new (set tolds index told) (set standings index standing)
+      (told : Told) (told_is : told ≡ told_of rec) (extent : Extent) (extent_is : extent ≡ extent_of rec) where
+    pub put_over : index < length tolds → AreBeside new (set tolds index told) (set extents index extent)
     put_over within =
         let old : index < length entries = omega (arith, ap length beside.tolds_are, length-map entries (λ (entry : Key × Rec). told_of entry.1)) in
         let held = rw place at old in
         record {
           tolds_are = (λ j. set (beside.tolds_are j) (place j) (told_is j)) ∙ sym (over eq-value.it told_of k rec entries held) ∙ ap tolds_of (sym put);
-          standings_are = (λ j. set (beside.standings_are j) (place j) (standing_is j)) ∙ sym (over eq-value.it standing_of k rec entries held) ∙ ap standings_of (sym put);
+          extents_are = (λ j. set (beside.extents_are j) (place j) (extent_is j)) ∙ sym (over eq-value.it extent_of k rec entries held) ∙ ap extents_of (sym put);
         }
 
-    pub put_behind : length tolds ≤ index → AreBeside new (tolds ++ told ∷ []) (standings ++ standing ∷ [])
+    pub put_behind : length tolds ≤ index → AreBeside new (tolds ++ told ∷ []) (extents ++ extent ∷ [])
     put_behind beyond =
         let old : length entries ≤ index = omega (arith, ap length beside.tolds_are, length-map entries (λ (entry : Key × Rec). told_of entry.1)) in
         let held = rw place at old in
         record {
           tolds_are = (λ j. beside.tolds_are j ++ told_is j ∷ []) ∙ sym (behind eq-value.it told_of k rec entries held) ∙ ap tolds_of (sym put);
-          standings_are = (λ j. beside.standings_are j ++ standing_is j ∷ []) ∙ sym (behind eq-value.it standing_of k rec entries held) ∙ ap standings_of (sym put);
+          extents_are = (λ j. beside.extents_are j ++ extent_is j ∷ []) ∙ sym (behind eq-value.it extent_of k rec entries held) ∙ ap extents_of (sym put);
         }
 
-  pub taken_out : (test : Key → Bool) (index : ℕ) (told : Told) (standing : Standing) → Some index ≡ position test (keys_of entries) → new ≡ swap_remove_entry test entries
-      → AreBeside new (swap_remove tolds index told) (swap_remove standings index standing)
-  taken_out test index told standing at taken =
+  pub taken_out : (test : Key → Bool) (index : ℕ) (told : Told) (extent : Extent) → Some index ≡ position test (keys_of entries) → new ≡ swap_remove_entry test entries
+      → AreBeside new (swap_remove tolds index told) (swap_remove extents index extent)
+  taken_out test index told extent at taken =
       let within = found_within test entries index (sym at) in
       let left = left_by test entries index (sym at) in
       let now : new ≡ swap_remove entries index left.0 = taken ∙ left.1 in
       record {
         tolds_are = ap (λ (all : List Told). swap_remove all index told) beside.tolds_are ∙ sym (removed eq-value.it told_of entries index left.0 told within) ∙ ap tolds_of (sym now);
-        standings_are = ap (λ (all : List Standing). swap_remove all index standing) beside.standings_are ∙ sym (removed eq-value.it standing_of entries index left.0 standing within) ∙ ap standings_of (sym now);
+        extents_are = ap (λ (all : List Extent). swap_remove all index extent) beside.extents_are ∙ sym (removed eq-value.it extent_of entries index left.0 extent within) ∙ ap extents_of (sym now);
       }

@@ -5,8 +5,6 @@ use Rattle.std.specs.Option.{option_map_or}
 use Rattle.rbc_ids.specs.Table.{is_told}
 use Rattle.rbc_place.specs.Placing.{Place}
 use Rattle.rbc_zones.specs.declared.segment.Segment.{Segment}
-use Rattle.rbc_track.specs.declared.group.Way.{Way}
-use Rattle.rbc_track.specs.declared.group.Way.TheVariants.{Up, Down}
 use Rattle.rbc_zones.specs.Concerns.{concern_of, concern_at}
 use Rattle.rbc_settle.specs.declared.train.TrainRec.{TrainRec}
 use Rattle.rbc_settle.specs.Numbers.{has_number}
@@ -17,11 +15,11 @@ use Rattle.rbc_records.specs.declared.record.Rec.TheVariants as rec
 use Rattle.rbc_records.specs.declared.sought.Sought.{Sought}
 use Rattle.rbc_records.specs.Notes.{Whole, record_in, same_key}
 use Rattle.rbc_records.specs.Seeking.{AreFound, is_sought, is_concern}
-use Rattle.rbc_records.specs.declared.columns.Standing.{Standing}
-use Rattle.rbc_records.specs.declared.columns.Standing.TheVariants as standing
-use Rattle.rbc_records.specs.Columns.{has_bit, told_of, standing_of, standing_at, may_be_told, is_of_train, ArePassing}
+use Rattle.rbc_records.specs.declared.columns.Extent.{Extent}
+use Rattle.rbc_records.specs.Columns.{has_bit, told_of, nowhere, everywhere, extent_of, extent_of_area, ahead_of, meet, is_of_train, ArePassing}
 use Rattle.rbc_records.proofs.Keys.{same_key_sym, same_key_is, same_key_own}
 use Rattle.rbc_records.proofs.Reached.{reaches, unreached}
+use Rattle.rbc_records.proofs.Meeting.{met_anywhere, met_ahead}
 use Rattle.rbc_records.proofs.Bits.{told_bit, bits_kept, numbers_bit, few_bit}
 
 -- the entry of a train has its key
@@ -114,11 +112,6 @@ not_empty : (numbers : List ℕ) (n : ℕ) → has_number numbers n ≡ true →
 not_empty [] n h = cc
 not_empty (first ∷ rest) n h = lt-ltb 0 (suc (length rest)) (omega arith)
 
--- where a train stands tells of the segments that reach it
-reached_at : (way : Way) (p : Place) (area : List Segment) → may_be_told area (standing_at way p) ≡ list_any (reaches way p) area
-reached_at Up p area = refl
-reached_at Down p area = refl
-
 -- a stop that is something to a train reaches it
 reached : (p : Place) (area : List Segment) (b : Bool) → list_any (reaches p.facing p) area ≡ b → is_concern (concern_at area false p) ≡ true → b ≡ true
 reached p area true e h = refl
@@ -126,17 +119,17 @@ reached p area false e h = let bad : true ≡ false = sym h ∙ unreached p area
 
 -- and a new stop that concerns a train may be told to it
 pub asked_by_place : (number : ℕ) (area : List Segment) (train : TrainRec)
-    → (nat_lt (length train.stops) 15 && is_concern (concern_of area (has_number train.forced number) train.place)) ≡ true → may_be_told area (standing_of (rec.Train train)) ≡ true
+    → (nat_lt (length train.stops) 15 && is_concern (concern_of area (has_number train.forced number) train.place)) ≡ true → meet (extent_of_area area) (extent_of (rec.Train train)) ≡ true
 asked_by_place number area train h = by (nat_lt (length train.stops) 15) (nat_lt 0 (length train.forced)) (has_number train.forced number) refl refl train.place h
   where
-    standing_by : Bool → Bool → Option Place → Standing
-    standing_by free rejected place =
-        if free then (if rejected then standing.Anywhere else option_map_or (λ (p : Place). standing_at p.facing p) place standing.Anywhere) else standing.Full
+    extent_by : Bool → Bool → Option Place → Extent
+    extent_by free rejected place =
+        if free then (if rejected then everywhere else option_map_or (λ (p : Place). ahead_of p.facing p) place everywhere) else nowhere
 
     by : (free rejected forced : Bool) → nat_lt 0 (length train.forced) ≡ rejected → has_number train.forced number ≡ forced → (place : Option Place)
-        → (free && is_concern (concern_of area forced place)) ≡ true → may_be_told area (standing_by free rejected place) ≡ true
+        → (free && is_concern (concern_of area forced place)) ≡ true → meet (extent_of_area area) (extent_by free rejected place) ≡ true
     by false rejected forced some is place h = cc
-    by true true forced some is place h = refl
+    by true true forced some is place h = met_anywhere area
     by true false true some is place h = let bad : true ≡ false = sym (not_empty train.forced number is) ∙ some in cc
-    by true false false some is None h = refl
-    by true false false some is (Some p) h = reached_at p.facing p area ∙ reached p area (list_any (reaches p.facing p) area) refl h
+    by true false false some is None h = met_anywhere area
+    by true false false some is (Some p) h = met_ahead p.facing p area (reached p area (list_any (reaches p.facing p) area) refl h)

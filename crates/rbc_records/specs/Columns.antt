@@ -1,9 +1,9 @@
 -- What stands beside the records, so that a search passes by most trains without looking them up (own rule).
-use Rattle.std.specs.Prelude.{◌≡◌, ℕ, ◌-◌, ◌^◌, ◌%◌, nat_lt, nat_le, min, max, Bool, true, false, ◌==◌, ◌&&◌, if◌then◌else◌, List, fold, map, length}
+use Rattle.std.specs.Prelude.{◌≡◌, ℕ, ◌-◌, ◌^◌, ◌%◌, nat_lt, nat_le, min, max, Bool, false, not, ◌==◌, ◌&&◌, if◌then◌else◌, List, fold, map, length}
 use Rattle.std.specs.List.{list_any}
 use Rattle.std.specs.Option.{option_map_or}
 use Rattle.std.specs.Int.{bit_at}
-use Rattle.std.specs.Int.Bits.{bit_or}
+use Rattle.std.specs.Int.Bits.{bit_or, bit_and}
 use Rattle.rbc_ids.specs.Table.{Slots}
 use Rattle.rbc_ids.specs.declared.slot.Slot.{Slot}
 use Rattle.rbc_ids.specs.declared.slot.Slot.TheVariants.{Used, Revoking}
@@ -18,8 +18,7 @@ use Rattle.rbc_records.specs.declared.record.Key.{Key}
 use Rattle.rbc_records.specs.declared.record.Rec.TheVariants as rec
 use Rattle.rbc_records.specs.declared.record.Rec.{Rec}
 use Rattle.rbc_records.specs.declared.columns.Told.{Told}
-use Rattle.rbc_records.specs.declared.columns.Standing.{Standing}
-use Rattle.rbc_records.specs.declared.columns.Standing.TheVariants as standing
+use Rattle.rbc_records.specs.declared.columns.Extent.{Extent}
 
 -- the bit of a number is set; there are 64 bits
 abbrev pub has_bit : ℕ → ℕ → Bool
@@ -49,43 +48,59 @@ told_of (rec.Train train) = record { stops = fold with_bit (bits_of_slots train.
 told_of (rec.Stops stops) = record { stops = 0; limits = 0 }
 told_of (rec.Limits limits) = record { stops = 0; limits = 0 }
 
--- how a train stands at its place: what lies behind it is nothing to it
-abbrev pub standing_at : Way → Place → Standing
-standing_at way.Up p = standing.Up p.line (min p.lo p.hi)
-standing_at way.Down p = standing.Down p.line (max p.lo p.hi)
+-- no place, and all places
+abbrev pub nowhere : Extent
+nowhere = record { lines = 0; least = 2 ^ 32 - 1; most = 0 }
 
--- how a train stands to a new stop: without a free stop identifier it is told of none, and where a stop may be forced on it, of any
-abbrev pub standing_of_train : TrainRec → Standing
-standing_of_train train =
-    if nat_lt (length train.stops) 15 then (if nat_lt 0 (length train.forced) then standing.Anywhere else option_map_or (λ place. standing_at place.facing place) train.place standing.Anywhere)
-    else standing.Full
+abbrev pub everywhere : Extent
+everywhere = record { lines = 2 ^ 64 - 1; least = 0; most = 2 ^ 32 - 1 }
+
+-- where a train at this place may stand, and what lies ahead of it: what lies behind it is nothing to it
+abbrev pub ahead_of : Way → Place → Extent
+ahead_of way.Up p = record { lines = with_bit 0 p.line; least = min p.lo p.hi; most = 2 ^ 32 - 1 }
+ahead_of way.Down p = record { lines = with_bit 0 p.line; least = 0; most = max p.lo p.hi }
+
+-- where a new stop has to lie that is told to a train: without a free stop identifier it is told of none, and where a stop may be forced on it, of any
+abbrev pub extent_of_train : TrainRec → Extent
+extent_of_train train =
+    if nat_lt (length train.stops) 15 then (if nat_lt 0 (length train.forced) then everywhere else option_map_or (λ place. ahead_of place.facing place) train.place everywhere)
+    else nowhere
 
 -- the same of a record, which may be that of no train
-abbrev pub standing_of : Rec → Standing
-standing_of (rec.Engines engines) = standing.Full
-standing_of (rec.Train train) = standing_of_train train
-standing_of (rec.Stops stops) = standing.Full
-standing_of (rec.Limits limits) = standing.Full
+abbrev pub extent_of : Rec → Extent
+extent_of (rec.Engines engines) = nowhere
+extent_of (rec.Train train) = extent_of_train train
+extent_of (rec.Stops stops) = nowhere
+extent_of (rec.Limits limits) = nowhere
 
--- a train that stands so may be told of a stop with this area
-abbrev pub may_be_told : List Segment → Standing → Bool
-may_be_told area standing.Full = false
-may_be_told area standing.Anywhere = true
-may_be_told area (standing.Up line least) = list_any (λ segment. segment.line == line && nat_le least (max segment.from segment.to)) area
-may_be_told area (standing.Down line most) = list_any (λ segment. segment.line == line && nat_le (min segment.from segment.to) most) area
+-- with the line and the places of one more segment
+abbrev pub with_segment : Extent → Segment → Extent
+with_segment extent segment = record {
+  lines = with_bit extent.lines segment.line;
+  least = min extent.least (min segment.from segment.to);
+  most = max extent.most (max segment.from segment.to);
+}
+
+-- where an area lies: on all lines of its segments, from the least end of any to the greatest. One without segments is taken to lie everywhere.
+abbrev pub extent_of_area : List Segment → Extent
+extent_of_area area = if nat_lt 0 (length area) then fold with_segment nowhere area else everywhere
+
+-- both are on a line of the same bit, and have a place in common
+abbrev pub meet : Extent → Extent → Bool
+meet a b = not (bit_and a.lines b.lines == 0) && nat_le a.least b.most && nat_le b.least a.most
 
 -- what was told, for each record
 abbrev pub tolds_of : List (Key × Rec) → List Told
 tolds_of entries = map (λ entry. told_of entry.1) entries
 
--- how its train stands, for each record
-abbrev pub standings_of : List (Key × Rec) → List Standing
-standings_of entries = map (λ entry. standing_of entry.1) entries
+-- where a new stop has to lie that its train is told, for each record
+abbrev pub extents_of : List (Key × Rec) → List Extent
+extents_of entries = map (λ entry. extent_of entry.1) entries
 
 -- The columns of a table stand beside its records, index by index.
-pub record AreBeside (entries : List (Key × Rec)) (tolds : List Told) (standings : List Standing) : Type 0 where
+pub record AreBeside (entries : List (Key × Rec)) (tolds : List Told) (extents : List Extent) : Type 0 where
   pub tolds_are : tolds ≡ tolds_of entries
-  pub standings_are : standings ≡ standings_of entries
+  pub extents_are : extents ≡ extents_of entries
 
 -- the records of a table, and how many more it can take without memory
 pub record Kept : Type 0 where

@@ -1,8 +1,7 @@
 //! What a search reads of a record, in few bytes.
 
 ghost use Rattle.std.specs.Prelude.{◌≡◌, fold};
-ghost use Rattle.rbc_records.specs.Columns.{has_bit, with_bit, with_slot, bits_of_slots, bits_of_few, told_of, standing_of, standing_of_train, standing_at, may_be_told};
-ghost use Rattle.rbc_records.specs.declared.columns.Standing.TheVariants.{Up, Down};
+ghost use Rattle.rbc_records.specs.Columns.{has_bit, with_bit, with_slot, bits_of_slots, bits_of_few, told_of, extent_of, extent_of_train, ahead_of, extent_of_area, with_segment, meet};
 
 use crate::record::Rec;
 use rbc_ids::{IdTable, Slot};
@@ -28,18 +27,30 @@ pub struct Told {
     pub limits: u64,
 }
 
-/// Which new stops a train may have to be told of.
+/// Places on some lines, from the least to the most, both among them.
 #[derive(Clone, Copy, Debug)]
-pub enum Standing {
-    /// None: it has no free stop identifier (NID_EM), or the record is no train.
-    Full,
-    /// All of them: it has no place, or it rejected a stop, which may be forced on it.
-    Anywhere,
-    /// It faces up on this line: those with a segment there that does not end below this place.
-    Up { line: u8, least: u32 },
-    /// It faces down on this line: those with a segment there that does not begin above this place.
-    Down { line: u8, most: u32 },
+pub struct Extent {
+    /// The lines, by bits: bit `n % 64` stands for line n. None of them: no place.
+    pub lines: u64,
+    /// In units of 10 cm from the lower end of a line.
+    pub least: u32,
+    /// In the same units.
+    pub most: u32,
 }
+
+/// No place.
+const NOWHERE: Extent = Extent {
+    lines: 0,
+    least: u32::MAX,
+    most: 0,
+};
+
+/// All places.
+const EVERYWHERE: Extent = Extent {
+    lines: u64::MAX,
+    least: 0,
+    most: u32::MAX,
+};
 
 impl Told {
     /// What the train of a record was told.
@@ -59,81 +70,86 @@ impl Told {
     }
 }
 
-impl Standing {
-    /// How the train of a record stands.
+impl Extent {
+    /// Where a new stop has to lie if the train of a record may have to be told of it.
     pub fn of(rec: &Rec) -> Self
-        ensures { result ≡ standing_of rec.now }
+        ensures { result ≡ extent_of rec.now }
     {
         match rec {
-            Rec::Train(train) => Standing::of_train(train),
-            Rec::Engines(_) | Rec::Stops(_) | Rec::Limits(_) => Standing::Full,
+            Rec::Train(train) => Extent::of_train(train),
+            Rec::Engines(_) | Rec::Stops(_) | Rec::Limits(_) => NOWHERE,
         }
     }
 
-    /// How a train stands.
+    /// The same of a train: nowhere if it has no free stop identifier (NID_EM), and anywhere if it has no place, or rejected a
+    /// stop, which may be forced on it.
     fn of_train(train: &TrainRec) -> Self
-        ensures { result ≡ standing_of_train train.now }
+        ensures { result ≡ extent_of_train train.now }
     {
         if train.stops.held() >= STOP_IDENTIFIERS {
-            return Standing::Full;
+            return NOWHERE;
         }
         if train.forced.len() > 0 {
-            return Standing::Anywhere;
+            return EVERYWHERE;
         }
         match &train.place {
-            Some(place) => Standing::at(place),
-            None => Standing::Anywhere,
+            Some(place) => Extent::ahead_of(place),
+            None => EVERYWHERE,
         }
     }
 
-    /// How a train with a free stop identifier stands at its place.
-    fn at(place: &Place) -> Self
-        ensures { result ≡ standing_at place.now.facing place.now }
+    /// Where a train at this place may stand, and what lies ahead of it on its line.
+    fn ahead_of(place: &Place) -> Self
+        ensures { result ≡ ahead_of place.now.facing place.now }
     {
+        let lines = with_bit(0, u32::from(place.line()));
         match place.facing() {
-            Way::Up => Standing::Up {
-                line: place.line(),
+            Way::Up => Extent {
+                lines,
                 least: place.lo().min(place.hi()),
+                most: u32::MAX,
             },
-            Way::Down => Standing::Down {
-                line: place.line(),
+            Way::Down => Extent {
+                lines,
+                least: 0,
                 most: place.lo().max(place.hi()),
             },
         }
     }
 
-    /// Whether the train may have to be told of a stop that closes an area.
-    #[inline(always)]
-    pub fn may_be_told(&self, area: &Area) -> bool
-        ensures { result ≡ may_be_told area.now self.now }
+    /// The extent of an area: on all lines of its segments, from the least end of any to the greatest. Of an area without
+    /// segments it is everywhere.
+    pub fn of_area(area: &Area) -> Self
+        ensures { result ≡ extent_of_area area.now }
     {
-        match self {
-            Standing::Full => false,
-            Standing::Anywhere => true,
-            Standing::Up { line, least } => ends_from(area.segments(), *line, *least),
-            Standing::Down { line, most } => begins_to(area.segments(), *line, *most),
+        let segments = area.segments();
+        if segments.is_empty() {
+            return EVERYWHERE;
+        }
+        segments
+            .iter()
+            .fold(NOWHERE, |extent, segment| extent.with_segment(segment))
+    }
+
+    /// With one more segment.
+    fn with_segment(self, segment: &Segment) -> Self
+        ensures { result ≡ with_segment self segment.now }
+    {
+        Extent {
+            lines: with_bit(self.lines, segment.line),
+            least: self.least.min(segment.from.min(segment.to)),
+            most: self.most.max(segment.from.max(segment.to)),
         }
     }
-}
 
-/// Whether a segment on a line does not end below a place.
-#[inline(always)]
-fn ends_from(segments: &[Segment], line: u8, least: u32) -> bool
-    ensures { result ≡ may_be_told segments.now (Up line least) }
-{
-    segments.iter().any(|segment| {
-        segment.line == u32::from(line) && least <= segment.from.max(segment.to)
-    })
-}
-
-/// Whether a segment on a line does not begin above a place.
-#[inline(always)]
-fn begins_to(segments: &[Segment], line: u8, most: u32) -> bool
-    ensures { result ≡ may_be_told segments.now (Down line most) }
-{
-    segments.iter().any(|segment| {
-        segment.line == u32::from(line) && segment.from.min(segment.to) <= most
-    })
+    /// Whether both are on a line of the same bit, and have a place in common. Without a branch for each kind of extent, as this is
+    /// asked of every train at every new stop.
+    #[inline(always)]
+    pub fn meets(&self, other: &Extent) -> bool
+        ensures { result ≡ meet self.now other.now }
+    {
+        self.lines & other.lines != 0 && self.least <= other.most && other.least <= self.most
+    }
 }
 
 /// Whether the bit of a number is set.

@@ -4,13 +4,12 @@ ghost use Rattle.std.specs.Prelude.{◌≡◌, ℕ, ◌<◌, ◌||◌, length, s
 ghost use Rattle.rbc_settle.specs.Numbers.{has_number};
 ghost use Rattle.rbc_records.specs.declared.record.Key.{Key};
 ghost use Rattle.rbc_records.specs.declared.record.Rec.{Rec};
-ghost use Rattle.rbc_records.specs.Columns.{has_bit, told_of, standing_of, may_be_told, tolds_of, standings_of, is_of_train, ArePassing};
+ghost use Rattle.rbc_records.specs.Columns.{has_bit, told_of, extent_of, meet, tolds_of, extents_of, is_of_train, ArePassing};
 
-use crate::columns::{Standing, Told, has_bit};
+use crate::columns::{Extent, Told, has_bit};
 use crate::record::{Key, Rec};
 use indexmap::IndexMap;
 use rbc_settle::Numbers;
-use rbc_zones::Area;
 use std::alloc::{AllocError, Global};
 
 /// The most trains that a search returns. A command for more of them goes through all as fast.
@@ -54,19 +53,19 @@ pub fn told_of_limit(
     Ok(Some(found))
 }
 
-/// The engines of the trains that may have to be told of a new stop with this area. `None` where they are many.
+/// The engines of the trains that may have to be told of a new stop that lies somewhere in an extent. `None` where they are many.
 pub fn stoppable(
     alloc: Global,
     entries: &IndexMap<Key, Rec>,
-    standings: &[Standing],
-    area: &Area,
+    extents: &[Extent],
+    sought: Extent,
 ) -> Result<Option<Numbers>, AllocError>
-    requires { standings.now ≡ standings_of entries.now.entries }
-    ensures { IfOk result (λ found. IfSome found (ArePassing (λ rec. may_be_told area.now (standing_of rec)) entries.now.entries)) }
+    requires { extents.now ≡ extents_of entries.now.entries }
+    ensures { IfOk result (λ found. IfSome found (ArePassing (λ rec. meet sought (extent_of rec)) entries.now.entries)) }
 {
     let mut found = Numbers::new(alloc);
-    for (index, standing) in standings.iter().enumerate() {
-        if standing.may_be_told(area) && !add_train(entries, index, &mut found)? {
+    for (index, extent) in extents.iter().enumerate() {
+        if sought.meets(extent) && !add_train(entries, index, &mut found)? {
             return Ok(None);
         }
     }

@@ -6,7 +6,7 @@ ghost use Rattle.rbc_records.specs.Notes.{Whole, record_in};
 ghost use Rattle.rbc_records.specs.Seeking.{AreFound};
 ghost use Rattle.rbc_records.specs.Writes.{write_over};
 
-use crate::columns::{Standing, Told};
+use crate::columns::{Extent, Told};
 use crate::record::{Key, Rec};
 use crate::search;
 use crate::sought::Sought;
@@ -21,7 +21,7 @@ use std::marker::Model;
 pub struct Table {
     entries: IndexMap<Key, Rec>,
     tolds: Vec<Told>,
-    standings: Vec<Standing>,
+    extents: Vec<Extent>,
 }
 
 impl Model for Table {
@@ -31,9 +31,9 @@ impl Model for Table {
 
     ghost Value = { Kept };
 
-    ghost view = { λ table. record { entries = table.entries.entries; room = min (spare table.entries) (min (vec_capacity table.tolds - vec_len table.tolds) (vec_capacity table.standings - vec_len table.standings)) } };
+    ghost view = { λ table. record { entries = table.entries.entries; room = min (spare table.entries) (min (vec_capacity table.tolds - vec_len table.tolds) (vec_capacity table.extents - vec_len table.extents)) } };
 
-    ghost invariant = { λ table. AreBeside table.entries.entries table.tolds.items table.standings.items };
+    ghost invariant = { λ table. AreBeside table.entries.entries table.tolds.items table.extents.items };
 }
 
 impl Table {
@@ -44,7 +44,7 @@ impl Table {
         Table {
             entries: IndexMap::new(alloc),
             tolds: Vec::new(alloc),
-            standings: Vec::new(alloc),
+            extents: Vec::new(alloc),
         }
     }
 
@@ -77,7 +77,7 @@ impl Table {
         ensures ok { OnOk result (additional ≤ self.new.room) }
     {
         self.tolds.reserve(additional)?;
-        self.standings.reserve(additional)?;
+        self.extents.reserve(additional)?;
         self.entries.reserve(additional)
     }
 
@@ -89,14 +89,14 @@ impl Table {
         ensures room { self.old.room ≤ self.new.room + 1 }
     {
         let told = Told::of(&rec);
-        let standing = Standing::of(&rec);
+        let extent = Extent::of(&rec);
         let (index, old) = self.entries.insert_full(key, rec).unwrap();
         if index < self.tolds.len() {
             self.tolds[index] = told;
-            self.standings[index] = standing;
+            self.extents[index] = extent;
         } else {
             self.tolds.push(told).unwrap();
-            self.standings.push(standing).unwrap();
+            self.extents.push(extent).unwrap();
         }
         old
     }
@@ -109,7 +109,7 @@ impl Table {
     {
         let (index, _, rec) = self.entries.swap_remove_full(&key)?;
         let _ = self.tolds.swap_remove(index);
-        let _ = self.standings.swap_remove(index);
+        let _ = self.extents.swap_remove(index);
         Some(rec)
     }
 
@@ -125,7 +125,8 @@ impl Table {
                 search::told_of_limit(alloc, &self.entries, tolds, number)
             }
             Sought::Stoppable(_, area) => {
-                search::stoppable(alloc, &self.entries, self.standings.as_slice(), area)
+                let extent = Extent::of_area(area);
+                search::stoppable(alloc, &self.entries, self.extents.as_slice(), extent)
             }
         }
     }

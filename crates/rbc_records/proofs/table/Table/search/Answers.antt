@@ -1,5 +1,9 @@
-use Rattle.std.proofs.Common.{ap}
-use Rattle.rbc_records.specs.Columns.{Kept, has_bit, told_of, standing_of, may_be_told}
+use Rattle.std.proofs.Common.{◌≡◌, true, ap, ◌∙◌}
+use Rattle.rbc_records.specs.Columns.{Kept, has_bit, told_of, extent_of, meet}
+use Rattle.rbc_records.specs.Seeking.{is_sought}
+use Rattle.rbc_records.specs.declared.columns.Extent.{Extent}
+use Rattle.rbc_records.specs.declared.record.Rec.TheVariants as rec
+use Rattle.rbc_settle.specs.declared.train.TrainRec.{TrainRec}
 use Rattle.rbc_records.specs.declared.record.Rec.{Rec}
 use Rattle.rbc_records.specs.declared.sought.Sought.TheVariants as sought
 use Rattle.rbc_records.proofs.Finding.{found_those, asked_by_stop, asked_by_limit, asked_by_place}
@@ -18,5 +22,8 @@ returns-in-ToldOfLimit c =
 pub returns-in-Stoppable : goal.returns-in-Stoppable
 returns-in-Stoppable c =
     let area = c.in-Stoppable.area in
-    let passes = λ (rec : Rec). may_be_told area.now (standing_of rec) in
-    rw c.in-Stoppable.is (found_those passes (sought.Stoppable c.in-Stoppable.field-0 area) (asked_by_place c.in-Stoppable.field-0 area.now) _ _ (ap (λ (kept : Kept). kept.entries) c.self.view_is) _ c.stoppable.ensures)
+    let extent = c.of_area-extent.result in
+    let passes = λ (rec : Rec). meet extent (extent_of rec) in
+    let asked : (train : TrainRec) → is_sought (sought.Stoppable c.in-Stoppable.field-0 area) train ≡ true → passes (rec.Train train) ≡ true =
+    λ train is. ap (λ (e : Extent). meet e (extent_of (rec.Train train))) c.of_area-extent.ensures ∙ asked_by_place c.in-Stoppable.field-0 area.now train is in
+    rw c.in-Stoppable.is (found_those passes (sought.Stoppable c.in-Stoppable.field-0 area) asked _ _ (ap (λ (kept : Kept). kept.entries) c.self.view_is) _ c.stoppable.ensures)
