@@ -5,10 +5,10 @@ use Rattle.std.proofs.lemmas.List.{length-replicate, take-append-drop}
 use Rattle.std.proofs.lemmas.List.Sums.{sum_by-append}
 use Rattle.std.proofs.lemmas.Nat.{shr_high}
 use Rattle.std.proofs.lemmas.Nat.Bits.{bit_at-lt}
-use Rattle.ertms_bits.specs.Bits.{bits_of, bits_of_bytes, bytes_for, number_of, bytes_of}
+use Rattle.ertms_bits.specs.Bits.{bits_of, bits_of_bytes, bytes_for, number_of, bytes_of, AreBits}
 use Rattle.ertms_bits.proofs.Bits.{length-bits_of, bits_of-cat_low}
 use Rattle.ertms_bits.proofs.Bytes.{bytes_of-padded}
-use Rattle.ertms_bits.proofs.Numbers.{AreBits, AreBits-drop, number_of-below}
+use Rattle.ertms_bits.proofs.Numbers.{AreBits-drop, number_of-below}
 use Rattle.ertms_codec.specs.declared.to_train.ToTrain.{ToTrain}
 use Rattle.ertms_codec.specs.Layout.{Field, width_of, bits_of_fields, bytes_of_fields, HoldValues}
 use Rattle.ertms_codec.specs.ToTrain.{Fits, HoldsReference, Spells, fields_of, spelling_of}
