@@ -2,10 +2,13 @@
 
 Each table changes one thing, in three sizes: how many reports a batch has, how many trains there are, and how many stops and how many
 restrictions are active on other lines. Trains stand on line 0. What a report costs is the processor time of a batch with reports less that of
-the same batch without them, divided by their number; least and median of the runs.
+the same batch without them, divided by their number; least and median of the runs. Where valgrind is installed, the instructions that a
+report takes stand beside it, which no other program on the machine changes.
 """
 
 import os
+import re
+import shutil
 import statistics
 import subprocess
 import sys
@@ -16,6 +19,7 @@ from loads import Random
 LINES, LENGTH = 64, 3_000_000
 GROUPS = 100  # on line 0
 REPORTS, TRAINS, STOPS, RESTRICTIONS = 60_000, 500, 20, 100  # where nothing else is said
+COUNTED = 5  # one report in so many is enough where instructions are counted
 SIZES = {
     "reports": (10_000, 30_000, 90_000),
     "trains": (100, 500, 2_000),
@@ -74,17 +78,37 @@ def nanoseconds(program, folder, runs, sizes):
     return [1e9 * (seconds(program, folder, full) - seconds(program, folder, empty)) / sizes[0] for _ in range(runs)]
 
 
+def counted(program, folder, text):
+    """The instructions of a run of a batch, by callgrind."""
+    with open(f"{folder}/growth.batch", "w", encoding="ascii") as it:
+        it.write(text)
+    words = ["valgrind", "--tool=callgrind", "--callgrind-out-file=/dev/null", program, "run", "--track", f"{folder}/growth.toml"]
+    with open(f"{folder}/growth.batch", "rb") as given:
+        told = subprocess.run(words, stdin=given, stdout=subprocess.DEVNULL, stderr=subprocess.PIPE, check=True).stderr
+    return int(re.search(rb"Collected : (\d+)", told).group(1))
+
+
+def instructions(program, folder, sizes):
+    """How many instructions a report takes, or a dash where there is no valgrind."""
+    if not shutil.which("valgrind"):
+        return "-"
+    reports = sizes[0] // COUNTED
+    more = counted(program, folder, batch(reports, *sizes[1:])) - counted(program, folder, batch(0, *sizes[1:]))
+    return f"{more / reports:,.0f}"
+
+
 def main(folder, runs, program):
     os.makedirs(folder, exist_ok=True)
     with open(f"{folder}/growth.toml", "w", encoding="ascii") as it:
         it.write(track())
-    print("| what grows | to | ns a report, least / median |\n|---|---|---|")
+    print("| what grows | to | ns a report, least / median | instructions a report |\n|---|---|---|---|")
     for at, (name, values) in enumerate(SIZES.items()):
         for value in values:
             sizes = [REPORTS, TRAINS, STOPS, RESTRICTIONS]
             sizes[at] = value
             found = nanoseconds(program, folder, runs, sizes)
-            print(f"| {name} | {value:,} | {min(found):.0f} / {statistics.median(found):.0f} |", flush=True)
+            beside = instructions(program, folder, sizes)
+            print(f"| {name} | {value:,} | {min(found):.0f} / {statistics.median(found):.0f} | {beside} |", flush=True)
 
 
 if __name__ == "__main__":
