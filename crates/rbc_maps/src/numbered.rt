@@ -1,34 +1,41 @@
 //! Active values under ascending numbers.
 
 ghost use Rattle.std.specs.Prelude.{◌≡◌, ◌↔◌, ◌<◌, ◌∷◌, ◌++◌, [], OnOk, OnErr, IfOk, length, Some, slice_get, option_copied, IsTrue};
+ghost use Rattle.std.specs.List.{All};
 ghost use Rattle.rbc_maps.specs.Maps.{has, value_of, without};
 ghost use Rattle.rbc_maps.specs.Numbered.{AreNumbered, none_numbered};
+ghost use Rattle.rbc_maps.specs.OnLines.{mark_of, marked};
 
 use crate::lookup;
+use crate::on_line::{OnLine, OnLines};
 use crate::same::{Same, have_same_pairs};
 use std::alloc::{AllocError, Global};
 use std::cell::Cell;
 use std::marker::Model;
 
 /// The active values by their numbers, which are above 0, and the last number that was ever given. A number that was
-/// removed is not given again.
+/// removed is not given again. Beside the values stand the marks of the lines on which they lie, `N` of each, so that those of one
+/// line are found without a look at the others.
 #[derive(Debug, Drop)]
-pub struct Numbered<V> {
+pub struct Numbered<V: OnLines<N>, const N: usize> {
     last: u32,
     active: Vec<(u32, V)>,
+    /// The marks of the active values, in their order.
+    marks: Vec<[u8; N]>,
 }
 
-impl<V> Model for Numbered<V> {
+impl<V: OnLines<N>, const N: usize> Model for Numbered<V, N> {
     ghost use Rattle.rbc_maps.specs.Numbered as numbered;
+    ghost use Rattle.rbc_maps.specs.OnLines as lines;
 
     ghost Value = { numbered.Numbered V };
 
     ghost view = { λ n. record { last = n.last; active = n.active.items } };
 
-    ghost invariant = { λ n. numbered.AreNumbered (record { last = n.last; active = n.active.items }) };
+    ghost invariant = { λ n. lines.AreMarked V.marks V.is_sound (record { last = n.last; active = n.active.items }) n.marks.items };
 }
 
-impl<V> Numbered<V> {
+impl<V: OnLines<N>, const N: usize> Numbered<V, N> {
     /// No value is active, and the last number is 0. Takes no memory.
     pub fn new(alloc: Global) -> Self
         ensures { result ≡ none_numbered }
@@ -36,6 +43,7 @@ impl<V> Numbered<V> {
         Numbered {
             last: 0,
             active: Vec::new(alloc),
+            marks: Vec::new(alloc),
         }
     }
 
@@ -61,6 +69,17 @@ impl<V> Numbered<V> {
         ensures sound { AreNumbered self.now }
     {
         self.active.as_slice()
+    }
+
+    /// The active values that carry the mark of a line, with their numbers, in ascending order of the number. Among them is each that
+    /// lies on the line. The others are not looked at one by one. Takes no memory.
+    #[inline]
+    pub fn on_line(&self, line: u32) -> OnLine<'_, V, N>
+        ensures line { result ≡ marked V.marks (mark_of line) self.now.active }
+        ensures sound { All (λ pair. V.is_sound pair.1) self.now.active }
+        ensures numbered { AreNumbered self.now }
+    {
+        OnLine::new(line, &self.marks, &self.active)
     }
 
     /// The value that is active under a number, if there is one.
@@ -101,7 +120,11 @@ impl<V> Numbered<V> {
         ensures ok { OnOk result (self.new ≡ record { last = number; active = self.old.active ++ (number, value) ∷ [] }) }
         ensures err { OnErr result (self.new ≡ self.old) }
     {
-        self.active.push((number, value))?;
+        self.marks.push(value.marks())?;
+        if let Err(refused) = self.active.push((number, value)) {
+            self.marks.truncate(self.active.len());
+            return Err(refused.into());
+        }
         self.last = number;
         Ok(())
     }
@@ -113,18 +136,29 @@ impl<V> Numbered<V> {
         ensures active { self.new ≡ record { last = self.old.last; active = without number self.old.active } }
         ensures found { result ≡ has self.old.active number }
     {
-        lookup::remove(&mut self.active, number)
+        let at = lookup::index_for(&self.active, number);
+        let found = lookup::remove(&mut self.active, number);
+        if found {
+            let _ = self.marks.remove(at);
+        }
+        found
     }
 
-    /// Copies all of it. Takes memory for the active values alone, and fails only for lack of memory.
+    /// Copies all of it, with room for one value more. Takes memory for the active values and that room alone, and fails only for
+    /// lack of memory.
     pub fn copy(&self, alloc: Global) -> Result<Self, AllocError>
     where
         V: Copy,
         ensures { IfOk result (λ copy. copy ≡ self.now) }
     {
+        let mut active = Vec::with_capacity(alloc, self.active.len() + 1)?;
+        active.extend_from_slice(&self.active)?;
+        let mut marks = Vec::with_capacity(alloc, self.marks.len() + 1)?;
+        marks.extend_from_slice(&self.marks)?;
         Ok(Numbered {
             last: self.last,
-            active: Vec::from_slice(alloc, self.active.as_slice())?,
+            active,
+            marks,
         })
     }
 
