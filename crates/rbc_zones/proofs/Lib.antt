@@ -7,4 +7,5 @@ pub mod Parts
 pub mod ToldLimits
 pub mod WitnessStops
 pub mod WitnessLimits
+pub mod Marks
 mod Same

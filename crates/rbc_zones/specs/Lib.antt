@@ -4,4 +4,5 @@ pub mod Padding
 pub mod Concerns
 pub mod Nearer
 pub mod Limits
+pub mod Marks
 pub mod Witnesses

@@ -2,15 +2,20 @@
 
 ghost use Rattle.std.specs.Prelude.{◌≡◌, ◌<◌, ◌↔◌, length, IsTrue, IsOk, IfOk};
 ghost use Rattle.rbc_zones.specs.Segments.{is_good_area, IsSegment, AreSegments};
+ghost use Rattle.rbc_zones.specs.Marks.{mark_at};
 ghost use Rattle.std.specs.List.{All};
 
 use crate::segment::{Segment, is_good_segment};
-use rbc_maps::Same;
+use rbc_maps::{OnLines, Same, mark_of};
 use rbc_track::Track;
+use std::array;
 use std::marker::Model;
 
 /// The most segments that an area has.
 const MAX_SEGMENTS: usize = 8;
+
+/// The mark where an area has no further segment. No line of a track has it, as a track has at most 64 lines.
+const NO_MARK: u8 = 255;
 
 /// Fills the array of an area that has fewer segments.
 const NO_SEGMENT: Segment = Segment {
@@ -94,6 +99,34 @@ impl Same for Area {
     fn is_same(&self, other: &Self) -> bool {
         self.segments() == other.segments()
     }
+}
+
+impl OnLines<8> for Area {
+    ghost use Rattle.std.specs.Prelude.{refl};
+    ghost use Rattle.std.proofs.Common.{arith};
+    ghost use Rattle.rbc_zones.specs.Marks.{stop_marks};
+    ghost use Rattle.rbc_zones.specs.Segments.{AreSegments};
+
+    ghost marks = { stop_marks };
+
+    ghost is_sound = { AreSegments };
+
+    /// The marks of the lines of the segments, one of each segment that an area can have. Takes no memory.
+    fn marks(&self) -> [u8; 8] {
+        let segments = self.segments();
+        array::from_fn(|at| mark_at(segments, at))
+    }
+
+    ghost are_all = { λ area. refl };
+
+    ghost are_few = { Prim.omega arith };
+}
+
+/// The mark of the line of the segment at an index.
+fn mark_at(segments: &[Segment], at: usize) -> u8
+    ensures { result ≡ mark_at segments.now at }
+{
+    segments.get(at).map_or(NO_MARK, |segment| mark_of(segment.line))
 }
 
 /// Whether there are at most 8 segments, and each is good for the track.

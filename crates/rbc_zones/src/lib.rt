@@ -23,8 +23,8 @@ pub use segment::Segment;
 pub use stop::concern;
 pub use witnesses::{limit_law_witnesses, stop_law_witnesses};
 
-/// The areas of the active stops, by the numbers of the stops.
-pub type Stops = Numbered<Area>;
+/// The areas of the active stops, by the numbers of the stops. Eight marks of each tell the lines of its segments.
+pub type Stops = Numbered<Area, 8>;
 
-/// The active temporary speed restrictions, by their numbers.
-pub type Limits = Numbered<Limit>;
+/// The active temporary speed restrictions, by their numbers. One mark of each tells its line.
+pub type Limits = Numbered<Limit, 1>;

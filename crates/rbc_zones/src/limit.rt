@@ -4,7 +4,7 @@ ghost use Rattle.std.specs.Prelude.{◌≡◌, ◌≤◌, ◌↔◌, IsTrue, IsO
 ghost use Rattle.rbc_zones.specs.Limits.{Limit, IsLimit, is_good_limit, is_for, is_clear, concerns};
 
 use crate::segment::{Segment, is_good_segment};
-use rbc_maps::Same;
+use rbc_maps::{OnLines, Same, mark_of};
 use rbc_place::Place;
 use rbc_track::{Track, Way};
 use std::marker::Model;
@@ -119,6 +119,26 @@ impl Same for Limit {
     fn is_same(&self, other: &Self) -> bool {
         self == other
     }
+}
+
+impl OnLines<1> for Limit {
+    ghost use Rattle.std.specs.Prelude.{refl};
+    ghost use Rattle.std.proofs.Common.{arith};
+    ghost use Rattle.rbc_zones.specs.Limits.{IsLimit};
+    ghost use Rattle.rbc_zones.specs.Marks.{limit_marks};
+
+    ghost marks = { limit_marks };
+
+    ghost is_sound = { IsLimit };
+
+    /// The mark of the line of the segment. Takes no memory.
+    fn marks(&self) -> [u8; 1] {
+        [mark_of(self.segment.line)]
+    }
+
+    ghost are_all = { λ limit. refl };
+
+    ghost are_few = { Prim.omega arith };
 }
 
 /// Whether a restriction applies to trains that face this way.
