@@ -19,4 +19,5 @@ pub mod NumberLists
 pub mod NumberCopies
 pub mod Merging
 pub mod Judging
+pub mod OneLine
 pub mod WitnessTrains

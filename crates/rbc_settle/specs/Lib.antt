@@ -3,6 +3,7 @@ pub mod Trains
 pub mod Told
 pub mod InField
 pub mod Settling
+pub mod OneLine
 pub mod Following
 pub mod UpToDate
 pub mod WellFormed

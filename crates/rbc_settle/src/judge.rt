@@ -1,11 +1,12 @@
 //! What has to be done to a train. All of it is judged before the first action.
 
-ghost use Rattle.std.specs.Prelude.{◌≡◌, ◌≤◌, ◌++◌, ℕ, IfOk, OnOk, Some, option_copied};
+ghost use Rattle.std.specs.Prelude.{◌≡◌, ◌≤◌, ◌++◌, ℕ, IfOk, OnOk, IfSome, Some, option_copied};
 ghost use Rattle.rbc_maps.specs.Numbered.{AreNumbered};
 ghost use Rattle.rbc_ids.specs.Table.{IsTable};
 ghost use Rattle.rbc_zones.specs.declared.edge.Concern.TheVariants.{Before};
 ghost use Rattle.rbc_settle.specs.Trains.{stop_identifiers, limit_identifiers};
 ghost use Rattle.rbc_settle.specs.Settling.{direction_of, told_at, told_stop, told_limit, limit_told_to, stop_to_tell, limit_to_tell, is_used_by, is_stop_gone, is_limit_gone, stops_revoked, stops_told, limits_revoked, limits_told, actions_with_stamp};
+ghost use Rattle.rbc_settle.specs.OneLine.{IsJudgedOnLine};
 ghost use Rattle.rbc_settle.specs.UpToDate.{HasTables};
 
 use crate::action::{Action, ToldEdge, ToldLimit, ToldStop};
@@ -87,13 +88,58 @@ fn stops_told(alloc: Global, stops: &Stops, train: &TrainRec) -> Result<Vec<Acti
     ensures actions { IfOk result (λ found. found.items ≡ stops_told stops.now train.now) }
     ensures sound { AreNumbered stops.now }
 {
-    let active = stops.active();
-    if train.stops.least_free().is_none() {
+    if stops.count() == 0 || train.stops.least_free().is_none() {
         return Ok(Vec::new(alloc));
     }
+    match line_to_judge(train) {
+        Some(line) => stops_told_on_line(alloc, stops, line, train),
+        None => stops_told_anywhere(alloc, stops, train),
+    }
+}
+
+/// The line by whose stops alone a train is judged: its own, if it has a place and rejected no stop. A train without a place is
+/// judged by all stops, and so is one that rejected some, as those concern it wherever they are.
+fn line_to_judge(train: &TrainRec) -> Option<u32>
+    ensures { IfSome result (IsJudgedOnLine train.now) }
+{
+    if train.forced.len() > 0 {
+        return None;
+    }
+    Some(u32::from(train.place.as_ref()?.line()))
+}
+
+/// The pairs of `stops_told`, for a train that is judged by the stops on its line.
+fn stops_told_on_line(
+    alloc: Global,
+    stops: &Stops,
+    line: u32,
+    train: &TrainRec,
+) -> Result<Vec<Action>, AllocError>
+    requires { IsJudgedOnLine train.now line }
+    ensures { IfOk result (λ found. found.items ≡ stops_told stops.now train.now) }
+{
     let near = Cell::new(0);
     let free = (0..15).filter(|id| train.stops.slot(*id).is_none());
-    active
+    stops
+        .on_line(line)
+        .filter_map(|stop| stop_to_tell(train, stop.0, &stop.1, &near))
+        .zip(free)
+        .map(|((number, told), id)| Action::TellStop { id, number, told })
+        .collect(alloc)
+}
+
+/// The pairs of `stops_told`, for any train.
+fn stops_told_anywhere(
+    alloc: Global,
+    stops: &Stops,
+    train: &TrainRec,
+) -> Result<Vec<Action>, AllocError>
+    ensures { IfOk result (λ found. found.items ≡ stops_told stops.now train.now) }
+{
+    let near = Cell::new(0);
+    let free = (0..15).filter(|id| train.stops.slot(*id).is_none());
+    stops
+        .active()
         .iter()
         .filter_map(|stop| stop_to_tell(train, stop.0, &stop.1, &near))
         .zip(free)
@@ -136,7 +182,8 @@ fn is_used_by_gone_limit(
     }
 }
 
-/// Pairs the restrictions that have to be told with the free identifiers, as `stops_told` does with stops.
+/// Pairs the restrictions that have to be told with the free identifiers, as `stops_told` does with stops. Only those on its line
+/// concern a train, and none concerns one without a place.
 fn limits_told(
     alloc: Global,
     horizon: u32,
@@ -146,14 +193,16 @@ fn limits_told(
     ensures actions { IfOk result (λ found. found.items ≡ limits_told horizon limits.now train.now) }
     ensures sound { AreNumbered limits.now }
 {
-    let active = limits.active();
-    if train.limits.least_free().is_none() {
+    if limits.count() == 0 || train.limits.least_free().is_none() {
         return Ok(Vec::new(alloc));
     }
+    let Some(place) = &train.place else {
+        return Ok(Vec::new(alloc));
+    };
     let near = Cell::new(0);
     let free = (0..255).filter(|id| train.limits.slot(*id).is_none());
-    active
-        .iter()
+    limits
+        .on_line(u32::from(place.line()))
         .filter_map(|limit| limit_to_tell(horizon, train, limit.0, &limit.1, &near))
         .zip(free)
         .map(|((number, told), id)| Action::TellLimit { id, number, told })

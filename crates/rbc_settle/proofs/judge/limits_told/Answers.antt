@@ -1,31 +1,58 @@
-use Rattle.std.proofs.Common.{rules, refl, not, ◌∙◌}
-use Rattle.std.proofs.lemmas.Iterator.{YieldsList-from_slice, YieldsList-from_range, YieldsList-from_map, YieldsList-from_zip, items_from_collect}
-use Rattle.std.proofs.lemmas.Iterator.Consumers.{YieldsList-at, YieldsList-from_filter, YieldsList-from_filter_map}
-use Rattle.std.specs.List.{filter_map}
+use Rattle.std.proofs.Common.{◌≡◌, ◌∙◌, [], map, rules, refl, not, sym, ap, subst}
+use Rattle.std.specs.Prelude.{IfOk}
+use Rattle.std.specs.List.{filter_map, zip}
+use Rattle.std.proofs.lemmas.Iterator.{YieldsList-from_range, YieldsList-from_map, YieldsList-from_zip, items_from_collect}
+use Rattle.std.proofs.lemmas.Iterator.Consumers.{YieldsList-at, YieldsList-from_first, YieldsList-from_filter, YieldsList-from_filter_map}
 use Rattle.rbc_maps.specs.Maps.{has}
-use Rattle.rbc_settle.specs.Settling.{limit_to_tell, tell_limit}
+use Rattle.rbc_maps.specs.OnLines.{mark_of, marked}
+use Rattle.rbc_zones.specs.Marks.{limit_marks}
+use Rattle.rbc_ids.specs.Table.{free_identifiers}
+use Rattle.rbc_settle.specs.Trains.{limit_identifiers}
+use Rattle.rbc_settle.specs.Settling.{limits_told, limit_to_tell, tell_limit}
 use Rattle.rbc_settle.proofs.Judging.{value_is_none, none_paired}
+use Rattle.rbc_settle.proofs.OneLine.{limits_on_line, limits_nowhere, none_active, nothing_zipped}
 use Rattle.rbc_settle.proofs.judge.limits_told.Goals as goal
+use Rattle.rbc_settle.proofs.judge.limits_told.Goals.{then-count-eq0-via-then-count-eq0, then-count-eq0-via-else-count-eq0+then-is_none}
 
--- the chain gives the definition's list, step by step
+-- no restriction is active, or no identifier is free, so nothing can be told
+pub returns-then-count-eq0-clause-actions : goal.returns-then-count-eq0-clause-actions
+returns-then-count-eq0-clause-actions c =
+    let train = c.args.train.now in
+    let limits = c.args.limits.now.active in
+    let told : [] ≡ limits_told c.args.horizon c.args.limits.now train = elim c.then-count-eq0.branch [
+      | then-count-eq0-via-then-count-eq0 w ↦
+          nothing_zipped tell_limit (filter_map (limit_to_tell c.args.horizon train) limits) (free_identifiers limit_identifiers train.limits)
+          (ap (filter_map (limit_to_tell c.args.horizon train)) (none_active limits (sym c.count.ensures.value ∙ w.if-count-eq0.true)))
+      | then-count-eq0-via-else-count-eq0+then-is_none w ↦
+          none_paired tell_limit (filter_map (limit_to_tell c.args.horizon train) limits) _ w.least_free.result w.is_none.result w.is_none.ensures w.if-is_none.true w.least_free.ensures
+    ] in
+    c.new.ensures.items ∙ told
+
+-- a train without a place is told of none
+pub returns-in_default-clause-actions : goal.returns-in_default-clause-actions
+returns-in_default-clause-actions c =
+    let train = c.args.train.now in
+    let limits = c.args.limits.now.active in
+    c.new-in_default.ensures.items
+    ∙ nothing_zipped tell_limit (filter_map (limit_to_tell c.args.horizon train) limits) (free_identifiers limit_identifiers train.limits) (limits_nowhere c.args.horizon train c.in_default.is limits)
+
+-- the chain gives the definition's list of the restrictions on the line, and no other one is told
 pub returns-clause-actions : goal.returns-clause-actions
 returns-clause-actions c =
     let train = c.args.train.now in
-    items_from_collect c.collect.result c.collect.ensures.ran
+    let limits = c.args.limits.now.active in
+    let line = c.from.ensures ∙ c.line.ensures in
+    subst (λ wanted. IfOk c.collect.result (λ found. found.items ≡ map tell_limit (zip wanted (free_identifiers limit_identifiers train.limits)))) (limits_on_line c.args.horizon train c.in-Some.place c.in-Some.is limits)
+    (items_from_collect c.collect.result c.collect.ensures.ran
     (YieldsList-from_map _ tell_limit
     (YieldsList-at c.map.ensures.source
     (YieldsList-from_zip
     (YieldsList-at c.zip.ensures.first
     (YieldsList-from_filter_map _ (limit_to_tell c.args.horizon train)
-    (YieldsList-at c.filter_map.ensures.source (YieldsList-from_slice c.args.limits.now.active (c.iter.ensures.rest ∙ c.active-active.ensures.value)))
+    (YieldsList-at c.filter_map.ensures.source (YieldsList-from_first (λ pair. pair.now) (λ rest. rest) (marked limit_marks (mark_of c.in-Some.place.line) limits) (c.on_line.ensures.line ∙ ap (λ l. marked limit_marks (mark_of l) limits) line)))
     c.filter_map.ensures.closure (λ x r q k. search rules)))
     (YieldsList-at c.zip.ensures.second
     (YieldsList-from_filter _ (λ id. not (has train.limits id))
     (YieldsList-at c.filter-free.ensures.source (YieldsList-from_range 0 255 255 refl refl))
     c.filter-free.ensures.closure (λ x b q k. search (rules, value_is_none))))))
-    c.map.ensures.closure (λ x r q k. search rules))
-
--- no identifier is free, so nothing can be told
-pub returns-then-is_none-clause-actions : goal.returns-then-is_none-clause-actions
-returns-then-is_none-clause-actions c =
-    c.new.ensures.items ∙ none_paired tell_limit (filter_map (limit_to_tell c.args.horizon c.args.train.now) c.args.limits.now.active) _ c.least_free.result c.is_none.result c.is_none.ensures c.if-is_none.true c.least_free.ensures
+    c.map.ensures.closure (λ x r q k. search rules)))

@@ -1,31 +1,22 @@
-use Rattle.std.proofs.Common.{rules, refl, not, ◌∙◌}
-use Rattle.std.proofs.lemmas.Iterator.{YieldsList-from_slice, YieldsList-from_range, YieldsList-from_map, YieldsList-from_zip, items_from_collect}
-use Rattle.std.proofs.lemmas.Iterator.Consumers.{YieldsList-at, YieldsList-from_filter, YieldsList-from_filter_map}
-use Rattle.std.specs.List.{filter_map}
-use Rattle.rbc_maps.specs.Maps.{has}
-use Rattle.rbc_settle.specs.Settling.{stop_to_tell, tell_stop}
-use Rattle.rbc_settle.proofs.Judging.{value_is_none, none_paired}
+use Rattle.std.proofs.Common.{◌≡◌, ◌∙◌, [], length, map, sym, ap}
+use Rattle.std.specs.List.{filter_map, zip}
+use Rattle.rbc_ids.specs.Table.{free_identifiers}
+use Rattle.rbc_settle.specs.Trains.{stop_identifiers}
+use Rattle.rbc_settle.specs.Settling.{stops_told, stop_to_tell, tell_stop}
+use Rattle.rbc_settle.proofs.Judging.{none_paired}
+use Rattle.rbc_settle.proofs.OneLine.{none_active, nothing_zipped}
 use Rattle.rbc_settle.proofs.judge.stops_told.Goals as goal
+use Rattle.rbc_settle.proofs.judge.stops_told.Goals.{then-count-eq0-via-then-count-eq0, then-count-eq0-via-else-count-eq0+then-is_none}
 
--- the chain gives the definition's list, step by step
-pub returns-clause-actions : goal.returns-clause-actions
-returns-clause-actions c =
+-- no stop is active, or no identifier is free, so nothing can be told
+pub returns-then-count-eq0-clause-actions : goal.returns-then-count-eq0-clause-actions
+returns-then-count-eq0-clause-actions c =
     let train = c.args.train.now in
-    items_from_collect c.collect.result c.collect.ensures.ran
-    (YieldsList-from_map _ tell_stop
-    (YieldsList-at c.map.ensures.source
-    (YieldsList-from_zip
-    (YieldsList-at c.zip.ensures.first
-    (YieldsList-from_filter_map _ (stop_to_tell train)
-    (YieldsList-at c.filter_map.ensures.source (YieldsList-from_slice c.args.stops.now.active (c.iter.ensures.rest ∙ c.active-active.ensures.value)))
-    c.filter_map.ensures.closure (λ x r q k. search rules)))
-    (YieldsList-at c.zip.ensures.second
-    (YieldsList-from_filter _ (λ id. not (has train.stops id))
-    (YieldsList-at c.filter-free.ensures.source (YieldsList-from_range 0 15 15 refl refl))
-    c.filter-free.ensures.closure (λ x b q k. search (rules, value_is_none))))))
-    c.map.ensures.closure (λ x r q k. search rules))
-
--- no identifier is free, so nothing can be told
-pub returns-then-is_none-clause-actions : goal.returns-then-is_none-clause-actions
-returns-then-is_none-clause-actions c =
-    c.new.ensures.items ∙ none_paired tell_stop (filter_map (stop_to_tell c.args.train.now) c.args.stops.now.active) _ c.least_free.result c.is_none.result c.is_none.ensures c.if-is_none.true c.least_free.ensures
+    let told : [] ≡ stops_told c.args.stops.now train = elim c.then-count-eq0.branch [
+      | then-count-eq0-via-then-count-eq0 w ↦
+          nothing_zipped tell_stop (filter_map (stop_to_tell train) c.args.stops.now.active) (free_identifiers stop_identifiers train.stops)
+          (ap (filter_map (stop_to_tell train)) (none_active c.args.stops.now.active (sym c.count.ensures.value ∙ w.if-count-eq0.true)))
+      | then-count-eq0-via-else-count-eq0+then-is_none w ↦
+          none_paired tell_stop (filter_map (stop_to_tell train) c.args.stops.now.active) _ w.least_free.result w.is_none.result w.is_none.ensures w.if-is_none.true w.least_free.ensures
+    ] in
+    c.new.ensures.items ∙ told
