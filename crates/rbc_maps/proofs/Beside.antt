@@ -1,10 +1,10 @@
 -- The marks that stand beside the active values stay in their order.
-use Rattle.std.proofs.Common.{◌≡◌, ℕ, zero, suc, ◌+◌, ◌<◌, ◌≤◌, Bool, true, false, not, cond, eqb, List, [], ◌∷◌, ◌++◌, map, length, take, refl, sym, ap, ◌∙◌, subst, arith}
+use Rattle.std.proofs.Common.{◌≡◌, ℕ, zero, suc, ◌<◌, true, false, not, cond, eqb, List, [], ◌∷◌, ◌++◌, map, length, refl, sym, ap, ◌∙◌, subst}
 use Rattle.std.specs.Prelude.{flat_map}
-use Rattle.std.specs.List.{filter, remove, All}
-use Rattle.std.proofs.lemmas.List.Elements.{All-nil, All-cons, All-head, All-tail, All-push}
-use Rattle.rbc_maps.specs.Maps.{has, index_for, without, keys, IsMap}
-use Rattle.rbc_maps.specs.Numbered.{Numbered, AreNumbered}
+use Rattle.std.specs.List.{remove, All}
+use Rattle.std.proofs.lemmas.List.Elements.{All-cons, All-head, All-tail, All-push}
+use Rattle.rbc_maps.specs.Maps.{has, index_for, without}
+use Rattle.rbc_maps.specs.Numbered.{Numbered}
 use Rattle.rbc_maps.specs.OnLines.{all_marks, AreMarked}
 use Rattle.rbc_maps.proofs.MapValues.{numbered-snoc, numbered-without, map_of_numbered, found_here, without-found, without-absent}
 

@@ -6,11 +6,10 @@ use Rattle.rbc_place.specs.Placing.{Place}
 use Rattle.rbc_maps.specs.OnLines.{mark_of, has_mark, marked}
 use Rattle.rbc_ids.specs.Table.{is_told}
 use Rattle.rbc_zones.specs.declared.segment.Segment.{Segment}
-use Rattle.rbc_zones.specs.declared.edge.Concern.{Concern}
 use Rattle.rbc_zones.specs.declared.edge.Concern.TheVariants as concern
 use Rattle.rbc_zones.specs.Segments.{AreSegments}
-use Rattle.rbc_zones.specs.Concerns.{concern_of, concern_at}
-use Rattle.rbc_zones.specs.Limits.{Limit, concerns}
+use Rattle.rbc_zones.specs.Concerns.{concern_of}
+use Rattle.rbc_zones.specs.Limits.{Limit}
 use Rattle.rbc_zones.specs.Marks.{stop_marks, limit_marks}
 use Rattle.rbc_zones.proofs.Marks.{stop_elsewhere, limit_elsewhere}
 use Rattle.rbc_settle.specs.declared.train.TrainRec.{TrainRec}

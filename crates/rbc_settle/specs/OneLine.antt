@@ -1,5 +1,5 @@
 -- When a train is judged by what lies on its line alone (own rule).
-use Rattle.std.specs.Prelude.{◌≡◌, ℕ, [], Option, Some}
+use Rattle.std.specs.Prelude.{◌≡◌, ℕ, [], Some}
 use Rattle.rbc_place.specs.Placing.{Place}
 use Rattle.rbc_settle.specs.declared.train.TrainRec.{TrainRec}
 

@@ -1,5 +1,5 @@
 -- What does not carry the mark of a train's line is nothing to the train.
-use Rattle.std.proofs.Common.{◌≡◌, ℕ, zero, suc, ◌+◌, ◌<◌, ◌≤◌, ◌%◌, Bool, true, false, not, cond, ◌||◌, ◌&&◌, ◌==◌, eqb, List, [], ◌∷◌, map, length, Option, Some, None, slice_get, refl, sym, ap, ◌∙◌, subst, arith}
+use Rattle.std.proofs.Common.{◌≡◌, ℕ, zero, suc, ◌+◌, ◌≤◌, true, false, not, cond, ◌||◌, ◌&&◌, ◌==◌, List, [], ◌∷◌, map, length, Option, Some, slice_get, refl, sym, ap, ◌∙◌, arith}
 use Rattle.std.specs.List.{filter, list_any, range_with_len}
 use Rattle.std.specs.Option.{option_map_or}
 use Rattle.std.proofs.lemmas.Bool.{or_parts, eq-eqb, eqb-true}
@@ -8,7 +8,6 @@ use Rattle.rbc_track.specs.declared.group.Way.{Way}
 use Rattle.rbc_track.specs.declared.group.Way.TheVariants.{Up, Down}
 use Rattle.rbc_place.specs.Placing.{Place}
 use Rattle.rbc_zones.specs.declared.segment.Segment.{Segment}
-use Rattle.rbc_zones.specs.declared.edge.Concern.{Concern}
 use Rattle.rbc_zones.specs.declared.edge.Concern.TheVariants as concern
 use Rattle.rbc_zones.specs.Concerns.{on_its_line, meets, edge_of, is_ahead, nearest, concern_by_edge, concern_at}
 use Rattle.rbc_zones.specs.Limits.{Limit, is_for, lies_behind, ends_beyond_group, starts_within, concerns}
@@ -36,6 +35,7 @@ none_on_line p (segment ∷ segments) all at same none =
   where
     plain : (at : ℕ) → at ≡ at + 0
     plain at = omega arith
+
     next : (at k : ℕ) → at + 1 + k ≡ at + suc k
     next at k = omega arith
 
@@ -56,6 +56,7 @@ stop_elsewhere p area few none =
   where
     plain : (k : ℕ) → 0 + k ≡ k
     plain k = omega arith
+
     no_edge : (way : Way) → concern_by_edge p (nearest way []) ≡ concern.None
     no_edge Up = refl
     no_edge Down = refl

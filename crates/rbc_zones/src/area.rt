@@ -126,7 +126,9 @@ impl OnLines<8> for Area {
 fn mark_at(segments: &[Segment], at: usize) -> u8
     ensures { result ≡ mark_at segments.now at }
 {
-    segments.get(at).map_or(NO_MARK, |segment| mark_of(segment.line))
+    segments
+        .get(at)
+        .map_or(NO_MARK, |segment| mark_of(segment.line))
 }
 
 /// Whether there are at most 8 segments, and each is good for the track.

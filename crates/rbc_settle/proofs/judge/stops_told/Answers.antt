@@ -1,5 +1,5 @@
-use Rattle.std.proofs.Common.{◌≡◌, ◌∙◌, [], length, map, sym, ap}
-use Rattle.std.specs.List.{filter_map, zip}
+use Rattle.std.proofs.Common.{◌≡◌, ◌∙◌, [], sym, ap}
+use Rattle.std.specs.List.{filter_map}
 use Rattle.rbc_ids.specs.Table.{free_identifiers}
 use Rattle.rbc_settle.specs.Trains.{stop_identifiers}
 use Rattle.rbc_settle.specs.Settling.{stops_told, stop_to_tell, tell_stop}

@@ -1,7 +1,6 @@
-use Rattle.std.proofs.Common.{◌≡◌, ◌<◌, ℕ, List, length, true, false, sym, ap, ◌∙◌, subst, arith}
+use Rattle.std.proofs.Common.{◌≡◌, ℕ, List, true, false, sym, ap, ◌∙◌, subst, arith}
 use Rattle.std.specs.List.{remove}
 use Rattle.rbc_maps.specs.Maps.{has, index_for, without, IsMap}
-use Rattle.rbc_maps.specs.Numbered.{Numbered}
 use Rattle.rbc_maps.specs.OnLines.{AreMarked}
 use Rattle.rbc_maps.proofs.MapValues.{map_of_numbered}
 use Rattle.rbc_maps.proofs.Beside.{without_one, without_none, has_marks}

@@ -1,5 +1,5 @@
-use Rattle.std.proofs.Common.{rules, ◌≡◌, ◌≤◌, ◌<◌, ◌+◌, ◌/◌, ℕ, List, [], ◌∷◌, length, slice_index_or, Bor, sym, ap, ◌∙◌, subst, arith}
-use Rattle.std.specs.Iterator.{YieldsFirstBy, item_count}
+use Rattle.std.proofs.Common.{rules, ◌≡◌, ◌/◌, ℕ, [], ◌∷◌, length, slice_index_or, sym, ap, ◌∙◌, subst, arith}
+use Rattle.std.specs.Iterator.{YieldsFirstBy}
 use Rattle.memchr.specs.Find.{Nowhere, Passes, is_byte}
 use Rattle.rbc_maps.specs.OnLines.{marked, all_marks}
 use Rattle.rbc_maps.proofs.Marked.{not_found, next}
