@@ -1,7 +1,7 @@
 """Measures what a report of a train costs as other things grow: growth.py FOLDER RUNS PROGRAM
 
-Each table changes one thing, in three sizes: how many reports a batch has, how many trains there are, and how many stops and how many
-restrictions are active on other lines. Trains stand on line 0. What a report costs is the processor time of a batch with reports less that of
+Each table changes one thing, in three sizes: how many reports a batch has, how many trains there are, and how many stops, how many stops of
+eight segments and how many restrictions are active on other lines. Trains stand on line 0. What a report costs is the processor time of a batch with reports less that of
 the same batch without them, divided by their number; least and median of the runs. Where valgrind is installed, the instructions that a
 report takes stand beside it, which no other program on the machine changes.
 """
@@ -18,12 +18,14 @@ from loads import Random
 
 LINES, LENGTH = 64, 3_000_000
 GROUPS = 100  # on line 0
-REPORTS, TRAINS, STOPS, RESTRICTIONS = 60_000, 500, 20, 100  # where nothing else is said
+SEGMENTS = 8  # the most that a stop has
+REPORTS, TRAINS, STOPS, LONG_STOPS, RESTRICTIONS = 60_000, 500, 20, 0, 100  # where nothing else is said
 COUNTED = 5  # one report in so many is enough where instructions are counted
 SIZES = {
     "reports": (10_000, 30_000, 90_000),
     "trains": (100, 500, 2_000),
     "stops": (0, 20, 63),
+    "stops of 8 segments": (0, 20, 43),
     "restrictions": (0, 100, 299),
 }
 
@@ -43,17 +45,22 @@ def report(engine, stamp, group, distance):
     return f"recv {spelled(136, [(stamp, 32), (engine, 24), *position, *rest]).hex().upper()}\n"
 
 
-def batch(reports, trains, stops, restrictions):
+def elsewhere(random):
+    """A stretch of 100 m of a line without trains."""
+    low = random.below(LENGTH - 1_000)
+    return f"{random.between(1, LINES - 1)}:{low}-{low + 1_000}"
+
+
+def batch(reports, trains, stops, long_stops, restrictions):
     """Enrolments, stops and restrictions on other lines, one report of each train, and then so many more."""
     random = Random("growth", trains, stops, restrictions)
     lines = [f"enrol {engine} 2000\n" for engine in range(trains)]
     lines += [report(engine, 1, random.below(GROUPS), random.below(30_000)) for engine in range(trains)]
-    for number in range(1, stops + 1):
-        low = random.below(LENGTH - 1_000)
-        lines.append(f"stop {number} {random.between(1, LINES - 1)}:{low}-{low + 1_000}\n")
+    for number in range(1, stops + long_stops + 1):
+        area = " ".join(elsewhere(random) for _ in range(1 if number <= stops else SEGMENTS))
+        lines.append(f"stop {number} {area}\n")
     for number in range(1, restrictions + 1):
-        low = random.below(LENGTH - 1_000)
-        lines.append(f"restrict {number} {random.between(1, LINES - 1)}:{low}-{low + 1_000} both 40 1\n")
+        lines.append(f"restrict {number} {elsewhere(random)} both 40 1\n")
     for at in range(reports):
         lines.append(report(at % trains, 2 + at, random.below(GROUPS), random.below(30_000)))
     return "".join(lines)
@@ -104,7 +111,7 @@ def main(folder, runs, program):
     print("| what grows | to | ns a report, least / median | instructions a report |\n|---|---|---|---|")
     for at, (name, values) in enumerate(SIZES.items()):
         for value in values:
-            sizes = [REPORTS, TRAINS, STOPS, RESTRICTIONS]
+            sizes = [REPORTS, TRAINS, STOPS, LONG_STOPS, RESTRICTIONS]
             sizes[at] = value
             found = nanoseconds(program, folder, runs, sizes)
             beside = instructions(program, folder, sizes)
