@@ -4,3 +4,4 @@ pub mod MapPlaces
 pub mod MapValues
 pub mod Marked
 pub mod Beside
+pub mod Chained

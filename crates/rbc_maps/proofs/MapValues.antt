@@ -114,6 +114,19 @@ module _ {V : Type 0} where
   pub map_of_numbered : (n : Numbered V) → AreNumbered n → rises_from 0 (keys n.active) ≡ true
   map_of_numbered n h = rises_from-lower 0 1 (keys n.active) (omega arith) h.ascending
 
+  -- numbers that rise are no more than the last one
+  count_from : (least last : ℕ) (pairs : List (ℕ × V)) → rises_from least (keys pairs) ≡ true → All (λ k. k ≤ last) (keys pairs) → least ≤ last + 1 → least + length pairs ≤ last + 1
+  count_from least last [] rises within le = omega (arith, le)
+  count_from least last (pair ∷ pairs) rises within le =
+      let parts = and_parts (leb least pair.0) (rises_from (pair.0 + 1) (keys pairs)) rises in
+      let low = leb-true least pair.0 parts.0 in
+      let high : pair.0 ≤ last = All-head (λ k. k ≤ last) pair.0 (keys pairs) within in
+      let rest = count_from (pair.0 + 1) last pairs parts.1 (All-tail (λ k. k ≤ last) pair.0 (keys pairs) within) (omega (arith, high)) in
+      omega (arith, low, rest)
+
+  pub count_within : (n : Numbered V) → AreNumbered n → length n.active ≤ n.last
+  count_within n h = let count = count_from 1 n.last n.active h.ascending h.within (omega arith) in omega (arith, count)
+
   pub numbered-snoc : (n : Numbered V) (number : ℕ) (value : V) → AreNumbered n → n.last < number → AreNumbered (record { last = number; active = n.active ++ (number, value) ∷ [] })
   numbered-snoc n number value h above = record {
     ascending = rises-snoc number value 1 n.active (omega arith) (All-weaker (λ k. k ≤ n.last) (λ k. k < number) (λ k le. omega (arith, le)) (keys n.active) h.within) h.ascending;

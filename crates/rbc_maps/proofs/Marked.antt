@@ -1,137 +1,122 @@
--- Where the first of the marks of all values is found, its value is the first that carries it.
-use Rattle.std.proofs.Common.{◌≡◌, ℕ, zero, suc, ◌+◌, ◌*◌, ◌/◌, ◌%◌, ◌<◌, ◌≤◌, Bool, true, false, cond, ◌||◌, ◌==◌, List, [], ◌∷◌, length, drop, get_or, slice_index, refl, sym, ap, ◌∙◌, subst, arith}
-use Rattle.std.proofs.lemmas.Bool.{or_left, or_right}
-use Rattle.std.proofs.lemmas.List.{length-append, get_or-append-add, get_or_append_left}
-use Rattle.std.proofs.Math.Seq.{drop-append-add}
-use Rattle.std.proofs.Math.Nat.{div-add-mod, mod-lt, mul_comm, mul-le-mul_right}
-use Rattle.memchr.specs.Find.{Nowhere, NoneBefore, is_byte, Passes}
-use Rattle.rbc_maps.specs.OnLines.{has_mark, marked, all_marks}
-
--- a mark that stands at a place is among them
-stands_at : (mark : ℕ) (marks : List ℕ) (k : ℕ) → k < length marks → Passes (is_byte mark) marks k → has_mark mark marks ≡ true
-stands_at mark [] k within is = absurd (omega (arith, within))
-stands_at mark (m ∷ marks) zero within is = or_left (m == mark) (has_mark mark marks) is
-stands_at mark (m ∷ marks) (suc k) within is = or_right (m == mark) (has_mark mark marks) (stands_at mark marks k (omega (arith, within)) is)
+-- From a value in the chain of a mark the next one is reached.
+use Rattle.std.proofs.Common.{◌≡◌, ℕ, suc, ◌+◌, ◌<◌, ◌≤◌, Bool, true, false, not, cond, ◌||◌, ◌==◌, List, [], ◌∷◌, map, length, drop, get_or, slice_index, refl, sym, ap, ◌∙◌, subst, arith}
+use Rattle.std.specs.List.{position_or_len}
+use Rattle.std.proofs.lemmas.List.{drop_all, drop_more, drop-drop, drop-map, get_or-map, length-map}
+use Rattle.memchr.specs.Find.{Nowhere, is_byte, Passes}
+use Rattle.rbc_maps.specs.OnLines.{has_mark, marked}
+use Rattle.rbc_maps.specs.Chains.{first_with, entry, AreChained, IsInChain}
 
 is_false : (b : Bool) → (b ≡ true → ⊥) → b ≡ false
 is_false b never = (elim b as (λ b. (b ≡ true → ⊥) → b ≡ false) [ true ↦ λ never. absurd (never refl) | false ↦ λ never. refl ]) never
 
--- and one that stands nowhere is not
+-- a mark that stands nowhere is not among them
 stands_nowhere : (mark : ℕ) (marks : List ℕ) → ((k : ℕ) → k < length marks → Passes (is_byte mark) marks k → ⊥) → has_mark mark marks ≡ false
 stands_nowhere mark [] none = refl
 stands_nowhere mark (m ∷ marks) none =
     ap (λ b. b || has_mark mark marks) (is_false (m == mark) (none 0 (omega arith))) ∙ stands_nowhere mark marks (λ k within. none (suc k) (omega (arith, within)))
 
-module _ {V : Type 0} (marks : V → List ℕ) (n mark : ℕ) (each : (value : V) → length (marks value) ≡ n) where
-  -- the value at a place is the first that carries the mark
-  pub record IsFound (pairs : List (ℕ × V)) (at : ℕ) : Type 0 where
-    pub within : at < length pairs
-    pub first : (d : ℕ × V) → marked marks mark pairs ≡ get_or pairs at d ∷ marked marks mark (drop (at + 1) pairs)
+one_more : (k : ℕ) → 1 + k ≡ suc k
+one_more k = omega arith
 
-  length_all : (pair : ℕ × V) (pairs : List (ℕ × V)) → length (all_marks marks (pair ∷ pairs)) ≡ n + length (all_marks marks pairs)
-  length_all pair pairs = length-append (marks pair.1) (all_marks marks pairs) ∙ ap (λ k. k + length (all_marks marks pairs)) (each pair.1)
+module _ (mark : ℕ) where
+  -- behind those that do not carry the mark stands one that does, or the end
+  stands_behind : (column : List (List ℕ)) → position_or_len (has_mark mark) (drop (position_or_len (has_mark mark) column) column) ≡ 0
+  stands_behind [] = refl
+  stands_behind (own ∷ column) =
+      (elim (has_mark mark own) as (λ b. has_mark mark own ≡ b → position_or_len (has_mark mark) (drop (cond (not b) (1 + position_or_len (has_mark mark) column) 0) (own ∷ column)) ≡ 0) [
+        | true ↦ λ e. ap (λ b. cond (not b) (1 + position_or_len (has_mark mark) column) 0) e
+        | false ↦ λ e. ap (λ k. position_or_len (has_mark mark) (drop k (own ∷ column))) (one_more (position_or_len (has_mark mark) column)) ∙ stands_behind column
+      ]) refl
 
-  in_first : (pair : ℕ × V) (pairs : List (ℕ × V)) (k : ℕ) → k < n → slice_index (all_marks marks (pair ∷ pairs)) k ≡ slice_index (marks pair.1) k
-  in_first pair pairs k within = get_or_append_left (marks pair.1) (all_marks marks pairs) 0 k (subst (λ m. k < m) (sym (each pair.1)) within)
+  -- where one stands that does, it is the first
+  is_first : (own : List ℕ) (column : List (List ℕ)) → position_or_len (has_mark mark) (own ∷ column) ≡ 0 → has_mark mark own ≡ true
+  is_first own column =
+      elim (has_mark mark own) as (λ b. cond (not b) (1 + position_or_len (has_mark mark) column) 0 ≡ 0 → b ≡ true) [ true ↦ λ e. refl | false ↦ λ e. absurd (omega (arith, e)) ]
 
-  in_rest : (pair : ℕ × V) (pairs : List (ℕ × V)) (k : ℕ) → slice_index (all_marks marks (pair ∷ pairs)) (n + k) ≡ slice_index (all_marks marks pairs) k
-  in_rest pair pairs k =
-      ap (λ m. slice_index (all_marks marks (pair ∷ pairs)) (m + k)) (sym (each pair.1)) ∙ get_or-append-add (marks pair.1) (all_marks marks pairs) k 0
+module _ {V : Type 0} (marks : V → List ℕ) (mark : ℕ) where
+  -- those that do not carry the mark are passed by
+  passed_by : (pairs : List (ℕ × V)) → marked marks mark (drop (position_or_len (has_mark mark) (map (λ pair. marks pair.1) pairs)) pairs) ≡ marked marks mark pairs
+  passed_by [] = refl
+  passed_by (pair ∷ pairs) =
+      (elim (has_mark mark (marks pair.1)) as (λ b. has_mark mark (marks pair.1) ≡ b
+      → marked marks mark (drop (cond (not b) (1 + position_or_len (has_mark mark) (map (λ pair. marks pair.1) pairs)) 0) (pair ∷ pairs)) ≡ cond b (pair ∷ marked marks mark pairs) (marked marks mark pairs)) [
+        | true ↦ λ e. ap (λ b. cond b (pair ∷ marked marks mark pairs) (marked marks mark pairs)) e
+        | false ↦ λ e. ap (λ k. marked marks mark (drop k (pair ∷ pairs))) (one_more (position_or_len (has_mark mark) (map (λ pair. marks pair.1) pairs))) ∙ passed_by pairs
+      ]) refl
 
-  -- the first value does not carry a mark that is not found among its own
-  passed_by : (pair : ℕ × V) (pairs : List (ℕ × V)) → Nowhere (Passes (is_byte mark) (all_marks marks (pair ∷ pairs))) 0 n → has_mark mark (marks pair.1) ≡ false
-  passed_by pair pairs none =
-      stands_nowhere mark (marks pair.1) (λ k within is.
-      let below : k < n = subst (λ m. k < m) (each pair.1) within in
-      none k (omega arith) below (ap (λ m. m == mark) (in_first pair pairs k below) ∙ is))
+  module _ (n place : ℕ) (pairs : List (ℕ × V)) (column next : List (List ℕ)) (h : IsInChain marks n mark place pairs column next) where
+    as_long : length column ≡ length pairs
+    as_long = ap length h.kept ∙ length-map pairs (λ (pair : ℕ × V). marks pair.1)
 
-  left_out : (pair : ℕ × V) (pairs : List (ℕ × V)) → has_mark mark (marks pair.1) ≡ false → marked marks mark (pair ∷ pairs) ≡ marked marks mark pairs
-  left_out pair pairs e = ap (λ b. cond b (pair ∷ marked marks mark pairs) (marked marks mark pairs)) e
+    -- behind the last value there is none
+    pub ended : length pairs ≤ place → marked marks mark (drop place pairs) ≡ []
+    ended past = ap (marked marks mark) (drop_all place pairs past)
 
-  pub found : (pairs : List (ℕ × V)) (at r k : ℕ) → r < n → k ≡ at * n + r → k < length (all_marks marks pairs)
-      → Nowhere (Passes (is_byte mark) (all_marks marks pairs)) 0 k → Passes (is_byte mark) (all_marks marks pairs) k → IsFound pairs at
-  found [] at r k within is below none here = absurd (omega (arith, below))
-  found (pair ∷ pairs) zero r k within is below none here =
-      let same : k ≡ r = omega (arith, is) in
-      let its : Passes (is_byte mark) (marks pair.1) r = sym (ap (λ m. m == mark) (in_first pair pairs r within)) ∙ subst (Passes (is_byte mark) (all_marks marks (pair ∷ pairs))) same here in
-      let has : has_mark mark (marks pair.1) ≡ true = stands_at mark (marks pair.1) r (subst (λ m. r < m) (sym (each pair.1)) within) its in
-      record { within = omega arith; first = λ d. ap (λ b. cond b (pair ∷ marked marks mark pairs) (marked marks mark pairs)) has }
-  found (pair ∷ pairs) (suc at) r k within is below none here =
-      let rest : k ≡ n + (at * n + r) = is ∙ step at r in
-      let below' : at * n + r < length (all_marks marks pairs) = omega (arith, rest, below, length_all pair pairs) in
-      let none' : Nowhere (Passes (is_byte mark) (all_marks marks pairs)) 0 (at * n + r) = λ j low high passes.
-      none (n + j) (omega arith) (omega (arith, rest, high)) (ap (λ m. m == mark) (in_rest pair pairs j) ∙ passes) in
-      let here' : Passes (is_byte mark) (all_marks marks pairs) (at * n + r) = sym (ap (λ m. m == mark) (in_rest pair pairs (at * n + r))) ∙ subst (Passes (is_byte mark) (all_marks marks (pair ∷ pairs))) rest here in
-      let later = found pairs at r (at * n + r) within refl below' none' here' in
-      let passed = passed_by pair pairs (λ j low high. none j low (omega (arith, rest, high))) in
-      let within' : at < length pairs = later.within in
+    module _ (within : place < length pairs) where
+      pub inside : place < length column
+      inside = subst (λ m. place < m) (sym as_long) within
+
+      -- the value at the place carries the mark
+      pub carries : has_mark mark (get_or column place []) ≡ true
+      carries = is_first mark (get_or column place []) (drop (place + 1) column) (sym (ap (position_or_len (has_mark mark)) (drop_more column place [] inside)) ∙ h.stands)
+
+      its_own : (d : ℕ × V) → get_or column place [] ≡ marks ((get_or pairs place d).1)
+      its_own d = ap (λ all. get_or all place []) h.kept ∙ get_or-map (λ (pair : ℕ × V). marks pair.1) pairs place d [] within
+
+      -- so it is the first of those that are left
+      pub first : (d : ℕ × V) → marked marks mark (drop place pairs) ≡ get_or pairs place d ∷ marked marks mark (drop (place + 1) pairs)
+      first d =
+          let pair = get_or pairs place d in
+          ap (marked marks mark) (drop_more pairs place d within)
+          ∙ ap (λ b. cond b (pair ∷ marked marks mark (drop (place + 1) pairs)) (marked marks mark (drop (place + 1) pairs))) (sym (ap (has_mark mark) (its_own d)) ∙ carries)
+
+      -- it has as many marks as each
+      pub of_n : (d : ℕ × V) → ((value : V) → length (marks value) ≡ n) → length (get_or column place []) ≡ n
+      of_n d each = ap length (its_own d) ∙ each ((get_or pairs place d).1)
+
+      -- the mark is found among its own
+      pub never : Nowhere (Passes (is_byte mark) (get_or column place [])) 0 (length (get_or column place [])) → ⊥
+      never none = let bad : true ≡ false = sym carries ∙ stands_nowhere mark (get_or column place []) (λ k below. none k (omega arith) below) in absurd cc
+
+      module _ (slot : ℕ) (below : slot < n) (is : slice_index (get_or column place []) slot ≡ mark) where
+        leads_to : entry next place slot ≡ place + 1 + position_or_len (has_mark mark) (drop (place + 1) column)
+        leads_to =
+            h.links place slot (omega arith) inside below (subst (λ m. m < 64) (sym is) h.line) ∙ ap (first_with (place + 1) (drop (place + 1) column)) is
+
+        -- from there on the next one is the first
+        pub goes_on : IsInChain marks n mark (entry next place slot) pairs column next
+        goes_on = record {
+          line = h.line;
+          kept = h.kept;
+          stands = ap (λ k. position_or_len (has_mark mark) (drop k column)) leads_to
+              ∙ sym (ap (position_or_len (has_mark mark)) (drop-drop (position_or_len (has_mark mark) (drop (place + 1) column)) (place + 1) column))
+              ∙ stands_behind mark (drop (place + 1) column);
+          long = h.long;
+          links = h.links;
+        }
+
+        pub rest : marked marks mark (drop (entry next place slot) pairs) ≡ marked marks mark (drop (place + 1) pairs)
+        rest =
+            let own : drop (place + 1) column ≡ map (λ pair. marks pair.1) (drop (place + 1) pairs) = ap (drop (place + 1)) h.kept ∙ drop-map (λ (pair : ℕ × V). marks pair.1) (place + 1) pairs in
+            ap (λ k. marked marks mark (drop k pairs)) leads_to
+            ∙ sym (ap (marked marks mark) (drop-drop (position_or_len (has_mark mark) (drop (place + 1) column)) (place + 1) pairs))
+            ∙ ap (λ rest. marked marks mark (drop (position_or_len (has_mark mark) rest) (drop (place + 1) pairs))) own
+            ∙ passed_by (drop (place + 1) pairs)
+
+-- the first of all that carry a line's mark
+pub starts : {V : Type 0} (marks : V → List ℕ) (n mark place : ℕ) (pairs : List (ℕ × V)) (column next : List (List ℕ)) (first : List ℕ) → mark < 64 → column ≡ map (λ pair. marks pair.1) pairs
+    → AreChained n column first next → place ≡ slice_index first mark → IsInChain marks n mark place pairs column next × (marked marks mark (drop place pairs) ≡ marked marks mark pairs)
+starts {V} marks n mark place pairs column next first line kept chained is =
+    let at : place ≡ position_or_len (has_mark mark) column = is ∙ chained.heads mark line ∙ plain (position_or_len (has_mark mark) column) in (
       record {
-        within = omega (arith, within');
-        first = λ d. left_out pair pairs passed ∙ later.first d ∙ ap (λ m. get_or pairs at d ∷ marked marks mark (drop m (pair ∷ pairs))) (one_more at);
-      }
-    where
-      one_more : (at : ℕ) → suc (at + 1) ≡ suc at + 1
-      one_more at = omega arith
-
-      step : (at r : ℕ) → suc at * n + r ≡ n + (at * n + r)
-      step at r = omega arith
-
-  -- where the mark is found nowhere, no value carries it
-  pub not_found : (pairs : List (ℕ × V)) → Nowhere (Passes (is_byte mark) (all_marks marks pairs)) 0 (length (all_marks marks pairs)) → marked marks mark pairs ≡ []
-  not_found [] none = refl
-  not_found (pair ∷ pairs) none =
-      let len = length_all pair pairs in
-      left_out pair pairs (passed_by pair pairs (λ k low high. none k low (omega (arith, len, high))))
-      ∙ not_found pairs (λ k low high passes. none (n + k) (omega arith) (omega (arith, len, high)) (ap (λ m. m == mark) (in_rest pair pairs k) ∙ passes))
-
-  -- behind the marks of some values come those of the others
-  pub goes_on : (count : ℕ) (pairs : List (ℕ × V)) → drop (count * n) (all_marks marks pairs) ≡ all_marks marks (drop count pairs)
-  goes_on zero pairs = ap (λ k. drop k (all_marks marks pairs)) none
-    where
-      none : 0 * n ≡ 0
-      none = omega arith
-  goes_on (suc count) [] = none_left (suc count * n)
-    where
-      none_left : (k : ℕ) → drop k (all_marks marks []) ≡ []
-      none_left zero = refl
-      none_left (suc k) = refl
-  goes_on (suc count) (pair ∷ pairs) =
-      ap (λ k. drop k (all_marks marks (pair ∷ pairs))) (step count ∙ ap (λ m. m + count * n) (sym (each pair.1)))
-      ∙ drop-append-add (marks pair.1) (all_marks marks pairs) (count * n)
-      ∙ goes_on count pairs
-    where
-      step : (count : ℕ) → suc count * n ≡ n + count * n
-      step count = omega arith
-
-  length_is : (pairs : List (ℕ × V)) → length (all_marks marks pairs) ≡ length pairs * n
-  length_is [] = omega arith
-  length_is (pair ∷ pairs) = let rest = length_is pairs in let here = length_all pair pairs in step (length pairs) (here ∙ ap (λ k. n + k) rest)
-    where
-      step : (count : ℕ) → length (all_marks marks (pair ∷ pairs)) ≡ n + count * n → length (all_marks marks (pair ∷ pairs)) ≡ suc count * n
-      step count e = omega (arith, e)
-
-  -- What the place of the first mark tells of its value.
-  pub record IsNext (pairs : List (ℕ × V)) (all : List ℕ) (k : ℕ) : Type 0 where
-    pub some : 0 < n
-    pub found : IsFound pairs (k / n)
-    pub behind : (k / n + 1) * n ≤ length all
-    pub rest : drop ((k / n + 1) * n) all ≡ all_marks marks (drop (k / n + 1) pairs)
-
-  pub next : (pairs : List (ℕ × V)) (all : List ℕ) (k : ℕ) → all ≡ all_marks marks pairs → NoneBefore (Passes (is_byte mark) all) 0 (length all) k × Passes (is_byte mark) all k → IsNext pairs all k
-  next pairs all k is first =
-      let none : NoneBefore (Passes (is_byte mark) (all_marks marks pairs)) 0 (length (all_marks marks pairs)) k = subst (λ bytes. NoneBefore (Passes (is_byte mark) bytes) 0 (length bytes) k) is first.0 in
-      let within : k < length pairs * n = subst (λ m. k < m) (length_is pairs) none.high in
-      let some = positive n k (length pairs) within in
-      let parts : k ≡ k / n * n + k % n = sym (div-add-mod k n) ∙ ap (λ m. m + k % n) (mul_comm n (k / n)) in
-      let its = found pairs (k / n) (k % n) k (mod-lt k some) parts none.high none.before (subst (λ bytes. Passes (is_byte mark) bytes k) is first.1) in
-      let below : k / n < length pairs = its.within in
-      record {
-        some = some;
-        found = its;
-        behind = subst (λ m. (k / n + 1) * n ≤ m) (sym (ap length is ∙ length_is pairs)) (mul-le-mul_right n (omega (arith, below)));
-        rest = ap (drop ((k / n + 1) * n)) is ∙ goes_on (k / n + 1) pairs;
-      }
-    where
-      positive : (n k len : ℕ) → k < len * n → 0 < n
-      positive zero k len h = absurd (omega (arith, h))
-      positive (suc m) k len h = omega arith
+        line = line;
+        kept = kept;
+        stands = ap (λ k. position_or_len (has_mark mark) (drop k column)) at ∙ stands_behind mark column;
+        long = chained.long;
+        links = chained.links;
+      },
+      ap (λ k. marked marks mark (drop k pairs)) at ∙ ap (λ (column : List (List ℕ)). marked marks mark (drop (position_or_len (has_mark mark) column) pairs)) kept ∙ passed_by marks mark pairs,
+    )
+  where
+    plain : (k : ℕ) → 0 + k ≡ k
+    plain k = omega arith

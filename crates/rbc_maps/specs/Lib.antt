@@ -1,3 +1,4 @@
 pub mod Maps
 pub mod Numbered
 pub mod OnLines
+pub mod Chains

@@ -1,6 +1,7 @@
 //! Maps from numbers to values. A map is a vector of pairs in ascending order of the number, with a binary search.
 #![tactic(auto)]
 
+mod chain;
 mod lookup;
 mod numbered;
 mod on_line;

@@ -47,15 +47,32 @@ pub fn value_of<V>(pairs: &[(u32, V)], key: u32) -> Option<&V>
     }
 }
 
+/// The same as `index_for`, found at once if one of two places is the index of the key. The keys ascend.
+fn index_at_either<V>(pairs: &[(u32, V)], key: u32, first: usize, second: usize) -> usize
+    requires { IsMap pairs.now }
+    ensures { result ≡ index_for key pairs.now }
+{
+    if first < pairs.len() && pairs[first].0 == key {
+        first
+    } else {
+        index_near(pairs, key, second)
+    }
+}
+
 /// The value at a key, if the map has one.
 ///
-/// It is looked for at the index `near` first, and then everywhere. If it is found, `near` is the index behind it from then on. So
-/// keys that are asked for in ascending order are found at once; the answer is the same whatever `near` is.
-pub fn value_near<'a, V>(pairs: &'a [(u32, V)], key: u32, near: &Cell<usize>) -> Option<&'a V>
+/// It is looked for at the index `near` first, at the index `hint` then, and everywhere last. If it is found, `near` is the index
+/// behind it from then on. So keys that are asked for in ascending order are found at once; the answer is the same whatever both are.
+pub fn value_near<'a, V>(
+    pairs: &'a [(u32, V)],
+    key: u32,
+    near: &Cell<usize>,
+    hint: usize,
+) -> Option<&'a V>
     requires { IsMap pairs.now }
     ensures { option_copied result ≡ value_of pairs.now key }
 {
-    let found = index_near(pairs, key, near.get());
+    let found = index_at_either(pairs, key, near.get(), hint);
     if found < pairs.len() && pairs[found].0 == key {
         near.set(found + 1);
         Some(&pairs[found].1)

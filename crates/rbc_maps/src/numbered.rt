@@ -6,6 +6,7 @@ ghost use Rattle.rbc_maps.specs.Maps.{has, value_of, without};
 ghost use Rattle.rbc_maps.specs.Numbered.{AreNumbered, none_numbered};
 ghost use Rattle.rbc_maps.specs.OnLines.{mark_of, marked};
 
+use crate::chain::{PLACES, chain, hint_of, note_hints};
 use crate::lookup;
 use crate::on_line::{OnLine, OnLines};
 use crate::same::{Same, have_same_pairs};
@@ -14,25 +15,30 @@ use std::cell::Cell;
 use std::marker::Model;
 
 /// The active values by their numbers, which are above 0, and the last number that was ever given. A number that was
-/// removed is not given again. Beside the values stand the marks of the lines on which they lie, `N` of each, so that those of one
-/// line are found without a look at the others.
+/// removed is not given again. Beside the values stand the marks of the lines on which they lie, `N` of each, and where the next value
+/// stands that carries each of them, so that those of one line are found without a look at the others.
 #[derive(Debug, Drop)]
 pub struct Numbered<V: OnLines<N>, const N: usize> {
     last: u32,
     active: Vec<(u32, V)>,
     /// The marks of the active values, in their order.
     marks: Vec<[u8; N]>,
+    /// For each mark of a line, the place of the first active value that carries it, and then hints where numbers stand. Empty until
+    /// a value is added.
+    first: Vec<u32>,
+    /// For each active value and each of its marks, the place of the next one that carries it.
+    next: Vec<[u32; N]>,
 }
 
 impl<V: OnLines<N>, const N: usize> Model for Numbered<V, N> {
     ghost use Rattle.rbc_maps.specs.Numbered as numbered;
-    ghost use Rattle.rbc_maps.specs.OnLines as lines;
+    ghost use Rattle.rbc_maps.specs.Chains as chains;
 
     ghost Value = { numbered.Numbered V };
 
     ghost view = { λ n. record { last = n.last; active = n.active.items } };
 
-    ghost invariant = { λ n. lines.AreMarked V.marks V.is_sound (record { last = n.last; active = n.active.items }) n.marks.items };
+    ghost invariant = { λ n. chains.AreMarked V.marks V.is_sound N (record { last = n.last; active = n.active.items }) n.marks.items n.first.items n.next.items };
 }
 
 impl<V: OnLines<N>, const N: usize> Numbered<V, N> {
@@ -44,6 +50,8 @@ impl<V: OnLines<N>, const N: usize> Numbered<V, N> {
             last: 0,
             active: Vec::new(alloc),
             marks: Vec::new(alloc),
+            first: Vec::new(alloc),
+            next: Vec::new(alloc),
         }
     }
 
@@ -72,14 +80,14 @@ impl<V: OnLines<N>, const N: usize> Numbered<V, N> {
     }
 
     /// The active values that carry the mark of a line, with their numbers, in ascending order of the number. Among them is each that
-    /// lies on the line. The others are not looked at one by one. Takes no memory.
+    /// lies on the line. The others are not looked at. Takes no memory.
     #[inline]
     pub fn on_line(&self, line: u32) -> OnLine<'_, V, N>
         ensures line { result ≡ marked V.marks (mark_of line) self.now.active }
         ensures sound { All (λ pair. V.is_sound pair.1) self.now.active }
         ensures numbered { AreNumbered self.now }
     {
-        OnLine::new(line, &self.marks, &self.active)
+        OnLine::new(line, &self.active, &self.marks, &self.first, &self.next)
     }
 
     /// The value that is active under a number, if there is one.
@@ -92,11 +100,13 @@ impl<V: OnLines<N>, const N: usize> Numbered<V, N> {
     /// The value that is active under a number, if there is one, as `get` finds it.
     ///
     /// It is looked for at the index `near` among the active values first. If it is found, `near` is the index behind it from then on.
-    /// So numbers that are asked for in ascending order are found at once; the answer is the same whatever `near` is.
+    /// So numbers that are asked for in ascending order are found at once, and mostly others too; the answer is the same whatever
+    /// `near` is.
     pub fn get_near(&self, number: u32, near: &Cell<usize>) -> Option<&V>
         ensures { option_copied result ≡ value_of self.now.active number }
     {
-        lookup::value_near(&self.active, number, near)
+        let hint = hint_of(&self.first, number);
+        lookup::value_near(&self.active, number, near, hint)
     }
 
     /// The number and the active value at an index below the count, in ascending order of the number.
@@ -120,12 +130,16 @@ impl<V: OnLines<N>, const N: usize> Numbered<V, N> {
         ensures ok { OnOk result (self.new ≡ record { last = number; active = self.old.active ++ (number, value) ∷ [] }) }
         ensures err { OnErr result (self.new ≡ self.old) }
     {
-        self.marks.push(value.marks())?;
-        if let Err(refused) = self.active.push((number, value)) {
-            self.marks.truncate(self.active.len());
-            return Err(refused.into());
-        }
+        self.active.reserve(1)?;
+        self.marks.reserve(1)?;
+        self.next.reserve(1)?;
+        self.first.resize(PLACES, 0)?;
+        self.marks.push_reserved(value.marks());
+        self.active.push_reserved((number, value));
+        self.next.push_reserved([0; N]);
         self.last = number;
+        chain(&self.marks, &mut self.first, &mut self.next);
+        note_hints(&self.active, &mut self.first);
         Ok(())
     }
 
@@ -140,12 +154,15 @@ impl<V: OnLines<N>, const N: usize> Numbered<V, N> {
         let found = lookup::remove(&mut self.active, number);
         if found {
             let _ = self.marks.remove(at);
+            self.next.truncate(self.marks.len());
+            chain(&self.marks, &mut self.first, &mut self.next);
+            note_hints(&self.active, &mut self.first);
         }
         found
     }
 
-    /// Copies all of it, with room for one value more. Takes memory for the active values and that room alone, and fails only for
-    /// lack of memory.
+    /// Copies all of it, with room for one value more. Takes memory for the active values and that room, and, once a value was
+    /// added, for the 128 places beside them. Fails only for lack of memory.
     pub fn copy(&self, alloc: Global) -> Result<Self, AllocError>
     where
         V: Copy,
@@ -155,10 +172,16 @@ impl<V: OnLines<N>, const N: usize> Numbered<V, N> {
         active.extend_from_slice(&self.active)?;
         let mut marks = Vec::with_capacity(alloc, self.marks.len() + 1)?;
         marks.extend_from_slice(&self.marks)?;
+        let mut next = Vec::with_capacity(alloc, self.next.len() + 1)?;
+        next.extend_from_slice(&self.next)?;
+        let mut first = Vec::with_capacity(alloc, self.first.len())?;
+        first.extend_from_slice(&self.first)?;
         Ok(Numbered {
             last: self.last,
             active,
             marks,
+            first,
+            next,
         })
     }
 

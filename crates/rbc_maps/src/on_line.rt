@@ -4,7 +4,9 @@ ghost use Rattle.std.specs.Prelude.{◌≡◌, ◌≤◌, length, map};
 ghost use Rattle.std.specs.Iterator.{YieldsFirstBy, item_count};
 ghost use Rattle.memchr.specs.Find.{IsFirstByte, is_byte};
 ghost use Rattle.rbc_maps.specs.OnLines.{mark_of, marked};
+ghost use Rattle.rbc_maps.specs.Chains.{AreChained};
 
+use crate::chain::first_of;
 use memchr::memchr;
 use std::marker::Model;
 
@@ -29,45 +31,60 @@ pub trait OnLines<const N: usize> {
     ghost are_few: { N ≤ 8 };
 }
 
-/// The mark of a line: the last eight bits of its number.
+/// The mark of a line: the last six bits of its number. A track has at most 64 lines, so each has a mark of its own.
 #[inline]
 pub fn mark_of(line: u32) -> u8
     ensures { result ≡ mark_of line }
 {
-    (line % 256) as u8
+    (line % 64) as u8
 }
 
 /// The values of a list that carry a mark, with their numbers, in the order of the list. Seen as the list of those that are left.
 #[derive(Debug, Drop)]
 pub struct OnLine<'a, V: OnLines<N>, const N: usize> {
     mark: u8,
-    /// The marks of those that are left, `N` of each.
-    marks: &'a [u8],
-    left: &'a [(u32, V)],
+    /// The place of the first one that is left, or the place behind the last value of the list.
+    at: usize,
+    pairs: &'a [(u32, V)],
+    /// The marks of the values of the list.
+    marks: &'a [[u8; N]],
+    /// For each value and each of its marks, the place of the next value that carries it.
+    next: &'a [[u32; N]],
 }
 
 impl<'a, V: OnLines<N>, const N: usize> Model for OnLine<'a, V, N> {
-    ghost use Rattle.std.specs.Prelude.{◌≡◌, ℕ, List};
-    ghost use Rattle.rbc_maps.specs.OnLines.{marked, all_marks};
+    ghost use Rattle.std.specs.Prelude.{ℕ, List, drop};
+    ghost use Rattle.rbc_maps.specs.OnLines.{marked};
+    ghost use Rattle.rbc_maps.specs.Chains.{IsInChain};
 
     ghost Value = { List (ℕ × V) };
 
-    ghost view = { λ it. marked V.marks it.mark it.left.now };
+    ghost view = { λ it. marked V.marks it.mark (drop it.at it.pairs.now) };
 
-    ghost invariant = { λ it. it.marks.now ≡ all_marks V.marks it.left.now };
+    ghost invariant = { λ it. IsInChain V.marks N it.mark it.at it.pairs.now it.marks.now it.next.now };
 }
 
 impl<'a, V: OnLines<N>, const N: usize> OnLine<'a, V, N> {
-    /// Those of a list whose marks are these that carry the mark of a line.
+    /// Those of a list whose marks and chains these are that carry the mark of a line.
     #[inline]
-    pub(crate) fn new(line: u32, marks: &'a [[u8; N]], pairs: &'a [(u32, V)]) -> Self
-        requires { marks.now ≡ map (λ pair. V.marks pair.1) pairs.now }
+    pub(crate) fn new(
+        line: u32,
+        pairs: &'a [(u32, V)],
+        marks: &'a [[u8; N]],
+        first: &[u32],
+        next: &'a [[u32; N]],
+    ) -> Self
+        requires kept { marks.now ≡ map (λ pair. V.marks pair.1) pairs.now }
+        requires chained { AreChained N marks.now first.now next.now }
         ensures { result ≡ marked V.marks (mark_of line) pairs.now }
     {
+        let mark = mark_of(line);
         OnLine {
-            mark: mark_of(line),
-            marks: marks.as_flattened(),
-            left: pairs,
+            mark,
+            at: first_of(first, mark) as usize,
+            pairs,
+            marks,
+            next,
         }
     }
 }
@@ -81,15 +98,14 @@ impl<'a, V: OnLines<N>, const N: usize> Iterator for OnLine<'a, V, N> {
 
     #[inline]
     fn next(&mut self) -> Option<&'a (u32, V)> {
-        let at = first_place(self.mark, self.marks)? / N;
-        let found = &self.left[at];
-        self.marks = self.marks.split_at((at + 1) * N).1;
-        self.left = self.left.split_at(at + 1).1;
+        let found = self.pairs.get(self.at)?;
+        let slot = first_place(self.mark, &self.marks[self.at])?;
+        self.at = self.next[self.at][slot] as usize;
         Some(found)
     }
 }
 
-/// The first place of a mark. Where the first one is that mark, as where all values lie on one line, nothing is searched.
+/// The first place of a mark. Where the first one is that mark, nothing is searched.
 #[inline(always)]
 fn first_place(mark: u8, marks: &[u8]) -> Option<usize>
     ensures { IsFirstByte (is_byte mark) marks.now result }
