@@ -6,7 +6,7 @@ use Rattle.rbc_maps.specs.OnLines.{mark_of}
 use Rattle.rbc_zones.specs.declared.segment.Segment.{Segment}
 use Rattle.rbc_zones.specs.Limits.{Limit}
 
--- where an area has no further segment: no line of a track has this mark
+-- where an area has no further segment: no line has this mark
 abbrev pub no_mark : ℕ
 no_mark = 255
 
