@@ -2,5 +2,6 @@ pub mod Rows
 pub mod Entries
 pub mod Numbered
 pub mod Plans
+pub mod Rising
 pub mod Bounds
 pub mod Found

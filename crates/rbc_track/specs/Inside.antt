@@ -4,7 +4,7 @@ use Rattle.rbc_track.specs.declared.track.Track.TheInside.{Inside}
 
 -- the plan in the fields of a track
 abbrev pub plan_in : Inside → Plan
-plan_in inside = record { horizon = inside.horizon; lines = inside.lines.items; groups = inside.groups.entries }
+plan_in inside = record { horizon = inside.horizon; lines = inside.lines.items; groups = inside.groups.items }
 
 -- the fields of a track make a plan
 abbrev pub IsPlanIn : Inside → Type 0

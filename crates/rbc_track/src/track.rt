@@ -12,7 +12,7 @@ use crate::document;
 use crate::document::Site;
 use crate::error::TrackError;
 use crate::group::Group;
-use std::alloc::Global;
+use std::alloc::{AllocError, Global};
 use std::collections::BTreeMap;
 use std::marker::Model;
 
@@ -31,7 +31,8 @@ const MAX_LENGTH: u32 = 3_000_000;
 pub struct Track {
     horizon: u32,
     lines: Vec<u32>,
-    groups: BTreeMap<u32, Group>,
+    /// The balise groups with their numbers, in ascending order of the number.
+    groups: Vec<(u32, Group)>,
 }
 
 impl Model for Track {
@@ -76,7 +77,7 @@ impl Track {
         if !are_on(lines.as_slice(), sites) {
             return Err(TrackError::GroupOffLine);
         }
-        let groups = by_number(alloc, sites)?;
+        let groups = in_a_row(alloc, by_number(alloc, sites)?)?;
         Ok(Track {
             horizon,
             lines,
@@ -89,7 +90,7 @@ impl Track {
         ensures value { result ≡ group_of self.now nid }
         ensures placed { IfSome result (IsPlaced self.now nid) }
     {
-        self.groups.get(&nid).copied()
+        rbc_maps::value_of(&self.groups, nid).copied()
     }
 
     /// The length of a line, in units of 10 cm, if the track has the line. Lines are numbered from 0. Takes no
@@ -166,6 +167,17 @@ fn by_number(alloc: Global, sites: &[Site]) -> Result<BTreeMap<u32, Group>, Trac
         }
     }
     Ok(groups)
+}
+
+/// The entries of a map in a row, in ascending order of the number. Fails only for lack of memory.
+fn in_a_row(alloc: Global, groups: BTreeMap<u32, Group>) -> Result<Vec<(u32, Group)>, TrackError>
+    ensures row { IfOk result (λ row. row.items ≡ groups.entries) }
+    ensures memory { IfErr result (λ e. e ≡ OutOfMemory) }
+{
+    groups
+        .into_iter()
+        .collect(alloc)
+        .map_err(|_: AllocError| TrackError::OutOfMemory)
 }
 
 /// Reads a track file, which is a TOML document. Lengths and places are in units of 10 cm. Keys other than these
