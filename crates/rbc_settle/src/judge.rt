@@ -37,23 +37,29 @@ pub fn actions(
     ensures sound { OnOk result (HasTables train.now × (AreNumbered stops.now × AreNumbered limits.now)) }
 {
     let mut actions = stops_revoked(alloc, stops, train)?;
-    actions = joined(actions, stops_told(alloc, stops, train)?)?;
-    actions = joined(actions, limits_revoked(alloc, limits, train)?)?;
-    actions = joined(actions, limits_told(alloc, track.horizon(), limits, train)?)?;
+    put_behind(&mut actions, stops_told(alloc, stops, train)?)?;
+    put_behind(&mut actions, limits_revoked(alloc, limits, train)?)?;
+    put_behind(
+        &mut actions,
+        limits_told(alloc, track.horizon(), limits, train)?,
+    )?;
     actions.truncate(LAST_STAMP.saturating_sub(train.stamp) as usize);
     Ok(actions)
 }
 
-/// Puts actions behind others. Takes no memory where there are no others.
-fn joined(first: Vec<Action>, mut second: Vec<Action>) -> Result<Vec<Action>, AllocError>
-    ensures { IfOk result (λ both. both.items ≡ first.items ++ second.items) }
+/// Puts actions behind others. Takes no memory where there are no others, or none to be put. Fails only for lack of memory.
+#[inline(always)]
+fn put_behind(actions: &mut Vec<Action>, mut more: Vec<Action>) -> Result<(), AllocError>
+    ensures { OnOk result (actions.new.items ≡ actions.old.items ++ more.items) }
 {
-    if first.is_empty() {
-        return Ok(second);
+    if more.is_empty() {
+        return Ok(());
     }
-    let mut both = first;
-    both.append(&mut second)?;
-    Ok(both)
+    if actions.is_empty() {
+        *actions = more;
+        return Ok(());
+    }
+    actions.append(&mut more)
 }
 
 /// Returns a revocation of each told stop that is not active, in ascending order of the identifiers.
