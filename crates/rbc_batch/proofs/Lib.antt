@@ -5,3 +5,5 @@ mod LineWords
 mod Texts
 pub mod FirstPlaces
 mod Answering
+pub mod ResultLines
+pub mod HexWords

@@ -1,6 +1,6 @@
 //! Writing a desk as its output text.
 
-ghost use Rattle.std.specs.Prelude.{◌≡◌, ◌++◌, ◌*◌, ◌≤◌, ◌<◌, ◌^◌, length, OnOk, IfOk, map};
+ghost use Rattle.std.specs.Prelude.{◌≡◌, ◌++◌, ◌*◌, ◌≤◌, ◌<◌, ◌^◌, codes, length, OnOk, IfOk, map};
 ghost use Rattle.std.specs.Fmt.{decimal};
 ghost use Rattle.std.specs.List.{flat_map, enumerate_from};
 ghost use Rattle.hex.specs.Hex.{encode_upper};
@@ -38,14 +38,26 @@ fn push_reply(text: &mut Vec<u8>, reply: Reply) -> Result<(), AllocError>
     }
 }
 
+/// Appends that an input was accepted and that nothing was sent, which is so of most, and ends the line.
+fn push_nothing_sent(text: &mut Vec<u8>) -> Result<(), AllocError>
+    ensures { OnOk result (text.new.items ≡ text.old.items ++ codes " ok 0\n") }
+{
+    text.extend_from_slice(b" ok 0\n")
+}
+
 /// Appends the line of one result.
 fn push_result(text: &mut Vec<u8>, input: u32, reply: Reply) -> Result<(), AllocError>
     ensures { OnOk result (text.new.items ≡ text.old.items ++ result_line (input, reply)) }
 {
     push_decimal(text, input)?;
-    text.extend_from_slice(b" ")?;
-    push_reply(text, reply)?;
-    text.extend_from_slice(b"\n")
+    match reply {
+        Reply::Done(0) => push_nothing_sent(text),
+        _ => {
+            text.extend_from_slice(b" ")?;
+            push_reply(text, reply)?;
+            text.extend_from_slice(b"\n")
+        }
+    }
 }
 
 /// Appends at most 32 bytes as hexadecimal digits, in upper case.

@@ -350,8 +350,24 @@ fn bad_hex() -> Input
     Input::Bad(Refusal::BadHex.code())
 }
 
-/// The input of a short message in hexadecimal digits.
-fn short_message(word: &[u8]) -> Input
+/// The input of a short message in hexadecimal digits, if a text is that and nothing else. Most are, and then no separator has to be
+/// looked for.
+fn short_message(text: &[u8]) -> Option<Input>
+    ensures { IfSome result (λ input. IsInput (unwrap_or (message_of (words_of text.now)) (Spelled (Bad 1))) input) }
+{
+    if text.is_empty() || text.len() > 2 * SHORT_MESSAGE {
+        return None;
+    }
+    let mut buffer = [0u8; SHORT_MESSAGE];
+    let bytes = &mut buffer[..text.len() / 2];
+    match hex::decode_to_slice(text, bytes) {
+        Ok(()) => Some(heard(bytes)),
+        Err(_) => None,
+    }
+}
+
+/// The input of a short word that is to be hexadecimal digits. Takes no memory.
+fn short_word(word: &[u8]) -> Input
     requires { length word.now ≤ 128 }
     ensures { IsInput (line_of_hex (decode_of word.now)) result }
 {
@@ -363,8 +379,8 @@ fn short_message(word: &[u8]) -> Input
     }
 }
 
-/// The input of a message of any length in hexadecimal digits. Fails only for lack of memory.
-fn long_message(alloc: Global, word: &[u8]) -> Result<Input, AllocError>
+/// The input of a word of any length that is to be hexadecimal digits. Fails only for lack of memory.
+fn long_word(alloc: Global, word: &[u8]) -> Result<Input, AllocError>
     ensures { IfOk result (λ input. IsInput (line_of_hex (decode_of word.now)) input) }
 {
     match hex::decode(alloc, word) {
@@ -374,19 +390,19 @@ fn long_message(alloc: Global, word: &[u8]) -> Result<Input, AllocError>
     }
 }
 
-/// The input of a message in hexadecimal digits. Fails only for lack of memory.
+/// The input of a word that is to be hexadecimal digits. A short one takes no memory. Fails only for lack of memory.
 fn message_from(alloc: Global, word: &[u8]) -> Result<Input, AllocError>
     ensures { IfOk result (λ input. IsInput (line_of_hex (decode_of word.now)) input) }
 {
     if word.len() <= 2 * SHORT_MESSAGE {
-        Ok(short_message(word))
+        Ok(short_word(word))
     } else {
-        long_message(alloc, word)
+        long_word(alloc, word)
     }
 }
 
-/// The input of the words behind `recv`. Fails only for lack of memory.
-fn message(alloc: Global, arguments: &[u8]) -> Result<Input, AllocError>
+/// The input of the words behind `recv`, cut one by one. Fails only for lack of memory.
+fn message_in_words(alloc: Global, arguments: &[u8]) -> Result<Input, AllocError>
     ensures { IfOk result (λ input. IsInput (unwrap_or (message_of (words_of arguments.now)) (Spelled (Bad 1))) input) }
 {
     let (word, behind) = cut(arguments, b' ');
@@ -394,6 +410,16 @@ fn message(alloc: Global, arguments: &[u8]) -> Result<Input, AllocError>
         message_from(alloc, word)
     } else {
         Ok(bad_line())
+    }
+}
+
+/// The input of the words behind `recv`. Fails only for lack of memory.
+fn message(alloc: Global, arguments: &[u8]) -> Result<Input, AllocError>
+    ensures { IfOk result (λ input. IsInput (unwrap_or (message_of (words_of arguments.now)) (Spelled (Bad 1))) input) }
+{
+    match short_message(arguments) {
+        Some(input) => Ok(input),
+        None => message_in_words(alloc, arguments),
     }
 }
 

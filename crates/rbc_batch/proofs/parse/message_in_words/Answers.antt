@@ -1,7 +1,7 @@
 use Rattle.std.proofs.Common.{ap, sym, ◌∙◌, not}
 use Rattle.rbc_batch.proofs.LineWords.{one_word, no_message_behind, no_word}
-use Rattle.rbc_batch.proofs.parse.message.Goals as goal
-use Rattle.rbc_batch.proofs.parse.message.Goals.{else-is_none-via-then-is_none+else-is_hex_word, else-is_none-via-else-is_none}
+use Rattle.rbc_batch.proofs.parse.message_in_words.Goals as goal
+use Rattle.rbc_batch.proofs.parse.message_in_words.Goals.{else-is_none-via-then-is_none+else-is_hex_word, else-is_none-via-else-is_none}
 
 -- a word that is not well formed, or a second word
 pub returns-else-is_none : goal.returns-else-is_none
