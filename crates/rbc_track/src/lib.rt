@@ -6,6 +6,7 @@
 mod document;
 mod error;
 mod group;
+mod plain;
 mod track;
 
 pub use error::TrackError;
