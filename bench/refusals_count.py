@@ -22,6 +22,7 @@ SHOWN = 10  # so many wrong ends are printed of each call
 # each call with the crate and the name of its test
 TESTS = {
     "track_from_toml": ("rbc_place_check", "tracks::reads_track_a_or_wants_memory"),
+    "track_from_toml, in another form": ("rbc_place_check", "tracks::reads_an_inline_track_or_wants_memory"),
     "issue": ("rbc_settle_check", "refusals::issues_or_keeps_the_table"),
     "settle": ("rbc_settle_check", "refusals::settles_or_keeps_the_train"),
     "Notes::add": ("rbc_versions_check", "notes::notes_or_stays_as_it_was"),

@@ -130,6 +130,26 @@ fn reads_track_a_or_wants_memory(rt: HostRuntime) -> Result<(), Fail> {
     }
 }
 
+/// A track of one line, not in the plain form.
+const INLINE: &str = "line = [{length = 9}]\nhorizon = 1\n";
+
+// The same of a text that the kit's `toml` reads.
+#[test]
+fn reads_an_inline_track_or_wants_memory(rt: HostRuntime) -> Result<(), Fail> {
+    match track_from_toml(rt.alloc(), INLINE) {
+        Ok(track) => {
+            same(&rt, track.line_len(0), Some(9));
+            Ok(())
+        }
+        Err(error) => {
+            same(&rt, error, TrackError::OutOfMemory);
+            let track = track_from_toml(rt.alloc(), INLINE)?;
+            same(&rt, track.line_len(0), Some(9));
+            Err(Fail::from(Refused))
+        }
+    }
+}
+
 #[test]
 fn reads_the_order_of_groups_as_it_comes(rt: HostRuntime) -> Result<(), Fail> {
     let text =
@@ -163,6 +183,8 @@ fn reads_other_line_ends_and_marks(rt: HostRuntime) -> Result<(), Fail> {
     assert_track_a(&rt, &track_from_toml(alloc, crlf.as_str())?);
     let marked = format!(in alloc; "\u{feff}{TRACK_A}")?;
     assert_track_a(&rt, &track_from_toml(alloc, marked.as_str())?);
+    let spaced = TRACK_A.replace(alloc, "[[", " # a note\n\n\t[[")?;
+    assert_track_a(&rt, &track_from_toml(alloc, spaced.as_str())?);
     let noted = format!(in alloc;
         "# a note\nspeed = 4.5\nlines = true\n{TRACK_A}colour = 1979-05-27 # another\n"
     )?;
