@@ -16,11 +16,11 @@ All Appends Dec Next Walk abbrev args pair signed CLAUSE CallerLemmas Consumes F
 at_drop_all at_drop_more bytes_eq c cc clap_on_literals cond drop elim ensures eq eqb find find_from_yields_List flat_map fold grind from_ from_residual
 holes ids length-drop zero-add insert_entry-new infixr inl inr insert_entry into_iter_items it loop ne_eqb no now of_z old omega on_ok_weaker opaque option_and_then option_copied
 option_map position_or_len proof proved record refl requires rules rw search shift simp slice_get slice_index subst suc sym take_all to_z tt
-unfolding w16 was weaker where with_items xs zip
+unfolding w16 was weaker where with_items xs zip line_turn ReadLines define along_header along_dots at_key
 """
 
 # of the kit's other crates
-PORTED = "anyhow boxcar clap hex indexmap itoa memchr rayon thiserror toml"
+PORTED = "anyhow boxcar clap hex indexmap itoa memchr rayon thiserror toml toml_parser toml_writer"
 
 # of rt, and of the folders and files that it knows
 TOOL = """
