@@ -40,13 +40,17 @@ impl<const N: usize> IdTable<N> {
         }
     }
 
-    /// Copies the table; fails only for lack of memory. The copy takes memory only for what is held.
+    /// Copies the table; fails only for lack of memory. The copy takes memory only if an identifier is held, and then has room
+    /// for one more.
     pub fn copy(&self, alloc: Global) -> Result<Self, AllocError>
         ensures { IfOk result (λ copy. copy ≡ self.now) }
     {
-        Ok(IdTable {
-            held: Vec::from_slice(alloc, self.held.as_slice())?,
-        })
+        if self.held.is_empty() {
+            return Ok(IdTable::new(alloc));
+        }
+        let mut held = Vec::with_capacity(alloc, self.held.len() + 1)?;
+        held.extend_from_slice(self.held.as_slice())?;
+        Ok(IdTable { held })
     }
 
     /// Whether both tables hold the same identifiers by the same slots. Takes no memory.
@@ -276,10 +280,15 @@ impl<const N: usize> IdTable<N> {
             .copied()
     }
 
-    /// Returns the index at which an identifier stands in `held`, or would stand.
+    /// Returns the index at which an identifier stands in `held`, or would stand. Where no identifier below it is free, it
+    /// stands at the index that is its own value, so that is tried first.
     fn index_of(&self, id: u8) -> usize
         ensures { result ≡ index_for id self.now }
     {
+        let own = usize::from(id);
+        if own < self.held.len() && self.held[own].0 == id {
+            return own;
+        }
         self.held.partition_point(|held| held.0 < id)
     }
 
