@@ -91,17 +91,22 @@ impl Reader for PlainStore {
     }
 }
 
-/// Does one write, and returns the record that stood under its key. There has to be room for one more record.
-fn write_one(records: &mut Table, key: Key, rec: Option<Rec>) -> Option<Rec>
+/// Does one write, and leaves in its place the record that stood under its key. There has to be room for one more record.
+fn write_one(records: &mut Table, key: Key, rec: &mut Option<Rec>)
     requires { 0 < records.old.room }
-    ensures records { (k : Key) → record_in records.new.entries k ≡ write_over (key, rec) (record_in records.old.entries) k }
-    ensures replaced { result ≡ record_in records.old.entries key }
+    ensures records { (k : Key) → record_in records.new.entries k ≡ write_over (key, rec.old) (record_in records.old.entries) k }
+    ensures replaced { rec.new ≡ record_in records.old.entries key }
     ensures room { records.old.room ≤ records.new.room + 1 }
 {
-    match rec {
-        Some(rec) => records.put(key, rec),
-        None => records.remove(key),
+    if let Some(new) = rec
+        && records.replace(key, new)
+    {
+        return;
     }
+    *rec = match rec.take() {
+        Some(new) => records.put(key, new),
+        None => records.remove(key),
+    };
 }
 
 /// Does the writes, one after another, and hands back under each key what stood there just before. Fails only for lack of
@@ -117,7 +122,7 @@ pub fn exchange(store: &mut PlainStore, mut writes: Writes) -> Result<Writes, Wr
     }
     for index in 0..writes.len() {
         let (key, rec) = &mut writes.all[index];
-        *rec = write_one(&mut store.records, *key, rec.take());
+        write_one(&mut store.records, *key, rec);
     }
     Ok(writes)
 }

@@ -1,6 +1,6 @@
 //! A table of records, with what a search reads of them beside it.
 
-ghost use Rattle.std.specs.Prelude.{◌≡◌, ℕ, ◌+◌, ◌<◌, ◌≤◌, [], length, slice_get, Some, None, OnOk, OnErr, IfOk, IfSome, option_copied};
+ghost use Rattle.std.specs.Prelude.{◌≡◌, ℕ, ◌+◌, ◌<◌, ◌≤◌, [], length, slice_get, Some, None, is_some, IsTrue, IsFalse, OnOk, OnErr, IfOk, IfSome, option_copied};
 ghost use Rattle.rbc_records.specs.declared.record.Key.{Key};
 ghost use Rattle.rbc_records.specs.Notes.{Whole, record_in};
 ghost use Rattle.rbc_records.specs.Seeking.{AreFound};
@@ -14,6 +14,7 @@ use indexmap::IndexMap;
 use rbc_settle::Numbers;
 use std::alloc::{AllocError, Global};
 use std::marker::Model;
+use std::mem;
 
 /// Records by their keys. Two columns, whose entries have the indices of the records, hold the little of each that a search
 /// reads, so that it goes over contiguous memory.
@@ -99,6 +100,24 @@ impl Table {
             self.extents.push(extent).unwrap();
         }
         old
+    }
+
+    /// Exchanges the record under a key with another one, if a record stands there, and says whether one does. If none does, nothing
+    /// changes. Takes no memory and no room.
+    pub fn replace(&mut self, key: Key, rec: &mut Rec) -> bool
+        ensures held { result ≡ is_some (record_in self.old.entries key) }
+        ensures records { IsTrue result → (k : Key) → record_in self.new.entries k ≡ write_over (key, Some rec.old) (record_in self.old.entries) k }
+        ensures replaced { IsTrue result → record_in self.old.entries key ≡ Some rec.new }
+        ensures absent { IsFalse result → (self.new ≡ self.old) × (rec.new ≡ rec.old) }
+        ensures room { self.old.room ≤ self.new.room }
+    {
+        let Some(index) = self.entries.get_index_of(&key) else {
+            return false;
+        };
+        self.tolds[index] = Told::of(rec);
+        self.extents[index] = Extent::of(rec);
+        mem::swap(self.entries.get_index_mut(index).unwrap(), rec);
+        true
     }
 
     /// Removes the record under a key and returns it, or `None` if there is none.

@@ -17,12 +17,12 @@ loop-index-preserved c =
     let held : vec_len c.loop-index.writes-inside.all ≡ length all = c.loop-index.writes-inside.all.ok.0 in
     let count : length c.writes.inside.all.items ≡ length c.args.writes = ap length c.writes.view_is in
     let within : i < length all = omega arith in
-    let over : (k : Key) → new k ≡ write_over write old k = λ k. c.write_one.ensures.records k ∙ ap (λ (rec : Option Rec). write_over (write.0, rec) old k) c.take.ensures.value in
-    let put : set all i (write.0, c.write_one.result) ≡ set all i (write.0, old write.0) = ap (λ (rec : Option Rec). set all i (write.0, rec)) c.write_one.ensures.replaced in
+    let over : (k : Key) → new k ≡ write_over write old k = c.write_one.ensures.records in
+    let put : set all i (write.0, c.write_one.new.rec) ≡ set all i (write.0, old write.0) = ap (λ (rec : Option Rec). set all i (write.0, rec)) c.write_one.ensures.replaced in
     record {
       all = c.loop-index.invariant.all;
       room = omega arith;
-      rest = λ k. written_more all i write within c.index_mut.ensures.value old new over c.write_one.result k ∙ c.loop-index.invariant.rest k;
+      rest = λ k. written_more all i write within c.index_mut.ensures.value old new over c.write_one.new.rec k ∙ c.loop-index.invariant.rest k;
       left = ap (λ (more : List (Key × Option Rec)). take (i + 1) more ++ replaced (drop (i + 1) more) new) put ∙ replaced_more all i write within c.index_mut.ensures.value old new over ∙ c.loop-index.invariant.left;
     }
 
