@@ -9,6 +9,7 @@ use Rattle.rbc_maps.proofs.MapPlaces.{absent_below, value_or-absent}
 use Rattle.rbc_maps.proofs.MapValues.{value_of-absent}
 use Rattle.rbc_settle.specs.declared.train.TrainRec.{TrainRec}
 use Rattle.rbc_settle.specs.declared.upkeep.Sent.{Sent}
+use Rattle.rbc_settle.specs.Settling.{to_engine}
 use Rattle.rbc_records.specs.declared.record.Key.{Key}
 use Rattle.rbc_records.specs.declared.record.Key.TheVariants as key
 use Rattle.rbc_records.specs.declared.record.Rec.{Rec}
@@ -16,7 +17,6 @@ use Rattle.rbc_records.specs.declared.record.Rec.TheVariants as rec
 use Rattle.rbc_records.specs.Notes.{same_key}
 use Rattle.rbc_records.specs.Writes.{written, write_over}
 use Rattle.rbc_rule.specs.Right.{messages_to}
-use Rattle.rbc_rule.specs.Gathered.{to_engine}
 use Rattle.rbc_rule.proofs.WorldMaps.{eqb_turned}
 use Rattle.rbc_rule.proofs.WorldSettling.{messages_to-engine}
 

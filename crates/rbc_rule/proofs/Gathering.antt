@@ -1,16 +1,13 @@
 -- What settling one train gathers.
-use Rattle.std.proofs.Common.{◌≡◌, ℕ, suc, ◌+◌, ◌≤◌, ◌&&◌, ◌==◌, true, false, not, cond, if◌then◌else◌, eqb, List, [], ◌∷◌, ◌++◌, length, map, Option, Some, None, refl, sym, ap, ◌∙◌, arith}
-use Rattle.std.specs.List.{All, scan}
-use Rattle.std.proofs.lemmas.Bool.{or_parts, ne_eqb}
+use Rattle.std.proofs.Common.{◌≡◌, ℕ, suc, ◌+◌, ◌≤◌, ◌&&◌, ◌==◌, true, false, not, cond, if◌then◌else◌, eqb, List, [], ◌∷◌, ◌++◌, length, Option, Some, None, refl, sym, ap, ◌∙◌, arith}
+use Rattle.std.proofs.lemmas.Bool.{or_parts}
 use Rattle.std.proofs.lemmas.List.{length-append}
-use Rattle.std.proofs.lemmas.List.Elements.{All-head, All-tail}
 use Rattle.ertms_codec.specs.declared.to_train.ToTrain.{ToTrain}
 use Rattle.rbc_track.specs.Plan.{Plan}
 use Rattle.rbc_settle.specs.declared.train.TrainRec.{TrainRec}
-use Rattle.rbc_settle.specs.declared.action.Action.{Action}
 use Rattle.rbc_settle.specs.declared.upkeep.Sent.{Sent}
 use Rattle.rbc_settle.specs.Numbers.{has_number, without_number}
-use Rattle.rbc_settle.specs.Settling.{Stops, Limits, actions_with_stamp, carried_out, message_of, settled, messages_of}
+use Rattle.rbc_settle.specs.Settling.{Stops, Limits, actions_with_stamp, settled, messages_of, to_engine}
 use Rattle.rbc_records.specs.declared.record.Key.{Key}
 use Rattle.rbc_records.specs.declared.record.Key.TheVariants as key
 use Rattle.rbc_records.specs.declared.record.Rec.{Rec}
@@ -18,18 +15,7 @@ use Rattle.rbc_records.specs.declared.record.Rec.TheVariants as rec
 use Rattle.rbc_rule.specs.declared.outcome.Outcome.{Outcome}
 use Rattle.rbc_rule.specs.declared.outcome.Reply.TheVariants.{Done}
 use Rattle.rbc_rule.specs.Effect.{forget}
-use Rattle.rbc_rule.specs.Gathered.{forgotten, is_forced_by, write_of, sent_of, settled_train, to_engine}
-
-made_again : (engine : ℕ) (sent : List Sent) → All (λ one. one.engine ≡ engine) sent → sent ≡ to_engine engine (map (λ one. one.message) sent)
-made_again engine [] all = refl
-made_again engine (one ∷ rest) all =
-    let first : one.engine ≡ engine = All-head (λ (one : Sent). one.engine ≡ engine) one rest all in
-    let others = made_again engine rest (All-tail (λ (one : Sent). one.engine ≡ engine) one rest all) in
-    λ i. record { engine = first i; message = one.message } ∷ others i
-
--- what is sent to one engine are its messages
-pub sent_is : (engine : ℕ) (messages : List ToTrain) (sent : List Sent) → map (λ one. one.message) sent ≡ messages → All (λ one. one.engine ≡ engine) sent → sent ≡ to_engine engine messages
-sent_is engine messages sent same all = made_again engine sent all ∙ ap (to_engine engine) same
+use Rattle.rbc_rule.specs.Gathered.{forgotten, is_forced_by, write_of, sent_of}
 
 length-to_engine : (engine : ℕ) (messages : List ToTrain) → length (to_engine engine messages) ≡ length messages
 length-to_engine engine [] = refl
@@ -60,28 +46,7 @@ pub nothing_forgotten : (released : Option ℕ) (train : TrainRec) → is_forced
 nothing_forgotten None train e = refl
 nothing_forgotten (Some number) train e = ap (λ (forced : List ℕ). record train { forced = forced }) (without-absent number train.forced e)
 
-length-scan : (train : TrainRec) (acts : List Action) → length (scan carried_out message_of train acts) ≡ length acts
-length-scan train [] = refl
-length-scan train (act ∷ acts) = ap suc (length-scan (carried_out train act) acts)
-
-some_are : (count : ℕ) → 1 ≤ count → (count == 0) ≡ false
-some_are count some = ne_eqb count 0 (λ none. absurd (omega (arith, some, none)))
-
 module _ (plan : Plan) (stops : Stops) (limits : Limits) (train : TrainRec) where
-  -- nothing is to be done
-  pub nothing_written : actions_with_stamp plan stops limits train ≡ [] → write_of plan stops limits None train ≡ []
-  nothing_written e = ap (λ (acts : List Action). if length acts == 0 then [] else (key.Train train.engine, Some (rec.Train (settled_train plan stops limits None train))) ∷ []) e
-
-  pub nothing_sent : actions_with_stamp plan stops limits train ≡ [] → sent_of plan stops limits None train ≡ []
-  nothing_sent e = ap (λ (acts : List Action). to_engine train.engine (scan carried_out message_of train acts)) e
-
-  -- something is
-  pub one_written : (sent : List Sent) → 1 ≤ length sent → sent ≡ sent_of plan stops limits None train → write_of plan stops limits None train ≡ (key.Train train.engine, Some (rec.Train (settled plan stops limits train))) ∷ []
-  one_written sent some is =
-      let count : length sent ≡ length (actions_with_stamp plan stops limits train) =
-      ap length is ∙ length-to_engine train.engine (messages_of plan stops limits train) ∙ length-scan train (actions_with_stamp plan stops limits train) in
-      ap (λ b. if b then [] else (key.Train train.engine, Some (rec.Train (settled plan stops limits train))) ∷ []) (some_are (length (actions_with_stamp plan stops limits train)) (omega (arith, some, count)))
-
   -- a released stop is forgotten
   pub forgetting_written : (number : ℕ) → has_number train.forced number ≡ true → write_of plan stops limits (Some number) train ≡ (key.Train train.engine, Some (rec.Train (settled plan stops limits (forget number train)))) ∷ []
   forgetting_written number e =

@@ -19,7 +19,7 @@ use Rattle.rbc_maps.specs.Maps.{has, value_or, value_of, with_value, without, ke
 use Rattle.rbc_settle.specs.declared.train.TrainRec.{TrainRec}
 use Rattle.rbc_settle.specs.Numbers.{has_number}
 use Rattle.rbc_settle.specs.Trains.{new_train}
-use Rattle.rbc_settle.specs.Settling.{Stops, Limits, settled, messages_of}
+use Rattle.rbc_settle.specs.Settling.{Stops, Limits, settled, messages_of, to_engine}
 use Rattle.rbc_records.specs.declared.record.Key.{Key}
 use Rattle.rbc_records.specs.declared.record.Key.TheVariants as key
 use Rattle.rbc_records.specs.declared.record.Rec.TheVariants as rec
@@ -34,7 +34,7 @@ use Rattle.rbc_rule.specs.Records.{list_of, record_of}
 use Rattle.rbc_rule.specs.WellFormed.{IsGoodTrain, IsWellFormed}
 use Rattle.rbc_rule.specs.Right.{IsStep, IsChange, IsOfSender, messages_to}
 use Rattle.rbc_rule.specs.Lists.{engines_at, moves}
-use Rattle.rbc_rule.specs.Gathered.{to_engine, enrolled_outcome, withdrawn_outcome, heard_outcome}
+use Rattle.rbc_rule.specs.Gathered.{enrolled_outcome, withdrawn_outcome, heard_outcome}
 use Rattle.rbc_rule.proofs.WorldMaps.{map-with_value, has_keys, length_keys, has_value}
 use Rattle.rbc_rule.proofs.Moved.{enrolled_records, withdrawn_records, heard_records}
 use Rattle.rbc_rule.proofs.EachChanges.{enrol_changes}

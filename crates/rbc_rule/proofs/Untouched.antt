@@ -23,7 +23,7 @@ use Rattle.rbc_settle.specs.declared.train.TrainRec.{TrainRec}
 use Rattle.rbc_settle.specs.declared.action.Action.{Action}
 use Rattle.rbc_settle.specs.declared.action.Action.TheVariants.{RevokeStop, RevokeLimit}
 use Rattle.rbc_settle.specs.Numbers.{has_number}
-use Rattle.rbc_settle.specs.Settling.{Stops, Limits, last_stamp, carried_out, message_of, told_stop, concern_to, limit_told_to, is_used_by, to_revoke, is_stop_gone, is_limit_gone, is_clear_of, tell_stop, tell_limit, stops_revoked, stops_told, limits_revoked, limits_told, actions, actions_with_stamp, messages_of}
+use Rattle.rbc_settle.specs.Settling.{Stops, Limits, last_stamp, carried_out, message_of, told_stop, concern_to, limit_told_to, is_used_by, to_revoke, is_stop_gone, is_limit_gone, is_clear_of, tell_stop, tell_limit, stops_revoked, stops_told, limits_revoked, limits_told, actions, actions_with_stamp, messages_of, to_engine}
 use Rattle.rbc_settle.specs.UpToDate.{HasTables}
 use Rattle.rbc_settle.proofs.Wanted.{to_tell, wanted_of}
 use Rattle.rbc_settle.proofs.Done.{IsDone}
@@ -34,7 +34,7 @@ use Rattle.rbc_rule.specs.declared.touch.Change.{Change}
 use Rattle.rbc_rule.specs.declared.touch.Change.TheVariants as change
 use Rattle.rbc_rule.specs.World.{World}
 use Rattle.rbc_rule.specs.Effect.{with_next, with_less}
-use Rattle.rbc_rule.specs.Gathered.{is_forced_by, is_same, to_engine, sent_of}
+use Rattle.rbc_rule.specs.Gathered.{is_forced_by, is_same, sent_of}
 use Rattle.rbc_records.specs.Seeking.{is_concern}
 use Rattle.rbc_rule.specs.Touching.{is_stop_for, is_limit_for, touches, HasBegun, HasChanged, released_by}
 use Rattle.rbc_rule.proofs.AllTrains.{forgotten_same}

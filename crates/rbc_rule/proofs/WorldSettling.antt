@@ -8,7 +8,7 @@ use Rattle.rbc_track.specs.Plan.{Plan}
 use Rattle.rbc_maps.specs.Maps.{value_or, with_value, without}
 use Rattle.rbc_settle.specs.declared.train.TrainRec.{TrainRec}
 use Rattle.rbc_settle.specs.declared.upkeep.Sent.{Sent}
-use Rattle.rbc_settle.specs.Settling.{Stops, Limits, carried_out, message_of, actions_with_stamp, settled, messages_of}
+use Rattle.rbc_settle.specs.Settling.{Stops, Limits, carried_out, message_of, actions_with_stamp, settled, messages_of, to_engine}
 use Rattle.rbc_records.specs.declared.record.Key.{Key}
 use Rattle.rbc_records.specs.declared.record.Rec.{Rec}
 use Rattle.rbc_records.specs.Writes.{written}
@@ -22,7 +22,6 @@ use Rattle.rbc_rule.specs.Step.{after, settle_all, sent_to_all, count_sent}
 use Rattle.rbc_rule.specs.Records.{record_of}
 use Rattle.rbc_rule.specs.WellFormed.{IsGoodTrain}
 use Rattle.rbc_rule.specs.Right.{IsStep, messages_to}
-use Rattle.rbc_rule.specs.Gathered.{to_engine}
 
 -- ---- values to which nothing is to be done
 

@@ -1,9 +1,8 @@
 -- What settling trains writes and sends, by the records that were read (own rule).
-use Rattle.std.specs.Prelude.{◌≡◌, ℕ, Bool, false, ◌==◌, if◌then◌else◌, List, [], ◌∷◌, ◌++◌, map, Option, Some, None, IsTrue, length, ◌&&◌, not}
+use Rattle.std.specs.Prelude.{◌≡◌, ℕ, Bool, false, ◌==◌, if◌then◌else◌, List, [], ◌∷◌, ◌++◌, Option, Some, None, IsTrue, length, ◌&&◌, not}
 use Rattle.std.specs.List.{flat_map, All}
 use Rattle.std.specs.Option.{unwrap_or, option_map_or}
 use Rattle.ertms_codec.specs.ToTrain.{Fits}
-use Rattle.ertms_codec.specs.declared.to_train.ToTrain.{ToTrain}
 use Rattle.rbc_track.specs.Plan.{Plan}
 use Rattle.rbc_maps.specs.Maps.{value_of, keys}
 use Rattle.rbc_maps.specs.Numbered.{Numbered, none_numbered}
@@ -11,7 +10,7 @@ use Rattle.rbc_settle.specs.declared.train.TrainRec.{TrainRec}
 use Rattle.rbc_settle.specs.declared.upkeep.Sent.{Sent}
 use Rattle.rbc_settle.specs.Numbers.{has_number, with_number, without_number}
 use Rattle.rbc_settle.specs.Trains.{new_train}
-use Rattle.rbc_settle.specs.Settling.{Stops, Limits, actions_with_stamp, settled, messages_of}
+use Rattle.rbc_settle.specs.Settling.{Stops, Limits, actions_with_stamp, settled, messages_of, to_engine}
 use Rattle.rbc_records.specs.declared.record.Key.{Key}
 use Rattle.rbc_records.specs.declared.record.Key.TheVariants as key
 use Rattle.rbc_records.specs.declared.record.Rec.{Rec}
@@ -50,10 +49,7 @@ write_of plan stops limits released train =
     if is_same plan stops limits released train then []
     else (key.Train train.engine, Some (rec.Train (settled_train plan stops limits released train))) ∷ []
 
--- messages to one engine, and those of a train that is settled
-abbrev pub to_engine : ℕ → List ToTrain → List Sent
-to_engine engine messages = map (λ message. record { engine = engine; message = message }) messages
-
+-- the messages to a train that is settled
 abbrev pub sent_of : Plan → Stops → Limits → Option ℕ → TrainRec → List Sent
 sent_of plan stops limits released train = to_engine train.engine (messages_of plan stops limits (forgotten released train))
 

@@ -23,7 +23,7 @@ pub enum Reply {
 /// Messages to trains, in the order in which they are sent. Contracts see a list.
 #[derive(Debug, Drop)]
 pub struct SentList {
-    all: Vec<Sent>,
+    pub(crate) all: Vec<Sent>,
 }
 
 impl Model for SentList {

@@ -19,7 +19,7 @@ use crate::outcome::{RuleFault, SentList};
 use crate::read;
 use crate::touch::Change;
 use rbc_records::{Key, Reader, Rec, Writes};
-use rbc_settle::{Numbers, Sent, TrainRec, UpToDate, settle, settled};
+use rbc_settle::{Numbers, Sent, TrainRec, settle, settled};
 use rbc_track::Track;
 use rbc_zones::{Limits, Stops};
 use std::alloc::{AllocError, Global};
@@ -93,10 +93,13 @@ fn settle_as_it_is(
     ensures few { OnOk result (length gathered.new.messages ≤ length gathered.old.messages + 540) }
     ensures fit { OnOk result (AreSendable gathered.new.messages) }
 {
-    match settled(alloc, track, stops, limits, train)? {
-        Some(UpToDate { train: after, sent }) => gather(gathered, train.engine, &sent, after),
-        None => Ok(()),
+    let sent = &mut gathered.messages.all;
+    if let Some(after) = settled(alloc, track, stops, limits, train, sent)? {
+        gathered
+            .writes
+            .set(Key::Train(train.engine), Some(Rec::Train(after)))?;
     }
+    Ok(())
 }
 
 /// Collects the record of a train, under its engine number, and its messages.

@@ -9,6 +9,7 @@ pub mod Follows
 pub mod Achieves
 pub mod Carrying
 pub mod Few
+pub mod Addressed
 pub mod SettleLoop
 pub mod Labels
 pub mod GoodSlots

@@ -1,8 +1,8 @@
 -- Settling one train, an action after the other: what was done so far, and what is left, is what was to be done.
 use Rattle.std.proofs.Common.{◌≡◌, ℕ, suc, ◌+◌, ◌-◌, ◌<◌, ◌≤◌, List, [], ◌∷◌, ◌++◌, length, map, take, drop, get_or, refl, sym, ap, ◌∙◌, subst, arith, drop-cons}
 use Rattle.std.specs.List.{All, fold, scan}
-use Rattle.std.proofs.lemmas.List.{length-map, length-take, drop_all, append_assoc, append-nil, map-append}
-use Rattle.std.proofs.lemmas.List.Elements.{All-push}
+use Rattle.std.proofs.lemmas.List.{length-map, length-take, length-append, drop_all, append_assoc, append-nil, map-append}
+use Rattle.std.proofs.lemmas.List.Elements.{All-push, All-same, All-append}
 use Rattle.ertms_codec.specs.declared.to_train.ToTrain.{ToTrain}
 use Rattle.ertms_codec.specs.ToTrain.{Fits}
 use Rattle.rbc_track.specs.Plan.{Plan}
@@ -11,13 +11,14 @@ use Rattle.rbc_settle.specs.declared.train.TrainRec.{TrainRec}
 use Rattle.rbc_settle.specs.declared.action.Action.{Action}
 use Rattle.rbc_settle.specs.declared.action.Action.TheVariants.{RevokeStop, TellStop, RevokeLimit, TellLimit}
 use Rattle.rbc_settle.specs.declared.upkeep.Sent.{Sent}
-use Rattle.rbc_settle.specs.Settling.{Stops, Limits, last_stamp, actions, actions_with_stamp, carried_out, message_of, settled, messages_of}
+use Rattle.rbc_settle.specs.Settling.{Stops, Limits, last_stamp, actions, actions_with_stamp, carried_out, message_of, settled, messages_of, to_engine}
 use Rattle.rbc_settle.specs.Following.{Allows, CanFollow}
 use Rattle.rbc_settle.specs.UpToDate.{HasTables, IsUpToDateOrAtTheEnd}
 use Rattle.rbc_settle.proofs.Follows.{can_follow, can_follow-take}
 use Rattle.rbc_settle.proofs.Achieves.{up_to_date}
 use Rattle.rbc_settle.proofs.Carrying.{keeps_tables}
-use Rattle.rbc_settle.proofs.Few.{length-scan, few_messages}
+use Rattle.rbc_settle.proofs.Few.{few_messages}
+use Rattle.rbc_settle.proofs.Addressed.{sent_is}
 
 -- A train at `start` has all of some actions to do. At `now` these messages were sent, and these actions are left.
 pub record IsOnTheWay (start : TrainRec) (all : List Action) (now : TrainRec) (sent : List Sent) (left : List Action) : Type 0 where
@@ -83,6 +84,21 @@ module _ (start : TrainRec) (all : List Action) (now : TrainRec) (sent : List Se
       (subst (λ (sents : List Sent). IsOnTheWay start all (carried_out now action) sents (drop (i + 1) all)) (sym pushed)
       (next_way start all now sent action (drop (i + 1) all) opened one engine message fits))
 
+-- The same where the messages stand behind others.
+pub record IsUnderWay (start : TrainRec) (all : List Action) (before : List Sent) (now : TrainRec) (sent : List Sent) (left : List Action) : Type 0 where
+  pub more : List Sent
+  pub behind : sent ≡ before ++ more
+  pub way : IsOnTheWay start all now more left
+
+module _ (start : TrainRec) (all : List Action) (before : List Sent) (now : TrainRec) (sent : List Sent) (i : ℕ) (action : Action) (within : i < length all) (read : action ≡ get_or all i action) (under : IsUnderWay start all before now sent (drop i all)) where
+  pub goes_on_behind : (one : Sent) → one.engine ≡ start.engine → one.message ≡ message_of now action → Fits one.message → (after : TrainRec) → after ≡ carried_out now action → (newer : List Sent) → newer ≡ sent ++ one ∷ []
+      → IsUnderWay start all before after newer (drop (i + 1) all)
+  goes_on_behind one engine message fits after is newer pushed = record {
+    more = under.more ++ one ∷ [];
+    behind = pushed ∙ ap (λ (sents : List Sent). sents ++ one ∷ []) under.behind ∙ append_assoc before under.more (one ∷ []);
+    way = goes_on start all now under.more i action within read under.way one engine message fits after is (under.more ++ one ∷ []) refl;
+  }
+
 module _ (plan : Plan) (stops : Stops) (limits : Limits) (train : TrainRec) (tables : HasTables train) (numbered : AreNumbered stops × AreNumbered limits) where
   -- it is up to date once it is settled
   pub reached : IsUpToDateOrAtTheEnd plan stops limits (settled plan stops limits train)
@@ -104,6 +120,9 @@ module _ (plan : Plan) (stops : Stops) (limits : Limits) (train : TrainRec) (tab
           fit = λ k d below. absurd (omega arith);
         }))
 
+    pub sets_out_behind : 0 < length all → (now : TrainRec) → now ≡ train → (before : List Sent) → IsUnderWay train all before now before all
+    sets_out_behind some now same before = record { more = []; behind = sym (append-nil before); way = sets_out some now same [] refl }
+
     module _ (now : TrainRec) (sent : List Sent) (i : ℕ) (past : length all ≤ i) (way : IsOnTheWay train all now sent (drop i all)) where
       arrived : IsOnTheWay train all now sent []
       arrived = subst (IsOnTheWay train all now sent) (drop_all i all past) way
@@ -114,21 +133,27 @@ module _ (plan : Plan) (stops : Stops) (limits : Limits) (train : TrainRec) (tab
       pub all_told : map (λ (one : Sent). one.message) sent ≡ messages_of plan stops limits train
       all_told = sym (append-nil (map (λ (one : Sent). one.message) sent)) ∙ arrived.told ∙ ap (scan carried_out message_of train) is
 
-      -- as many messages as actions
-      each_told : length sent ≡ length all
-      each_told =
-          let same : length (map (λ (one : Sent). one.message) sent) ≡ length (messages_of plan stops limits train) = ap length all_told in
-          let mapped = length-map sent (λ (one : Sent). one.message) in
-          let scanned = length-scan carried_out message_of train (actions_with_stamp plan stops limits train) in
-          let counted : length all ≡ length (actions_with_stamp plan stops limits train) = ap length is in
-          omega (arith, same, mapped, scanned, counted)
-
-      pub some_sent : 0 < length all → 1 ≤ length sent
-      some_sent some = let same = each_told in omega (arith, some, same)
-
-      pub few_sent : length sent ≤ 540
-      few_sent =
+      few_told : length sent ≤ 540
+      few_told =
           let same : length (map (λ (one : Sent). one.message) sent) ≡ length (messages_of plan stops limits train) = ap length all_told in
           let mapped = length-map sent (λ (one : Sent). one.message) in
           let most = few_messages plan stops limits train tables in
           omega (arith, same, mapped, most)
+
+    module _ (before : List Sent) (now : TrainRec) (sent : List Sent) (i : ℕ) (past : length all ≤ i) (under : IsUnderWay train all before now sent (drop i all)) where
+      pub all_sent : sent ≡ before ++ to_engine train.engine (messages_of plan stops limits train)
+      all_sent =
+          under.behind
+          ∙ ap (λ (sents : List Sent). before ++ sents)
+          (sent_is train.engine (messages_of plan stops limits train) under.more (all_told now under.more i past under.way) (arrived now under.more i past under.way).engine)
+
+      pub fit_sent : All (λ (one : Sent). Fits one.message) before → All (λ (one : Sent). Fits one.message) sent
+      fit_sent fit =
+          All-same (λ (one : Sent). Fits one.message) sent (before ++ under.more) under.behind
+          (All-append (λ (one : Sent). Fits one.message) before under.more fit (arrived now under.more i past under.way).fit)
+
+      pub few_sent : length sent ≤ length before + 540
+      few_sent =
+          let count : length sent ≡ length before + length under.more = ap length under.behind ∙ length-append before under.more in
+          let most = few_told now under.more i past under.way in
+          omega (arith, count, most)

@@ -26,6 +26,7 @@ use Rattle.rbc_settle.specs.declared.action.Action.{Action}
 use Rattle.rbc_settle.specs.declared.action.Action.TheVariants.{RevokeStop, TellStop, RevokeLimit, TellLimit}
 use Rattle.rbc_settle.specs.declared.action.ToldStop.{ToldStop}
 use Rattle.rbc_settle.specs.declared.action.ToldStop.TheVariants.{AtOnce, Before}
+use Rattle.rbc_settle.specs.declared.upkeep.Sent.{Sent}
 use Rattle.rbc_settle.specs.Told.{Edge, Part}
 use Rattle.rbc_settle.specs.Trains.{stop_identifiers, limit_identifiers}
 use Rattle.rbc_settle.specs.Numbers.{has_number}
@@ -193,3 +194,7 @@ settled plan stops limits train = fold carried_out train (actions_with_stamp pla
 -- the messages of these actions, in their order
 abbrev pub messages_of : Plan → Stops → Limits → TrainRec → List ToTrain
 messages_of plan stops limits train = scan carried_out message_of train (actions_with_stamp plan stops limits train)
+
+-- messages to one engine
+abbrev pub to_engine : ℕ → List ToTrain → List Sent
+to_engine engine messages = map (λ message. record { engine = engine; message = message }) messages

@@ -13,5 +13,5 @@ mod witnesses;
 pub use law::settle_law;
 pub use numbers::Numbers;
 pub use train::TrainRec;
-pub use upkeep::{Sent, UpToDate, settle, settled};
+pub use upkeep::{Sent, settle, settled};
 pub use witnesses::settle_law_witnesses;

@@ -1,10 +1,10 @@
 //! Settling one train.
 
-ghost use Rattle.std.specs.Prelude.{◌≡◌, ◌+◌, ◌*◌, ◌≤◌, [], map, length, IfOk, OnOk, OnErr, IfSome, IfNone};
+ghost use Rattle.std.specs.Prelude.{◌≡◌, ◌+◌, ◌*◌, ◌≤◌, [], ◌++◌, map, length, IfOk, OnOk, OnErr, IfSome, IfNone};
 ghost use Rattle.std.specs.List.{All};
 ghost use Rattle.ertms_codec.specs.ToTrain.{Fits};
 ghost use Rattle.rbc_settle.specs.Trains.{stop_identifiers, limit_identifiers};
-ghost use Rattle.rbc_settle.specs.Settling.{actions_with_stamp, settled, messages_of};
+ghost use Rattle.rbc_settle.specs.Settling.{actions_with_stamp, settled, messages_of, to_engine};
 ghost use Rattle.rbc_settle.specs.UpToDate.{IsUpToDateOrAtTheEnd};
 
 use crate::judge::actions;
@@ -23,33 +23,27 @@ pub struct Sent {
     pub message: ToTrain,
 }
 
-/// A train that was brought up to date, and the 1 to 540 messages that did it, in their order.
-#[derive(Debug, Drop)]
-pub struct UpToDate {
-    pub train: TrainRec,
-    pub sent: Vec<Sent>,
-}
-
 /// Brings a copy of a train up to date (own rule). Stops that are not active any more are revoked, and stops that concern the
 /// train are told; then the same is done with restrictions. All of it is judged before the first action, and each action takes
 /// the next stamp, as long as stamps are left.
 ///
-/// Returns the copy with its messages, or `None` if there is nothing to do or no stamp is left. `None` takes no memory if there
-/// is nothing to do. Fails only for lack of memory.
+/// Returns the copy, and puts its 1 to 540 messages behind those of `sent`, in their order. Returns `None` and leaves `sent` as it
+/// is if there is nothing to do or no stamp is left; that takes no memory if there is nothing to do. Fails only for lack of memory,
+/// and then some of the messages may stand in `sent`.
 pub fn settled(
     alloc: Global,
     track: &Track,
     stops: &Stops,
     limits: &Limits,
     train: &TrainRec,
-) -> Result<Option<UpToDate>, AllocError>
+    sent: &mut Vec<Sent>,
+) -> Result<Option<TrainRec>, AllocError>
     ensures none { IfOk result (λ found. IfNone found (actions_with_stamp track.now stops.now limits.now train.now ≡ [])) }
-    ensures train { IfOk result (λ found. IfSome found (λ after. after.train ≡ settled track.now stops.now limits.now train.now)) }
-    ensures messages { IfOk result (λ found. IfSome found (λ after. map (λ one. one.message) after.sent.items ≡ messages_of track.now stops.now limits.now train.now)) }
-    ensures engine { IfOk result (λ found. IfSome found (λ after. All (λ one. one.engine ≡ train.now.engine) after.sent.items)) }
-    ensures fit { IfOk result (λ found. IfSome found (λ after. All (λ one. Fits one.message) after.sent.items)) }
-    ensures some { IfOk result (λ found. IfSome found (λ after. 1 ≤ length after.sent.items)) }
-    ensures few { IfOk result (λ found. IfSome found (λ after. length after.sent.items ≤ 2 * stop_identifiers + 2 * limit_identifiers)) }
+    ensures some { IfOk result (λ found. IfSome found (λ after. 1 ≤ length (actions_with_stamp track.now stops.now limits.now train.now))) }
+    ensures train { IfOk result (λ found. IfSome found (λ after. after ≡ settled track.now stops.now limits.now train.now)) }
+    ensures messages { OnOk result (sent.new.items ≡ sent.old.items ++ to_engine train.now.engine (messages_of track.now stops.now limits.now train.now)) }
+    ensures fit { All (λ one. Fits one.message) sent.old.items → OnOk result (All (λ one. Fits one.message) sent.new.items) }
+    ensures few { OnOk result (length sent.new.items ≤ length sent.old.items + (2 * stop_identifiers + 2 * limit_identifiers)) }
     ensures up_to_date { OnOk result (IsUpToDateOrAtTheEnd track.now stops.now limits.now (settled track.now stops.now limits.now train.now)) }
 {
     let actions = actions(alloc, track, stops, limits, train)?;
@@ -57,7 +51,6 @@ pub fn settled(
         return Ok(None);
     }
     let mut after = train.copy(alloc)?;
-    let mut sent = Vec::new(alloc);
     for action in &actions {
         sent.push(Sent {
             engine: train.engine,
@@ -65,7 +58,7 @@ pub fn settled(
         })?;
         after.carry_out(action)?;
     }
-    Ok(Some(UpToDate { train: after, sent }))
+    Ok(Some(after))
 }
 
 /// Brings a train up to date as `settled` does, and returns the messages that do it, in their order. Takes memory only if there
@@ -85,11 +78,9 @@ pub fn settle(
     ensures up_to_date { OnOk result (IsUpToDateOrAtTheEnd track.now stops.now limits.now train.new) }
     ensures err { OnErr result (train.new ≡ train.old) }
 {
-    match settled(alloc, track, stops, limits, train)? {
-        None => Ok(Vec::new(alloc)),
-        Some(after) => {
-            *train = after.train;
-            Ok(after.sent)
-        }
+    let mut sent = Vec::new(alloc);
+    if let Some(after) = settled(alloc, track, stops, limits, train, &mut sent)? {
+        *train = after;
     }
+    Ok(sent)
 }

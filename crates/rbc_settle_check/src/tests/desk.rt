@@ -293,26 +293,31 @@ impl Desk {
     /// Settles the train while it is borrowed, and answers with what it is sent and what it is then, or with nothing where
     /// nothing is to be done; once that is done, nothing is left to do.
     fn settled(&self, rt: &impl Abort, said: &mut String) {
+        let mut sent = Vec::new(self.alloc);
         let after = settled(
             self.alloc,
             &self.track,
             &self.stops,
             &self.limits,
             &self.train,
+            &mut sent,
         );
         let Some(after) = after.expect(rt, "memory") else {
             return;
         };
-        say_sent(rt, said, &after.sent);
-        say_train(rt, said, &after.train);
+        say_sent(rt, said, &sent);
+        say_train(rt, said, &after);
+        let count = sent.len();
         let again = settled(
             self.alloc,
             &self.track,
             &self.stops,
             &self.limits,
-            &after.train,
+            &after,
+            &mut sent,
         );
         assert!(rt; again.expect(rt, "memory").is_none());
+        same(rt, sent.len(), count);
     }
 }
 

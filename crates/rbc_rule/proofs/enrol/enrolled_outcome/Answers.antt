@@ -1,15 +1,15 @@
 use Rattle.std.proofs.Common.{◌≡◌, ◌++◌, ◌∷◌, [], List, Option, Some, ap, ◌∙◌}
 use Rattle.rbc_settle.specs.Numbers.{with_number}
-use Rattle.rbc_settle.specs.Settling.{settled, messages_of}
+use Rattle.rbc_settle.specs.Settling.{settled, messages_of, to_engine}
 use Rattle.rbc_settle.specs.Trains.{new_train}
 use Rattle.rbc_settle.specs.declared.train.TrainRec.{TrainRec}
+use Rattle.rbc_settle.proofs.Addressed.{sent_is}
 use Rattle.rbc_records.specs.declared.record.Key.{Key}
 use Rattle.rbc_records.specs.declared.record.Key.TheVariants as key
 use Rattle.rbc_records.specs.declared.record.Rec.{Rec}
 use Rattle.rbc_records.specs.declared.record.Rec.TheVariants as rec
 use Rattle.rbc_rule.specs.Records.{engines_record}
-use Rattle.rbc_rule.specs.Gathered.{to_engine}
-use Rattle.rbc_rule.proofs.Gathering.{sent_is, done_is}
+use Rattle.rbc_rule.proofs.Gathering.{done_is}
 use Rattle.rbc_rule.proofs.enrol.enrolled_outcome.Goals as goal
 
 pub returns-clause-outcome : goal.returns-clause-outcome

@@ -2,14 +2,14 @@ use Rattle.std.proofs.Common.{◌≡◌, ℕ, ◌≤◌, ◌++◌, ◌∷◌, []
 use Rattle.std.proofs.lemmas.Result.{on_ok_weaker, IfOk-equal}
 use Rattle.rbc_settle.specs.declared.train.TrainRec.{TrainRec}
 use Rattle.rbc_settle.specs.declared.upkeep.Sent.{Sent}
-use Rattle.rbc_settle.specs.Settling.{settled, messages_of}
+use Rattle.rbc_settle.specs.Settling.{settled, messages_of, to_engine}
+use Rattle.rbc_settle.proofs.Addressed.{sent_is}
 use Rattle.rbc_records.specs.declared.record.Key.{Key}
 use Rattle.rbc_records.specs.declared.record.Key.TheVariants as key
 use Rattle.rbc_records.specs.declared.record.Rec.{Rec}
 use Rattle.rbc_records.specs.declared.record.Rec.TheVariants as rec
 use Rattle.rbc_rule.specs.Effect.{forget}
-use Rattle.rbc_rule.specs.Gathered.{to_engine}
-use Rattle.rbc_rule.proofs.Gathering.{sent_is, few_more, forgetting_written}
+use Rattle.rbc_rule.proofs.Gathering.{few_more, forgetting_written}
 use Rattle.rbc_rule.proofs.settle_trains.settle_released.Goals as goal
 
 pub returns-clause-writes : goal.returns-clause-writes
