@@ -1,7 +1,7 @@
 -- Settling one train, an action after the other: what was done so far, and what is left, is what was to be done.
 use Rattle.std.proofs.Common.{◌≡◌, ℕ, suc, ◌+◌, ◌-◌, ◌<◌, ◌≤◌, List, [], ◌∷◌, ◌++◌, length, map, take, drop, get_or, refl, sym, ap, ◌∙◌, subst, arith, drop-cons}
 use Rattle.std.specs.List.{All, fold, scan}
-use Rattle.std.proofs.lemmas.List.{length-map, length-take, length-append, drop_all, append_assoc, append-nil, map-append}
+use Rattle.std.proofs.lemmas.List.{length-map, length-take, length-append, take_all, take-append-le, drop_all, append_assoc, append-nil, map-append}
 use Rattle.std.proofs.lemmas.List.Elements.{All-push, All-same, All-append}
 use Rattle.ertms_codec.specs.declared.to_train.ToTrain.{ToTrain}
 use Rattle.ertms_codec.specs.ToTrain.{Fits}
@@ -98,6 +98,12 @@ module _ (start : TrainRec) (all : List Action) (before : List Sent) (now : Trai
     behind = pushed ∙ ap (λ (sents : List Sent). sents ++ one ∷ []) under.behind ∙ append_assoc before under.more (one ∷ []);
     way = goes_on start all now under.more i action within read under.way one engine message fits after is (under.more ++ one ∷ []) refl;
   }
+
+-- cut back to its former length, a list that grew is what it was
+pub cut_back : (before more now : List Sent) → now ≡ before ++ more → (n : ℕ) → n ≡ length before → (cut : List Sent) → cut ≡ take n now → cut ≡ before
+cut_back before more now grown n count cut is =
+    let within : n ≤ length before = omega (arith, count) in
+    is ∙ ap (λ (sents : List Sent). take n sents) grown ∙ take-append-le n before more within ∙ take_all n before (omega (arith, count))
 
 module _ (plan : Plan) (stops : Stops) (limits : Limits) (train : TrainRec) (tables : HasTables train) (numbered : AreNumbered stops × AreNumbered limits) where
   -- it is up to date once it is settled

@@ -29,7 +29,7 @@ pub struct Sent {
 ///
 /// Returns the copy, and puts its 1 to 540 messages behind those of `sent`, in their order. Returns `None` and leaves `sent` as it
 /// is if there is nothing to do or no stamp is left; that takes no memory if there is nothing to do. Fails only for lack of memory,
-/// and then some of the messages may stand in `sent`.
+/// which leaves `sent` as it is.
 pub fn settled(
     alloc: Global,
     track: &Track,
@@ -42,6 +42,7 @@ pub fn settled(
     ensures some { IfOk result (λ found. IfSome found (λ after. 1 ≤ length (actions_with_stamp track.now stops.now limits.now train.now))) }
     ensures train { IfOk result (λ found. IfSome found (λ after. after ≡ settled track.now stops.now limits.now train.now)) }
     ensures messages { OnOk result (sent.new.items ≡ sent.old.items ++ to_engine train.now.engine (messages_of track.now stops.now limits.now train.now)) }
+    ensures err { OnErr result (sent.new.items ≡ sent.old.items) }
     ensures fit { All (λ one. Fits one.message) sent.old.items → OnOk result (All (λ one. Fits one.message) sent.new.items) }
     ensures few { OnOk result (length sent.new.items ≤ length sent.old.items + (2 * stop_identifiers + 2 * limit_identifiers)) }
     ensures up_to_date { OnOk result (IsUpToDateOrAtTheEnd track.now stops.now limits.now (settled track.now stops.now limits.now train.now)) }
@@ -51,12 +52,16 @@ pub fn settled(
         return Ok(None);
     }
     let mut after = train.copy(alloc)?;
+    let before = sent.len();
     for action in &actions {
-        sent.push(Sent {
+        let one = Sent {
             engine: train.engine,
             message: after.message_of(action),
-        })?;
-        after.carry_out(action)?;
+        };
+        if after.carry_out(action).is_err() || sent.push(one).is_err() {
+            sent.truncate(before);
+            return Err(AllocError);
+        }
     }
     Ok(Some(after))
 }

@@ -1,10 +1,12 @@
-use Rattle.std.proofs.Common.{◌≡◌, ◌<◌, List, [], ◌++◌, length, refl, sym, ap, ◌∙◌, arith}
+use Rattle.std.proofs.Common.{◌≡◌, ◌<◌, List, [], ◌∷◌, ◌++◌, length, rules, refl, sym, ap, ◌∙◌, arith}
 use Rattle.std.specs.List.{scan}
 use Rattle.std.proofs.lemmas.List.{append-nil}
 use Rattle.std.proofs.lemmas.Grind.{common_steps}
 use Rattle.rbc_settle.specs.declared.action.Action.{Action}
+use Rattle.rbc_settle.specs.declared.upkeep.Sent.{Sent}
 use Rattle.rbc_settle.specs.Settling.{actions_with_stamp, carried_out, message_of, to_engine}
-use Rattle.rbc_settle.proofs.SettleLoop.{is_allowed, has_stamp, goes_on_behind, reached, sets_out_behind, is_settled, all_sent, fit_sent, few_sent}
+use Rattle.rbc_settle.proofs.SettleLoop.{is_allowed, has_stamp, goes_on_behind, reached, sets_out_behind, cut_back, is_settled, all_sent, fit_sent, few_sent}
+use Rattle.rbc_settle.proofs.upkeep.settled.Goals.{then-is_err-via-then-is_err, then-is_err-via-else-is_err+then-is_err-2}
 use Rattle.rbc_settle.proofs.upkeep.settled.Goals as goal
 
 pub returns-then-is_empty-clause-none : goal.returns-then-is_empty-clause-none
@@ -44,9 +46,22 @@ carry_out-requires-clause-allowed c = is_allowed _ _ _ _ _ _ c.loop-action-test.
 
 pub loop-action-preserved : goal.loop-action-preserved
 loop-action-preserved c =
+    let one : Sent = record { engine = c.args.train.now.engine; message = c.message_of.result } in
+    let after : c.carry_out.new.self ≡ carried_out c.loop-action.after c.action-item.result = search rules in
+    let sent : c.push.new.self.items ≡ c.loop-action.sent.items ++ one ∷ [] = search rules in
     goes_on_behind _ _ _ _ _ _ _ c.loop-action-test.true c.action-item.is c.loop-action.invariant
-    (record { engine = c.args.train.now.engine; message = c.message_of.result }) refl c.message_of.ensures.message c.message_of.ensures.fits
-    _ c.in_ok-carry_out.ensures.ok _ c.in_ok-push.ensures.items
+    one refl c.message_of.ensures.message c.message_of.ensures.fits _ after _ sent
+
+pub returns-then-is_err-clause-err : goal.returns-then-is_err-clause-err
+returns-then-is_err-clause-err c =
+    let same : c.then-is_err.sent.items ≡ c.loop-action.sent.items =
+    elim c.then-is_err.branch [
+      | then-is_err-via-then-is_err w ↦ search rules
+      | then-is_err-via-else-is_err+then-is_err-2 w ↦ search rules
+    ] in
+    let count : c.len-before.result ≡ length c.args.sent.now.items = search rules in
+    cut_back c.args.sent.now.items c.loop-action.invariant.more c.then-is_err.sent.items (same ∙ c.loop-action.invariant.behind)
+    c.len-before.result count c.truncate.new.self.items c.truncate.ensures.items
 
 pub returns-clause-some : goal.returns-clause-some
 returns-clause-some c =
