@@ -5,6 +5,3 @@ pub mod Plans
 pub mod Rising
 pub mod Bounds
 pub mod Found
-pub mod PlainLines
-pub mod PlainRead
-pub mod PlainRun

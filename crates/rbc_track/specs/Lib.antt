@@ -3,4 +3,3 @@ pub mod Document
 pub mod Reading
 pub mod Outcomes
 pub mod Inside
-pub mod Plain

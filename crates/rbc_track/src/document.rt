@@ -11,14 +11,13 @@ ghost use Rattle.rbc_track.specs.Outcomes.{Misses};
 use crate::error::TrackError;
 use crate::group::Way;
 use std::alloc::Global;
-use std::marker::Model;
 use toml::{Table, Value};
 
 /// The greatest horizon, in units of 10 cm.
-pub const MAX_HORIZON: u32 = 3_000_000;
+const MAX_HORIZON: u32 = 3_000_000;
 
 /// The greatest number of a balise group.
-pub const MAX_NID: u32 = 16_777_214;
+const MAX_NID: u32 = 16_777_214;
 
 /// A balise group as it is written in a document.
 #[derive(Clone, Copy)]
@@ -31,25 +30,6 @@ pub struct Site {
     pub at: u32,
     /// Its nominal direction.
     pub nominal: Way,
-}
-
-/// What is written in a document, before the rules on whole lists are checked.
-#[derive(Drop)]
-pub struct Written {
-    /// The horizon, in units of 10 cm.
-    pub horizon: u32,
-    /// The length of each line, in units of 10 cm.
-    pub lengths: Vec<u32>,
-    /// The balise groups, in their order.
-    pub sites: Vec<Site>,
-}
-
-impl Model for Written {
-    ghost use Rattle.rbc_track.specs.Document as document;
-
-    ghost Value = { document.Written };
-
-    ghost view = { λ w. record { horizon = w.horizon; lengths = w.lengths.items; sites = w.sites.items } };
 }
 
 /// Parses a text as a TOML document.

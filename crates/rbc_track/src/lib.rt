@@ -6,7 +6,6 @@
 mod document;
 mod error;
 mod group;
-mod plain;
 mod track;
 
 pub use error::TrackError;

@@ -8,10 +8,10 @@ ghost use Rattle.std.specs.BTreeMap.{IsOrdered};
 ghost use Rattle.std.specs.Ordering.{nat_cmp};
 ghost use Rattle.std.specs.List.{list_all};
 
+use crate::document;
 use crate::document::Site;
 use crate::error::TrackError;
 use crate::group::Group;
-use crate::{document, plain};
 use std::alloc::{AllocError, Global};
 use std::collections::BTreeMap;
 use std::marker::Model;
@@ -180,21 +180,6 @@ fn in_a_row(alloc: Global, groups: BTreeMap<u32, Group>) -> Result<Vec<(u32, Gro
         .map_err(|_: AllocError| TrackError::OutOfMemory)
 }
 
-/// The track of a text that is read as any TOML document is.
-///
-/// # Errors
-///
-/// The first cause that applies, as `track_from_toml` says.
-fn track_from_document(alloc: Global, text: &str) -> Result<Track, TrackError>
-    ensures { IsUnlessMemory (track_of text.now) result }
-{
-    let document = document::document_from(alloc, text)?;
-    let horizon = document::horizon_in(&document).ok_or(TrackError::Shape)?;
-    let lines = document::lengths_under(alloc, &document)?;
-    let sites = document::sites_under(alloc, &document)?;
-    Track::new(alloc, horizon, lines, sites.as_slice())
-}
-
 /// Reads a track file, which is a TOML document. Lengths and places are in units of 10 cm. Keys other than these
 /// are ignored.
 ///
@@ -208,21 +193,15 @@ fn track_from_document(alloc: Global, text: &str) -> Result<Track, TrackError>
 ///
 /// The first cause that applies, in the order of the variants of [`TrackError`] (own rule). So a value of the wrong
 /// kind is reported before a list that is too long, and so on. `OutOfMemory` can come in place of any result.
-///
-/// A document in the plain form (`plain`) is read several times as fast as another.
 pub fn track_from_toml(alloc: Global, text: &str) -> Result<Track, TrackError>
     ensures ok { IfOk result (IsTrackOf text.now) }
     ensures found { IfOk result (FindsItsGroups text.now) }
     ensures refused { IfErr result (λ e. (e ≡ OutOfMemory) ⊎ RefusesTrack text.now e) }
     ensures exact { IsUnlessMemory (track_of text.now) result }
 {
-    match plain::written(alloc, text)? {
-        Some(written) => Track::new(
-            alloc,
-            written.horizon,
-            written.lengths,
-            written.sites.as_slice(),
-        ),
-        None => track_from_document(alloc, text),
-    }
+    let document = document::document_from(alloc, text)?;
+    let horizon = document::horizon_in(&document).ok_or(TrackError::Shape)?;
+    let lines = document::lengths_under(alloc, &document)?;
+    let sites = document::sites_under(alloc, &document)?;
+    Track::new(alloc, horizon, lines, sites.as_slice())
 }
