@@ -1,5 +1,5 @@
 -- Which outcomes are right for what was read (own rule).
-use Rattle.std.specs.Prelude.{◌≡◌, ◌⊎◌, ℕ, ◌+◌, ◌==◌, List, [], map, Option}
+use Rattle.std.specs.Prelude.{◌≡◌, ◌⊎◌, ℕ, ◌+◌, ◌==◌, List, [], map, Option, Result, IfErr}
 use Rattle.std.specs.List.{filter, All}
 use Rattle.ertms_codec.specs.declared.to_train.ToTrain.{ToTrain}
 use Rattle.rbc_track.specs.Plan.{Plan}
@@ -70,3 +70,7 @@ abbrev pub IsFault : Plan → RuleFault → Notes → ℕ → ℕ → Type 0
 IsFault plan fault.OutOfMemory notes old new = new ≡ old
 IsFault plan fault.Torn notes old new = (new ≡ old) × IsTorn plan notes
 IsFault plan fault.Reader notes old new = new ≡ old + 1
+
+-- where it ends by a fault, the fault says so
+abbrev pub FailsAs : {T : Type 0} → Plan → Notes → ℕ → ℕ → Result T RuleFault → Type 0
+FailsAs plan notes old new result = IfErr result (λ fault. IsFault plan fault notes old new)

@@ -9,7 +9,7 @@ ghost use Rattle.rbc_records.specs.Notes.{Extends, knows};
 ghost use Rattle.rbc_rule.specs.Bounds.{max_trains};
 ghost use Rattle.rbc_rule.specs.World.{World};
 ghost use Rattle.rbc_rule.specs.Effect.{with_less};
-ghost use Rattle.rbc_rule.specs.Right.{MayBe, IsSilentIfRefused, IsFault};
+ghost use Rattle.rbc_rule.specs.Right.{MayBe, IsSilentIfRefused, FailsAs};
 ghost use Rattle.rbc_rule.specs.Faults.{IsFaultOf};
 ghost use Rattle.rbc_rule.specs.Touching.{BeginsOrEnds, HasBegun, limit_of, released_from};
 ghost use Rattle.rbc_rule.specs.Lists.{AreTrainsKnown};
@@ -41,11 +41,12 @@ pub(crate) fn stop_begun<S: Reader>(
     requires room { S.failed store.old + 1 < 2 ^ 64 }
     requires good { IsTrue (is_good_area track.now segments.now) }
     requires begun { (w : World) → MayBe track.now (S.notes store.old) w → HasBegun number segments.now w.stops stops }
-    ensures outcome { IfOk result (λ outcome. (w : World) → MayBe track.now (S.notes store.new) w → outcome ≡ settled_outcome track.now stops w.limits None w.trains key.Stops (rec.Stops stops)) }
+    ensures outcome { IfOk result (λ outcome. (w : World) → MayBe track.now (S.notes store.new) w
+        → outcome ≡ settled_outcome track.now stops w.limits None w.trains key.Stops (rec.Stops stops)) }
     ensures refused { IfOk result (λ outcome. IsSilentIfRefused outcome.result outcome.writes outcome.messages) }
     ensures fit { IfOk result (λ outcome. AreSendable outcome.messages) }
     ensures extends { Extends (S.notes store.old) (S.notes store.new) }
-    ensures fault { IfErr result (λ fault. IsFault track.now fault (S.notes store.new) (S.failed store.old) (S.failed store.new)) }
+    ensures fault { FailsAs track.now (S.notes store.new) (S.failed store.old) (S.failed store.new) result }
     ensures failed { OnOk result (S.failed store.new ≡ S.failed store.old) }
 {
     fetch(store, Key::Limits)?;
@@ -63,11 +64,12 @@ pub(crate) fn stop_ended<S: Reader>(
 ) -> Result<Outcome, RuleFault>
     requires room { S.failed store.old + 1 < 2 ^ 64 }
     requires ended { (w : World) → MayBe track.now (S.notes store.old) w → stops ≡ with_less number w.stops }
-    ensures outcome { IfOk result (λ outcome. (w : World) → MayBe track.now (S.notes store.new) w → outcome ≡ settled_outcome track.now stops w.limits (Some number) w.trains key.Stops (rec.Stops stops)) }
+    ensures outcome { IfOk result (λ outcome. (w : World) → MayBe track.now (S.notes store.new) w
+        → outcome ≡ settled_outcome track.now stops w.limits (Some number) w.trains key.Stops (rec.Stops stops)) }
     ensures refused { IfOk result (λ outcome. IsSilentIfRefused outcome.result outcome.writes outcome.messages) }
     ensures fit { IfOk result (λ outcome. AreSendable outcome.messages) }
     ensures extends { Extends (S.notes store.old) (S.notes store.new) }
-    ensures fault { IfErr result (λ fault. IsFault track.now fault (S.notes store.new) (S.failed store.old) (S.failed store.new)) }
+    ensures fault { FailsAs track.now (S.notes store.new) (S.failed store.old) (S.failed store.new) result }
     ensures failed { OnOk result (S.failed store.new ≡ S.failed store.old) }
 {
     fetch(store, Key::Limits)?;
@@ -88,8 +90,11 @@ fn settled_with_stops<S: Reader>(
     requires trains { AreTrainsKnown (S.notes store.now) engines.now }
     requires few { length engines.now ≤ 9 * max_trains }
     requires changed { (w : World) → MayBe track.now (S.notes store.now) w → BeginsOrEnds number w.stops stops }
-    requires enough { (w : World) → MayBe track.now (S.notes store.now) w → IsEnough track.now stops w.limits (released_from number stops) w.trains engines.now }
-    ensures outcome { IfOk result (λ outcome. (w : World) → MayBe track.now (S.notes store.now) w → outcome ≡ settled_outcome track.now stops w.limits (released_from number stops) w.trains key.Stops (rec.Stops stops)) }
+    requires enough { (w : World) → MayBe track.now (S.notes store.now) w
+        → IsEnough track.now stops w.limits (released_from number stops) w.trains engines.now }
+    ensures outcome { IfOk result (λ outcome. (w : World) → MayBe track.now (S.notes store.now) w
+        → outcome ≡ settled_outcome track.now stops w.limits (released_from number stops) w.trains key.Stops
+        (rec.Stops stops)) }
     ensures refused { IfOk result (λ outcome. IsSilentIfRefused outcome.result outcome.writes outcome.messages) }
     ensures fit { IfOk result (λ outcome. AreSendable outcome.messages) }
     ensures fault { IfErr result (λ fault. IsFaultOf track.now fault (S.notes store.now)) }
@@ -102,7 +107,8 @@ fn settled_with_stops<S: Reader>(
     Ok(Outcome::done(gathered.writes, gathered.messages))
 }
 
-/// Reads the other records and settles the trains that a restriction can concern which has begun. `limits` has it already.
+/// Reads the other records and settles the trains that a restriction can concern which has begun. `limits` has it
+/// already.
 pub(crate) fn limit_begun<S: Reader>(
     alloc: Global,
     track: &Track,
@@ -112,12 +118,14 @@ pub(crate) fn limit_begun<S: Reader>(
 ) -> Result<Outcome, RuleFault>
     requires room { S.failed store.old + 1 < 2 ^ 64 }
     requires good { IsTrue (is_good_limit track.now new.now.segment new.now.speed) }
-    requires begun { (w : World) → MayBe track.now (S.notes store.old) w → HasBegun new.now.number (limit_of new.now) w.limits limits }
-    ensures outcome { IfOk result (λ outcome. (w : World) → MayBe track.now (S.notes store.new) w → outcome ≡ settled_outcome track.now w.stops limits None w.trains key.Limits (rec.Limits limits)) }
+    requires begun { (w : World) → MayBe track.now (S.notes store.old) w
+        → HasBegun new.now.number (limit_of new.now) w.limits limits }
+    ensures outcome { IfOk result (λ outcome. (w : World) → MayBe track.now (S.notes store.new) w
+        → outcome ≡ settled_outcome track.now w.stops limits None w.trains key.Limits (rec.Limits limits)) }
     ensures refused { IfOk result (λ outcome. IsSilentIfRefused outcome.result outcome.writes outcome.messages) }
     ensures fit { IfOk result (λ outcome. AreSendable outcome.messages) }
     ensures extends { Extends (S.notes store.old) (S.notes store.new) }
-    ensures fault { IfErr result (λ fault. IsFault track.now fault (S.notes store.new) (S.failed store.old) (S.failed store.new)) }
+    ensures fault { FailsAs track.now (S.notes store.new) (S.failed store.old) (S.failed store.new) result }
     ensures failed { OnOk result (S.failed store.new ≡ S.failed store.old) }
 {
     fetch(store, Key::Stops)?;
@@ -135,11 +143,12 @@ pub(crate) fn limit_ended<S: Reader>(
 ) -> Result<Outcome, RuleFault>
     requires room { S.failed store.old + 1 < 2 ^ 64 }
     requires ended { (w : World) → MayBe track.now (S.notes store.old) w → limits ≡ with_less number w.limits }
-    ensures outcome { IfOk result (λ outcome. (w : World) → MayBe track.now (S.notes store.new) w → outcome ≡ settled_outcome track.now w.stops limits None w.trains key.Limits (rec.Limits limits)) }
+    ensures outcome { IfOk result (λ outcome. (w : World) → MayBe track.now (S.notes store.new) w
+        → outcome ≡ settled_outcome track.now w.stops limits None w.trains key.Limits (rec.Limits limits)) }
     ensures refused { IfOk result (λ outcome. IsSilentIfRefused outcome.result outcome.writes outcome.messages) }
     ensures fit { IfOk result (λ outcome. AreSendable outcome.messages) }
     ensures extends { Extends (S.notes store.old) (S.notes store.new) }
-    ensures fault { IfErr result (λ fault. IsFault track.now fault (S.notes store.new) (S.failed store.old) (S.failed store.new)) }
+    ensures fault { FailsAs track.now (S.notes store.new) (S.failed store.old) (S.failed store.new) result }
     ensures failed { OnOk result (S.failed store.new ≡ S.failed store.old) }
 {
     fetch(store, Key::Stops)?;
@@ -160,8 +169,10 @@ fn settled_with_limits<S: Reader>(
     requires trains { AreTrainsKnown (S.notes store.now) engines.now }
     requires few { length engines.now ≤ 9 * max_trains }
     requires changed { (w : World) → MayBe track.now (S.notes store.now) w → BeginsOrEnds number w.limits limits }
-    requires enough { (w : World) → MayBe track.now (S.notes store.now) w → IsEnough track.now w.stops limits None w.trains engines.now }
-    ensures outcome { IfOk result (λ outcome. (w : World) → MayBe track.now (S.notes store.now) w → outcome ≡ settled_outcome track.now w.stops limits None w.trains key.Limits (rec.Limits limits)) }
+    requires enough { (w : World) → MayBe track.now (S.notes store.now) w
+        → IsEnough track.now w.stops limits None w.trains engines.now }
+    ensures outcome { IfOk result (λ outcome. (w : World) → MayBe track.now (S.notes store.now) w
+        → outcome ≡ settled_outcome track.now w.stops limits None w.trains key.Limits (rec.Limits limits)) }
     ensures refused { IfOk result (λ outcome. IsSilentIfRefused outcome.result outcome.writes outcome.messages) }
     ensures fit { IfOk result (λ outcome. AreSendable outcome.messages) }
     ensures fault { IfErr result (λ fault. IsFaultOf track.now fault (S.notes store.now)) }

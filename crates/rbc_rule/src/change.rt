@@ -72,8 +72,10 @@ pub(crate) fn limits_after(
     new: &Restriction,
     limits: &Limits,
 ) -> Result<Limits, NotChanged>
-    ensures ok { IfOk result (λ after. Ok after ≡ limits_after track.now new.now.number new.now.segment new.now.dirs new.now.speed new.now.front limits.now) }
-    ensures err { IfErr result (λ why. IsReason (limits_after track.now new.now.number new.now.segment new.now.dirs new.now.speed new.now.front limits.now) why) }
+    ensures ok { IfOk result (λ after. Ok after
+        ≡ limits_after track.now new.now.number new.now.segment new.now.dirs new.now.speed new.now.front limits.now) }
+    ensures err { IfErr result (λ why. IsReason (limits_after track.now new.now.number new.now.segment new.now.dirs
+        new.now.speed new.now.front limits.now) why) }
 {
     if new.number <= limits.last() {
         return Err(NotChanged::Refused(Refusal::NumberUsed));

@@ -6,7 +6,7 @@ ghost use Rattle.rbc_records.specs.Notes.{Extends, knows};
 ghost use Rattle.rbc_settle.specs.Numbers.{has_number};
 ghost use Rattle.rbc_settle.specs.Trains.{new_train};
 ghost use Rattle.rbc_rule.specs.Inputs as inputs;
-ghost use Rattle.rbc_rule.specs.Right.{EachWriteChanges, IsRight, IsSilentIfRefused, IsFault};
+ghost use Rattle.rbc_rule.specs.Right.{EachWriteChanges, IsRight, IsSilentIfRefused, FailsAs};
 ghost use Rattle.rbc_rule.specs.Faults.{IsFaultOf};
 ghost use Rattle.rbc_rule.specs.Gathered.{AreSendable, enrolled_outcome};
 
@@ -32,12 +32,14 @@ pub(crate) fn enrol<S: Reader>(
 ) -> Result<Outcome, RuleFault>
     requires room { S.failed store.old + 1 < 2 ^ 64 }
     requires fits { inputs.Fits (Input.Enrol engine train_length) }
-    ensures right { IfOk result (λ outcome. IsRight track.now (Input.Enrol engine train_length) (S.notes store.new) outcome.result outcome.writes outcome.messages) }
-    ensures changes { IfOk result (λ outcome. EachWriteChanges track.now (Input.Enrol engine train_length) (S.notes store.new) outcome.writes) }
+    ensures right { IfOk result (λ outcome. IsRight track.now (Input.Enrol engine train_length)
+        (S.notes store.new) outcome.result outcome.writes outcome.messages) }
+    ensures changes { IfOk result (λ outcome. EachWriteChanges track.now (Input.Enrol engine train_length)
+        (S.notes store.new) outcome.writes) }
     ensures refused { IfOk result (λ outcome. IsSilentIfRefused outcome.result outcome.writes outcome.messages) }
     ensures fit { IfOk result (λ outcome. AreSendable outcome.messages) }
     ensures extends { Extends (S.notes store.old) (S.notes store.new) }
-    ensures fault { IfErr result (λ fault. IsFault track.now fault (S.notes store.new) (S.failed store.old) (S.failed store.new)) }
+    ensures fault { FailsAs track.now (S.notes store.new) (S.failed store.old) (S.failed store.new) result }
     ensures failed { OnOk result (S.failed store.new ≡ S.failed store.old) }
 {
     fetch(store, Key::Roster)?;
@@ -60,8 +62,10 @@ fn enrolled<S: Reader>(
     requires unplaced { IsTrue (knows (S.notes store.now) key.Unplaced) }
     requires stops { IsTrue (knows (S.notes store.now) key.Stops) }
     requires limits { IsTrue (knows (S.notes store.now) key.Limits) }
-    ensures right { IfOk result (λ outcome. IsRight track.now (Input.Enrol engine train_length) (S.notes store.now) outcome.result outcome.writes outcome.messages) }
-    ensures changes { IfOk result (λ outcome. EachWriteChanges track.now (Input.Enrol engine train_length) (S.notes store.now) outcome.writes) }
+    ensures right { IfOk result (λ outcome. IsRight track.now (Input.Enrol engine train_length)
+        (S.notes store.now) outcome.result outcome.writes outcome.messages) }
+    ensures changes { IfOk result (λ outcome. EachWriteChanges track.now (Input.Enrol engine train_length)
+        (S.notes store.now) outcome.writes) }
     ensures refused { IfOk result (λ outcome. IsSilentIfRefused outcome.result outcome.writes outcome.messages) }
     ensures fit { IfOk result (λ outcome. AreSendable outcome.messages) }
     ensures fault { IfErr result (λ fault. IsFaultOf track.now fault (S.notes store.now)) }
@@ -100,7 +104,8 @@ fn enrolled_outcome(
     requires new { has_number engines.now train.engine ≡ false }
     requires unplaced { has_number unplaced.now train.engine ≡ false }
     requires plain { train ≡ new_train train.engine train.length 0 }
-    ensures outcome { IfOk result (λ outcome. outcome ≡ enrolled_outcome track.now stops.now limits.now train.engine train.length engines.now unplaced.now) }
+    ensures outcome { IfOk result (λ outcome. outcome
+        ≡ enrolled_outcome track.now stops.now limits.now train.engine train.length engines.now unplaced.now) }
     ensures refused { IfOk result (λ outcome. IsSilentIfRefused outcome.result outcome.writes outcome.messages) }
     ensures fit { IfOk result (λ outcome. AreSendable outcome.messages) }
 {

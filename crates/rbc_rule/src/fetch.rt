@@ -8,7 +8,7 @@ ghost use Rattle.rbc_settle.specs.Numbers.{IsUnion, has_number};
 ghost use Rattle.rbc_records.specs.Notes.{Extends, Learns};
 ghost use Rattle.rbc_rule.specs.Bounds.{max_trains};
 ghost use Rattle.rbc_rule.specs.World.{World};
-ghost use Rattle.rbc_rule.specs.Right.{MayBe, IsFault};
+ghost use Rattle.rbc_rule.specs.Right.{MayBe, FailsAs};
 ghost use Rattle.rbc_rule.specs.Faults.{IsFaultOf};
 ghost use Rattle.rbc_rule.specs.Touching.{HasBegun};
 ghost use Rattle.rbc_rule.specs.Gathered.{IsEnough};
@@ -30,7 +30,7 @@ pub(crate) fn fetch<S: Reader>(store: &mut S, key: Key) -> Result<(), RuleFault>
     ensures learns { OnOk result (Learns (S.notes store.old) key (S.notes store.new)) }
     ensures extends { Extends (S.notes store.old) (S.notes store.new) }
     ensures failed { OnOk result (S.failed store.new ≡ S.failed store.old) }
-    ensures fault { (plan : Plan) → IfErr result (λ fault. IsFault plan fault (S.notes store.new) (S.failed store.old) (S.failed store.new)) }
+    ensures fault { (plan : Plan) → FailsAs plan (S.notes store.new) (S.failed store.old) (S.failed store.new) result }
 {
     match store.fetch(key) {
         Ok(()) => Ok(()),
@@ -45,7 +45,7 @@ fn fetch_trains<S: Reader>(store: &mut S, engines: &Numbers) -> Result<(), RuleF
     ensures known { OnOk result (AreTrainsKnown (S.notes store.new) engines.now) }
     ensures extends { Extends (S.notes store.old) (S.notes store.new) }
     ensures failed { OnOk result (S.failed store.new ≡ S.failed store.old) }
-    ensures fault { (plan : Plan) → IfErr result (λ fault. IsFault plan fault (S.notes store.new) (S.failed store.old) (S.failed store.new)) }
+    ensures fault { (plan : Plan) → FailsAs plan (S.notes store.new) (S.failed store.old) (S.failed store.new) result }
 {
     for engine in engines.as_slice() {
         fetch(store, Key::Train(*engine))?;
@@ -62,11 +62,12 @@ fn with_list<S: Reader>(
 ) -> Result<Numbers, RuleFault>
     requires room { S.failed store.old + 1 < 2 ^ 64 }
     requires list { IsTrue (is_list list) }
-    ensures both { IfOk result (λ both. (plan : Plan) (w : World) → MayBe plan (S.notes store.new) w → IsUnion both engines.now (engines_at w list)) }
+    ensures both { IfOk result (λ both. (plan : Plan) (w : World) → MayBe plan (S.notes store.new) w
+        → IsUnion both engines.now (engines_at w list)) }
     ensures few { IfOk result (λ both. length both ≤ length engines.now + max_trains) }
     ensures extends { Extends (S.notes store.old) (S.notes store.new) }
     ensures failed { OnOk result (S.failed store.new ≡ S.failed store.old) }
-    ensures fault { (plan : Plan) → IfErr result (λ fault. IsFault plan fault (S.notes store.new) (S.failed store.old) (S.failed store.new)) }
+    ensures fault { (plan : Plan) → FailsAs plan (S.notes store.new) (S.failed store.old) (S.failed store.new) result }
 {
     fetch(store, list)?;
     let nobody = Numbers::new(alloc);
@@ -83,11 +84,12 @@ fn stop_lists<S: Reader>(
 ) -> Result<Numbers, RuleFault>
     requires room { S.failed store.old + 1 < 2 ^ 64 }
     requires good { All (λ segment. IsTrue (is_good_segment track.now segment)) segments.now }
-    ensures engines { IfOk result (λ engines. (plan : Plan) (w : World) → MayBe plan (S.notes store.new) w → AreEnginesOf (may_stop segments.now) w engines) }
+    ensures engines { IfOk result (λ engines. (plan : Plan) (w : World) → MayBe plan (S.notes store.new) w
+        → AreEnginesOf (may_stop segments.now) w engines) }
     ensures few { IfOk result (λ engines. length engines ≤ (length segments.now + 1) * max_trains) }
     ensures extends { Extends (S.notes store.old) (S.notes store.new) }
     ensures failed { OnOk result (S.failed store.new ≡ S.failed store.old) }
-    ensures fault { (plan : Plan) → IfErr result (λ fault. IsFault plan fault (S.notes store.new) (S.failed store.old) (S.failed store.new)) }
+    ensures fault { (plan : Plan) → FailsAs plan (S.notes store.new) (S.failed store.old) (S.failed store.new) result }
 {
     let nobody = Numbers::new(alloc);
     let mut engines = with_list(alloc, Key::Unplaced, &nobody, store)?;
@@ -97,8 +99,8 @@ fn stop_lists<S: Reader>(
     Ok(engines)
 }
 
-/// Fetches the trains that a stop on these segments can concern: those without a place, and those on the lines of the segments.
-/// Returns their engines.
+/// Fetches the trains that a stop on these segments can concern: those without a place, and those on the lines of the
+/// segments. Returns their engines.
 fn fetch_stoppable<S: Reader>(
     alloc: Global,
     track: &Track,
@@ -108,11 +110,12 @@ fn fetch_stoppable<S: Reader>(
     requires room { S.failed store.old + 1 < 2 ^ 64 }
     requires good { All (λ segment. IsTrue (is_good_segment track.now segment)) segments.now }
     ensures known { IfOk result (λ engines. AreTrainsKnown (S.notes store.new) engines) }
-    ensures engines { IfOk result (λ engines. (plan : Plan) (w : World) → MayBe plan (S.notes store.new) w → AreEnginesOf (may_stop segments.now) w engines) }
+    ensures engines { IfOk result (λ engines. (plan : Plan) (w : World) → MayBe plan (S.notes store.new) w
+        → AreEnginesOf (may_stop segments.now) w engines) }
     ensures few { IfOk result (λ engines. length engines ≤ (length segments.now + 1) * max_trains) }
     ensures extends { Extends (S.notes store.old) (S.notes store.new) }
     ensures failed { OnOk result (S.failed store.new ≡ S.failed store.old) }
-    ensures fault { (plan : Plan) → IfErr result (λ fault. IsFault plan fault (S.notes store.new) (S.failed store.old) (S.failed store.new)) }
+    ensures fault { (plan : Plan) → FailsAs plan (S.notes store.new) (S.failed store.old) (S.failed store.new) result }
 {
     let engines = stop_lists(alloc, track, segments, store)?;
     fetch_trains(store, &engines)?;
@@ -128,11 +131,12 @@ pub(crate) fn fetch_list<S: Reader>(
     requires room { S.failed store.old + 1 < 2 ^ 64 }
     requires list { IsTrue (is_list list) }
     ensures known { IfOk result (λ engines. AreTrainsKnown (S.notes store.new) engines) }
-    ensures engines { IfOk result (λ engines. (plan : Plan) (w : World) → MayBe plan (S.notes store.new) w → (engine : ℕ) → has_number engines engine ≡ has_number (engines_at w list) engine) }
+    ensures engines { IfOk result (λ engines. (plan : Plan) (w : World) → MayBe plan (S.notes store.new) w
+        → (engine : ℕ) → has_number engines engine ≡ has_number (engines_at w list) engine) }
     ensures few { IfOk result (λ engines. length engines ≤ max_trains) }
     ensures extends { Extends (S.notes store.old) (S.notes store.new) }
     ensures failed { OnOk result (S.failed store.new ≡ S.failed store.old) }
-    ensures fault { (plan : Plan) → IfErr result (λ fault. IsFault plan fault (S.notes store.new) (S.failed store.old) (S.failed store.new)) }
+    ensures fault { (plan : Plan) → FailsAs plan (S.notes store.new) (S.failed store.old) (S.failed store.new) result }
 {
     let nobody = Numbers::new(alloc);
     let engines = with_list(alloc, list, &nobody, store)?;
@@ -147,7 +151,8 @@ fn search<S: Reader>(
     store: &S,
 ) -> Result<Option<Numbers>, RuleFault>
     ensures known { IfOk result (λ found. IfSome found (λ engines. AreTrainsKnown (S.notes store.now) engines)) }
-    ensures sought { IfOk result (λ found. IfSome found (λ engines. (plan : Plan) (w : World) → MayBe plan (S.notes store.now) w → HaveSought sought.entry w engines)) }
+    ensures sought { IfOk result (λ found. IfSome found (λ engines. (plan : Plan) (w : World)
+        → MayBe plan (S.notes store.now) w → HaveSought sought.entry w engines)) }
     ensures few { IfOk result (λ found. IfSome found (λ engines. length engines ≤ max_trains)) }
     ensures fault { (plan : Plan) → IfErr result (λ fault. IsFaultOf plan fault (S.notes store.now)) }
 {
@@ -157,7 +162,8 @@ fn search<S: Reader>(
     }
 }
 
-/// Fetches trains among which are all that a command seeks, and returns their engines: those that the reader finds, or else all.
+/// Fetches trains among which are all that a command seeks, and returns their engines: those that the reader finds, or
+/// else all.
 pub(crate) fn fetch_told<S: Reader>(
     alloc: Global,
     sought: Sought<'_>,
@@ -165,11 +171,12 @@ pub(crate) fn fetch_told<S: Reader>(
 ) -> Result<Numbers, RuleFault>
     requires { S.failed store.old + 1 < 2 ^ 64 }
     ensures known { IfOk result (λ engines. AreTrainsKnown (S.notes store.new) engines) }
-    ensures sought { IfOk result (λ engines. (plan : Plan) (w : World) → MayBe plan (S.notes store.new) w → HaveSought sought.entry w engines) }
+    ensures sought { IfOk result (λ engines. (plan : Plan) (w : World) → MayBe plan (S.notes store.new) w
+        → HaveSought sought.entry w engines) }
     ensures few { IfOk result (λ engines. length engines ≤ max_trains) }
     ensures extends { Extends (S.notes store.old) (S.notes store.new) }
     ensures failed { OnOk result (S.failed store.new ≡ S.failed store.old) }
-    ensures fault { (plan : Plan) → IfErr result (λ fault. IsFault plan fault (S.notes store.new) (S.failed store.old) (S.failed store.new)) }
+    ensures fault { (plan : Plan) → FailsAs plan (S.notes store.new) (S.failed store.old) (S.failed store.new) result }
 {
     if let Some(engines) = search(alloc, sought, store)? {
         return Ok(engines);
@@ -177,8 +184,8 @@ pub(crate) fn fetch_told<S: Reader>(
     fetch_list(alloc, Key::Roster, store)
 }
 
-/// Fetches trains among which are all that a stop concerns which begins, and returns their engines: those that the reader finds, or
-/// else those without a place and those on the lines of its segments. `stops` has it already.
+/// Fetches trains among which are all that a stop concerns which begins, and returns their engines: those that the
+/// reader finds, or else those without a place and those on the lines of its segments. `stops` has it already.
 pub(crate) fn fetch_concerned<S: Reader>(
     alloc: Global,
     track: &Track,
@@ -189,13 +196,15 @@ pub(crate) fn fetch_concerned<S: Reader>(
 ) -> Result<Numbers, RuleFault>
     requires room { S.failed store.old + 1 < 2 ^ 64 }
     requires good { IsTrue (is_good_area track.now segments.now) }
-    requires begun { (w : World) → MayBe track.now (S.notes store.old) w → HasBegun number segments.now w.stops stops.now }
+    requires begun { (w : World) → MayBe track.now (S.notes store.old) w
+        → HasBegun number segments.now w.stops stops.now }
     ensures known { IfOk result (λ engines. AreTrainsKnown (S.notes store.new) engines) }
-    ensures enough { IfOk result (λ engines. (w : World) → MayBe track.now (S.notes store.new) w → IsEnough track.now stops.now w.limits None w.trains engines) }
+    ensures enough { IfOk result (λ engines. (w : World) → MayBe track.now (S.notes store.new) w
+        → IsEnough track.now stops.now w.limits None w.trains engines) }
     ensures few { IfOk result (λ engines. length engines ≤ 9 * max_trains) }
     ensures extends { Extends (S.notes store.old) (S.notes store.new) }
     ensures failed { OnOk result (S.failed store.new ≡ S.failed store.old) }
-    ensures fault { (plan : Plan) → IfErr result (λ fault. IsFault plan fault (S.notes store.new) (S.failed store.old) (S.failed store.new)) }
+    ensures fault { (plan : Plan) → FailsAs plan (S.notes store.new) (S.failed store.old) (S.failed store.new) result }
 {
     if let Some(area) = stops.get(number) {
         if let Some(engines) = search(alloc, Sought::Stoppable(number, area), store)? {

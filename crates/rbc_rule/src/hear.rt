@@ -78,7 +78,8 @@ fn acknowledged(train: TrainRec, acked: u32) -> Result<TrainRec, NotChanged>
     }
 }
 
-/// Returns the train after it has answered the stop with this identifier, or why it cannot. `answer` is Q_EMERGENCYSTOP.
+/// Returns the train after it has answered the stop with this identifier, or why it cannot. `answer` is
+/// Q_EMERGENCYSTOP.
 fn answered(train: TrainRec, id: u8, answer: u8) -> Result<TrainRec, NotChanged>
     ensures ok { IfOk result (λ after. Ok after ≡ answered id answer train) }
     ensures err { IfErr result (λ why. IsReason (answered id answer train) why) }

@@ -80,8 +80,9 @@ pub enum Input {
     Release {
         number: u32,
     },
-    /// The signaller restricts the speed on a segment, in km/h, for trains that face these directions. The number has to be above
-    /// that of each earlier restriction. `front` is Q_FRONT: true if the restriction ends as soon as the train's front has left it.
+    /// The signaller restricts the speed on a segment, in km/h, for trains that face these directions. The number has
+    /// to be above that of each earlier restriction. `front` is Q_FRONT: true if the restriction ends as soon as the
+    /// train's front has left it.
     Restrict {
         number: u32,
         segment: Segment,

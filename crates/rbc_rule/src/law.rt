@@ -9,19 +9,19 @@ pub fn step_law()
     ensures { EachStepKeepsWorlds }
 {}
 
-/// Each step sends to each train one message for each action that settling it carries out, in order, and nothing else; an input
-/// that is refused sends nothing. Read back from its variables, by the balise group that it names, each message says what the rules
-/// give its train there: that a stop or a restriction is revoked; to stop at once; to stop before the last whole unit that does not
-/// lie beyond the edge, in the finest unit that has room; or to keep to the speed of a restriction on the part of it that is told.
-/// No message says two things.
+/// Each step sends to each train one message for each action that settling it carries out, in order, and nothing else;
+/// an input that is refused sends nothing. Read back from its variables, by the balise group that it names, each
+/// message says what the rules give its train there: that a stop or a restriction is revoked; to stop at once; to stop
+/// before the last whole unit that does not lie beyond the edge, in the finest unit that has room; or to keep to the
+/// speed of a restriction on the part of it that is told. No message says two things.
 pub fn says_law()
     ensures says { EachStepSays }
     ensures one_thing { EachMessageSaysOneThing }
 {}
 
-/// After each step, for each train whose stamps have not ended: every active stop and every active temporary speed restriction
-/// that concerns it is told to it, unless all its identifiers of that kind are held; and no identifier is used by one that is to
-/// be revoked.
+/// After each step, for each train whose stamps have not ended: every active stop and every active temporary speed
+/// restriction that concerns it is told to it, unless all its identifiers of that kind are held; and no identifier is
+/// used by one that is to be revoked.
 pub fn told_law()
     ensures { EachStepTells }
 {}

@@ -24,7 +24,8 @@ pub(crate) const MAX_TRAINS: usize = 2_000;
 pub(crate) fn engines<S: Reader>(store: &S, list: Key) -> Result<Option<&Numbers>, RuleFault>
     requires known { IsTrue (knows (S.notes store.now) list) }
     requires list { IsTrue (is_list list) }
-    ensures engines { IfOk result (λ engines. (plan : Plan) (w : World) → MayBe plan (S.notes store.now) w → or_nobody (option_copied engines) ≡ engines_at w list) }
+    ensures engines { IfOk result (λ engines. (plan : Plan) (w : World) → MayBe plan (S.notes store.now) w
+        → or_nobody (option_copied engines) ≡ engines_at w list) }
     ensures few { IfOk result (λ engines. length (or_nobody (option_copied engines)) ≤ max_trains) }
     ensures fault { (plan : Plan) → IfErr result (λ fault. IsFaultOf plan fault (S.notes store.now)) }
 {
@@ -39,7 +40,8 @@ pub(crate) fn engines<S: Reader>(store: &S, list: Key) -> Result<Option<&Numbers
 /// Returns the train with this engine number, if it is enrolled.
 pub(crate) fn train<S: Reader>(store: &S, engine: u32) -> Result<Option<&TrainRec>, RuleFault>
     requires { IsTrue (knows (S.notes store.now) (key.Train engine)) }
-    ensures train { IfOk result (λ train. (plan : Plan) (w : World) → MayBe plan (S.notes store.now) w → option_copied train ≡ value_of w.trains engine) }
+    ensures train { IfOk result (λ train. (plan : Plan) (w : World) → MayBe plan (S.notes store.now) w
+        → option_copied train ≡ value_of w.trains engine) }
     ensures fault { (plan : Plan) → IfErr result (λ fault. IsFaultOf plan fault (S.notes store.now)) }
 {
     match store.seen(Key::Train(engine)) {
@@ -52,7 +54,8 @@ pub(crate) fn train<S: Reader>(store: &S, engine: u32) -> Result<Option<&TrainRe
 /// Returns the stops, if there ever was one.
 pub(crate) fn stops<S: Reader>(store: &S) -> Result<Option<&Stops>, RuleFault>
     requires { IsTrue (knows (S.notes store.now) key.Stops) }
-    ensures stops { IfOk result (λ stops. (plan : Plan) (w : World) → MayBe plan (S.notes store.now) w → or_none (option_copied stops) ≡ w.stops) }
+    ensures stops { IfOk result (λ stops. (plan : Plan) (w : World) → MayBe plan (S.notes store.now) w
+        → or_none (option_copied stops) ≡ w.stops) }
     ensures fault { (plan : Plan) → IfErr result (λ fault. IsFaultOf plan fault (S.notes store.now)) }
 {
     match store.seen(Key::Stops) {
@@ -65,7 +68,8 @@ pub(crate) fn stops<S: Reader>(store: &S) -> Result<Option<&Stops>, RuleFault>
 /// Returns the restrictions, if there ever was one.
 pub(crate) fn limits<S: Reader>(store: &S) -> Result<Option<&Limits>, RuleFault>
     requires { IsTrue (knows (S.notes store.now) key.Limits) }
-    ensures limits { IfOk result (λ limits. (plan : Plan) (w : World) → MayBe plan (S.notes store.now) w → or_none (option_copied limits) ≡ w.limits) }
+    ensures limits { IfOk result (λ limits. (plan : Plan) (w : World) → MayBe plan (S.notes store.now) w
+        → or_none (option_copied limits) ≡ w.limits) }
     ensures fault { (plan : Plan) → IfErr result (λ fault. IsFaultOf plan fault (S.notes store.now)) }
 {
     match store.seen(Key::Limits) {

@@ -7,7 +7,7 @@ ghost use Rattle.rbc_records.specs.Notes.{Extends, knows, same_key};
 ghost use Rattle.rbc_settle.specs.Numbers.{has_number};
 ghost use Rattle.rbc_rule.specs.World.{World};
 ghost use Rattle.rbc_rule.specs.Effect.{engine_of};
-ghost use Rattle.rbc_rule.specs.Right.{EachWriteChanges, IsRight, IsSilentIfRefused, IsFault, MayBe};
+ghost use Rattle.rbc_rule.specs.Right.{EachWriteChanges, IsRight, IsSilentIfRefused, FailsAs, MayBe};
 ghost use Rattle.rbc_rule.specs.Faults.{IsFaultOf};
 ghost use Rattle.rbc_rule.specs.Lists.{engines_at, is_list, moves};
 ghost use Rattle.rbc_rule.specs.Gathered.{AreSendable, heard_outcome};
@@ -34,12 +34,14 @@ pub(crate) fn receive<S: Reader>(
     store: &mut S,
 ) -> Result<Outcome, RuleFault>
     requires { S.failed store.old + 1 < 2 ^ 64 }
-    ensures right { IfOk result (λ outcome. IsRight track.now (Input.Received message.now) (S.notes store.new) outcome.result outcome.writes outcome.messages) }
-    ensures changes { IfOk result (λ outcome. EachWriteChanges track.now (Input.Received message.now) (S.notes store.new) outcome.writes) }
+    ensures right { IfOk result (λ outcome. IsRight track.now (Input.Received message.now)
+        (S.notes store.new) outcome.result outcome.writes outcome.messages) }
+    ensures changes { IfOk result (λ outcome. EachWriteChanges track.now (Input.Received message.now)
+        (S.notes store.new) outcome.writes) }
     ensures refused { IfOk result (λ outcome. IsSilentIfRefused outcome.result outcome.writes outcome.messages) }
     ensures fit { IfOk result (λ outcome. AreSendable outcome.messages) }
     ensures extends { Extends (S.notes store.old) (S.notes store.new) }
-    ensures fault { IfErr result (λ fault. IsFault track.now fault (S.notes store.new) (S.failed store.old) (S.failed store.new)) }
+    ensures fault { FailsAs track.now (S.notes store.new) (S.failed store.old) (S.failed store.new) result }
     ensures failed { OnOk result (S.failed store.new ≡ S.failed store.old) }
 {
     let engine = engine_of(message);
@@ -57,8 +59,8 @@ pub(crate) fn receive<S: Reader>(
     received(alloc, track, engine, train, moved, store)
 }
 
-/// Reads the two lists of a train that leaves one and comes into another, and returns what is written to them: nothing for a train
-/// that stays in its list.
+/// Reads the two lists of a train that leaves one and comes into another, and returns what is written to them: nothing
+/// for a train that stays in its list.
 fn moves<S: Reader>(
     alloc: Global,
     engine: u32,
@@ -69,10 +71,12 @@ fn moves<S: Reader>(
     requires room { S.failed store.old + 1 < 2 ^ 64 }
     requires left { IsTrue (is_list left) }
     requires entered { IsTrue (is_list entered) }
-    requires comes { (plan : Plan) (w : World) → MayBe plan (S.notes store.old) w → same_key left entered ≡ false → has_number (engines_at w entered) engine ≡ false }
-    ensures writes { IfOk result (λ writes. (plan : Plan) (w : World) → MayBe plan (S.notes store.new) w → writes ≡ moves w engine left entered) }
+    requires comes { (plan : Plan) (w : World) → MayBe plan (S.notes store.old) w → same_key left entered ≡ false
+        → has_number (engines_at w entered) engine ≡ false }
+    ensures writes { IfOk result (λ writes. (plan : Plan) (w : World) → MayBe plan (S.notes store.new) w
+        → writes ≡ moves w engine left entered) }
     ensures extends { Extends (S.notes store.old) (S.notes store.new) }
-    ensures fault { (plan : Plan) → IfErr result (λ fault. IsFault plan fault (S.notes store.new) (S.failed store.old) (S.failed store.new)) }
+    ensures fault { (plan : Plan) → FailsAs plan (S.notes store.new) (S.failed store.old) (S.failed store.new) result }
     ensures failed { OnOk result (S.failed store.new ≡ S.failed store.old) }
 {
     if left == entered {
@@ -83,7 +87,8 @@ fn moves<S: Reader>(
     moved(alloc, engine, left, entered, store)
 }
 
-/// Returns what is written to the two lists of a train that leaves one and comes into another, by the records that were read.
+/// Returns what is written to the two lists of a train that leaves one and comes into another, by the records that were
+/// read.
 fn moved<S: Reader>(
     alloc: Global,
     engine: u32,
@@ -96,8 +101,10 @@ fn moved<S: Reader>(
     requires left_known { IsTrue (knows (S.notes store.now) left) }
     requires entered_known { IsTrue (knows (S.notes store.now) entered) }
     requires apart { same_key left entered ≡ false }
-    requires comes { (plan : Plan) (w : World) → MayBe plan (S.notes store.now) w → has_number (engines_at w entered) engine ≡ false }
-    ensures writes { IfOk result (λ writes. (plan : Plan) (w : World) → MayBe plan (S.notes store.now) w → writes ≡ moves w engine left entered) }
+    requires comes { (plan : Plan) (w : World) → MayBe plan (S.notes store.now) w
+        → has_number (engines_at w entered) engine ≡ false }
+    ensures writes { IfOk result (λ writes. (plan : Plan) (w : World) → MayBe plan (S.notes store.now) w
+        → writes ≡ moves w engine left entered) }
     ensures fault { (plan : Plan) → IfErr result (λ fault. IsFaultOf plan fault (S.notes store.now)) }
 {
     let nobody = Numbers::new(alloc);
@@ -122,11 +129,12 @@ fn received<S: Reader>(
     store: &mut S,
 ) -> Result<Outcome, RuleFault>
     requires { S.failed store.old + 1 < 2 ^ 64 }
-    ensures outcome { IfOk result (λ outcome. (w : World) → MayBe track.now (S.notes store.new) w → outcome ≡ heard_outcome track.now w.stops w.limits engine train moved) }
+    ensures outcome { IfOk result (λ outcome. (w : World) → MayBe track.now (S.notes store.new) w
+        → outcome ≡ heard_outcome track.now w.stops w.limits engine train moved) }
     ensures refused { IfOk result (λ outcome. IsSilentIfRefused outcome.result outcome.writes outcome.messages) }
     ensures fit { IfOk result (λ outcome. AreSendable outcome.messages) }
     ensures extends { Extends (S.notes store.old) (S.notes store.new) }
-    ensures fault { IfErr result (λ fault. IsFault track.now fault (S.notes store.new) (S.failed store.old) (S.failed store.new)) }
+    ensures fault { FailsAs track.now (S.notes store.new) (S.failed store.old) (S.failed store.new) result }
     ensures failed { OnOk result (S.failed store.new ≡ S.failed store.old) }
 {
     fetch(store, Key::Stops)?;
@@ -149,7 +157,8 @@ fn heard_outcome(
     stops: &Stops,
     limits: &Limits,
 ) -> Result<Outcome, AllocError>
-    ensures outcome { IfOk result (λ outcome. outcome ≡ heard_outcome track.now stops.now limits.now engine train moved) }
+    ensures outcome { IfOk result (λ outcome. outcome
+        ≡ heard_outcome track.now stops.now limits.now engine train moved) }
     ensures refused { IfOk result (λ outcome. IsSilentIfRefused outcome.result outcome.writes outcome.messages) }
     ensures fit { IfOk result (λ outcome. AreSendable outcome.messages) }
 {

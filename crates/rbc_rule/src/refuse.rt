@@ -5,8 +5,8 @@ ghost use Rattle.rbc_rule.specs.Codes.{code_of};
 
 use std::alloc::AllocError;
 
-/// Why an input is refused (own rule). If several reasons apply, the one with the least code is given. The first six are about the line
-/// or the message, and are found before the input is decided.
+/// Why an input is refused (own rule). If several reasons apply, the one with the least code is given. The first six
+/// are about the line or the message, and are found before the input is decided.
 #[derive(Clone, Copy, Debug, PartialEq, Eq)]
 pub enum Refusal {
     /// The line is not an input.

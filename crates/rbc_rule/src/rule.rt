@@ -1,9 +1,9 @@
 //! Decides one input by reading single records.
 
-ghost use Rattle.std.specs.Prelude.{◌≡◌, ◌+◌, ◌<◌, ◌^◌, IfOk, IfErr, OnOk};
+ghost use Rattle.std.specs.Prelude.{◌≡◌, ◌+◌, ◌<◌, ◌^◌, IfOk, OnOk};
 ghost use Rattle.rbc_records.specs.Notes.{Extends};
 ghost use Rattle.rbc_rule.specs.Inputs.{Fits};
-ghost use Rattle.rbc_rule.specs.Right.{EachWriteChanges, IsRight, IsSilentIfRefused, IsFault};
+ghost use Rattle.rbc_rule.specs.Right.{EachWriteChanges, IsRight, IsSilentIfRefused, FailsAs};
 ghost use Rattle.rbc_rule.specs.Gathered.{AreSendable};
 
 use crate::change::Restriction;
@@ -14,17 +14,17 @@ use rbc_records::Reader;
 use rbc_track::Track;
 use std::alloc::Global;
 
-/// Decides an input on a track by the records that it reads (own rule): the answer, the records to write and the messages to send.
-/// The outcome is that of a step of each valid state that has the records that were read. An input that is refused writes
-/// nothing and sends nothing, whatever was read. Each write changes what stands under its key, but that of the train that sent a
-/// message, which is written in any case. A stop that begins reads the trains without a place and those on the lines of its segments,
-/// a restriction that begins those on its line; what ends reads all trains. Nothing is written to the store, and records that were
-/// read before stay as they were.
+/// Decides an input on a track by the records that it reads (own rule): the answer, the records to write and the
+/// messages to send. The outcome is that of a step of each valid state that has the records that were read. An input
+/// that is refused writes nothing and sends nothing, whatever was read. Each write changes what stands under its key,
+/// but that of the train that sent a message, which is written in any case. A stop that begins reads the trains without
+/// a place and those on the lines of its segments, a restriction that begins those on its line; what ends reads all
+/// trains. Nothing is written to the store, and records that were read before stay as they were.
 ///
 /// # Errors
 ///
-/// `OutOfMemory` for lack of memory; `Torn` only if no valid state has the records that were read; `Reader` only if the reader
-/// failed in this call. Then nothing was decided.
+/// `OutOfMemory` for lack of memory; `Torn` only if no valid state has the records that were read; `Reader` only if the
+/// reader failed in this call. Then nothing was decided.
 pub fn decide<S: Reader>(
     alloc: Global,
     track: &Track,
@@ -33,12 +33,14 @@ pub fn decide<S: Reader>(
 ) -> Result<Outcome, RuleFault>
     requires room { S.failed store.old + 1 < 2 ^ 64 }
     requires fits { Fits input.now }
-    ensures right { IfOk result (λ outcome. IsRight track.now (input.now) (S.notes store.new) outcome.result outcome.writes outcome.messages) }
-    ensures changes { IfOk result (λ outcome. EachWriteChanges track.now (input.now) (S.notes store.new) outcome.writes) }
+    ensures right { IfOk result (λ outcome. IsRight track.now (input.now)
+        (S.notes store.new) outcome.result outcome.writes outcome.messages) }
+    ensures changes { IfOk result (λ outcome. EachWriteChanges track.now (input.now)
+        (S.notes store.new) outcome.writes) }
     ensures refused { IfOk result (λ outcome. IsSilentIfRefused outcome.result outcome.writes outcome.messages) }
     ensures fit { IfOk result (λ outcome. AreSendable outcome.messages) }
     ensures extends { Extends (S.notes store.old) (S.notes store.new) }
-    ensures fault { IfErr result (λ fault. IsFault track.now fault (S.notes store.new) (S.failed store.old) (S.failed store.new)) }
+    ensures fault { FailsAs track.now (S.notes store.new) (S.failed store.old) (S.failed store.new) result }
     ensures failed { OnOk result (S.failed store.new ≡ S.failed store.old) }
 {
     match input {

@@ -31,7 +31,8 @@ pub(crate) struct Gathered {
     pub(crate) messages: SentList,
 }
 
-/// Settles a train, and collects its messages, and its record if that changes. The train no longer stops at once for a released stop.
+/// Settles a train, and collects its messages, and its record if that changes. The train no longer stops at once for a
+/// released stop.
 fn settle_one(
     alloc: Global,
     track: &Track,
@@ -42,8 +43,10 @@ fn settle_one(
     gathered: &mut Gathered,
 ) -> Result<(), AllocError>
     requires { AreSendable gathered.old.messages }
-    ensures writes { OnOk result (gathered.new.writes ≡ gathered.old.writes ++ write_of track.now stops.now limits.now released train.now) }
-    ensures messages { OnOk result (gathered.new.messages ≡ gathered.old.messages ++ sent_of track.now stops.now limits.now released train.now) }
+    ensures writes { OnOk result (gathered.new.writes
+        ≡ gathered.old.writes ++ write_of track.now stops.now limits.now released train.now) }
+    ensures messages { OnOk result (gathered.new.messages
+        ≡ gathered.old.messages ++ sent_of track.now stops.now limits.now released train.now) }
     ensures few { OnOk result (length gathered.new.messages ≤ length gathered.old.messages + 540) }
     ensures fit { OnOk result (AreSendable gathered.new.messages) }
 {
@@ -67,8 +70,10 @@ fn settle_released(
 ) -> Result<(), AllocError>
     requires fit { AreSendable gathered.old.messages }
     requires forced { has_number train.now.forced number ≡ true }
-    ensures writes { OnOk result (gathered.new.writes ≡ gathered.old.writes ++ write_of track.now stops.now limits.now (Some number) train.now) }
-    ensures messages { OnOk result (gathered.new.messages ≡ gathered.old.messages ++ sent_of track.now stops.now limits.now (Some number) train.now) }
+    ensures writes { OnOk result (gathered.new.writes
+        ≡ gathered.old.writes ++ write_of track.now stops.now limits.now (Some number) train.now) }
+    ensures messages { OnOk result (gathered.new.messages
+        ≡ gathered.old.messages ++ sent_of track.now stops.now limits.now (Some number) train.now) }
     ensures few { OnOk result (length gathered.new.messages ≤ length gathered.old.messages + 540) }
     ensures fit { OnOk result (AreSendable gathered.new.messages) }
 {
@@ -88,8 +93,10 @@ fn settle_as_it_is(
     gathered: &mut Gathered,
 ) -> Result<(), AllocError>
     requires { AreSendable gathered.old.messages }
-    ensures writes { OnOk result (gathered.new.writes ≡ gathered.old.writes ++ write_of track.now stops.now limits.now None train.now) }
-    ensures messages { OnOk result (gathered.new.messages ≡ gathered.old.messages ++ sent_of track.now stops.now limits.now None train.now) }
+    ensures writes { OnOk result (gathered.new.writes
+        ≡ gathered.old.writes ++ write_of track.now stops.now limits.now None train.now) }
+    ensures messages { OnOk result (gathered.new.messages
+        ≡ gathered.old.messages ++ sent_of track.now stops.now limits.now None train.now) }
     ensures few { OnOk result (length gathered.new.messages ≤ length gathered.old.messages + 540) }
     ensures fit { OnOk result (AreSendable gathered.new.messages) }
 {
@@ -111,7 +118,8 @@ fn gather(
 ) -> Result<(), AllocError>
     requires old { AreSendable gathered.old.messages }
     requires new { AreSendable sent.now }
-    ensures writes { OnOk result (gathered.new.writes ≡ gathered.old.writes ++ (key.Train engine, Some (rec.Train train)) ∷ []) }
+    ensures writes { OnOk result (gathered.new.writes
+        ≡ gathered.old.writes ++ (key.Train engine, Some (rec.Train train)) ∷ []) }
     ensures messages { OnOk result (gathered.new.messages ≡ gathered.old.messages ++ sent.now) }
     ensures fit { OnOk result (AreSendable gathered.new.messages) }
 {
@@ -133,11 +141,16 @@ fn settle_engine<S: Reader>(
     gathered: &mut Gathered,
 ) -> Result<(), RuleFault>
     requires known { IsTrue (knows (S.notes store.now) (key.Train engine)) }
-    requires enrolled { (w : World) → MayBe track.now (S.notes store.now) w → IsTrue (has_number (keys w.trains) engine) }
+    requires enrolled { (w : World) → MayBe track.now (S.notes store.now) w
+        → IsTrue (has_number (keys w.trains) engine) }
     requires changed { (w : World) → MayBe track.now (S.notes store.now) w → HasChanged change w stops.now limits.now }
     requires fit { AreSendable gathered.old.messages }
-    ensures writes { OnOk result ((w : World) → MayBe track.now (S.notes store.now) w → gathered.new.writes ≡ gathered.old.writes ++ write_at track.now stops.now limits.now (released_by change.entry) w.trains engine) }
-    ensures messages { OnOk result ((w : World) → MayBe track.now (S.notes store.now) w → gathered.new.messages ≡ gathered.old.messages ++ sent_at track.now stops.now limits.now (released_by change.entry) w.trains engine) }
+    ensures writes { OnOk result ((w : World) → MayBe track.now (S.notes store.now) w
+        → gathered.new.writes ≡ gathered.old.writes ++ write_at track.now stops.now limits.now
+        (released_by change.entry) w.trains engine) }
+    ensures messages { OnOk result ((w : World) → MayBe track.now (S.notes store.now) w
+        → gathered.new.messages ≡ gathered.old.messages ++ sent_at track.now stops.now limits.now
+        (released_by change.entry) w.trains engine) }
     ensures few { OnOk result (length gathered.new.messages ≤ length gathered.old.messages + 540) }
     ensures fit { OnOk result (AreSendable gathered.new.messages) }
     ensures fault { IfErr result (λ fault. IsFaultOf track.now fault (S.notes store.now)) }
@@ -170,10 +183,15 @@ pub(crate) fn settle_trains<S: Reader>(
     change: Change<'_>,
 ) -> Result<Gathered, RuleFault>
     requires known { AreTrainsKnown (S.notes store.now) engines.now }
-    requires enrolled { (w : World) → MayBe track.now (S.notes store.now) w → All (λ engine. IsTrue (has_number (keys w.trains) engine)) engines.now }
+    requires enrolled { (w : World) → MayBe track.now (S.notes store.now) w
+        → All (λ engine. IsTrue (has_number (keys w.trains) engine)) engines.now }
     requires changed { (w : World) → MayBe track.now (S.notes store.now) w → HasChanged change w stops.now limits.now }
-    ensures writes { IfOk result (λ gathered. (w : World) → MayBe track.now (S.notes store.now) w → gathered.writes ≡ flat_map (write_at track.now stops.now limits.now (released_by change.entry) w.trains) engines.now) }
-    ensures messages { IfOk result (λ gathered. (w : World) → MayBe track.now (S.notes store.now) w → gathered.messages ≡ flat_map (sent_at track.now stops.now limits.now (released_by change.entry) w.trains) engines.now) }
+    ensures writes { IfOk result (λ gathered. (w : World) → MayBe track.now (S.notes store.now) w
+        → gathered.writes ≡ flat_map (write_at track.now stops.now limits.now
+        (released_by change.entry) w.trains) engines.now) }
+    ensures messages { IfOk result (λ gathered. (w : World) → MayBe track.now (S.notes store.now) w
+        → gathered.messages ≡ flat_map (sent_at track.now stops.now limits.now
+        (released_by change.entry) w.trains) engines.now) }
     ensures few { IfOk result (λ gathered. length gathered.messages ≤ length engines.now * 540) }
     ensures fit { IfOk result (λ gathered. AreSendable gathered.messages) }
     ensures fault { IfErr result (λ fault. IsFaultOf track.now fault (S.notes store.now)) }

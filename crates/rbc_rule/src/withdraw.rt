@@ -6,7 +6,7 @@ ghost use Rattle.rbc_maps.specs.Maps.{keys};
 ghost use Rattle.rbc_records.specs.declared.record.Key.TheVariants as key;
 ghost use Rattle.rbc_records.specs.Notes.{Extends, knows};
 ghost use Rattle.rbc_rule.specs.World.{World};
-ghost use Rattle.rbc_rule.specs.Right.{EachWriteChanges, IsRight, IsSilentIfRefused, IsFault, MayBe};
+ghost use Rattle.rbc_rule.specs.Right.{EachWriteChanges, IsRight, IsSilentIfRefused, FailsAs, MayBe};
 ghost use Rattle.rbc_rule.specs.Faults.{IsFaultOf};
 ghost use Rattle.rbc_rule.specs.Lists.{engines_at, is_list};
 ghost use Rattle.rbc_rule.specs.Gathered.{AreSendable, withdrawn_outcome};
@@ -30,12 +30,14 @@ pub(crate) fn withdraw<S: Reader>(
     store: &mut S,
 ) -> Result<Outcome, RuleFault>
     requires { S.failed store.old + 1 < 2 ^ 64 }
-    ensures right { IfOk result (λ outcome. IsRight track.now (Input.Withdraw engine) (S.notes store.new) outcome.result outcome.writes outcome.messages) }
-    ensures changes { IfOk result (λ outcome. EachWriteChanges track.now (Input.Withdraw engine) (S.notes store.new) outcome.writes) }
+    ensures right { IfOk result (λ outcome. IsRight track.now (Input.Withdraw engine)
+        (S.notes store.new) outcome.result outcome.writes outcome.messages) }
+    ensures changes { IfOk result (λ outcome. EachWriteChanges track.now (Input.Withdraw engine)
+        (S.notes store.new) outcome.writes) }
     ensures refused { IfOk result (λ outcome. IsSilentIfRefused outcome.result outcome.writes outcome.messages) }
     ensures fit { IfOk result (λ outcome. AreSendable outcome.messages) }
     ensures extends { Extends (S.notes store.old) (S.notes store.new) }
-    ensures fault { IfErr result (λ fault. IsFault track.now fault (S.notes store.new) (S.failed store.old) (S.failed store.new)) }
+    ensures fault { FailsAs track.now (S.notes store.new) (S.failed store.old) (S.failed store.new) result }
     ensures failed { OnOk result (S.failed store.new ≡ S.failed store.old) }
 {
     fetch(store, Key::Train(engine))?;
@@ -61,7 +63,8 @@ fn withdrawn<S: Reader>(
     requires roster { IsTrue (knows (S.notes store.now) key.Roster) }
     requires list { IsTrue (is_list list) }
     requires others { IsTrue (knows (S.notes store.now) list) }
-    ensures outcome { IfOk result (λ outcome. (plan : Plan) (w : World) → MayBe plan (S.notes store.now) w → outcome ≡ withdrawn_outcome engine (keys w.trains) list (engines_at w list)) }
+    ensures outcome { IfOk result (λ outcome. (plan : Plan) (w : World) → MayBe plan (S.notes store.now) w
+        → outcome ≡ withdrawn_outcome engine (keys w.trains) list (engines_at w list)) }
     ensures refused { IfOk result (λ outcome. IsSilentIfRefused outcome.result outcome.writes outcome.messages) }
     ensures fit { IfOk result (λ outcome. AreSendable outcome.messages) }
     ensures fault { (plan : Plan) → IfErr result (λ fault. IsFaultOf plan fault (S.notes store.now)) }

@@ -12,19 +12,20 @@ ghost use Rattle.rbc_rule.specs.Told.{EachTrainIsUpToDate};
 ghost use Rattle.rbc_rule.specs.Records.{Agrees};
 ghost use Rattle.rbc_rule.specs.Witnesses.{track_a, facing_up, facing_down, stop_before, stop_now, restrict_to, revoke, two_stops, told_as_0, world_told, told_world, told_twice, world_released, world_restricted, world_off_line, world_numbered_high, spot_at, only_train_7, on_line_0, IsSaidIn, IsSaidOfStop, IsSaidOfLimit, IsSaidAtEnrolment, three_trains, engines_there, all_lists_read, read_alone};
 
-/// Train 7 of 200 m stands 200 m from balise group 5, which lies at 10000 on line 0; nothing was told to it, and stop 1 or a
-/// restriction to 80 km/h becomes active there.
+/// Train 7 of 200 m stands 200 m from balise group 5, which lies at 10000 on line 0; nothing was told to it, and stop 1
+/// or a restriction to 80 km/h becomes active there.
 ///
-/// Right: facing up, a stop of 20000 to 21000 is told by 10000 units of 10 cm, and one of 50005 to 60000 by 4000 units of 1 m;
-/// facing down, one of 1000 to 3000 is told by 7000 units the other way; a restriction of 9000 to 11000 is told from the balise
-/// group on, over 1000 units; two stops that are active when a train is enrolled are told by two messages; a stop that is released
-/// is revoked under its identifier; a release that is refused sends nothing; and a message that tells 10000 units says to stop before
-/// 20000.
+/// Right: facing up, a stop of 20000 to 21000 is told by 10000 units of 10 cm, and one of 50005 to 60000 by 4000 units
+/// of 1 m; facing down, one of 1000 to 3000 is told by 7000 units the other way; a restriction of 9000 to 11000 is told
+/// from the balise group on, over 1000 units; two stops that are active when a train is enrolled are told by two
+/// messages; a stop that is released is revoked under its identifier; a release that is refused sends nothing; and a
+/// message that tells 10000 units says to stop before 20000.
 ///
-/// Wrong: the spare scale 5; 0 units for an edge that is 10000 units ahead; a restriction of 11050 to 12050 told from 11000 to
-/// 12100; its speed in units of 1 km/h; its part told the wrong way; a distance that leads beyond the end of the line; Q_DIR
-/// both; a distance rounded up, and one in coarser units than need be; a message dropped; a message sent twice; one sent to another
-/// train; the revocation of another identifier; a message though the release is refused; and another place read from the message.
+/// Wrong: the spare scale 5; 0 units for an edge that is 10000 units ahead; a restriction of 11050 to 12050 told from
+/// 11000 to 12100; its speed in units of 1 km/h; its part told the wrong way; a distance that leads beyond the end of
+/// the line; Q_DIR both; a distance rounded up, and one in coarser units than need be; a message dropped; a message
+/// sent twice; one sent to another train; the revocation of another identifier; a message though the release is
+/// refused; and another place read from the message.
 pub fn says_law_witnesses()
     ensures edge_at_20000 { IsSaidOfStop facing_up 20000 21000 (stop_before 1 0 10000 ∷ []) }
     ensures edge_at_50005 { IsSaidOfStop facing_up 50005 60000 (stop_before 1 1 4000 ∷ []) }
@@ -45,7 +46,8 @@ pub fn says_law_witnesses()
     ensures too_coarse { IsSaidOfStop facing_up 50005 60000 (stop_before 1 2 400 ∷ []) → ⊥ }
     ensures dropped { IsSaidAtEnrolment (stop_now 1 0 ∷ []) → ⊥ }
     ensures sent_twice { IsSaidOfStop facing_up 20000 21000 (stop_before 1 0 10000 ∷ stop_before 1 0 10000 ∷ []) → ⊥ }
-    ensures other_train { IsSaidIn (only_train_7 facing_up) (input.Stop 1 (on_line_0 20000 21000 ∷ [])) ((8, stop_before 1 0 10000 ∷ []) ∷ []) → ⊥ }
+    ensures other_train { IsSaidIn (only_train_7 facing_up) (input.Stop 1 (on_line_0 20000 21000 ∷ []))
+        ((8, stop_before 1 0 10000 ∷ []) ∷ []) → ⊥ }
     ensures other_identifier { IsSaidIn told_world (input.Release 1) ((7, revoke 1 ∷ []) ∷ []) → ⊥ }
     ensures sent_though_refused { IsSaidIn told_world (input.Release 2) ((7, revoke 0 ∷ []) ∷ []) → ⊥ }
     ensures other_place { Says track_a (stop_before 1 0 10000) (StopsBefore 0 (spot_at 20001)) → ⊥ }
@@ -55,8 +57,8 @@ pub fn says_law_witnesses()
 ///
 /// Right: the stop is told to the train; it is not, and the train's stamps are used up.
 ///
-/// Wrong: the stop is not told; nor is it to a train without a place; a stop is told that is not active any more; a restriction
-/// that concerns the train is not told.
+/// Wrong: the stop is not told; nor is it to a train without a place; a stop is told that is not active any more; a
+/// restriction that concerns the train is not told.
 pub fn told_law_witnesses()
     ensures told { EachTrainIsUpToDate track_a told_world }
     ensures stamps_ended { EachTrainIsUpToDate track_a (world_told (Some facing_up) last_stamp []) }
@@ -68,12 +70,14 @@ pub fn told_law_witnesses()
 
 /// Train 7 stands 200 m beyond balise group 5, facing up, and stop 1 of 20000 to 21000 becomes active.
 ///
-/// Right: after that step the stop is told to the train under identifier 0 and stamp 1001, and that world is well-formed.
+/// Right: after that step the stop is told to the train under identifier 0 and stamp 1001, and that world is
+/// well-formed.
 ///
-/// Wrong: one number is told under two identifiers; a slot's stamp is above the train's last one; the stop is active and not told;
-/// the train may stand beyond the end of its line; a stop has a number above the last one.
+/// Wrong: one number is told under two identifiers; a slot's stamp is above the train's last one; the stop is active
+/// and not told; the train may stand beyond the end of its line; a stop has a number above the last one.
 pub fn step_law_witnesses()
-    ensures after_stop { (step track_a (only_train_7 facing_up) (input.Stop 1 (on_line_0 20000 21000 ∷ []))).world ≡ told_world }
+    ensures after_stop { (step track_a (only_train_7 facing_up) (input.Stop 1 (on_line_0 20000 21000 ∷ []))).world
+        ≡ told_world }
     ensures well_formed { IsWellFormed track_a told_world }
     ensures told_twice { IsWellFormed track_a told_twice → ⊥ }
     ensures stamp_above { IsWellFormed track_a (world_told (Some facing_up) 1000 (told_as_0 1)) → ⊥ }
