@@ -190,16 +190,19 @@ def output_faults(root, text):
             yield match.start(), f"shows another text than {match.group(1)} has"
 
 
-VARIANTS = re.compile(r"^Faulty variants by crate: [^\n]*(?:\n[^\n]+)*", flags=re.M)
+VARIANTS = re.compile(r"^Faulty variants by crate, [^\n]*(?:\n[^\n]+)*", flags=re.M)
 
 
 def variants(root):
-    """The paragraph that says how many faulty variants each crate has."""
+    """The paragraph that says how many faulty variants each crate has: those of the gate, and those that are tried by hand."""
     counts = {}
-    for edit in sorted(root.glob("crates/*/must-fail/*.edit")):
-        counts[edit.parts[-3]] = counts.get(edit.parts[-3], 0) + 1
-    listed = ", ".join(f"{crate} {count}" for crate, count in counts.items())
-    return textwrap.fill(f"Faulty variants by crate: {listed}; {sum(counts.values())} in all.", 140, break_on_hyphens=False)
+    for at, name in enumerate(("must-fail", "edits")):
+        for edit in root.glob(f"crates/*/{name}/*.edit"):
+            counts.setdefault(edit.parts[-3], [0, 0])[at] += 1
+    listed = ", ".join(f"{crate} {gate} and {hand}" for crate, (gate, hand) in sorted(counts.items()))
+    gate, hand = map(sum, zip(*counts.values()))
+    text = f"Faulty variants by crate, in the gate and by hand: {listed}; {gate} and {hand} in all."
+    return textwrap.fill(text, 120, break_on_hyphens=False)
 
 
 def variant_faults(root, text):

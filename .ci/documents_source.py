@@ -270,7 +270,7 @@ class Crate:
         self.source = Source(folder / "src")
         self.is_program = (folder / "src" / "main.rt").exists()
         self.specs = {p.stem: Spec(p) for p in sorted((folder / "specs").glob("*.antt")) if p.stem != "Lib"}
-        self.edits = sorted((folder / "must-fail").glob("*.edit"))
+        self.edits = [edit for name in ("must-fail", "edits") for edit in sorted((folder / name).glob("*.edit"))]
         self.rust_names = set(self.source.names)
         self.antt_names = set()
         proofs = [Spec(p) for p in sorted((folder / "proofs").rglob("*.antt"))]

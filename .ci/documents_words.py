@@ -24,7 +24,7 @@ PORTED = "anyhow boxcar clap hex indexmap itoa memchr rayon thiserror toml toml_
 
 # of rt, and of the folders and files that it knows
 TOOL = """
-bash python3 Prelude ci must-fail check doc fail fmt lemma must plant program proofs specs src test tests tidy tries try version rt allocations rlib PID RLIMIT_AS autogroup proc
+bash python3 Prelude ci must-fail edits check doc fail fmt lemma must plant program proofs specs src test tests tidy tries try version rt allocations rlib PID RLIMIT_AS autogroup proc
 """
 
 # of batches, outputs, tracks, texts of messages and command lines
