@@ -1,0 +1,22 @@
+#!/usr/bin/env bash
+# Puts what was built here into this folder: release/make.sh
+#
+# The program and the libraries for C have to be built from the present sources: by the gate, or by `./dispatch --build` and by `rt lib` in
+# crates/rbc_c and crates/ertms_c. It writes them with their sums (SHA256SUMS), and of which sources and by which kit they were built (SOURCES),
+# and removes the file STALE. The gate compares each byte with what it builds itself (.ci/release).
+set -euo pipefail
+
+root=$(dirname "$(dirname "$(readlink -f "$0")")")
+source "$root/release/sources.sh"
+
+cd "$root/release"
+mkdir -p c
+cp "$root/crates/rbc_dispatch/out/rbc_dispatch" dispatch
+cp "$root/crates/rbc_c/out/librbc_c.a" "$root/crates/ertms_c/out/libertms_c.a" "$root/include/rbc.h" "$root/include/ertms.h" c/
+chmod 755 dispatch
+sha256sum dispatch c/* > SHA256SUMS
+{
+    printf '%s %s\n' dispatch "$(sum_of_sources rbc_dispatch)" c/librbc_c.a "$(sum_of_sources rbc_c)" c/libertms_c.a "$(sum_of_sources ertms_c)"
+    rt version
+} > SOURCES
+rm -f STALE

@@ -1,0 +1,43 @@
+# Sourced by ./dispatch and by what makes and compares a release, with `root` set. Functions on the crates of the repository, as crates.txt has them.
+
+# Prints crates, and below them those of the repository that they stand on.
+crates_of() {
+    local -A uses=()
+    local -a words found=("$@")
+    local line name at
+    while IFS= read -r line || [[ -n $line ]]; do
+        IFS=$' \t:,' read -r -a words <<< "${line%%#*}"
+        if [[ ${#words[@]} -gt 0 ]]; then
+            uses[${words[0]}]=${words[*]:1}
+        fi
+    done < "$root/crates.txt"
+    for ((at = 0; at < ${#found[@]}; at++)); do
+        for name in ${uses[${found[at]}]-}; do
+            if [[ -v uses[$name] && " ${found[*]} " != *" $name "* ]]; then
+                found+=("$name")
+            fi
+        done
+    done
+    printf '%s\n' "${found[@]}"
+}
+
+# Prints the sum of all that decides the bytes of what is built of some crates: the code of these and of those below them, and their lines of
+# crates.txt. Definitions and proofs decide no byte.
+sum_of_sources() {
+    local -a crates folders
+    mapfile -t crates < <(crates_of "$@" | LC_ALL=C sort)
+    folders=("${crates[@]/#/crates/}")
+    (
+        cd "$root"
+        find "${folders[@]/%//src}" -name '*.rt' -type f -print0 | LC_ALL=C sort -z | xargs -0 sha256sum
+        grep -E "^($(IFS='|' && printf '%s' "${crates[*]}"))[ :]" crates.txt | LC_ALL=C sort
+    ) | sha256sum | cut -d ' ' -f 1
+}
+
+# Whether a file of the folder release/ is built of the present sources, by its line of SOURCES.
+is_released() {
+    local file=$1
+    shift
+    [[ -f $root/release/$file && -f $root/release/SOURCES ]] \
+        && grep -qxF "$file $(sum_of_sources "$@")" "$root/release/SOURCES"
+}
