@@ -12,15 +12,18 @@ use Rattle.rbc_records.specs.declared.record.Key.{Key}
 use Rattle.rbc_records.specs.declared.record.Key.TheVariants as key
 use Rattle.rbc_records.specs.declared.record.Rec.{Rec}
 use Rattle.rbc_records.specs.declared.record.Rec.TheVariants as rec
-use Rattle.rbc_records.specs.declared.sought.Sought.{Sought}
+use Rattle.rbc_sought.specs.declared.sought.Sought.{Sought}
 use Rattle.rbc_records.specs.Notes.{Whole, record_in, same_key}
-use Rattle.rbc_records.specs.Seeking.{AreFound, is_sought, is_concern}
-use Rattle.rbc_records.specs.declared.columns.Extent.{Extent}
-use Rattle.rbc_records.specs.Columns.{has_bit, told_of, nowhere, everywhere, extent_of, extent_of_area, ahead_of, meet, is_of_train, ArePassing}
+use Rattle.rbc_sought.specs.Seeking.{is_sought, is_concern}
+use Rattle.rbc_records.specs.Seeking.{AreFound}
+use Rattle.rbc_sought.specs.declared.extent.Extent.{Extent}
+use Rattle.rbc_sought.specs.Tolds.{has_bit}
+use Rattle.rbc_sought.specs.Extents.{nowhere, everywhere, extent_of_area, ahead_of, meet}
+use Rattle.rbc_records.specs.Columns.{told_of, extent_of, is_of_train, ArePassing}
 use Rattle.rbc_records.proofs.Keys.{same_key_sym, same_key_is, same_key_own}
-use Rattle.rbc_records.proofs.Reached.{reaches, unreached}
-use Rattle.rbc_records.proofs.Meeting.{met_anywhere, met_ahead}
-use Rattle.rbc_records.proofs.Bits.{told_bit, bits_kept, numbers_bit, few_bit}
+use Rattle.rbc_sought.proofs.Reached.{reaches, unreached}
+use Rattle.rbc_sought.proofs.Meeting.{met_anywhere, met_ahead}
+use Rattle.rbc_sought.proofs.Bits.{told_bit, bits_kept, numbers_bit, few_bit}
 
 -- the entry of a train has its key
 own_key : (engine : ℕ) (k : Key) (r : Rec) → is_of_train engine k r ≡ true → same_key (key.Train engine) k ≡ true
@@ -94,42 +97,3 @@ module _ (passes : Rec → Bool) where
         there = λ engine has. there all engine (sym (now engine) ∙ has);
         none_missed = λ engine train at is. now engine ∙ none_missed all engine train at (asked train is);
       }
-
--- the bit of a stop is set in each train that was told of it or rejected it
-pub asked_by_stop : (number : ℕ) (train : TrainRec) → (is_told train.stops number || has_number train.forced number) ≡ true → has_bit (told_of (rec.Train train)).stops number ≡ true
-asked_by_stop number train h = by (is_told train.stops number) refl h
-  where
-    by : (told : Bool) → is_told train.stops number ≡ told → (told || has_number train.forced number) ≡ true → has_bit (told_of (rec.Train train)).stops number ≡ true
-    by true told h = bits_kept train.forced number _ (told_bit train.stops number told)
-    by false told h = numbers_bit train.forced number _ h
-
--- the bit of a restriction in each that was told of it
-pub asked_by_limit : (number : ℕ) (train : TrainRec) → is_told train.limits number ≡ true → has_bit (told_of (rec.Train train)).limits number ≡ true
-asked_by_limit number train h = few_bit train.limits number h
-
--- a list with a number is not empty
-not_empty : (numbers : List ℕ) (n : ℕ) → has_number numbers n ≡ true → nat_lt 0 (length numbers) ≡ true
-not_empty [] n h = cc
-not_empty (first ∷ rest) n h = lt-ltb 0 (suc (length rest)) (omega arith)
-
--- a stop that is something to a train reaches it
-reached : (p : Place) (area : List Segment) (b : Bool) → list_any (reaches p.facing p) area ≡ b → is_concern (concern_at area false p) ≡ true → b ≡ true
-reached p area true e h = refl
-reached p area false e h = let bad : true ≡ false = sym h ∙ unreached p area e in cc
-
--- and a new stop that concerns a train may be told to it
-pub asked_by_place : (number : ℕ) (area : List Segment) (train : TrainRec)
-    → (nat_lt (length train.stops) 15 && is_concern (concern_of area (has_number train.forced number) train.place)) ≡ true → meet (extent_of_area area) (extent_of (rec.Train train)) ≡ true
-asked_by_place number area train h = by (nat_lt (length train.stops) 15) (nat_lt 0 (length train.forced)) (has_number train.forced number) refl refl train.place h
-  where
-    extent_by : Bool → Bool → Option Place → Extent
-    extent_by free rejected place =
-        if free then (if rejected then everywhere else option_map_or (λ (p : Place). ahead_of p.facing p) place everywhere) else nowhere
-
-    by : (free rejected forced : Bool) → nat_lt 0 (length train.forced) ≡ rejected → has_number train.forced number ≡ forced → (place : Option Place)
-        → (free && is_concern (concern_of area forced place)) ≡ true → meet (extent_of_area area) (extent_by free rejected place) ≡ true
-    by false rejected forced some is place h = cc
-    by true true forced some is place h = met_anywhere area
-    by true false true some is place h = let bad : true ≡ false = sym (not_empty train.forced number is) ∙ some in cc
-    by true false false some is None h = met_anywhere area
-    by true false false some is (Some p) h = met_ahead p.facing p area (reached p area (list_any (reaches p.facing p) area) refl h)

@@ -6,14 +6,13 @@ mod notes;
 mod reader;
 mod record;
 mod search;
-mod sought;
 mod store;
 mod table;
 mod writes;
 
 pub use notes::Notes;
+pub use rbc_sought::Sought;
 pub use reader::{ReadFault, Reader};
 pub use record::{Key, Rec, same_record};
-pub use sought::Sought;
 pub use store::{PlainStore, apply, exchange};
 pub use writes::Writes;

@@ -4,12 +4,14 @@ ghost use Rattle.std.specs.Prelude.{◌≡◌, ℕ, ◌<◌, ◌||◌, length, s
 ghost use Rattle.rbc_settle.specs.Numbers.{has_number};
 ghost use Rattle.rbc_records.specs.declared.record.Key.{Key};
 ghost use Rattle.rbc_records.specs.declared.record.Rec.{Rec};
-ghost use Rattle.rbc_records.specs.Columns.{has_bit, told_of, extent_of, meet, tolds_of, extents_of, is_of_train, ArePassing};
+ghost use Rattle.rbc_sought.specs.Tolds.{has_bit};
+ghost use Rattle.rbc_sought.specs.Extents.{meet};
+ghost use Rattle.rbc_records.specs.Columns.{told_of, extent_of, tolds_of, extents_of, is_of_train, ArePassing};
 
-use crate::columns::{Extent, Told, has_bit};
 use crate::record::{Key, Rec};
 use indexmap::IndexMap;
 use rbc_settle::Numbers;
+use rbc_sought::{Extent, Told, has_bit};
 use std::alloc::{AllocError, Global};
 
 /// The most trains that a search returns. A command for more of them goes through all as fast.

@@ -7,10 +7,10 @@ ghost use Rattle.rbc_records.specs.Writes.{written, write_over, replaced};
 
 use crate::reader::{ReadFault, Reader};
 use crate::record::{Key, Rec};
-use crate::sought::Sought;
 use crate::table::Table;
 use crate::writes::Writes;
 use rbc_settle::Numbers;
+use rbc_sought::Sought;
 use std::alloc::{AllocError, Global};
 use std::marker::Model;
 

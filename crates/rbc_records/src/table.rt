@@ -6,12 +6,12 @@ ghost use Rattle.rbc_records.specs.Notes.{Whole, record_in};
 ghost use Rattle.rbc_records.specs.Seeking.{AreFound};
 ghost use Rattle.rbc_records.specs.Writes.{write_over};
 
-use crate::columns::{Extent, Told};
+use crate::columns::{extent_of, told_of};
 use crate::record::{Key, Rec};
 use crate::search;
-use crate::sought::Sought;
 use indexmap::IndexMap;
 use rbc_settle::Numbers;
+use rbc_sought::{Extent, Sought, Told};
 use std::alloc::{AllocError, Global};
 use std::marker::Model;
 use std::mem;
@@ -89,8 +89,8 @@ impl Table {
         ensures replaced { result ≡ record_in self.old.entries key }
         ensures room { self.old.room ≤ self.new.room + 1 }
     {
-        let told = Told::of(&rec);
-        let extent = Extent::of(&rec);
+        let told = told_of(&rec);
+        let extent = extent_of(&rec);
         let (index, old) = self.entries.insert_full(key, rec).unwrap();
         if index < self.tolds.len() {
             self.tolds[index] = told;
@@ -114,8 +114,8 @@ impl Table {
         let Some(index) = self.entries.get_index_of(&key) else {
             return false;
         };
-        self.tolds[index] = Told::of(rec);
-        self.extents[index] = Extent::of(rec);
+        self.tolds[index] = told_of(rec);
+        self.extents[index] = extent_of(rec);
         mem::swap(self.entries.get_index_mut(index).unwrap(), rec);
         true
     }

@@ -1,5 +1,6 @@
 use Rattle.std.proofs.Common.{take}
-use Rattle.rbc_records.specs.Columns.{has_bit, told_of, ArePassing}
+use Rattle.rbc_sought.specs.Tolds.{has_bit}
+use Rattle.rbc_records.specs.Columns.{told_of, ArePassing}
 use Rattle.rbc_records.proofs.search.told_of_limit.Given as goal
 
 -- the engines are those of the entries so far

@@ -9,13 +9,13 @@ pub invariant_of-self : goal.invariant_of-self
 invariant_of-self c =
     let entries = rw c.unwrap-index.ensures at c.insert_full.ensures.entries in
     let index = rw c.unwrap-index.ensures at c.insert_full.ensures.index in
-    put_over _ _ _ _ c.self.invariant c.args.key c.args.rec entries _ index _ c.of-told.ensures _ c.of-extent.ensures (search rules)
+    put_over _ _ _ _ c.self.invariant c.args.key c.args.rec entries _ index _ c.told_of-told.ensures _ c.extent_of-extent.ensures (search rules)
 
 pub invariant_of-self-else-index-len : goal.invariant_of-self-else-index-len
 invariant_of-self-else-index-len c =
     let entries = rw c.unwrap-index.ensures at c.insert_full.ensures.entries in
     let index = rw c.unwrap-index.ensures at c.insert_full.ensures.index in
-    let beside = put_behind _ _ _ _ c.self.invariant c.args.key c.args.rec entries _ index _ c.of-told.ensures _ c.of-extent.ensures (search rules) in
+    let beside = put_behind _ _ _ _ c.self.invariant c.args.key c.args.rec entries _ index _ c.told_of-told.ensures _ c.extent_of-extent.ensures (search rules) in
     let tolds = rw c.unwrap.ensures at c.push.ensures.items in
     let extents = rw c.unwrap-else-index-len.ensures at c.push-else-index-len.ensures.items in
     rw (tolds, extents) beside

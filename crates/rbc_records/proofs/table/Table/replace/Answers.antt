@@ -26,7 +26,7 @@ invariant_of-self c =
     let put = ap (λ (rec : Rec). set_value_at entries index rec) c.swap.ensures.x_after ∙ exchanged_is_put c.args.key c.args.rec.now entries index at in
     let within : index < length c.self.inside.tolds.items =
     omega (arith, stands_within c.args.key entries index at, ap length c.self.invariant.tolds_are, length-map entries (λ (entry : Key × Rec). told_of entry.1)) in
-    put_over entries _ _ _ c.self.invariant c.args.key c.args.rec.now put index (stands_first c.args.key entries index at) _ c.of.ensures _ c.of-2.ensures within
+    put_over entries _ _ _ c.self.invariant c.args.key c.args.rec.now put index (stands_first c.args.key entries index at) _ c.told_of.ensures _ c.extent_of.ensures within
 
 pub returns-clause-held : goal.returns-clause-held
 returns-clause-held c =

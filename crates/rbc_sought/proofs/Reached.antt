@@ -9,7 +9,7 @@ use Rattle.rbc_place.specs.Placing.{Place}
 use Rattle.rbc_zones.specs.declared.segment.Segment.{Segment}
 use Rattle.rbc_zones.specs.declared.edge.Concern.TheVariants as concern
 use Rattle.rbc_zones.specs.Concerns.{on_its_line, meets, edge_of, is_ahead, edges_ahead, nearest, concern_by_edge, concern_at}
-use Rattle.rbc_records.specs.Seeking.{is_concern}
+use Rattle.rbc_sought.specs.Seeking.{is_concern}
 
 -- a segment on its line reaches to where a train stands, or lies ahead of it
 abbrev pub reaches : Way → Place → Segment → Bool

@@ -1,0 +1,4 @@
+pub mod Bits
+pub mod Reached
+pub mod Meeting
+pub mod Asked

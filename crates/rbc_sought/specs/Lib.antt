@@ -1,0 +1,3 @@
+pub mod Tolds
+pub mod Extents
+pub mod Seeking

@@ -1,0 +1,117 @@
+//! Where a new stop has to lie that a train may have to be told of.
+
+ghost use Rattle.std.specs.Prelude.{◌≡◌};
+ghost use Rattle.rbc_sought.specs.Extents.{nowhere, extent_of_train, ahead_of, extent_of_area, with_segment, meet};
+
+use crate::told::with_bit;
+use rbc_place::Place;
+use rbc_settle::TrainRec;
+use rbc_track::Way;
+use rbc_zones::{Area, Segment};
+
+/// How many stop identifiers (NID_EM) a train has.
+const STOP_IDENTIFIERS: usize = 15;
+
+/// Places on some lines, from the least to the most, both among them.
+#[derive(Clone, Copy, Debug)]
+pub struct Extent {
+    /// The lines, by bits: bit `n % 64` stands for line n. None of them: no place.
+    pub lines: u64,
+    /// In units of 10 cm from the lower end of a line.
+    pub least: u32,
+    /// In the same units.
+    pub most: u32,
+}
+
+/// No place.
+const NOWHERE: Extent = Extent {
+    lines: 0,
+    least: u32::MAX,
+    most: 0,
+};
+
+/// All places.
+const EVERYWHERE: Extent = Extent {
+    lines: u64::MAX,
+    least: 0,
+    most: u32::MAX,
+};
+
+impl Extent {
+    /// No place.
+    pub fn nowhere() -> Self
+        ensures { result ≡ nowhere }
+    {
+        NOWHERE
+    }
+
+    /// Where a new stop has to lie if a train may have to be told of it: nowhere if it has no free stop identifier (NID_EM), and
+    /// anywhere if it has no place, or rejected a stop, which may be forced on it.
+    pub fn of_train(train: &TrainRec) -> Self
+        ensures { result ≡ extent_of_train train.now }
+    {
+        if train.stops.held() >= STOP_IDENTIFIERS {
+            return NOWHERE;
+        }
+        if train.forced.len() > 0 {
+            return EVERYWHERE;
+        }
+        match &train.place {
+            Some(place) => Extent::ahead_of(place),
+            None => EVERYWHERE,
+        }
+    }
+
+    /// Where a train at this place may stand, and what lies ahead of it on its line.
+    fn ahead_of(place: &Place) -> Self
+        ensures { result ≡ ahead_of place.now.facing place.now }
+    {
+        let lines = with_bit(0, u32::from(place.line()));
+        match place.facing() {
+            Way::Up => Extent {
+                lines,
+                least: place.lo().min(place.hi()),
+                most: u32::MAX,
+            },
+            Way::Down => Extent {
+                lines,
+                least: 0,
+                most: place.lo().max(place.hi()),
+            },
+        }
+    }
+
+    /// The extent of an area: on all lines of its segments, from the least end of any to the greatest. Of an area without
+    /// segments it is everywhere.
+    pub fn of_area(area: &Area) -> Self
+        ensures { result ≡ extent_of_area area.now }
+    {
+        let segments = area.segments();
+        if segments.is_empty() {
+            return EVERYWHERE;
+        }
+        segments
+            .iter()
+            .fold(NOWHERE, |extent, segment| extent.with_segment(segment))
+    }
+
+    /// With one more segment.
+    fn with_segment(self, segment: &Segment) -> Self
+        ensures { result ≡ with_segment self segment.now }
+    {
+        Extent {
+            lines: with_bit(self.lines, segment.line),
+            least: self.least.min(segment.from.min(segment.to)),
+            most: self.most.max(segment.from.max(segment.to)),
+        }
+    }
+
+    /// Whether both are on a line of the same bit, and have a place in common. Without a branch for each kind of extent, as this is
+    /// asked of every train at every new stop.
+    #[inline(always)]
+    pub fn meets(&self, other: &Extent) -> bool
+        ensures { result ≡ meet self.now other.now }
+    {
+        self.lines & other.lines != 0 && self.least <= other.most && other.least <= self.most
+    }
+}
