@@ -1,13 +1,12 @@
 #!/usr/bin/env bash
-# Feeds batches to the library for C, line by line, and compares with the program: bench/c_library.sh [--built] [CASES]
+# Feeds batches to the library for C, line by line, and compares with the program: bench/c_library.sh [--from FOLDER] [CASES]
 #
 # CASES is a folder with NAME.toml, NAME.batch and NAME.expected, the output text of NAME.batch on the track NAME.toml; without it
 # examples/ is taken. For each batch, as bench/c_library.c tells: room for messages is asked for first; the output is the
 # expected one. The first three batches are then fed with each allocation refused in turn, and, of CASES, under valgrind, where that
 # is there, with room and with refusals. It ends with status 1 at the first difference or finding.
 #
-# The libraries are proved and built first, which takes minutes in a fresh clone; with --built those that are there are taken. It needs
-# cc, and the kit's archive of heap.c, which lies beside rt.
+# The library is proved and built first, which takes minutes in a fresh clone; with --from the one in that folder is taken. It needs cc.
 set -euo pipefail
 
 here=$(cd "$(dirname "$(readlink -f "$0")")" && pwd)
@@ -15,16 +14,15 @@ root=$(dirname "$here")
 work=$(mktemp -d)
 trap 'rm -r "$work"' EXIT
 
-built=
-[[ ${1-} == --built ]] && built=yes && shift
-cases=${1-}
-if [[ -z $built ]]; then
-    for crate in ertms_c rbc_c; do
-        (cd "$root/crates/$crate" && rt lib) > "$work/log" 2>&1 || { tail -n 20 "$work/log" >&2; exit 1; }
-    done
+folder=$root/crates/rbc_c/out
+if [[ ${1-} == --from ]]; then
+    folder=$2
+    shift 2
+else
+    (cd "$root/crates/rbc_c" && rt lib) > "$work/log" 2>&1 || { tail -n 20 "$work/log" >&2; exit 1; }
 fi
-heap=$(dirname "$(rt doc)")/c/liblibc_c.a
-library=("$root/crates/rbc_c/out/librbc_c.a" "$heap")
+cases=${1-}
+library=("$folder/librbc_c.a" "$root/include/heap.c")
 cc -O2 -std=c11 -Wall -Wextra -Werror -I "$root/include" "$here/c_library.c" "${library[@]}" -Wl,--wrap=malloc,--wrap=realloc -o "$work/c_library"
 cc -O2 -std=c11 -Wall -Wextra -Werror -I "$root/include" "$root/examples/c/live.c" "${library[@]}" -o "$work/live"
 

@@ -12,7 +12,7 @@ source "$root/release/sources.sh"
 cd "$root/release"
 mkdir -p c
 cp "$root/crates/rbc_dispatch/out/rbc_dispatch" dispatch
-cp "$root/crates/rbc_c/out/librbc_c.a" "$root/crates/ertms_c/out/libertms_c.a" "$root/include/rbc.h" "$root/include/ertms.h" c/
+cp "$root/crates/rbc_c/out/librbc_c.a" "$root/crates/ertms_c/out/libertms_c.a" "$root"/include/*.[ch] c/
 chmod 755 dispatch
 sha256sum dispatch c/* > SHA256SUMS
 {

@@ -1,7 +1,7 @@
 /* A desk in a program of its own: opens the track that its first argument names, feeds standard input line by line, and then
    prints what `dispatch run` prints for that batch: a line for each answer, and then the messages by engine.
 
-   cc -I include examples/c/live.c crates/rbc_c/out/librbc_c.a KIT/c/liblibc_c.a -o live
+   cc -I include examples/c/live.c include/heap.c release/c/librbc_c.a -o live
    ./live examples/main_line.toml < examples/first.batch */
 #include "rbc.h"
 
