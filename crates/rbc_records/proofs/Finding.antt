@@ -12,11 +12,11 @@ use Rattle.rbc_records.specs.declared.record.Key.{Key}
 use Rattle.rbc_records.specs.declared.record.Key.TheVariants as key
 use Rattle.rbc_records.specs.declared.record.Rec.{Rec}
 use Rattle.rbc_records.specs.declared.record.Rec.TheVariants as rec
-use Rattle.rbc_sought.specs.declared.sought.Sought.{Sought}
+use Rattle.rbc_sought.specs.declared.bounds.Sought.{Sought}
 use Rattle.rbc_records.specs.Notes.{Whole, record_in, same_key}
 use Rattle.rbc_sought.specs.Seeking.{is_sought, is_concern}
 use Rattle.rbc_records.specs.Seeking.{AreFound}
-use Rattle.rbc_sought.specs.declared.extent.Extent.{Extent}
+use Rattle.rbc_sought.specs.declared.bounds.Extent.{Extent}
 use Rattle.rbc_sought.specs.Tolds.{has_bit}
 use Rattle.rbc_sought.specs.Extents.{nowhere, everywhere, extent_of_area, ahead_of, meet}
 use Rattle.rbc_records.specs.Columns.{told_of, extent_of, is_of_train, ArePassing}

@@ -2,8 +2,8 @@
 use Rattle.std.specs.Prelude.{◌≡◌, ℕ, Bool, false, ◌==◌, ◌&&◌, List, map}
 use Rattle.std.specs.List.{list_any}
 use Rattle.rbc_settle.specs.Numbers.{has_number}
-use Rattle.rbc_sought.specs.declared.told.Told.{Told}
-use Rattle.rbc_sought.specs.declared.extent.Extent.{Extent}
+use Rattle.rbc_sought.specs.declared.bounds.Told.{Told}
+use Rattle.rbc_sought.specs.declared.bounds.Extent.{Extent}
 use Rattle.rbc_sought.specs.Tolds.{told_of_train}
 use Rattle.rbc_sought.specs.Extents.{nowhere, extent_of_train}
 use Rattle.rbc_records.specs.declared.record.Key.TheVariants as key

@@ -1,7 +1,6 @@
 //! The single records in which everything known is kept: how they are read, noted, stored and written.
 #![tactic(auto)]
 
-mod columns;
 mod notes;
 mod reader;
 mod record;

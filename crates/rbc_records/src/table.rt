@@ -3,10 +3,10 @@
 ghost use Rattle.std.specs.Prelude.{◌≡◌, ℕ, ◌+◌, ◌<◌, ◌≤◌, [], length, slice_get, Some, None, is_some, IsTrue, IsFalse, OnOk, OnErr, IfOk, IfSome, option_copied};
 ghost use Rattle.rbc_records.specs.declared.record.Key.{Key};
 ghost use Rattle.rbc_records.specs.Notes.{Whole, record_in};
+ghost use Rattle.rbc_records.specs.Columns.{told_of, extent_of};
 ghost use Rattle.rbc_records.specs.Seeking.{AreFound};
 ghost use Rattle.rbc_records.specs.Writes.{write_over};
 
-use crate::columns::{extent_of, told_of};
 use crate::record::{Key, Rec};
 use crate::search;
 use indexmap::IndexMap;
@@ -148,5 +148,28 @@ impl Table {
                 search::stoppable(alloc, &self.entries, self.extents.as_slice(), extent)
             }
         }
+    }
+}
+
+/// What the train of a record was told; nothing if it is that of no train.
+fn told_of(rec: &Rec) -> Told
+    ensures { result ≡ told_of rec.now }
+{
+    match rec {
+        Rec::Train(train) => Told::of(train),
+        Rec::Engines(_) | Rec::Stops(_) | Rec::Limits(_) => Told {
+            stops: 0,
+            limits: 0,
+        },
+    }
+}
+
+/// Where a new stop has to lie if the train of a record may have to be told of it; nowhere if it is that of no train.
+fn extent_of(rec: &Rec) -> Extent
+    ensures { result ≡ extent_of rec.now }
+{
+    match rec {
+        Rec::Train(train) => Extent::of_train(train),
+        Rec::Engines(_) | Rec::Stops(_) | Rec::Limits(_) => Extent::nowhere(),
     }
 }

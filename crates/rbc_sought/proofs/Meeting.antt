@@ -8,7 +8,7 @@ use Rattle.rbc_track.specs.declared.group.Way.{Way}
 use Rattle.rbc_track.specs.declared.group.Way.TheVariants.{Up, Down}
 use Rattle.rbc_place.specs.Placing.{Place}
 use Rattle.rbc_zones.specs.declared.segment.Segment.{Segment}
-use Rattle.rbc_sought.specs.declared.extent.Extent.{Extent}
+use Rattle.rbc_sought.specs.declared.bounds.Extent.{Extent}
 use Rattle.rbc_sought.specs.Tolds.{has_bit, with_bit}
 use Rattle.rbc_sought.specs.Extents.{nowhere, everywhere, ahead_of, with_segment, extent_of_area, meet}
 use Rattle.rbc_sought.proofs.Bits.{bit_kept, bit_set, every_bit, shared_bit}

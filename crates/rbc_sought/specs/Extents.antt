@@ -8,7 +8,7 @@ use Rattle.rbc_track.specs.declared.group.Way.TheVariants as way
 use Rattle.rbc_place.specs.Placing.{Place}
 use Rattle.rbc_settle.specs.declared.train.TrainRec.{TrainRec}
 use Rattle.rbc_sought.specs.Tolds.{with_bit}
-use Rattle.rbc_sought.specs.declared.extent.Extent.{Extent}
+use Rattle.rbc_sought.specs.declared.bounds.Extent.{Extent}
 
 -- no place, and all places
 abbrev pub nowhere : Extent

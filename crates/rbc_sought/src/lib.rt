@@ -1,10 +1,6 @@
 //! Which trains a command seeks, and what is compared of a train and a command so that most trains are passed by.
 #![tactic(auto)]
 
-mod extent;
-mod sought;
-mod told;
+mod bounds;
 
-pub use extent::Extent;
-pub use sought::Sought;
-pub use told::{Told, has_bit};
+pub use bounds::{Extent, Sought, Told, has_bit};

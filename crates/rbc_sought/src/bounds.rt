@@ -1,9 +1,10 @@
-//! Where a new stop has to lie that a train may have to be told of.
+//! What is compared of a train and a command, in few bytes, so that most trains are passed by.
 
-ghost use Rattle.std.specs.Prelude.{◌≡◌};
+ghost use Rattle.std.specs.Prelude.{◌≡◌, fold};
+ghost use Rattle.rbc_sought.specs.Tolds.{has_bit, with_bit, with_slot, bits_of_slots, bits_of_few, told_of_train};
 ghost use Rattle.rbc_sought.specs.Extents.{nowhere, extent_of_train, ahead_of, extent_of_area, with_segment, meet};
 
-use crate::told::with_bit;
+use rbc_ids::{IdTable, Slot};
 use rbc_place::Place;
 use rbc_settle::TrainRec;
 use rbc_track::Way;
@@ -11,6 +12,98 @@ use rbc_zones::{Area, Segment};
 
 /// How many stop identifiers (NID_EM) a train has.
 const STOP_IDENTIFIERS: usize = 15;
+
+/// The most restriction identifiers of a train that are looked at. One that holds more counts as told of every restriction, so
+/// that a write of its record costs no more than a few steps.
+const FEW: usize = 16;
+
+/// The trains for which a command may have something to do.
+#[derive(Clone, Copy, Debug)]
+pub enum Sought<'a> {
+    /// Those that were told of the stop of this number, or that stop at once for it.
+    ToldOfStop(u32),
+    /// Those that were told of the temporary speed restriction of this number.
+    ToldOfLimit(u32),
+    /// Those with a free stop identifier (NID_EM) that the stop of this number concerns, which closes this area.
+    Stoppable(u32, &'a Area),
+}
+
+/// The numbers that a train was told, by bits: bit `n % 64` stands for the number n. So a bit that is not set tells that no such
+/// number was told.
+#[derive(Clone, Copy, Debug)]
+pub struct Told {
+    /// The numbers of the stops that the train was told or that it rejected.
+    pub stops: u64,
+    /// The numbers of the temporary speed restrictions that it was told.
+    pub limits: u64,
+}
+
+impl Told {
+    /// What a train was told.
+    pub fn of(train: &TrainRec) -> Self
+        ensures { result ≡ told_of_train train.now }
+    {
+        Told {
+            stops: stop_bits(train),
+            limits: limit_bits(&train.limits),
+        }
+    }
+}
+
+/// Whether the bit of a number is set.
+#[inline(always)]
+pub fn has_bit(bits: u64, number: u32) -> bool
+    ensures { result ≡ has_bit bits number }
+{
+    bits >> (number % 64) & 1 == 1
+}
+
+/// Sets the bit of a number.
+fn with_bit(bits: u64, number: u32) -> u64
+    ensures { result ≡ with_bit bits number }
+{
+    bits | 1 << (number % 64)
+}
+
+/// Sets the bit of the number that a slot tells.
+fn with_slot(bits: u64, slot: Slot) -> u64
+    ensures { result ≡ with_slot bits slot }
+{
+    match slot {
+        Slot::Used { number, .. } => with_bit(bits, number),
+        Slot::Revoking { .. } => bits,
+    }
+}
+
+/// The bits of the numbers that slots tell.
+fn bits_of_slots(slots: &[(u8, Slot)]) -> u64
+    ensures { result ≡ bits_of_slots slots.now }
+{
+    slots.iter().fold(0, |bits, held| with_slot(bits, held.1))
+}
+
+/// The bits of the stops that a train was told or that it rejected.
+fn stop_bits(train: &TrainRec) -> u64
+    ensures { result ≡ fold with_bit (bits_of_slots train.now.stops) train.now.forced }
+{
+    let told = bits_of_slots(train.stops.slots());
+    train
+        .forced
+        .as_slice()
+        .iter()
+        .fold(told, |bits, number| with_bit(bits, *number))
+}
+
+/// The bits of the restrictions that a train was told.
+fn limit_bits(limits: &IdTable<255>) -> u64
+    ensures { result ≡ bits_of_few limits.now }
+{
+    if limits.held() > FEW {
+        u64::MAX
+    } else {
+        bits_of_slots(limits.slots())
+    }
+}
 
 /// Places on some lines, from the least to the most, both among them.
 #[derive(Clone, Copy, Debug)]
