@@ -14,7 +14,7 @@ use Rattle.rbc_engine.specs.declared.workers.RunError.{RunError}
 use Rattle.rbc_engine.specs.declared.workers.RunError.TheVariants.{Workers, TooManyInputs, OutOfMemory}
 use Rattle.rbc_engine.specs.Answers.{IsRun}
 use Rattle.rbc_batch.specs.declared.batch.ProcessError.TheVariants as fault
-use Rattle.rbc_batch.specs.OutputText.{output_of}
+use Rattle.rbc_text.specs.OutputText.{output_of}
 use Rattle.rbc_batch.specs.Process.{AreRead, Answers, IsRunOf, text_of}
 
 -- it came to its end

@@ -1,9 +1,3 @@
-mod Cuts
-mod LineFits
 mod LineInputs
-mod LineWords
-mod Texts
-pub mod FirstPlaces
+mod Transfers
 mod Answering
-pub mod ResultLines
-pub mod HexWords

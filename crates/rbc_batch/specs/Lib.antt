@@ -1,4 +1,1 @@
-pub mod BatchText
-pub mod Pieces
-pub mod OutputText
 pub mod Process

@@ -5,13 +5,13 @@ ghost use Rattle.std.specs.List.{All};
 ghost use Rattle.rbc_rule.specs.Inputs.{Fits};
 ghost use Rattle.rbc_batch.specs.Process.{Answers, AreRead, IsBeforeWriting, IsRunOf, IsUntouched, max_batch};
 
-use crate::output::render;
-use crate::parse::parse_batch;
+use crate::inputs::parse_batch;
 use crate::read::read_batch;
 use crate::write::write_text;
 use rbc_core::{Desk, Stats};
 use rbc_engine::{Gate, RunError, run};
 use rbc_rule::Input;
+use rbc_text::render;
 use rbc_track::Track;
 use std::alloc::AllocError;
 use std::error::Error;

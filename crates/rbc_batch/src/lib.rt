@@ -2,12 +2,11 @@
 #![tactic(auto)]
 
 mod batch;
-mod output;
-mod parse;
+mod inputs;
 mod read;
 mod write;
 
 pub use batch::{ProcessError, process};
-pub use output::render;
-pub use parse::{parse_batch, parse_line};
+pub use inputs::parse_batch;
+pub use rbc_text::{parse_line, render};
 pub use write::write_text;

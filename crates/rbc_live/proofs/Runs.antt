@@ -10,7 +10,7 @@ use Rattle.rbc_records.specs.Notes.{record_in}
 use Rattle.rbc_rule.specs.declared.input.Input.{Input}
 use Rattle.rbc_rule.specs.declared.outcome.Reply.{Reply}
 use Rattle.rbc_rule.specs.Step as rule
-use Rattle.rbc_batch.specs.BatchText.{AreInputs}
+use Rattle.rbc_text.specs.BatchText.{AreInputs}
 use Rattle.rbc_core.specs.declared.outbox.Mail.{Mail}
 use Rattle.rbc_core.specs.Held.{AreRecordsOf, Standing, Holds, AreOutboxes, post_each}
 use Rattle.rbc_core.specs.Serial.{Desk, step, serial, new_desk, post_all}

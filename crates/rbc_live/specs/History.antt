@@ -14,7 +14,7 @@ use Rattle.rbc_rule.specs.Right.{messages_to}
 use Rattle.rbc_core.specs.declared.outbox.Mail.{Mail}
 use Rattle.rbc_core.specs.Held.{AreRecordsOf, Holds, post_each}
 use Rattle.rbc_core.specs.Serial.{serial, new_desk}
-use Rattle.rbc_batch.specs.BatchText.{line_of, IsInput, AreInputs}
+use Rattle.rbc_text.specs.BatchText.{line_of, IsInput, AreInputs}
 use Rattle.rbc_live.specs.declared.desk.LiveFault.{LiveFault}
 use Rattle.rbc_live.specs.declared.desk.LiveFault.TheVariants.{Memory, Room}
 

@@ -7,9 +7,9 @@ ghost use Rattle.rbc_rule.specs.Gathered.{AreSendable};
 ghost use Rattle.rbc_live.specs.Serial.{IsSerial};
 ghost use Rattle.rbc_live.specs.History.{IsFed, AreSame, IsFaultOf};
 
-use rbc_batch::parse_line;
 use rbc_records::{PlainStore, apply};
 use rbc_rule::{Reply, RuleFault, SentList, decide, step_law};
+use rbc_text::parse_line;
 use rbc_track::{Track, TrackError, track_from_toml};
 use std::alloc::{AllocError, Global};
 

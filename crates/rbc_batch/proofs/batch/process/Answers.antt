@@ -1,7 +1,7 @@
 use Rattle.std.proofs.Common.{rules, ◌≡◌, ◌≤◌, length, take, List, Ok, subst}
 use Rattle.std.specs.Io.KnownBytes.{Appends}
 use Rattle.rbc_rule.specs.declared.input.Input.{Input}
-use Rattle.rbc_batch.specs.OutputText.{output_of}
+use Rattle.rbc_text.specs.OutputText.{output_of}
 use Rattle.rbc_batch.specs.Process.{AreRead, IsRunOf}
 use Rattle.rbc_batch.proofs.Answering.{wrote_all, wrote_part}
 use Rattle.rbc_batch.proofs.batch.process.Goals as goal

@@ -1,0 +1,7 @@
+mod Cuts
+mod LineFits
+mod LineWords
+mod Texts
+pub mod FirstPlaces
+pub mod ResultLines
+pub mod HexWords

@@ -1,0 +1,3 @@
+pub mod BatchText
+pub mod Pieces
+pub mod OutputText

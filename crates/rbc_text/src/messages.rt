@@ -1,0 +1,129 @@
+//! A message from a train, in hexadecimal digits.
+
+ghost use Rattle.std.specs.Prelude.{◌≡◌, ◌≤◌, length, IfOk, IfSome, ◌==◌, if◌then◌else◌, true, false};
+ghost use Rattle.std.specs.List.{list_all};
+ghost use Rattle.std.specs.Option.{unwrap_or};
+ghost use Rattle.hex.specs.Hex.{decode_of};
+ghost use Rattle.rbc_rule.specs.declared.input.Input.TheVariants.{Bad};
+ghost use Rattle.rbc_text.specs.BatchText.{Spelled, is_hex_word, line_of_hex, message_of, words_of, refusal_of, AreHeard, IsInput};
+
+use crate::pieces::cut;
+use crate::refused::{bad_hex, bad_line};
+use ertms_codec::{DecodeError, read_from_train};
+use hex::FromHexError;
+use memchr::memchr;
+use rbc_rule::{Input, Refusal};
+use std::alloc::{AllocError, Global};
+
+/// A message of at most so many bytes is read without allocating. A position report has 23 of them, or 37 with what the
+/// longest adds.
+const SHORT_MESSAGE: usize = 64;
+
+/// Why bytes that are no message are refused.
+fn refusal_of(fault: DecodeError) -> Refusal
+    ensures { result ≡ refusal_of fault }
+{
+    match fault {
+        DecodeError::Length => Refusal::Length,
+        DecodeError::Message => Refusal::Message,
+        DecodeError::Packet => Refusal::Packet,
+        DecodeError::Field => Refusal::Field,
+    }
+}
+
+/// The input of bytes that a train sent: the message, or a refusal with its code.
+fn heard(bytes: &[u8]) -> Input
+    ensures { AreHeard bytes.now result }
+{
+    match read_from_train(bytes) {
+        Ok(message) => Input::Received(message),
+        Err(fault) => Input::Bad(refusal_of(fault).code()),
+    }
+}
+
+/// Whether there is no carriage return in a word.
+fn has_no_return(word: &[u8]) -> bool
+    ensures { result ≡ list_all (λ byte. if byte == 13 then false else true) word.now }
+{
+    memchr(b'\r', word).is_none()
+}
+
+/// Whether a word may be hexadecimal text: it is not empty, and has no carriage return.
+fn is_hex_word(word: &[u8]) -> bool
+    ensures { result ≡ is_hex_word word.now }
+{
+    !word.is_empty() && has_no_return(word)
+}
+
+/// The input of a short message in hexadecimal digits, if a text is that and nothing else. Most are, and then no separator
+/// has to be looked for.
+fn short_message(text: &[u8]) -> Option<Input>
+    ensures { IfSome result (λ input. IsInput (unwrap_or (message_of (words_of text.now)) (Spelled (Bad 1))) input) }
+{
+    if text.is_empty() || text.len() > 2 * SHORT_MESSAGE {
+        return None;
+    }
+    let mut buffer = [0u8; SHORT_MESSAGE];
+    let bytes = &mut buffer[..text.len() / 2];
+    match hex::decode_to_slice(text, bytes) {
+        Ok(()) => Some(heard(bytes)),
+        Err(_) => None,
+    }
+}
+
+/// The input of a short word that is to be hexadecimal digits. Takes no memory.
+fn short_word(word: &[u8]) -> Input
+    requires { length word.now ≤ 128 }
+    ensures { IsInput (line_of_hex (decode_of word.now)) result }
+{
+    let mut buffer = [0u8; SHORT_MESSAGE];
+    let bytes = &mut buffer[..word.len() / 2];
+    match hex::decode_to_slice(word, bytes) {
+        Ok(()) => heard(bytes),
+        Err(_) => bad_hex(),
+    }
+}
+
+/// The input of a word of any length that is to be hexadecimal digits. Fails only for lack of memory.
+fn long_word(alloc: Global, word: &[u8]) -> Result<Input, AllocError>
+    ensures { IfOk result (λ input. IsInput (line_of_hex (decode_of word.now)) input) }
+{
+    match hex::decode(alloc, word) {
+        Ok(bytes) => Ok(heard(&bytes)),
+        Err(FromHexError::OutOfMemory) => Err(AllocError),
+        Err(_) => Ok(bad_hex()),
+    }
+}
+
+/// The input of a word that is to be hexadecimal digits. A short one takes no memory. Fails only for lack of memory.
+fn message_from(alloc: Global, word: &[u8]) -> Result<Input, AllocError>
+    ensures { IfOk result (λ input. IsInput (line_of_hex (decode_of word.now)) input) }
+{
+    if word.len() <= 2 * SHORT_MESSAGE {
+        Ok(short_word(word))
+    } else {
+        long_word(alloc, word)
+    }
+}
+
+/// The input of the words behind `recv`, cut one by one. Fails only for lack of memory.
+fn message_in_words(alloc: Global, arguments: &[u8]) -> Result<Input, AllocError>
+    ensures { IfOk result (λ input. IsInput (unwrap_or (message_of (words_of arguments.now)) (Spelled (Bad 1))) input) }
+{
+    let (word, behind) = cut(arguments, b' ');
+    if behind.is_none() && is_hex_word(word) {
+        message_from(alloc, word)
+    } else {
+        Ok(bad_line())
+    }
+}
+
+/// The input of the words behind `recv`. Fails only for lack of memory.
+pub fn message(alloc: Global, arguments: &[u8]) -> Result<Input, AllocError>
+    ensures { IfOk result (λ input. IsInput (unwrap_or (message_of (words_of arguments.now)) (Spelled (Bad 1))) input) }
+{
+    match short_message(arguments) {
+        Some(input) => Ok(input),
+        None => message_in_words(alloc, arguments),
+    }
+}

@@ -1,0 +1,131 @@
+//! Writing a desk as its output text.
+
+ghost use Rattle.std.specs.Prelude.{◌≡◌, ◌++◌, ◌*◌, ◌≤◌, ◌<◌, ◌^◌, codes, length, OnOk, IfOk, map};
+ghost use Rattle.std.specs.Fmt.{decimal};
+ghost use Rattle.std.specs.List.{flat_map, enumerate_from};
+ghost use Rattle.hex.specs.Hex.{encode_upper};
+ghost use Rattle.ertms_codec.specs.ToTrain.{Fits};
+ghost use Rattle.rbc_core.specs.Sendable.{AreSendable};
+ghost use Rattle.rbc_text.specs.OutputText.{reply_text, result_line, mail_line, outbox_lines, output_of};
+
+use ertms_codec::write_to_train;
+use itoa::Buffer;
+use rbc_core::{Desk, Mail};
+use rbc_rule::Reply;
+use std::alloc::{AllocError, Global};
+
+/// Appends a number in decimal, without leading zeros.
+fn push_decimal(text: &mut Vec<u8>, number: u32) -> Result<(), AllocError>
+    ensures { OnOk result (text.new.items ≡ text.old.items ++ decimal number) }
+{
+    let mut buffer = Buffer::new();
+    text.extend_from_slice(buffer.format(number).as_bytes())
+}
+
+/// Appends `ok COUNT` or `refused CODE`.
+fn push_reply(text: &mut Vec<u8>, reply: Reply) -> Result<(), AllocError>
+    ensures { OnOk result (text.new.items ≡ text.old.items ++ reply_text reply) }
+{
+    match reply {
+        Reply::Done(sent) => {
+            text.extend_from_slice(b"ok ")?;
+            push_decimal(text, sent)
+        }
+        Reply::Refused(code) => {
+            text.extend_from_slice(b"refused ")?;
+            push_decimal(text, u32::from(code))
+        }
+    }
+}
+
+/// Appends that an input was accepted and that nothing was sent, which is so of most, and ends the line.
+fn push_nothing_sent(text: &mut Vec<u8>) -> Result<(), AllocError>
+    ensures { OnOk result (text.new.items ≡ text.old.items ++ codes " ok 0\n") }
+{
+    text.extend_from_slice(b" ok 0\n")
+}
+
+/// Appends the line of one result.
+fn push_result(text: &mut Vec<u8>, input: u32, reply: Reply) -> Result<(), AllocError>
+    ensures { OnOk result (text.new.items ≡ text.old.items ++ result_line (input, reply)) }
+{
+    push_decimal(text, input)?;
+    match reply {
+        Reply::Done(0) => push_nothing_sent(text),
+        _ => {
+            text.extend_from_slice(b" ")?;
+            push_reply(text, reply)?;
+            text.extend_from_slice(b"\n")
+        }
+    }
+}
+
+/// Appends at most 32 bytes as hexadecimal digits, in upper case.
+fn push_hex(text: &mut Vec<u8>, bytes: &[u8]) -> Result<(), AllocError>
+    requires { length bytes.now ≤ 32 }
+    ensures { OnOk result (text.new.items ≡ text.old.items ++ encode_upper bytes.now) }
+{
+    let mut buffer = [0u8; 64];
+    let digits = &mut buffer[..2 * bytes.len()];
+    hex::encode_to_slice(bytes, digits).unwrap();
+    digits.make_ascii_uppercase();
+    text.extend_from_slice(digits)
+}
+
+/// Appends the line of a message to an engine.
+fn push_mail(text: &mut Vec<u8>, engine: u32, mail: &Mail) -> Result<(), AllocError>
+    requires { Fits mail.now.message }
+    ensures { OnOk result (text.new.items ≡ text.old.items ++ mail_line engine mail.now) }
+{
+    let mut buffer = [0u8; 32];
+    let used = write_to_train(&mail.message, &mut buffer);
+    push_decimal(text, engine)?;
+    text.extend_from_slice(b" ")?;
+    push_decimal(text, mail.input)?;
+    text.extend_from_slice(b" ")?;
+    push_hex(text, &buffer[..used])?;
+    text.extend_from_slice(b"\n")
+}
+
+/// Appends the lines of an engine's outbox.
+fn push_outbox(text: &mut Vec<u8>, engine: u32, mails: &[Mail]) -> Result<(), AllocError>
+    requires { AreSendable mails.now }
+    ensures { OnOk result (text.new.items ≡ text.old.items ++ outbox_lines (engine, mails.now)) }
+{
+    for mail in mails {
+        push_mail(text, engine, mail)?;
+    }
+    Ok(())
+}
+
+/// Appends the lines of all results, numbered from 1.
+fn push_results(text: &mut Vec<u8>, results: &[Reply]) -> Result<(), AllocError>
+    requires { length results.now < 2 ^ 32 }
+    ensures { OnOk result (text.new.items ≡ text.old.items ++ flat_map result_line (enumerate_from 1 results.now)) }
+{
+    for (place, reply) in results.iter().enumerate() {
+        push_result(text, place as u32 + 1, *reply)?;
+    }
+    Ok(())
+}
+
+/// Appends the lines of all outboxes of a desk.
+fn push_outboxes(text: &mut Vec<u8>, desk: &Desk) -> Result<(), AllocError>
+    ensures { OnOk result (text.new.items ≡ text.old.items ++ flat_map outbox_lines desk.now.outboxes) }
+{
+    for index in 0..desk.outboxes() {
+        let (engine, mails) = desk.outbox_at(index);
+        push_outbox(text, engine, mails)?;
+    }
+    Ok(())
+}
+
+/// The output text of a desk: the results from 1 on, and then the messages by engine. Fails only for lack of memory.
+pub fn render(alloc: Global, desk: &Desk) -> Result<Vec<u8>, AllocError>
+    ensures { IfOk result (λ text. text.items ≡ output_of desk.now.results desk.now.outboxes) }
+{
+    let mut text = Vec::new(alloc);
+    push_results(&mut text, desk.results())?;
+    push_outboxes(&mut text, desk)?;
+    Ok(text)
+}

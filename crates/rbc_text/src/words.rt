@@ -1,0 +1,101 @@
+//! What the words behind a command spell.
+
+ghost use Rattle.std.specs.Prelude.{◌≡◌, IfOk};
+ghost use Rattle.rbc_text.specs.BatchText.{decimal_of, segment_from, segment_of, segments_of, number_of, dirs_of, front_of, words_of};
+
+use crate::pieces::{cut, halves};
+use rbc_rule::Segments;
+use rbc_zones::{Dirs, Segment};
+use std::alloc::{AllocError, Global};
+
+/// The number that a word spells, if it is 1 to 10 decimal digits and at most 4,294,967,295.
+pub fn decimal(word: &[u8]) -> Option<u32>
+    ensures { result ≡ decimal_of word.now }
+{
+    if word.is_empty() || word.len() > 10 {
+        return None;
+    }
+    let mut value = 0u64;
+    for digit in word {
+        if !digit.is_ascii_digit() {
+            return None;
+        }
+        value = 10 * value + u64::from(*digit - b'0');
+    }
+    u32::try_from(value).ok()
+}
+
+/// The segment of a line, a first place and a last place, if all three are numbers.
+fn segment_from(line: Option<u32>, from: Option<u32>, to: Option<u32>) -> Option<Segment>
+    ensures { result ≡ segment_from line from to }
+{
+    match (line, from, to) {
+        (Some(line), Some(from), Some(to)) => Some(Segment { line, from, to }),
+        _ => None,
+    }
+}
+
+/// The segment that a word spells as `LINE:FROM-TO`.
+pub fn segment(word: &[u8]) -> Option<Segment>
+    ensures { result ≡ segment_of word.now }
+{
+    let (line, places) = halves(word, b':');
+    let (from, to) = halves(places, b'-');
+    segment_from(decimal(line), decimal(from), decimal(to))
+}
+
+/// The segments that the words of a text spell, if every word is a segment. Fails only for lack of memory.
+pub fn segments(alloc: Global, text: &[u8]) -> Result<Option<Segments>, AllocError>
+    ensures { IfOk result (λ found. found ≡ segments_of (words_of text.now)) }
+{
+    let mut segments = Segments::new(alloc);
+    let mut rest = Some(text);
+    while let Some(text) = rest {
+        let (word, behind) = cut(text, b' ');
+        match segment(word) {
+            Some(segment) => segments.push(segment)?,
+            None => return Ok(None),
+        }
+        rest = behind;
+    }
+    Ok(Some(segments))
+}
+
+/// The number that a single word spells.
+pub fn number(arguments: &[u8]) -> Option<u32>
+    ensures { result ≡ number_of (words_of arguments.now) }
+{
+    let (word, behind) = cut(arguments, b' ');
+    match behind {
+        None => decimal(word),
+        Some(_) => None,
+    }
+}
+
+/// The directions that a word names.
+pub fn dirs(word: &[u8]) -> Option<Dirs>
+    ensures { result ≡ dirs_of word.now }
+{
+    if word == b"up".as_slice() {
+        Some(Dirs::Up)
+    } else if word == b"down".as_slice() {
+        Some(Dirs::Down)
+    } else if word == b"both".as_slice() {
+        Some(Dirs::Both)
+    } else {
+        None
+    }
+}
+
+/// The Q_FRONT that a word names, `0` or `1`.
+pub fn front(word: &[u8]) -> Option<bool>
+    ensures { result ≡ front_of word.now }
+{
+    if word == b"0".as_slice() {
+        Some(false)
+    } else if word == b"1".as_slice() {
+        Some(true)
+    } else {
+        None
+    }
+}
