@@ -6,8 +6,7 @@ ghost use Rattle.rbc_rule.specs.Inputs.{Fits};
 ghost use Rattle.rbc_batch.specs.Process.{Answers, AreRead, IsBeforeWriting, IsRunOf, IsUntouched, max_batch};
 
 use crate::inputs::parse_batch;
-use crate::read::read_batch;
-use crate::write::write_text;
+use crate::streams::{read_batch, write_text};
 use rbc_core::{Desk, Stats};
 use rbc_engine::{Gate, RunError, run};
 use rbc_rule::Input;

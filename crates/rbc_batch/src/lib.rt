@@ -3,10 +3,9 @@
 
 mod batch;
 mod inputs;
-mod read;
-mod write;
+mod streams;
 
 pub use batch::{ProcessError, process};
 pub use inputs::parse_batch;
 pub use rbc_text::{parse_line, render};
-pub use write::write_text;
+pub use streams::write_text;

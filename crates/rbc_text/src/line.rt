@@ -1,15 +1,167 @@
 //! One line, read as an input.
 
-ghost use Rattle.std.specs.Prelude.{IfOk};
+ghost use Rattle.std.specs.Prelude.{◌≡◌, IfOk};
+ghost use Rattle.rbc_rule.specs.declared.input.Input.TheVariants.{Bad};
+ghost use Rattle.rbc_text.specs.BatchText.{enrolment_from, enrolment_of, stop_from, stop_of, withdrawal_from, withdrawal_of, restriction_from, restriction_of, command_of, words_of, line_of, IsInput};
 ghost use Rattle.rbc_rule.specs.Inputs.{Fits};
-ghost use Rattle.rbc_text.specs.BatchText.{line_of, IsInput};
 
-use crate::commands::command;
 use crate::messages::message;
-use crate::pieces::cut;
-use crate::refused::bad_line;
-use rbc_rule::Input;
+use crate::words::{cut, decimal, dirs, front, number, segment, segments};
+use rbc_rule::{Input, Refusal, Segments};
+use rbc_zones::{Dirs, Segment};
 use std::alloc::{AllocError, Global};
+
+/// The greatest engine number (NID_ENGINE has 24 bits).
+const MAX_ENGINE: u32 = 16_777_215;
+
+/// The greatest length of a train, in units of 10 cm.
+const MAX_LENGTH: u32 = 40_000;
+
+/// The input of a line that spells none.
+pub fn bad_line() -> Input
+    ensures { result ≡ Bad 1 }
+{
+    Input::Bad(Refusal::BadLine.code())
+}
+
+/// The input of a message whose digits are no hexadecimal text.
+pub fn bad_hex() -> Input
+    ensures { result ≡ Bad 2 }
+{
+    Input::Bad(Refusal::BadHex.code())
+}
+
+/// The enrolment of an engine with a train of this length in units of 10 cm, if both are in their ranges.
+fn enrolment_from(engine: Option<u32>, length: Option<u32>) -> Option<Input>
+    ensures { result ≡ enrolment_from engine length }
+{
+    let (engine, length) = (engine?, length?);
+    if engine <= MAX_ENGINE && 1 <= length && length <= MAX_LENGTH {
+        Some(Input::Enrol { engine, length })
+    } else {
+        None
+    }
+}
+
+/// The input of the words behind `enrol`.
+fn enrolment(arguments: &[u8]) -> Option<Input>
+    ensures { result ≡ enrolment_of (words_of arguments.now) }
+{
+    let (engine, behind) = cut(arguments, b' ');
+    let (length, more) = cut(behind?, b' ');
+    match more {
+        None => enrolment_from(decimal(engine), decimal(length)),
+        Some(_) => None,
+    }
+}
+
+/// The emergency stop of these segments under this number, if both are there.
+fn stop_from(number: Option<u32>, segments: Option<Segments>) -> Option<Input>
+    ensures { result ≡ stop_from number segments }
+{
+    match (number, segments) {
+        (Some(number), Some(segments)) => Some(Input::Stop { number, segments }),
+        _ => None,
+    }
+}
+
+/// The input of the words behind `stop`. Fails only for lack of memory.
+fn stop(alloc: Global, arguments: &[u8]) -> Result<Option<Input>, AllocError>
+    ensures { IfOk result (λ found. found ≡ stop_of (words_of arguments.now)) }
+{
+    let (number, behind) = cut(arguments, b' ');
+    match behind {
+        Some(words) => Ok(stop_from(decimal(number), segments(alloc, words)?)),
+        None => Ok(None),
+    }
+}
+
+/// The withdrawal of an engine, if its number is in its range.
+fn withdrawal_from(engine: Option<u32>) -> Option<Input>
+    ensures { result ≡ withdrawal_from engine }
+{
+    match engine {
+        Some(engine) if engine <= MAX_ENGINE => Some(Input::Withdraw { engine }),
+        _ => None,
+    }
+}
+
+/// The input of the words behind `withdraw`.
+fn withdrawal(arguments: &[u8]) -> Option<Input>
+    ensures { result ≡ withdrawal_of (words_of arguments.now) }
+{
+    let (word, behind) = cut(arguments, b' ');
+    match behind {
+        None => withdrawal_from(decimal(word)),
+        Some(_) => None,
+    }
+}
+
+/// The temporary speed restriction of these values, if all are there. The speed is in km/h.
+fn restriction_from(
+    number: Option<u32>,
+    segment: Option<Segment>,
+    dirs: Option<Dirs>,
+    speed: Option<u32>,
+    front: Option<bool>,
+) -> Option<Input>
+    ensures { result ≡ restriction_from number segment dirs speed front }
+{
+    match (number, segment, dirs, speed, front) {
+        (Some(number), Some(segment), Some(dirs), Some(speed), Some(front)) => {
+            Some(Input::Restrict {
+                number,
+                segment,
+                dirs,
+                speed,
+                front,
+            })
+        }
+        _ => None,
+    }
+}
+
+/// The input of the words behind `restrict`.
+fn restriction(arguments: &[u8]) -> Option<Input>
+    ensures { result ≡ restriction_of (words_of arguments.now) }
+{
+    let (number, behind) = cut(arguments, b' ');
+    let (place, behind) = cut(behind?, b' ');
+    let (way, behind) = cut(behind?, b' ');
+    let (speed, behind) = cut(behind?, b' ');
+    let (end, more) = cut(behind?, b' ');
+    match more {
+        None => restriction_from(
+            decimal(number),
+            segment(place),
+            dirs(way),
+            decimal(speed),
+            front(end),
+        ),
+        Some(_) => None,
+    }
+}
+
+/// The input of a signaller's command and the words behind it. Fails only for lack of memory.
+pub fn command(alloc: Global, word: &[u8], arguments: &[u8]) -> Result<Option<Input>, AllocError>
+    ensures { IfOk result (λ found. found ≡ command_of word.now (words_of arguments.now)) }
+{
+    if word == b"enrol".as_slice() {
+        Ok(enrolment(arguments))
+    } else if word == b"withdraw".as_slice() {
+        Ok(withdrawal(arguments))
+    } else if word == b"stop".as_slice() {
+        stop(alloc, arguments)
+    } else if word == b"release".as_slice() {
+        Ok(number(arguments).map(|number| Input::Release { number }))
+    } else if word == b"restrict".as_slice() {
+        Ok(restriction(arguments))
+    } else if word == b"lift".as_slice() {
+        Ok(number(arguments).map(|number| Input::Lift { number }))
+    } else {
+        Ok(None)
+    }
+}
 
 /// The input of one line, without its line feed (own rule): what it spells, or a refusal with its code. It is one that a
 /// batch can have. Fails only for lack of memory.

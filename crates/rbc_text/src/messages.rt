@@ -7,8 +7,8 @@ ghost use Rattle.hex.specs.Hex.{decode_of};
 ghost use Rattle.rbc_rule.specs.declared.input.Input.TheVariants.{Bad};
 ghost use Rattle.rbc_text.specs.BatchText.{Spelled, is_hex_word, line_of_hex, message_of, words_of, refusal_of, AreHeard, IsInput};
 
-use crate::pieces::cut;
-use crate::refused::{bad_hex, bad_line};
+use crate::line::{bad_hex, bad_line};
+use crate::words::cut;
 use ertms_codec::{DecodeError, read_from_train};
 use hex::FromHexError;
 use memchr::memchr;

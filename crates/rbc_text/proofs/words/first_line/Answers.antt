@@ -1,7 +1,7 @@
 use Rattle.std.proofs.Common.{◌∙◌, ◌∷◌, List, ℕ, ap}
 use Rattle.rbc_text.specs.Pieces.{pieces_behind}
 use Rattle.rbc_text.proofs.Texts.{first_of_lines}
-use Rattle.rbc_text.proofs.pieces.first_line.Goals as goal
+use Rattle.rbc_text.proofs.words.first_line.Goals as goal
 
 pub returns-in-Some-clause-line : goal.returns-in-Some-clause-line
 returns-in-Some-clause-line c =

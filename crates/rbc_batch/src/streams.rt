@@ -1,11 +1,12 @@
-//! Reading the whole of a batch.
+//! Reading the whole of a batch, and writing the whole of an output text.
 
-ghost use Rattle.std.specs.Prelude.{◌≡◌, ◌≤◌, ◌<◌, length, IfOk, IfErr, IsErrOf, IfSome};
+ghost use Rattle.std.specs.Prelude.{◌≡◌, ◌++◌, ◌≤◌, ◌<◌, take, length, IfOk, IfErr, OnOk, IsErrOf, IfSome};
+ghost use Rattle.std.specs.Io.KnownBytes.{Appends};
 ghost use Rattle.rbc_batch.specs.Process.{IsAllRead, IsBeforeWriting, max_batch};
 
 use crate::batch::ProcessError;
 use std::alloc::Global;
-use std::io::{ErrorKind, Read};
+use std::io::{ErrorKind, Read, Write};
 
 /// The greatest length of a batch, in bytes.
 const MAX_BYTES: usize = 16_777_216;
@@ -15,6 +16,9 @@ const MAX_CALLS: u32 = 20_000_000;
 
 /// The number of bytes asked for in one call.
 const PIECE: usize = 65_536;
+
+/// Writing fails once the writer has been interrupted this many times.
+const MAX_INTERRUPTIONS: u32 = 1_000;
 
 /// Reads to the end of the reader, at most `MAX_BYTES`. An interrupted call is made again.
 pub fn read_batch<R: Read>(alloc: Global, reader: &mut R) -> Result<Vec<u8>, ProcessError>
@@ -42,4 +46,27 @@ pub fn read_batch<R: Read>(alloc: Global, reader: &mut R) -> Result<Vec<u8>, Pro
         }
     }
     Err(ProcessError::Read)
+}
+
+/// Writes the whole text. It fails if the writer fails, takes no bytes, or is interrupted `MAX_INTERRUPTIONS` times. The
+/// error is the number of bytes that are out: exactly that many, from the beginning of the text.
+pub fn write_text<W: Write>(writer: &mut W, text: &[u8]) -> Result<(), usize>
+    ensures ok { OnOk result (Appends (W.contents writer.old) (W.contents writer.new) text.now) }
+    ensures part { IfErr result (λ sent. (sent ≤ length text.now) × Appends (W.contents writer.old) (W.contents writer.new) (take sent text.now)) }
+{
+    let mut sent = 0;
+    let mut interruptions = 0;
+    while sent < text.len() {
+        match writer.write(&text[sent..]) {
+            Ok(0) => return Err(sent),
+            Ok(count) => sent += count,
+            Err(error) => {
+                interruptions += 1;
+                if error.kind() != ErrorKind::Interrupted || interruptions >= MAX_INTERRUPTIONS {
+                    return Err(sent);
+                }
+            }
+        }
+    }
+    Ok(())
 }

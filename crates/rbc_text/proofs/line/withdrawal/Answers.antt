@@ -1,5 +1,5 @@
 use Rattle.rbc_text.proofs.LineWords.{two_words, no_withdrawal}
-use Rattle.rbc_text.proofs.commands.withdrawal.Goals as goal
+use Rattle.rbc_text.proofs.line.withdrawal.Goals as goal
 
 -- a second word is there
 pub returns-in-Some : goal.returns-in-Some

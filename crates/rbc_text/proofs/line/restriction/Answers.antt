@@ -1,5 +1,5 @@
 use Rattle.rbc_text.proofs.LineWords.{two_words, one_more, no_restriction}
-use Rattle.rbc_text.proofs.commands.restriction.Goals as goal
+use Rattle.rbc_text.proofs.line.restriction.Goals as goal
 
 -- a sixth word is there
 pub returns-in-Some : goal.returns-in-Some

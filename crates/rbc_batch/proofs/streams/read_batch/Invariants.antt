@@ -1,7 +1,7 @@
 use Rattle.std.proofs.Common.{◌≤◌, length}
 use Rattle.std.specs.Io.KnownBytes.{Consumes}
 use Rattle.rbc_batch.specs.Process.{max_batch}
-use Rattle.rbc_batch.proofs.read.read_batch.Given as goal
+use Rattle.rbc_batch.proofs.streams.read_batch.Given as goal
 
 abbrev pub invariant-loop : goal.invariant-loop
 invariant-loop g l = record {
