@@ -22,8 +22,8 @@ work=$(mktemp -d)
 trap 'rm -r "$work"' EXIT
 
 if [[ ${1-} != --built ]]; then
-    for crate in rbc_place rbc_settle rbc_versions rbc_rule rbc_core rbc_batch rbc_engine; do
-        if ! (cd "$root/crates/${crate}_check" && rt test) > "$work/log" 2>&1; then
+    for crate in test_trains test_records test_runs test_batches; do
+        if ! (cd "$root/crates/$crate" && rt test) > "$work/log" 2>&1; then
             tail -n 20 "$work/log" >&2
             exit 1
         fi

@@ -21,20 +21,19 @@ SHOWN = 10  # so many wrong ends are printed of each call
 
 # each call with the crate and the name of its test
 TESTS = {
-    "track_from_toml": ("rbc_place_check", "tracks::reads_track_a_or_wants_memory"),
-    "track_from_toml, in another form": ("rbc_place_check", "tracks::reads_an_inline_track_or_wants_memory"),
-    "issue": ("rbc_settle_check", "refusals::issues_or_keeps_the_table"),
-    "settle": ("rbc_settle_check", "refusals::settles_or_keeps_the_train"),
-    "Notes::add": ("rbc_versions_check", "notes::notes_or_stays_as_it_was"),
-    "decide": ("rbc_rule_check", "refusals::decides_or_refuses"),
-    "apply": ("rbc_rule_check", "refusals::applies_or_hands_back"),
-    "commit": ("rbc_core_check", "refusals::commits_or_keeps_the_desk"),
-    "parse_batch": ("rbc_batch_check", "refusals::parses_or_gives_no_inputs"),
-    "render": ("rbc_batch_check", "refused_runs::renders_or_gives_no_text"),
-    "process": ("rbc_batch_check", "refusals::processes_or_writes_nothing"),
-    "run, by 1 and by 2 workers": ("rbc_batch_check", "refused_runs::runs_or_tells_what_is_done"),
-    "run, of two stretches": ("rbc_engine_check", "refusals::runs_stretches_or_tells_what_is_done"),
-    "run, alone": ("rbc_engine_check", "refusals::runs_alone_or_tells_what_is_done"),
+    "track_from_toml": ("test_trains", "tracks::reads_tracks_or_wants_memory"),
+    "issue": ("test_trains", "refusals::issues_or_keeps_the_table"),
+    "settle": ("test_trains", "refusals::settles_or_keeps_the_train"),
+    "Notes::add": ("test_records", "noted_numbers::notes_or_stays_as_it_was"),
+    "decide": ("test_records", "refusals::decides_or_refuses"),
+    "apply": ("test_records", "refusals::applies_or_hands_back"),
+    "commit": ("test_runs", "refusals::commits_or_keeps_the_desk"),
+    "parse_batch": ("test_batches", "refusals::parses_or_gives_no_inputs"),
+    "render": ("test_batches", "refused_runs::renders_or_gives_no_text"),
+    "process": ("test_batches", "refusals::processes_or_writes_nothing"),
+    "run, by 1 and by 2 workers": ("test_batches", "refused_runs::runs_or_tells_what_is_done"),
+    "run, of two stretches": ("test_runs", "refused_stretches::runs_stretches_or_tells_what_is_done"),
+    "run, alone": ("test_runs", "refused_stretches::runs_alone_or_tells_what_is_done"),
 }
 
 # the first line on standard error of a test that ended right: its call was refused memory, or what it does beside it was

@@ -1,8 +1,0 @@
-//! Tests that hold single records, notes and writes against values from outside. The
-//! program itself does nothing.
-#![tactic(auto)]
-
-#[cfg(test)]
-mod tests;
-
-fn main(_rt: HostRuntime) {}

@@ -1,0 +1,14 @@
+mod live;
+mod parsing;
+mod processing;
+mod refusals;
+mod refused_runs;
+mod rows;
+
+use std::fmt::Debug;
+use std::process::Abort;
+
+/// Asserts that two values are the same.
+fn same<T: Debug + PartialEq + Copy>(rt: &impl Abort, got: T, wanted: T) {
+    assert_eq!(rt; got, wanted);
+}

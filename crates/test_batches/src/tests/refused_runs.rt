@@ -1,0 +1,130 @@
+//! Runs of worked batches, and their output texts, where memory may be refused. A run ends with the desk of all inputs, or with that of those
+//! that are committed, as a serial run gives it; and a run of the rest ends right. The tests end as those of `refusals` do.
+
+ghost use Rattle.rbc_engine.specs.Answers.{IsOpening};
+
+use super::same;
+use rbc_batch::{parse_batch, render};
+use rbc_core::{Desk, Stats};
+use rbc_engine::{AllWorkers, Gate, OpenGate, RunError, run};
+use rbc_track::Track;
+use std::alloc::Global;
+use std::process::Abort;
+use std::sync::Wait;
+use std::test::Fail;
+use std::thread::Threads;
+use test_fixtures::{WORKED_BATCHES, Worked, ending, lines_of, track};
+
+/// A new desk, from which a run on any track can begin.
+fn new_desk(alloc: Global, track: &Track) -> Desk
+    ensures { IsOpening track.now result }
+{
+    let _ = track;
+    Desk::new(alloc)
+}
+
+/// Runs a batch on a desk, where memory may be refused beside the run.
+fn run_batch<R, G>(
+    rt: &R,
+    track: &Track,
+    desk: &mut Desk,
+    batch: &str,
+    workers: u8,
+    gate: &G,
+) -> Result<Result<Stats, RunError>, Fail>
+where
+    R: AllocGlobal + Threads + Wait + Sync,
+    G: Gate + Sync,
+    requires { IsOpening track.now desk.old }
+    ensures { IsOpening track.now desk.new }
+{
+    let inputs = parse_batch(rt, batch.as_bytes())?;
+    Ok(run(rt, track, desk, &inputs, workers, gate))
+}
+
+/// Runs a batch from the empty state, by one worker on the desk itself, and gives the output text.
+fn serial_text<R>(rt: &R, track: &Track, batch: &str) -> Result<Vec<u8>, Fail>
+where
+    R: Abort + AllocGlobal + Threads + Wait + Sync,
+{
+    let mut desk = new_desk(rt.alloc(), track);
+    let done = run_batch(rt, track, &mut desk, batch, 1, &OpenGate)?;
+    if done.is_err() {
+        return Err(Fail::from("no serial run"));
+    }
+    Ok(render(rt.alloc(), &desk)?)
+}
+
+/// Asserts the output text of a desk.
+fn assert_text<R: Abort + AllocGlobal>(rt: &R, desk: &Desk, text: &[u8]) -> Result<(), Fail> {
+    let written = render(rt.alloc(), desk)?;
+    same(rt, written.as_slice(), text);
+    Ok(())
+}
+
+/// Runs a batch by so many workers, and the rest of it where memory was refused. Tells whether it was.
+fn run_twice<R>(rt: &R, track: &Track, batch: &str, output: &str, workers: u8) -> Result<bool, Fail>
+where
+    R: Abort + AllocGlobal + Threads + Wait + Sync,
+{
+    let mut desk = new_desk(rt.alloc(), track);
+    let Err(error) = run_batch(rt, track, &mut desk, batch, workers, &AllWorkers)? else {
+        assert_text(rt, &desk, output.as_bytes())?;
+        return Ok(false);
+    };
+    let RunError::OutOfMemory { committed } = error else {
+        return Err(Fail::from("another error"));
+    };
+    let first = lines_of(rt.alloc(), batch, 0, committed as usize)?;
+    let wanted = serial_text(rt, track, &first)?;
+    assert_text(rt, &desk, wanted.as_slice())?;
+    let rest = lines_of(rt.alloc(), batch, committed as usize, usize::MAX)?;
+    let again = run_batch(rt, track, &mut desk, &rest, workers, &AllWorkers)?;
+    same(rt, again.is_ok(), true);
+    assert_text(rt, &desk, output.as_bytes())?;
+    Ok(true)
+}
+
+#[test]
+fn runs_or_tells_what_is_done(rt: HostRuntime) -> Result<(), Fail> {
+    let track = track(rt.alloc())?;
+    let mut refused = false;
+    for Worked { batch, output } in WORKED_BATCHES {
+        for workers in [1, 2] {
+            if run_twice(&rt, &track, batch, output, workers)? {
+                refused = true;
+            }
+        }
+    }
+    ending(refused)
+}
+
+/// Writes the output text of a batch, once more where memory was refused. Tells whether it was.
+fn render_twice<R>(rt: &R, track: &Track, batch: &str, output: &str) -> Result<bool, Fail>
+where
+    R: Abort + AllocGlobal + Threads + Wait + Sync,
+{
+    let mut desk = new_desk(rt.alloc(), track);
+    let done = run_batch(rt, track, &mut desk, batch, 1, &OpenGate)?;
+    if done.is_err() {
+        return Err(Fail::from("no serial run"));
+    }
+    let Ok(text) = render(rt.alloc(), &desk) else {
+        assert_text(rt, &desk, output.as_bytes())?;
+        return Ok(true);
+    };
+    same(rt, text.as_slice(), output.as_bytes());
+    Ok(false)
+}
+
+#[test]
+fn renders_or_gives_no_text(rt: HostRuntime) -> Result<(), Fail> {
+    let track = track(rt.alloc())?;
+    let mut refused = false;
+    for Worked { batch, output } in WORKED_BATCHES {
+        if render_twice(&rt, &track, batch, output)? {
+            refused = true;
+        }
+    }
+    ending(refused)
+}

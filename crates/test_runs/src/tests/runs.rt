@@ -1,0 +1,264 @@
+//! Runs by several workers. What they leave is given from outside.
+
+ghost use Rattle.rbc_engine.specs.Answers.{IsOpening};
+
+use super::gates::{Both, Hold, Idle, Moment, Site};
+use super::same;
+use super::setting::good_track;
+use rbc_batch::{parse_batch, process, render};
+use rbc_core::{Desk, Stats};
+use rbc_engine::{AllWorkers, Gate, OpenGate, RunError, run};
+use rbc_track::Track;
+use std::alloc::Global;
+use std::process::Abort;
+use std::sync::Wait;
+use std::thread::Threads;
+use test_fixtures::{FULL, STOPPED, lines_of};
+
+/// Asserts what comes of a batch, by so many workers.
+fn assert_answers<R, G>(rt: &R, batch: &str, workers: u8, gate: &G, text: &str) -> Stats
+where
+    R: Abort + AllocGlobal + Threads + Wait + Sync,
+    G: Gate + Sync,
+{
+    let track = good_track(rt);
+    let mut written = Vec::new(rt.alloc());
+    let mut reader = batch.as_bytes();
+    let stats = process(rt, &track, &mut reader, &mut written, workers, gate);
+    same(rt, written.as_slice(), text.as_bytes());
+    stats.expect(rt, "an output")
+}
+
+/// A new desk, from which a run on any track can begin.
+pub(super) fn new_desk(alloc: Global, track: &Track) -> Desk
+    ensures { IsOpening track.now result }
+{
+    let _ = track;
+    Desk::new(alloc)
+}
+
+/// Runs the lines of a batch on a desk.
+pub(super) fn run_lines<R, G>(
+    rt: &R,
+    track: &Track,
+    desk: &mut Desk,
+    batch: &str,
+    workers: u8,
+    gate: &G,
+) -> Result<Stats, RunError>
+where
+    R: Abort + AllocGlobal + Threads + Wait + Sync,
+    G: Gate + Sync,
+    requires { IsOpening track.now desk.old }
+    ensures { IsOpening track.now desk.new }
+{
+    let inputs = parse_batch(rt, batch.as_bytes()).expect(rt, "memory");
+    run(rt, track, desk, &inputs, workers, gate)
+}
+
+/// The output text of a desk.
+fn assert_desk<R: Abort + AllocGlobal>(rt: &R, desk: &Desk, text: &str) {
+    let written = render(rt.alloc(), desk).expect(rt, "memory");
+    same(rt, written.as_slice(), text.as_bytes());
+}
+
+// The second input reads what the first one writes, and is deposited before it: it is computed again.
+#[test]
+fn computes_again_what_went_stale(rt: HostRuntime) {
+    let gate = Hold::new(&rt, Moment::BeforeDeposit(1), Moment::AfterDeposit(2));
+    let stats = assert_answers(&rt, STOPPED.batch, 2, &gate, STOPPED.output);
+    let wanted = Stats {
+        taken: 2,
+        recomputed: 1,
+    };
+    same(&rt, stats, wanted);
+    same(&rt, gate.was_passed(), true);
+}
+
+// The second input reads what the attempt at the first one writes, which is not committed yet: nothing is computed again.
+#[test]
+fn reads_what_is_not_committed(rt: HostRuntime) {
+    let gate = Both {
+        one: Hold::new(&rt, Moment::BeforeRule(2), Moment::AfterDeposit(1)),
+        other: Hold::new(&rt, Moment::AfterDeposit(1), Moment::AfterDeposit(2)),
+    };
+    let stats = assert_answers(&rt, STOPPED.batch, 2, &gate, STOPPED.output);
+    let wanted = Stats {
+        taken: 2,
+        recomputed: 0,
+    };
+    same(&rt, stats, wanted);
+    same(&rt, gate.one.was_passed(), true);
+    same(&rt, gate.other.was_passed(), true);
+}
+
+// The second enrolment is deposited after the stop, which has read that there is no such train.
+#[test]
+fn commits_in_the_order_of_the_inputs(rt: HostRuntime) {
+    let gate = Hold::new(&rt, Moment::BeforeDeposit(2), Moment::AfterDeposit(3));
+    let batch = "enrol 7 2000\nenrol 8 2000\nstop 1 0:0-10\n";
+    let text = "1 ok 0
+2 ok 0
+3 ok 2
+7 3 1002800000005FFFFFE0
+8 3 1002800000005FFFFFE0
+";
+    let stats = assert_answers(&rt, batch, 2, &gate, text);
+    same(&rt, stats.taken, 3);
+    assert!(rt; stats.recomputed == 1 || stats.recomputed == 2);
+    same(&rt, gate.was_passed(), true);
+}
+
+// Two trains acknowledge at once, and neither reads what the other writes: nothing is computed again. The run goes on from the desk that
+// an earlier one left.
+#[test]
+fn applies_what_is_apart(rt: HostRuntime) {
+    let alloc = rt.alloc();
+    let track = good_track(&rt);
+    let mut desk = new_desk(alloc, &track);
+    let first = "enrol 7 2000\nenrol 8 2000\nstop 1 0:0-10\nrelease 1\n";
+    let begun = run_lines(&rt, &track, &mut desk, first, 1, &OpenGate);
+    let wanted = Stats {
+        taken: 4,
+        recomputed: 0,
+    };
+    same(&rt, begun, Ok(wanted));
+    let gate = Hold::new(&rt, Moment::BeforeDeposit(1), Moment::AfterDeposit(2));
+    let second = "recv 9203800000FA000001C000000080\nrecv 9203800000FA0000020000000080\n";
+    let stats = run_lines(&rt, &track, &mut desk, second, 2, &gate);
+    let wanted = Stats {
+        taken: 2,
+        recomputed: 0,
+    };
+    same(&rt, stats, Ok(wanted));
+    same(&rt, gate.was_passed(), true);
+    let text = "1 ok 0
+2 ok 0
+3 ok 2
+4 ok 2
+5 ok 0
+6 ok 0
+7 3 1002800000005FFFFFE0
+7 4 120280000000BFFFFFE0
+8 3 1002800000005FFFFFE0
+8 4 120280000000BFFFFFE0
+";
+    assert_desk(&rt, &desk, text);
+}
+
+/// So many lines of the batch in which a stop waits for an identifier, behind the first ones.
+fn stops<R: Abort + AllocGlobal>(rt: &R, from: usize, count: usize) -> String {
+    lines_of(rt.alloc(), FULL.batch, from, count).expect(rt, "memory")
+}
+
+// Sixteen workers lose time in one call of their gate, in each of the four by turns.
+#[test]
+fn answers_the_same_where_workers_idle(rt: HostRuntime) {
+    for at in [
+        Site::BeforeRule,
+        Site::AfterRead,
+        Site::BeforeDeposit,
+        Site::AfterDeposit,
+    ] {
+        let stats = assert_answers(&rt, FULL.batch, 16, &Idle { at }, FULL.output);
+        same(&rt, stats.taken, 19);
+    }
+}
+
+// The first input is begun after attempts at all others are deposited, each of which has read what it writes.
+#[test]
+fn computes_all_again_behind_a_late_first_input(rt: HostRuntime) {
+    let gate = Hold::new(&rt, Moment::BeforeRule(1), Moment::AfterDeposit(19));
+    let stats = assert_answers(&rt, FULL.batch, 2, &gate, FULL.output);
+    let wanted = Stats {
+        taken: 19,
+        recomputed: 18,
+    };
+    same(&rt, stats, wanted);
+    same(&rt, gate.was_passed(), true);
+}
+
+// A run of all lines leaves what two runs of their parts leave.
+#[test]
+fn goes_on_from_the_desk_of_an_earlier_run(rt: HostRuntime) {
+    let alloc = rt.alloc();
+    let track = good_track(&rt);
+    for workers in [1, 2, 16] {
+        let mut whole = new_desk(alloc, &track);
+        let stats = run_lines(&rt, &track, &mut whole, FULL.batch, workers, &AllWorkers);
+        same(&rt, stats.ok().map(|stats| stats.taken), Some(19));
+        let mut parts = new_desk(alloc, &track);
+        let first = run_lines(
+            &rt,
+            &track,
+            &mut parts,
+            &stops(&rt, 0, 9),
+            workers,
+            &AllWorkers,
+        );
+        let second = run_lines(
+            &rt,
+            &track,
+            &mut parts,
+            &stops(&rt, 9, 10),
+            workers,
+            &AllWorkers,
+        );
+        same(&rt, (first.is_ok(), second.is_ok()), (true, true));
+        assert_desk(&rt, &whole, FULL.output);
+        assert_desk(&rt, &parts, FULL.output);
+    }
+}
+
+/// Ten stops that begin, by one worker.
+fn ten_stops_by_one<R, G>(rt: &R, gate: &G)
+where
+    R: Abort + AllocGlobal + Threads + Wait + Sync,
+    G: Gate + Sync,
+{
+    let track = good_track(rt);
+    let mut desk = new_desk(rt.alloc(), &track);
+    let stats = run_lines(rt, &track, &mut desk, &stops(rt, 0, 10), 1, gate);
+    let wanted = Stats {
+        taken: 10,
+        recomputed: 0,
+    };
+    same(rt, stats, Ok(wanted));
+    let text = render(rt.alloc(), &desk).expect(rt, "memory");
+    same(rt, text.ends_with(b"7 10 1002800000025FFFFFF0\n"), true);
+}
+
+// One worker takes each input after all before it are committed: in the book of a run, and on the desk itself behind an open gate.
+#[test]
+fn computes_nothing_twice_alone(rt: HostRuntime) {
+    ten_stops_by_one(&rt, &AllWorkers);
+    ten_stops_by_one(&rt, &OpenGate);
+    let track = good_track(&rt);
+    let mut desk = new_desk(rt.alloc(), &track);
+    let none = run_lines(&rt, &track, &mut desk, "", 16, &OpenGate);
+    let wanted = Stats {
+        taken: 0,
+        recomputed: 0,
+    };
+    same(&rt, none, Ok(wanted));
+}
+
+// The workers are looked at before the inputs, and a refused run leaves the desk.
+#[test]
+fn refuses_too_many(rt: HostRuntime) {
+    let track = good_track(&rt);
+    let mut desk = new_desk(rt.alloc(), &track);
+    let begun = run_lines(&rt, &track, &mut desk, STOPPED.batch, 16, &OpenGate);
+    same(&rt, begun.is_ok(), true);
+    let mut long = String::new(rt.alloc());
+    for _ in 0..100_001 {
+        long.push('\n').expect(&rt, "memory");
+    }
+    let by_none = run_lines(&rt, &track, &mut desk, &long, 0, &OpenGate);
+    same(&rt, by_none, Err(RunError::Workers));
+    let by_17 = run_lines(&rt, &track, &mut desk, &long, 17, &OpenGate);
+    same(&rt, by_17, Err(RunError::Workers));
+    let refused = run_lines(&rt, &track, &mut desk, &long, 16, &OpenGate);
+    same(&rt, refused, Err(RunError::TooManyInputs));
+    assert_desk(&rt, &desk, STOPPED.output);
+}

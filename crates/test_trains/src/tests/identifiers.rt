@@ -1,0 +1,311 @@
+//! Tables of a train whose identifiers are issued, revoked, acknowledged and freed.
+
+ghost use Rattle.std.specs.Prelude.{◌≤◌};
+
+use super::same;
+use rbc_ids::{IdAck, IdTable, IssueError, Kind, Slot, StampAck};
+use std::alloc::Global;
+use std::cell::Cell;
+use std::process::Abort;
+use test_fixtures::issue;
+
+/// Uses an identifier for a number with stamp 40 if it is free, and returns whether it was.
+fn tell(rt: &impl Abort, table: &mut IdTable<15>, id: u8, number: u32) -> bool {
+    match table.slot(id) {
+        None if id < 15 => {
+            table
+                .tell(id, number, 40, Kind::Conditional)
+                .expect(rt, "memory");
+            true
+        }
+        _ => false,
+    }
+}
+
+/// Revokes an identifier if it is used, and returns whether it was.
+fn revoke<const N: usize>(table: &mut IdTable<N>, id: u8, stamp: u32) -> bool {
+    match table.slot(id) {
+        Some(Slot::Used { .. }) => {
+            table.revoke(id, stamp);
+            true
+        }
+        _ => false,
+    }
+}
+
+/// Frees an identifier if it is held, and returns whether it was.
+fn free<const N: usize>(table: &mut IdTable<N>, id: u8) -> bool {
+    match table.slot(id) {
+        Some(_) => {
+            table.free(id);
+            true
+        }
+        None => false,
+    }
+}
+
+/// Makes a table in which the first identifiers are used by unconditional stops, each with its number as the stamp.
+fn stops<const N: usize>(rt: &impl Abort, alloc: Global, count: u8) -> IdTable<N>
+    requires { N ≤ 255 }
+{
+    let mut table = IdTable::new(alloc);
+    for id in 0..count {
+        let number = u32::from(id);
+        let issued = issue(&mut table, number, number, Kind::Unconditional);
+        same(rt, issued, Some(Ok(id)));
+    }
+    table
+}
+
+/// Returns the slot of such an identifier.
+fn stop(id: u8) -> Slot {
+    Slot::Used {
+        number: u32::from(id),
+        stamp: u32::from(id),
+        kind: Kind::Unconditional,
+        acked: false,
+    }
+}
+
+/// Makes a table of 15 in which identifier 0 is used by number 1 with stamp 7.
+fn one(rt: &impl Abort, alloc: Global, kind: Kind) -> IdTable<15> {
+    let mut table = IdTable::new(alloc);
+    same(rt, issue(&mut table, 1, 7, kind), Some(Ok(0)));
+    table
+}
+
+/// Returns the slot of `one`, acknowledged or not.
+fn told(kind: Kind, acked: bool) -> Option<Slot> {
+    Some(Slot::Used {
+        number: 1,
+        stamp: 7,
+        kind,
+        acked,
+    })
+}
+
+#[test]
+fn fills_and_frees(rt: HostRuntime) {
+    let mut table = stops::<15>(&rt, rt.alloc(), 15);
+    same(&rt, table.least_free(), None);
+    same(
+        &rt,
+        issue(&mut table, 15, 15, Kind::Conditional),
+        Some(Err(IssueError::Full)),
+    );
+    for id in 0u8..15 {
+        same(&rt, table.slot(id), Some(stop(id)));
+    }
+    assert!(rt; revoke(&mut table, 3, 99));
+    same(&rt, table.slot(3), Some(Slot::Revoking { stamp: 99 }));
+    same(
+        &rt,
+        issue(&mut table, 15, 15, Kind::Conditional),
+        Some(Err(IssueError::Full)),
+    );
+    same(&rt, table.held(), 15);
+    assert!(rt; free(&mut table, 3));
+    same(&rt, table.least_free(), Some(3));
+    same(&rt, table.held(), 14);
+}
+
+#[test]
+fn issues_the_least_free_identifier(rt: HostRuntime) {
+    let mut table = stops::<15>(&rt, rt.alloc(), 6);
+    for id in [1u8, 4, 2] {
+        assert!(rt; free(&mut table, id));
+    }
+    for (number, want) in [(20, 1), (21, 2), (22, 4), (23, 6)] {
+        same(&rt, table.least_free(), Some(want));
+        same(
+            &rt,
+            issue(&mut table, number, 50, Kind::Restriction),
+            Some(Ok(want)),
+        );
+        same(&rt, table.of_number(number), Some(want));
+    }
+}
+
+// identifiers below it may be free, and identifiers above it held
+#[test]
+fn tells_under_the_identifier_that_was_chosen(rt: HostRuntime) {
+    let mut table = IdTable::<15>::new(rt.alloc());
+    let numbers = [(7u8, 30u32), (14, 31), (0, 32), (6, 33)];
+    for (id, number) in numbers {
+        assert!(rt; tell(&rt, &mut table, id, number));
+    }
+    for (id, number) in numbers {
+        let slot = Slot::Used {
+            number,
+            stamp: 40,
+            kind: Kind::Conditional,
+            acked: false,
+        };
+        same(&rt, table.slot(id), Some(slot));
+        assert!(rt; !tell(&rt, &mut table, id, 34));
+    }
+    assert!(rt; !tell(&rt, &mut table, 15, 34));
+    same(&rt, (table.held(), table.least_free()), (4, Some(1)));
+}
+
+#[test]
+fn issues_255_identifiers(rt: HostRuntime) {
+    let mut table = stops::<255>(&rt, rt.alloc(), 255);
+    same(
+        &rt,
+        issue(&mut table, 255, 0, Kind::Restriction),
+        Some(Err(IssueError::Full)),
+    );
+    same(&rt, table.held(), 255);
+    same(&rt, table.slot(0), Some(stop(0)));
+    same(&rt, table.slot(254), Some(stop(254)));
+    same(&rt, table.slot(255), None);
+}
+
+#[test]
+fn acknowledges_stops_by_their_identifier(rt: HostRuntime) {
+    for (kind, id, answer, want) in [
+        (Kind::Conditional, 0u8, 0u8, IdAck::Marked),
+        (Kind::Conditional, 0, 1, IdAck::Marked),
+        (Kind::Conditional, 0, 2, IdAck::Nothing),
+        (Kind::Conditional, 0, 3, IdAck::Rejected(1)),
+        (Kind::Conditional, 0, 4, IdAck::Nothing),
+        (Kind::Conditional, 1, 3, IdAck::Nothing),
+        (Kind::Conditional, 15, 2, IdAck::Nothing),
+        (Kind::Unconditional, 0, 0, IdAck::Nothing),
+        (Kind::Unconditional, 0, 1, IdAck::Nothing),
+        (Kind::Unconditional, 0, 2, IdAck::Marked),
+        (Kind::Unconditional, 0, 3, IdAck::Nothing),
+        (Kind::Restriction, 0, 0, IdAck::Nothing),
+        (Kind::Restriction, 0, 2, IdAck::Nothing),
+        (Kind::Restriction, 0, 3, IdAck::Nothing),
+    ] {
+        let mut table = one(&rt, rt.alloc(), kind);
+        same(&rt, table.ack_id(id, answer), want);
+        let after = match want {
+            IdAck::Marked => told(kind, true),
+            IdAck::Rejected(_) => None,
+            IdAck::Nothing => told(kind, false),
+        };
+        same(&rt, table.slot(0), after);
+    }
+}
+
+#[test]
+fn acknowledges_a_stop_twice(rt: HostRuntime) {
+    let mut table = one(&rt, rt.alloc(), Kind::Conditional);
+    same(&rt, table.ack_id(0, 1), IdAck::Marked);
+    same(&rt, table.ack_id(0, 1), IdAck::Marked);
+    same(&rt, table.ack_id(0, 3), IdAck::Rejected(1));
+    same(&rt, table.ack_id(0, 3), IdAck::Nothing);
+}
+
+#[test]
+fn acknowledges_no_stop_that_is_revoked(rt: HostRuntime) {
+    for kind in [Kind::Conditional, Kind::Unconditional] {
+        let mut table = one(&rt, rt.alloc(), kind);
+        assert!(rt; revoke(&mut table, 0, 8));
+        for answer in 0u8..4 {
+            same(&rt, table.ack_id(0, answer), IdAck::Nothing);
+        }
+        same(&rt, table.slot(0), Some(Slot::Revoking { stamp: 8 }));
+    }
+}
+
+#[test]
+fn acknowledges_by_the_stamp(rt: HostRuntime) {
+    for (kind, want) in [
+        (Kind::Conditional, StampAck::Nothing),
+        (Kind::Unconditional, StampAck::Nothing),
+        (Kind::Restriction, StampAck::Marked),
+    ] {
+        let mut table = one(&rt, rt.alloc(), kind);
+        same(&rt, table.ack_stamp(6), StampAck::Nothing);
+        for _ in 0..2 {
+            same(&rt, table.ack_stamp(7), want);
+            same(&rt, table.slot(0), told(kind, want == StampAck::Marked));
+        }
+        assert!(rt; revoke(&mut table, 0, 8));
+        same(&rt, table.ack_stamp(7), StampAck::Nothing);
+        same(&rt, table.ack_stamp(8), StampAck::Freed);
+        same(&rt, table.slot(0), None);
+        same(&rt, table.ack_stamp(8), StampAck::Nothing);
+    }
+}
+
+#[test]
+fn finds_numbers_that_are_told(rt: HostRuntime) {
+    let mut table = stops::<15>(&rt, rt.alloc(), 3);
+    same(&rt, table.of_number(1), Some(1));
+    same(&rt, table.of_number(3), None);
+    assert!(rt; revoke(&mut table, 1, 9));
+    same(&rt, table.of_number(1), None);
+    same(
+        &rt,
+        issue(&mut table, 1, 10, Kind::Conditional),
+        Some(Ok(3)),
+    );
+    same(&rt, table.of_number(1), Some(3));
+}
+
+// numbers 0 and 2, and 1 again, after its first identifier is being revoked; each with the index behind its slot
+#[test]
+fn finds_numbers_wherever_the_search_begins(rt: HostRuntime) {
+    let mut table = stops::<15>(&rt, rt.alloc(), 3);
+    assert!(rt; revoke(&mut table, 1, 9));
+    same(
+        &rt,
+        issue(&mut table, 1, 10, Kind::Conditional),
+        Some(Ok(3)),
+    );
+    for start in [0, 1, 2, 3, 4, 5, usize::MAX] {
+        for (number, behind) in [(0, Some(1)), (1, Some(4)), (2, Some(3)), (9, None)] {
+            let near = Cell::new(start);
+            same(&rt, table.tells(number, &near), behind.is_some());
+            same(&rt, near.get(), behind.unwrap_or(start));
+        }
+    }
+}
+
+#[test]
+fn copies_each_slot(rt: HostRuntime) {
+    let mut table = stops::<15>(&rt, rt.alloc(), 15);
+    assert!(rt; revoke(&mut table, 6, 20));
+    same(&rt, table.ack_id(9, 2), IdAck::Marked);
+    let copy = table.copy(rt.alloc()).expect(&rt, "memory");
+    same(&rt, copy.held(), 15);
+    for id in 0u8..16 {
+        same(&rt, copy.slot(id), table.slot(id));
+    }
+}
+
+#[test]
+fn tables_differ_by_each_part_of_a_slot(rt: HostRuntime) {
+    let table = one(&rt, rt.alloc(), Kind::Conditional);
+    for (number, stamp, kind, wanted) in [
+        (1, 7, Kind::Conditional, true),
+        (2, 7, Kind::Conditional, false),
+        (1, 8, Kind::Conditional, false),
+        (1, 7, Kind::Unconditional, false),
+    ] {
+        let mut other = IdTable::<15>::new(rt.alloc());
+        same(&rt, other.is_same(&table), false);
+        same(&rt, issue(&mut other, number, stamp, kind), Some(Ok(0)));
+        same(&rt, other.is_same(&table), wanted);
+    }
+    let mut other = table.copy(rt.alloc()).expect(&rt, "memory");
+    same(&rt, other.ack_id(0, 1), IdAck::Marked);
+    same(&rt, other.is_same(&table), false);
+    assert!(rt; revoke(&mut other, 0, 7));
+    same(&rt, other.is_same(&table), false);
+    let mut first = IdTable::<15>::new(rt.alloc());
+    let mut second = IdTable::<15>::new(rt.alloc());
+    assert!(rt; tell(&rt, &mut first, 1, 30) && tell(&rt, &mut second, 2, 30));
+    same(&rt, first.is_same(&second), false);
+}
+
+#[test]
+fn reads_the_stamp_of_a_slot(rt: HostRuntime) {
+    same(&rt, stop(5).stamp(), 5);
+    same(&rt, Slot::Revoking { stamp: 6 }.stamp(), 6);
+}
