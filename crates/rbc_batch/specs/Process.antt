@@ -8,9 +8,9 @@ use Rattle.rbc_batch.specs.declared.batch.ProcessError.TheVariants as fault
 use Rattle.rbc_rule.specs.declared.input.Input.{Input}
 use Rattle.rbc_text.specs.BatchText.{AreInputsOf}
 use Rattle.rbc_core.specs.declared.book.Stats.{Stats}
-use Rattle.rbc_core.specs.Serial.{serial, new_desk}
-use Rattle.rbc_core.specs.Held.{Held, Holds, standing}
-use Rattle.rbc_core.specs.SaidMails.{AreSaidMails}
+use Rattle.rbc_desk.specs.Serial.{serial, new_desk}
+use Rattle.rbc_desk.specs.Held.{Held, Holds, standing}
+use Rattle.rbc_desk.specs.SaidMails.{AreSaidMails}
 use Rattle.rbc_engine.specs.declared.workers.RunError.{RunError}
 use Rattle.rbc_engine.specs.declared.workers.RunError.TheVariants.{Workers, TooManyInputs, OutOfMemory}
 use Rattle.rbc_engine.specs.Answers.{MayWork, max_inputs, fault_text as run_fault_text}

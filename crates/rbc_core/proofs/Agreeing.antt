@@ -13,9 +13,9 @@ use Rattle.rbc_versions.specs.Entries.{NumberedRec, AreOfWrites, AreKeyedOf, num
 use Rattle.rbc_rule.specs.declared.input.Input.{Input}
 use Rattle.rbc_rule.specs.declared.outcome.Outcome.{Outcome}
 use Rattle.rbc_rule.specs.Right.{IsRight}
+use Rattle.rbc_desk.specs.Held.{IsOutcomeOf}
 use Rattle.rbc_core.specs.declared.stage.Stage.{Stage}
 use Rattle.rbc_core.specs.declared.stage.Stage.TheVariants.{Free, Out, Tried, Void}
-use Rattle.rbc_core.specs.Held.{IsOutcomeOf}
 use Rattle.rbc_core.specs.Runs.{Run, IsInput}
 use Rattle.rbc_core.specs.Core.{Try, IsRightTry}
 use Rattle.rbc_core.specs.Books.{ArePresent, Judges, IsOutcomeAt, record_now}

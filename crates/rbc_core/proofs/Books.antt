@@ -1,9 +1,7 @@
 -- Each call of a book keeps what is true of it.
 use Rattle.std.proofs.Common.{◌≡◌, ◌≢◌, ◌⊎◌, ℕ, zero, suc, ◌+◌, ◌-◌, ◌<◌, ◌≤◌, Bool, true, false, cond, List, [], ◌∷◌, length, take, set, Option, Some, None, inl, inr, ⊎_elim, refl, sym, ap, ◌∙◌, subst, arith}
 use Rattle.std.specs.Prelude.{slice_get, replicate}
-use Rattle.std.specs.List.{All}
 use Rattle.std.proofs.lemmas.List.{length-set, length-replicate, length-append}
-use Rattle.std.proofs.lemmas.List.Elements.{All-get_or}
 use Rattle.std.proofs.lemmas.Option.{slice_get_within, get_or_from_slice_get}
 use Rattle.rbc_records.specs.declared.record.Key.{Key}
 use Rattle.rbc_records.specs.Notes.{same_key}
@@ -12,18 +10,18 @@ use Rattle.rbc_versions.specs.Entries.{NumberedRec, AreCurrent, numbered, ticket
 use Rattle.rbc_rule.specs.declared.input.Input.{Input}
 use Rattle.rbc_rule.specs.declared.outcome.Outcome.{Outcome}
 use Rattle.rbc_rule.specs.Inputs.{Fits}
+use Rattle.rbc_desk.specs.Held.{Standing, Holds, IsOutcomeOf, after_outcome}
+use Rattle.rbc_desk.specs.Serial.{Desk, step, serial}
+use Rattle.rbc_desk.proofs.Runs.{fold_more, All-get}
+use Rattle.rbc_desk.proofs.Stands.{holds_after, boxes_after}
 use Rattle.rbc_core.specs.declared.stage.Stage.{Stage}
 use Rattle.rbc_core.specs.declared.stage.Stage.TheVariants.{Free, Out, Tried, Void}
-use Rattle.rbc_core.specs.Held.{Standing, Holds, IsOutcomeOf, after_outcome}
-use Rattle.rbc_core.specs.Serial.{Desk, step, serial}
 use Rattle.rbc_core.specs.Runs.{Run, IsGoodRun, IsInput}
 use Rattle.rbc_core.specs.Core.{Try, IsRightTry, State, opening, IsAt, front, IsReady, IsStale}
 use Rattle.rbc_core.specs.declared.book.Commit.TheVariants.{Applied, Recomputed, NotReady, Failed}
 use Rattle.rbc_core.specs.Events.{Happens, Commits}
 use Rattle.rbc_core.specs.Events.Event.{Deposits, Voids}
 use Rattle.rbc_core.specs.Books.{IsStage, AreStages, IsKept, IsOutIn, Judges, IsJudged, IsCarriedOut, number_now}
-use Rattle.rbc_core.proofs.Runs.{fold_more}
-use Rattle.rbc_core.proofs.Stands.{holds_after, boxes_after}
 
 module _ {A : Type 0} where
   -- what is read from a list after a write
@@ -49,10 +47,6 @@ module _ {A : Type 0} where
   set_set [] i x y = refl
   set_set (z ∷ zs) zero x y = refl
   set_set (z ∷ zs) (suc i) x y = ap (λ l. z ∷ l) (set_set zs i x y)
-
-  -- what holds of each holds of the one at an index
-  pub All-get : (P : A → Type 0) (xs : List A) (i : ℕ) (x : A) → All P xs → slice_get xs i ≡ Some x → P x
-  All-get P xs i x all e = subst P (get_or_from_slice_get xs i x x e) (All-get_or P xs i x (slice_get_within xs i x e) all)
 
 -- ---- stages
 

@@ -6,9 +6,9 @@ use Rattle.std.proofs.lemmas.List.Elements.{All-head, All-tail}
 use Rattle.rbc_records.specs.declared.record.Key.{Key}
 use Rattle.rbc_versions.specs.Entries.{NumberedRec, AreOfWrites, numbers_after}
 use Rattle.rbc_rule.specs.declared.outcome.Outcome.{Outcome}
+use Rattle.rbc_desk.specs.Held.{IsOutcomeOf, after_outcome}
 use Rattle.rbc_core.specs.declared.stage.Stage.{Stage}
 use Rattle.rbc_core.specs.declared.stage.Stage.TheVariants.{Free, Out, Tried, Void}
-use Rattle.rbc_core.specs.Held.{IsOutcomeOf, after_outcome}
 use Rattle.rbc_core.specs.Runs.{Run, IsGoodRun, IsInput}
 use Rattle.rbc_core.specs.Core.{Try, IsRightTry, State, opening, IsAt, front, IsReady, IsStale, with_stage}
 use Rattle.rbc_core.specs.Books.{IsKept}

@@ -1,11 +1,4 @@
-pub mod Begins
-pub mod Kept
-pub mod Posts
-pub mod Runs
-pub mod Sends
-pub mod Stands
 pub mod Books
-pub mod TakesBack
 pub mod Agreeing
 pub mod Meanings
 pub mod Laws
@@ -18,6 +11,4 @@ pub mod Reaching
 pub mod WitnessEvents
 pub mod WitnessConflicts
 pub mod WitnessForwards
-pub mod WitnessMails
-pub mod Spelled
 pub mod Presents

@@ -8,8 +8,8 @@ use Rattle.rbc_records.specs.Notes.{same_key, record_in}
 use Rattle.rbc_records.proofs.Keys.{same_key_is}
 use Rattle.rbc_versions.specs.Log.{LogName, Shown, IsOf}
 use Rattle.rbc_versions.specs.Entries.{AreKeyedOf, StandIn, ticket_in, tickets_after}
+use Rattle.rbc_desk.specs.Held.{Held, Standing, standing, after_outcome}
 use Rattle.rbc_core.specs.declared.stage.Stage.TheVariants.{Free}
-use Rattle.rbc_core.specs.Held.{Held, Standing, standing, after_outcome}
 use Rattle.rbc_core.specs.Runs.{Run, IsGoodRun}
 use Rattle.rbc_core.specs.Core.{Try}
 use Rattle.rbc_core.specs.declared.stage.Stage.{Stage}

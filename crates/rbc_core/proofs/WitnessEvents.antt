@@ -26,7 +26,7 @@ use Rattle.rbc_rule.specs.WellFormed.{IsWellFormed}
 use Rattle.rbc_rule.specs.Witnesses.{track_a}
 use Rattle.rbc_rule.proofs.WitnessSays.{differ}
 use Rattle.rbc_rule.proofs.WorldMaps.{eqb_turned}
-use Rattle.rbc_core.specs.Held.{IsOutcomeOf}
+use Rattle.rbc_desk.specs.Held.{IsOutcomeOf}
 use Rattle.rbc_core.specs.declared.stage.Stage.{Stage}
 use Rattle.rbc_core.specs.declared.stage.Stage.TheVariants.{Out, Tried, Void}
 use Rattle.rbc_core.specs.Runs.{IsInput}

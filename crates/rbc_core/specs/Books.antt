@@ -2,7 +2,6 @@
 use Rattle.std.specs.Prelude.{◌≡◌, ◌⊎◌, ℕ, ◌+◌, ◌-◌, ◌<◌, ◌≤◌, Bool, true, false, List, length, Option, Some, None, slice_get}
 use Rattle.std.specs.Bool.{OnTrue}
 use Rattle.std.specs.Option.{option_map}
-use Rattle.rbc_track.specs.Plan.{Plan}
 use Rattle.rbc_records.specs.declared.record.Key.{Key}
 use Rattle.rbc_records.specs.declared.record.Rec.{Rec}
 use Rattle.rbc_records.specs.Notes.{AreNow, record_in}
@@ -10,12 +9,9 @@ use Rattle.rbc_versions.specs.Log.{LogName, Shown, number_of}
 use Rattle.rbc_versions.specs.Entries.{AreCurrent, AreOfWrites, AreKeyedOf, StandIn, numbered, record_of, records_of, ticket_in, tickets_after}
 use Rattle.rbc_rule.specs.declared.input.Input.{Input}
 use Rattle.rbc_rule.specs.declared.outcome.Outcome.{Outcome}
-use Rattle.rbc_rule.specs.declared.outcome.RuleFault.{RuleFault}
-use Rattle.rbc_rule.specs.declared.outcome.RuleFault.TheVariants.{OutOfMemory}
-use Rattle.rbc_rule.specs.World.{World}
+use Rattle.rbc_desk.specs.Held.{Held, Standing, standing, AreOutboxes, IsOutcomeOf, after_outcome}
 use Rattle.rbc_core.specs.declared.stage.Stage.{Stage}
 use Rattle.rbc_core.specs.declared.stage.Stage.TheVariants.{Free, Out, Tried, Void}
-use Rattle.rbc_core.specs.Held.{Held, Standing, standing, AreOutboxes, AreRecordsOf, IsOutcomeOf, after_outcome}
 use Rattle.rbc_core.specs.Runs.{Run, IsGoodRun, IsInput, IsSerialRun}
 use Rattle.rbc_core.specs.Core.{Try, State}
 
@@ -92,10 +88,6 @@ Judges tickets Out (Some fresh) = ⊥
 
 abbrev pub IsJudged : List (Stage Try) → ℕ → List (Key × Shown) → Option Bool → Type 0
 IsJudged stages index tickets answer = (g : Stage Try) × (slice_get stages index ≡ Some g) × Judges tickets g answer
-
--- the only fault over the records of a well-formed world is lack of memory
-abbrev pub IsMemoryOf : Plan → (Key → Option Rec) → RuleFault → Type 0
-IsMemoryOf track records fault = (w : World) → AreRecordsOf track records w → fault ≡ OutOfMemory
 
 -- an outcome of the input at an index, with its publication: right for the records, and that of the attempt where it is fresh
 pub record IsOutcomeAt (run : Run) (log : LogName) (index : ℕ) (stage : Stage Try) (is_fresh : Bool) (records : Key → Option Rec) (outcome : Outcome) (entries : List (Key × Option Shown)) : Type 0 where

@@ -7,9 +7,9 @@ use Rattle.rbc_rule.specs.declared.input.Input.{Input}
 use Rattle.rbc_rule.specs.declared.outcome.Outcome.{Outcome}
 use Rattle.rbc_rule.specs.Gathered.{AreSendable}
 use Rattle.rbc_rule.specs.Right.{IsRight}
+use Rattle.rbc_desk.specs.Held.{Standing, standing}
 use Rattle.rbc_core.specs.declared.stage.Stage.{Stage}
 use Rattle.rbc_core.specs.declared.stage.Stage.TheVariants.{Free, Tried, Void}
-use Rattle.rbc_core.specs.Held.{Standing, standing}
 use Rattle.rbc_core.specs.Runs.{Run, IsInput}
 
 -- An attempt: the number of an input; under each key that was read the number that was answered, with the record that it means; what the

@@ -8,10 +8,10 @@ use Rattle.rbc_versions.specs.declared.log.Version.{Version}
 use Rattle.rbc_versions.specs.Entries.{NumberedRec, AreCurrent, AreOfWrites, number_for, numbers_after}
 use Rattle.rbc_rule.specs.declared.input.Input.{Input}
 use Rattle.rbc_rule.specs.declared.outcome.Outcome.{Outcome}
+use Rattle.rbc_desk.specs.Held.{standing, after_outcome, IsOutcomeOf}
 use Rattle.rbc_core.specs.declared.stage.Stage.TheVariants.{Free, Out, Tried, Void}
 use Rattle.rbc_core.specs.declared.book.Commit.{Commit}
 use Rattle.rbc_core.specs.declared.book.Commit.TheVariants.{Applied, Recomputed, NotReady, Done, Failed}
-use Rattle.rbc_core.specs.Held.{standing, after_outcome, IsOutcomeOf}
 use Rattle.rbc_core.specs.Runs.{Run, IsInput, IsGoodRun, IsSerialRun}
 use Rattle.rbc_core.specs.Core.{Try, IsRightTry, State, opening, IsAt, front, IsReady, IsStale, with_stage}
 

@@ -1,6 +1,3 @@
-pub mod Serial
-pub mod Sendable
-pub mod Held
 pub mod Runs
 pub mod Core
 pub mod Events
@@ -8,6 +5,5 @@ pub mod Conflicts
 pub mod Forwards
 pub mod Reaches
 pub mod Books
-pub mod SaidMails
 pub mod Facts
 pub mod Witnesses

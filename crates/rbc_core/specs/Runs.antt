@@ -4,8 +4,10 @@ use Rattle.std.specs.List.{All}
 use Rattle.rbc_track.specs.Plan.{Plan, IsPlan}
 use Rattle.rbc_rule.specs.declared.input.Input.{Input}
 use Rattle.rbc_rule.specs.Inputs.{Fits}
-use Rattle.rbc_core.specs.Serial.{Desk, serial}
-use Rattle.rbc_core.specs.Held.{Held, Standing, standing, Holds, AreOutboxes, max_results}
+use Rattle.rbc_desk.specs.declared.outbox.Mail.{Mail}
+use Rattle.rbc_desk.specs.Serial.{Desk, serial}
+use Rattle.rbc_desk.specs.Held.{Held, Standing, standing, Holds, AreOutboxes, max_results}
+use Rattle.rbc_desk.specs.SaidMails.{AreSaidMails}
 
 -- the track, what is held before, and the inputs
 pub record Run : Type 0 where
@@ -35,3 +37,8 @@ pub record IsInput (run : Run) (number : ℕ) (input : Input) : Type 0 where
 -- what is held is the desk of the rules applied to the first inputs, one after another
 abbrev pub IsSerialRun : Run → ℕ → Standing → Type 0
 IsSerialRun run count held = (desk : Desk) → Holds run.track (standing run.opening) desk → Holds run.track held (serial run.track desk (take count run.inputs))
+
+-- what is held after the first inputs of a run has, more than what was held before, such mails alone
+abbrev pub IsSaidSince : Run → ℕ → List (ℕ × List Mail) → Type 0
+IsSaidSince run count outboxes =
+    (desk : Desk) → Holds run.track (standing run.opening) desk → AreSaidMails run.track desk (take count run.inputs) run.opening.outboxes outboxes

@@ -1,4 +1,4 @@
--- Worked cases of the laws of events, of what is computed again, and of mails. Places and lengths are in units of 10 cm.
+-- Worked cases of the laws of events and of what is computed again. Lengths are in units of 10 cm.
 use Rattle.std.specs.Prelude.{ℕ, zero, suc, true, false, List, [], ◌∷◌, ◌++◌, Some, None, if◌then◌else◌, slice_get}
 use Rattle.rbc_maps.specs.Numbered.{none_numbered}
 use Rattle.rbc_settle.specs.Trains.{new_train}
@@ -9,22 +9,18 @@ use Rattle.rbc_records.specs.declared.record.Rec.TheVariants as rec
 use Rattle.rbc_records.specs.Notes.{same_key}
 use Rattle.rbc_versions.specs.declared.log.Version.{Version}
 use Rattle.rbc_versions.specs.Entries.{NumberedRec}
-use Rattle.rbc_rule.specs.declared.input.Input.{Input}
 use Rattle.rbc_rule.specs.declared.input.Input.TheVariants as input
 use Rattle.rbc_rule.specs.declared.outcome.Outcome.{Outcome}
 use Rattle.rbc_rule.specs.declared.outcome.Reply.TheVariants.{Done, Refused}
-use Rattle.rbc_rule.specs.Witnesses.{track_a, facing_up, on_line_0, only_train_7, stop_before, revoke}
-use Rattle.rbc_core.specs.declared.outbox.Mail.{Mail}
+use Rattle.rbc_rule.specs.Witnesses.{track_a}
+use Rattle.rbc_desk.specs.Held.{Held, standing}
 use Rattle.rbc_core.specs.declared.stage.Stage.TheVariants.{Free, Out, Tried, Void}
-use Rattle.rbc_core.specs.Serial.{Desk, mail}
-use Rattle.rbc_core.specs.Held.{Held, standing}
 use Rattle.rbc_core.specs.Runs.{Run}
 use Rattle.rbc_core.specs.Core.{Try, State, opening}
 use Rattle.rbc_core.specs.Events.{Event, Meaning}
 use Rattle.rbc_core.specs.Events.Event.{Publishes, Takes, Reads, Deposits, Voids, Applies, Recomputes, Ends, Fails}
 use Rattle.rbc_core.specs.Conflicts.{after, AreAnswered}
 use Rattle.rbc_core.specs.Forwards.{AreLatest, AreAfterDeposits, NoneIsVoided}
-use Rattle.rbc_core.specs.SaidMails.{IsSaidMail, AreSaidMails}
 
 -- from a new desk: train 7 of 200 m is enrolled, and then comes a line that is no input
 abbrev pub two_inputs : Run
@@ -272,27 +268,3 @@ stops_there = record first_committed { desk = standing (record enrolled_desk { r
 -- or they have a number
 abbrev pub stops_numbered : State
 stops_numbered = record first_committed { present = λ k. if same_key k key.Stops then 4 else three_numbers k }
-
--- ---- mails
-
--- train 7 stands 200 m beyond balise group 5 and faces up, and nothing was told to it
-abbrev pub desk_7 : Desk
-desk_7 = record { world = only_train_7 facing_up; results = []; outboxes = [] }
-
--- stop 1 of 20000 to 21000 becomes active, and is released
-abbrev pub stop_and_release : List Input
-stop_and_release = input.Stop 1 (on_line_0 20000 21000 ∷ []) ∷ input.Release 1 ∷ []
-
--- what the train is told of each
-abbrev pub stop_told : Mail
-stop_told = mail 1 (stop_before 1 0 10000)
-
-abbrev pub stop_revoked : Mail
-stop_revoked = mail 2 (revoke 0)
-
--- what the law says of a mail to an engine in this run, and of outboxes after it
-abbrev pub IsSaidThere : ℕ → Mail → Type 0
-IsSaidThere engine sent = IsSaidMail track_a desk_7 stop_and_release engine sent
-
-abbrev pub AreSaidThere : List (ℕ × List Mail) → List (ℕ × List Mail) → Type 0
-AreSaidThere old new = AreSaidMails track_a desk_7 stop_and_release old new

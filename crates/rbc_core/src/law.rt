@@ -4,19 +4,12 @@ ghost use Rattle.rbc_core.specs.Events.{EventsAreSerial};
 ghost use Rattle.rbc_core.specs.Conflicts.{EachIsExplained};
 ghost use Rattle.rbc_core.specs.Forwards.{NoneIsComputedAgain};
 ghost use Rattle.rbc_core.specs.Facts.{AttemptsStay, RecordsStay, NumbersStay, ClosedStays};
-ghost use Rattle.rbc_core.specs.SaidMails.{EachRunSays};
 
 /// After any events of a book, in any order, the desk is that of the rules applied to the inputs that are committed, one after
 /// another: attempts made from reads at different moments make no difference, although an attempt is taken over by comparing nothing
 /// but numbers. It rests on this, that a number means one record for good.
 pub fn event_law()
     ensures { EventsAreSerial }
-{}
-
-/// Each mail that a run adds to an engine's outbox has the number of the input that caused it, and says what the rules give that train
-/// after that input, for one thing that settling it does.
-pub fn mails_law()
-    ensures { EachRunSays }
 {}
 
 /// What one event leaves: an attempt that was deposited stays until its input is committed, or lost where memory is refused, which

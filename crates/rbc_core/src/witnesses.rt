@@ -1,10 +1,8 @@
 //! Worked cases of the laws: right ones, of which a law's statement holds, and wrong ones, of which it does not.
 
-ghost use Rattle.std.specs.Prelude.{◌≡◌, [], ◌∷◌, Some, None, true, false};
+ghost use Rattle.std.specs.Prelude.{◌≡◌, [], ◌∷◌, Some, None, true};
 ghost use Rattle.std.specs.List.{All};
 ghost use Rattle.rbc_records.specs.declared.record.Key.TheVariants as key;
-ghost use Rattle.rbc_rule.specs.Witnesses.{stop_before, stop_now, revoke};
-ghost use Rattle.rbc_core.specs.Serial.{mail};
 ghost use Rattle.rbc_core.specs.Events.{May, Follow, Meaning, AreMeant, IsMeant, IsOpeningIn, IsForwarded};
 ghost use Rattle.rbc_core.specs.Events.Event.{Takes, Deposits, Applies, Recomputes, Waits, Ends};
 ghost use Rattle.rbc_core.specs.Facts.{KeepsAttempts, KeepsRecords, KeepsNumbers, KeepsClosed};
@@ -15,7 +13,6 @@ ghost use Rattle.rbc_core.specs.Witnesses.{first_try, second_try, stops_try, com
 ghost use Rattle.rbc_core.specs.Witnesses.{both_tried, first_committed, first_lost, none_tried, second_enrols, second_gone, second_changed, engines_there, stops_there, stops_numbered};
 ghost use Rattle.rbc_core.specs.Witnesses.{second_overtaken, second_given_up, giving_up, again_for_nothing, stops_read, nothing_read};
 ghost use Rattle.rbc_core.specs.Witnesses.{forwarded_try, first_tried, forwarding, applying_forwarded, passing_over, then_again, MissesAnswers, MissesAttempts, MissesLatest, MissesDeposits, started_with_4, second_misled};
-ghost use Rattle.rbc_core.specs.Witnesses.{stop_told, stop_revoked, IsSaidThere, AreSaidThere};
 
 /// From the empty state train 7 is enrolled, and then comes a line that is no input. The three records of the first are published under the
 /// numbers 1, 2 and 3.
@@ -128,24 +125,4 @@ pub fn forward_law_witnesses()
     ensures passed_over_again { Follow two_inputs start (then_again passing_over) }
     ensures too_early { MissesDeposits second_overtaken }
     ensures too_early_again { Follow two_inputs start (then_again second_overtaken) }
-{}
-
-/// Train 7 stands 200 m beyond balise group 5, facing up. Stop 1 of 20000 to 21000 becomes active, and is released.
-///
-/// Right: mail 1 tells the train to stop before 20000, mail 2 revokes that, and the train's outbox has these two more.
-///
-/// Wrong: the stop is told by mail 2, or by mail 3; it is told to engine 8; the train is told to stop at once; another identifier is
-/// revoked; behind the two right mails is one that revokes another identifier; engine 8 has a mail; a mail of before is gone.
-pub fn mails_law_witnesses()
-    ensures told { IsSaidThere 7 stop_told }
-    ensures revoked { IsSaidThere 7 stop_revoked }
-    ensures both { AreSaidThere [] ((7, stop_told ∷ stop_revoked ∷ []) ∷ []) }
-    ensures other_number { IsSaidThere 7 (mail 2 (stop_before 1 0 10000)) → ⊥ }
-    ensures past_the_inputs { IsSaidThere 7 (mail 3 (stop_before 1 0 10000)) → ⊥ }
-    ensures other_train { IsSaidThere 8 stop_told → ⊥ }
-    ensures other_kind { IsSaidThere 7 (mail 1 (stop_now 1 0)) → ⊥ }
-    ensures other_identifier { IsSaidThere 7 (mail 2 (revoke 1)) → ⊥ }
-    ensures one_too_many { AreSaidThere [] ((7, stop_told ∷ stop_revoked ∷ mail 2 (revoke 1) ∷ []) ∷ []) → ⊥ }
-    ensures engine_8_told { AreSaidThere [] ((7, stop_told ∷ stop_revoked ∷ []) ∷ (8, stop_told ∷ []) ∷ []) → ⊥ }
-    ensures one_before_gone { AreSaidThere ((8, stop_told ∷ []) ∷ []) ((7, stop_told ∷ stop_revoked ∷ []) ∷ []) → ⊥ }
 {}

@@ -2,11 +2,10 @@
 use Rattle.std.specs.Prelude.{◌≡◌, ◌⊎◌, ℕ, ◌+◌, ◌<◌, ◌≤◌, List, ◌++◌, codes, length, Result, Ok, Err}
 use Rattle.std.specs.Fmt.{decimal}
 use Rattle.rbc_track.specs.Plan.{Plan}
+use Rattle.rbc_desk.specs.Serial.{Desk}
+use Rattle.rbc_desk.specs.Held.{Held, Holds, standing, max_results}
 use Rattle.rbc_core.specs.declared.book.Stats.{Stats}
-use Rattle.rbc_core.specs.Serial.{Desk}
-use Rattle.rbc_core.specs.Held.{Held, Holds, standing, max_results}
-use Rattle.rbc_core.specs.Runs.{Run, IsSerialRun}
-use Rattle.rbc_core.specs.SaidMails.{IsSaidSince}
+use Rattle.rbc_core.specs.Runs.{Run, IsSerialRun, IsSaidSince}
 use Rattle.rbc_engine.specs.declared.workers.RunError.{RunError}
 use Rattle.rbc_engine.specs.declared.workers.RunError.TheVariants.{Workers, TooManyInputs, OutOfMemory}
 

@@ -14,7 +14,7 @@ use Rattle.rbc_rule.specs.declared.input.Input.{Input}
 use Rattle.rbc_rule.specs.declared.outcome.Reply.{Reply}
 use Rattle.rbc_rule.specs.Right.{IsRight, messages_to}
 use Rattle.rbc_rule.specs.Step.{step, count_sent}
-use Rattle.rbc_core.proofs.Sends.{sent_ascends}
+use Rattle.rbc_desk.proofs.Sends.{sent_ascends}
 use Rattle.rbc_text.specs.BatchText.{line_of, IsInput}
 use Rattle.rbc_live.specs.History.{AreSentBy}
 use Rattle.rbc_live.proofs.Steps.{may_be, same_whole}

@@ -5,12 +5,12 @@ ghost use Rattle.std.specs.Fmt.{decimal};
 ghost use Rattle.std.specs.List.{flat_map, enumerate_from};
 ghost use Rattle.hex.specs.Hex.{encode_upper};
 ghost use Rattle.ertms_codec.specs.ToTrain.{Fits};
-ghost use Rattle.rbc_core.specs.Sendable.{AreSendable};
+ghost use Rattle.rbc_desk.specs.Sendable.{AreSendable};
 ghost use Rattle.rbc_text.specs.OutputText.{reply_text, result_line, mail_line, outbox_lines, output_of};
 
 use ertms_codec::write_to_train;
 use itoa::Buffer;
-use rbc_core::{Desk, Mail};
+use rbc_desk::{Desk, Mail};
 use rbc_rule::Reply;
 use std::alloc::{AllocError, Global};
 

@@ -5,8 +5,8 @@
 
 ghost use Rattle.std.specs.Prelude.{◌≡◌, IfOk};
 ghost use Rattle.rbc_track.specs.Plan.{IsPlan};
-ghost use Rattle.rbc_core.specs.Serial as serial;
-ghost use Rattle.rbc_core.specs.Held.{Holds, standing};
+ghost use Rattle.rbc_desk.specs.Serial as serial;
+ghost use Rattle.rbc_desk.specs.Held.{Holds, standing};
 ghost use Rattle.rbc_core.specs.Runs.{IsGoodRun};
 
 use super::same;

@@ -6,7 +6,7 @@ use Rattle.rbc_records.specs.Notes.{record_in}
 use Rattle.rbc_rule.specs.declared.input.Input.{Input}
 use Rattle.rbc_versions.specs.Log.{LogName}
 use Rattle.rbc_versions.specs.Entries.{AreKeyedOf}
-use Rattle.rbc_core.specs.Held.{IsOutcomeOf}
+use Rattle.rbc_desk.specs.Held.{IsOutcomeOf}
 use Rattle.rbc_core.specs.Runs.{IsInput}
 use Rattle.rbc_core.specs.Books.{ArePresent}
 use Rattle.rbc_core.proofs.Agreeing.{fresh_outcome, computed_outcome, not_fresh}

@@ -1,7 +1,7 @@
 use Rattle.std.proofs.Common.{ap, subst}
+use Rattle.rbc_desk.specs.Held.{standing}
 use Rattle.rbc_core.specs.Books.{BookValue}
-use Rattle.rbc_core.specs.Held.{standing}
-use Rattle.rbc_core.specs.SaidMails.{IsSaidSince}
+use Rattle.rbc_core.specs.Runs.{IsSaidSince}
 use Rattle.rbc_core.proofs.Mails.{said_since}
 use Rattle.rbc_core.proofs.book.Book.close.Goals as goal
 

@@ -1,7 +1,7 @@
 use Rattle.std.proofs.Common.{◌≡◌, ◌∙◌, ap, rules, arith, refl, Some, true, false, length}
 use Rattle.rbc_records.specs.Notes.{record_in}
+use Rattle.rbc_desk.specs.Held.{standing}
 use Rattle.rbc_core.specs.declared.stage.Stage.TheVariants.{Tried}
-use Rattle.rbc_core.specs.Held.{standing}
 use Rattle.rbc_core.specs.Books.{IsJudged, IsCarriedOut, ArePresent, state_of, number_now}
 use Rattle.rbc_core.proofs.Books.{fails, fails_kept, commits_kept, applies, recomputes}
 use Rattle.rbc_core.proofs.Presents.{present_after, present_still}

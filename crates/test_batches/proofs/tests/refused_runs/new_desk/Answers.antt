@@ -1,4 +1,4 @@
-use Rattle.rbc_core.specs.Serial.{new_desk}
+use Rattle.rbc_desk.specs.Serial.{new_desk}
 use Rattle.test_batches.proofs.tests.refused_runs.new_desk.Goals as goal
 
 pub returns : goal.returns

@@ -1,5 +1,5 @@
 use Rattle.std.proofs.Common.{rules}
-use Rattle.rbc_core.specs.Serial as serial
+use Rattle.rbc_desk.specs.Serial as serial
 use Rattle.test_runs.proofs.tests.calls.run.Goals as goal
 
 pub make_calls-requires-clause-good : goal.make_calls-requires-clause-good

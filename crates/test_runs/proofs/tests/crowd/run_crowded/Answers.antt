@@ -1,5 +1,5 @@
 use Rattle.std.proofs.Common.{rules}
-use Rattle.rbc_core.specs.Serial as serial
+use Rattle.rbc_desk.specs.Serial as serial
 use Rattle.test_runs.proofs.tests.crowd.run_crowded.Goals as goal
 
 pub close_crowded-requires-clause-good : goal.close_crowded-requires-clause-good

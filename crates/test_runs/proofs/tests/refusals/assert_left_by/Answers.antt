@@ -1,4 +1,4 @@
-use Rattle.rbc_core.specs.Serial as serial
+use Rattle.rbc_desk.specs.Serial as serial
 use Rattle.test_runs.proofs.tests.refusals.assert_left_by.Goals as goal
 
 pub run_from-requires-clause-held : goal.run_from-requires-clause-held

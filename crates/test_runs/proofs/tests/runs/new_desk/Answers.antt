@@ -1,4 +1,4 @@
-use Rattle.rbc_core.specs.Serial.{new_desk}
+use Rattle.rbc_desk.specs.Serial.{new_desk}
 use Rattle.test_runs.proofs.tests.runs.new_desk.Goals as goal
 
 pub returns : goal.returns

@@ -1,5 +1,0 @@
-use Rattle.rbc_core.proofs.Mails.{each_run_says}
-use Rattle.rbc_core.proofs.law.mails_law.Goals as goal
-
-pub returns : goal.returns
-returns c = each_run_says

@@ -1,5 +1,0 @@
-use Rattle.rbc_core.proofs.Spelled.{spells_itself}
-use Rattle.rbc_core.proofs.outbox.spells.Goals as goal
-
-pub returns : goal.returns
-returns c = spells_itself c.args.message c.requires c.has_room.ensures.values c.has_room.ensures.reference

@@ -1,0 +1,10 @@
+pub mod Begins
+pub mod Kept
+pub mod Posts
+pub mod Runs
+pub mod Sends
+pub mod Stands
+pub mod TakesBack
+pub mod Mails
+pub mod WitnessMails
+pub mod Spelled

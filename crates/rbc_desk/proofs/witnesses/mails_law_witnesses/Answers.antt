@@ -1,0 +1,75 @@
+use Rattle.std.proofs.Common.{◌≡◌, ℕ, Bool, true, false, cond, eqb, List, [], ◌∷◌, ◌++◌, refl, sym, ◌∙◌, subst}
+use Rattle.std.specs.List.{All}
+use Rattle.std.proofs.lemmas.Bool.{eqb-true}
+use Rattle.std.proofs.lemmas.Option.{same_Some}
+use Rattle.std.proofs.lemmas.List.Elements.{All-nil, All-cons, All-head, All-tail}
+use Rattle.rbc_zones.specs.declared.segment.Segment.{Segment}
+use Rattle.rbc_settle.specs.Settling.{concern_to}
+use Rattle.rbc_rule.specs.Saying.{StopsAtOnce, StopsBefore, RevokesStop}
+use Rattle.rbc_rule.specs.SaidFor.{IsEdgeSaid, IsConcernSaid}
+use Rattle.rbc_rule.specs.Witnesses.{on_line_0, stop_before, stop_now, revoke}
+use Rattle.rbc_rule.proofs.WitnessSays.{differ, revokes_right}
+use Rattle.rbc_desk.specs.declared.outbox.Mail.{Mail}
+use Rattle.rbc_desk.specs.Serial.{mail}
+use Rattle.rbc_desk.specs.Witnesses.{stop_told, stop_revoked, IsSaidThere}
+use Rattle.rbc_desk.proofs.WitnessMails.{waiting, stop_is_told, stop_is_revoked, first_to_7, tells_stop, revokes_stop, no_third}
+use Rattle.rbc_desk.proofs.witnesses.mails_law_witnesses.Goals as goal
+
+pub returns-clause-told : goal.returns-clause-told
+returns-clause-told c = stop_is_told
+
+pub returns-clause-revoked : goal.returns-clause-revoked
+returns-clause-revoked c = stop_is_revoked
+
+-- the outbox of engine 7, and none of another
+boxes : (engine : ℕ) (b : Bool) → eqb 7 engine ≡ b → (more : List Mail) × (cond b (stop_told ∷ stop_revoked ∷ []) [] ≡ [] ++ more) × All (IsSaidThere engine) more
+boxes engine true e =
+    let all : All (IsSaidThere 7) (stop_told ∷ stop_revoked ∷ []) = All-cons (IsSaidThere 7) stop_told (stop_revoked ∷ []) stop_is_told (All-cons (IsSaidThere 7) stop_revoked [] stop_is_revoked (All-nil (IsSaidThere 7))) in
+    (stop_told ∷ stop_revoked ∷ [], refl, subst (λ (k : ℕ). All (IsSaidThere k) (stop_told ∷ stop_revoked ∷ [])) (eqb-true 7 engine e) all)
+boxes engine false e = ([], refl, All-nil (IsSaidThere engine))
+
+pub returns-clause-both : goal.returns-clause-both
+returns-clause-both c engine = boxes engine (eqb 7 engine) refl
+
+pub returns-clause-other_number : goal.returns-clause-other_number
+returns-clause-other_number c h =
+    let says = revokes_stop 7 (stop_before 1 0 10000) h in
+    let same : StopsBefore 0 says.says.1.0 ≡ RevokesStop 0 = sym says.says.1.1.1 ∙ says.is_for in
+    absurd (cc same)
+
+pub returns-clause-past_the_inputs : goal.returns-clause-past_the_inputs
+returns-clause-past_the_inputs c h = no_third 7 (stop_before 1 0 10000) h
+
+pub returns-clause-other_train : goal.returns-clause-other_train
+returns-clause-other_train c h = differ 8 7 refl (first_to_7 8 (stop_before 1 0 10000) h)
+
+pub returns-clause-other_kind : goal.returns-clause-other_kind
+returns-clause-other_kind c h =
+    let says = tells_stop 7 (stop_now 1 0) h in
+    let is_for = says.is_for in
+    let area : on_line_0 20000 21000 ∷ [] ≡ is_for.area = same_Some _ _ is_for.active in
+    let edge : IsEdgeSaid waiting 20000 0 says.said = subst (λ (a : List Segment). IsConcernSaid waiting (concern_to waiting (1, a)) 0 says.said) (sym area) is_for.concern in
+    let same : StopsAtOnce 0 ≡ StopsBefore 0 edge.spot = sym says.says ∙ edge.is_said in
+    absurd (cc same)
+
+other_identifier : IsSaidThere 7 (mail 2 (revoke 1)) → ⊥
+other_identifier h = differ 1 0 refl (revokes_right _ _ _ _ _ _ _ (revokes_stop 7 (revoke 1) h))
+
+pub returns-clause-other_identifier : goal.returns-clause-other_identifier
+returns-clause-other_identifier c h = other_identifier h
+
+pub returns-clause-one_too_many : goal.returns-clause-one_too_many
+returns-clause-one_too_many c h =
+    let at_7 = h 7 in
+    let P = IsSaidThere 7 in
+    let all : All P (stop_told ∷ stop_revoked ∷ mail 2 (revoke 1) ∷ []) = subst (All P) (sym at_7.1) at_7.2 in
+    other_identifier (All-head P (mail 2 (revoke 1)) [] (All-tail P stop_revoked (mail 2 (revoke 1) ∷ []) (All-tail P stop_told (stop_revoked ∷ mail 2 (revoke 1) ∷ []) all)))
+
+pub returns-clause-engine_8_told : goal.returns-clause-engine_8_told
+returns-clause-engine_8_told c h =
+    let at_8 = h 8 in
+    let all : All (IsSaidThere 8) (stop_told ∷ []) = subst (All (IsSaidThere 8)) (sym at_8.1) at_8.2 in
+    differ 8 7 refl (first_to_7 8 (stop_before 1 0 10000) (All-head (IsSaidThere 8) stop_told [] all))
+
+pub returns-clause-one_before_gone : goal.returns-clause-one_before_gone
+returns-clause-one_before_gone c h = let same = (h 8).1 in absurd (cc same)

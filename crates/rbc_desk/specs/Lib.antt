@@ -1,0 +1,5 @@
+pub mod Serial
+pub mod Sendable
+pub mod Held
+pub mod SaidMails
+pub mod Witnesses

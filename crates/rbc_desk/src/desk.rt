@@ -1,0 +1,188 @@
+//! The desk: everything that is known, every answer given, and every message sent.
+
+ghost use Rattle.std.specs.Prelude.{◌≡◌, ◌+◌, ◌<◌, [], length, IfOk, IfErr, OnOk, OnErr, Some, slice_get};
+ghost use Rattle.rbc_track.specs.Plan.{Plan, IsPlan};
+ghost use Rattle.rbc_maps.specs.Maps.{value_or};
+ghost use Rattle.rbc_records.specs.Notes.{record_in};
+ghost use Rattle.rbc_records.specs.Writes.{replaced};
+ghost use Rattle.rbc_rule.specs.Inputs.{Fits};
+ghost use Rattle.rbc_rule.specs.Gathered.{AreSendable};
+ghost use Rattle.rbc_desk.specs.Serial as serial;
+ghost use Rattle.rbc_desk.specs.Held.{Holds, IsInOrder, IsTakenIn, standing, IsOutcomeOf, IsMemoryOf, after_outcome};
+ghost use Rattle.rbc_desk.specs.Sendable as mails;
+
+use crate::outbox::{self, Mail, Outbox};
+use rbc_records::{PlainStore, exchange};
+use rbc_rule::{Input, Outcome, Reply, RuleFault, decide};
+use rbc_track::Track;
+use std::alloc::Global;
+use std::marker::Model;
+
+/// The greatest number of results of a desk.
+pub const MAX_RESULTS: usize = 4_000_000_000;
+
+/// The outcome of all inputs so far: the records, at most `MAX_RESULTS` results, and the outboxes.
+#[derive(Debug, Drop)]
+pub struct Desk {
+    records: PlainStore,
+    results: Vec<Reply>,
+    /// By engine number, ascending.
+    outboxes: Vec<(u32, Outbox)>,
+}
+
+impl Model for Desk {
+    ghost use Rattle.rbc_desk.specs.Held as held;
+
+    ghost Value = { held.Held };
+
+    ghost view = { λ d. record { records = d.records; results = d.results.items; outboxes = d.outboxes.items } };
+
+    // The outboxes are in order, and the results not too many.
+    ghost invariant = { λ d. held.IsInOrder (record { records = d.records; results = d.results.items; outboxes = d.outboxes.items }) };
+}
+
+impl Desk {
+    /// Makes a desk with no records, results or outboxes. It allocates nothing.
+    pub fn new(alloc: Global) -> Self
+        ensures new { (track : Plan) → Holds track (standing result) serial.new_desk }
+        ensures in_order { IsInOrder result }
+    {
+        Desk {
+            records: PlainStore::new(alloc),
+            results: Vec::new(alloc),
+            outboxes: Vec::new(alloc),
+        }
+    }
+
+    /// The records.
+    pub fn store(&self) -> &PlainStore
+        ensures records { result.now ≡ self.now.records }
+        ensures in_order { IsInOrder self.now }
+    {
+        &self.records
+    }
+
+    /// The answers, in the order of the inputs.
+    pub fn results(&self) -> &[Reply]
+        ensures results { result.now ≡ self.now.results }
+        ensures in_order { IsInOrder self.now }
+    {
+        self.results.as_slice()
+    }
+
+    /// The number of outboxes. An engine has one from its first message on.
+    pub fn outboxes(&self) -> usize
+        ensures count { result ≡ length self.now.outboxes }
+        ensures in_order { IsInOrder self.now }
+    {
+        self.outboxes.len()
+    }
+
+    /// The engine (NID_ENGINE) and the messages of the outbox at an index below `outboxes`, in ascending order of the engine. None is
+    /// empty. Each message is what its bytes encode.
+    pub fn outbox_at(&self, index: usize) -> (u32, &[Mail])
+        requires { index < length self.now.outboxes }
+        ensures outbox { slice_get self.now.outboxes index ≡ Some (result.0, result.1.now) }
+        ensures sendable { mails.AreSendable result.1.now }
+    {
+        let (engine, outbox) = &self.outboxes[index];
+        (*engine, outbox.mails())
+    }
+
+    /// The messages that were sent to an engine (NID_ENGINE), in order; none if it has no outbox. Each is what its bytes encode.
+    pub fn outbox(&self, engine: u32) -> &[Mail]
+        ensures mails { result.now ≡ value_or [] self.now.outboxes engine }
+        ensures sendable { mails.AreSendable result.now }
+    {
+        outbox::mails_of(&self.outboxes, engine)
+    }
+
+    /// Decides an input by the records, and changes nothing. If the desk holds a valid state, this fails only for lack of memory.
+    pub fn decide(
+        &mut self,
+        alloc: Global,
+        track: &Track,
+        input: &Input,
+    ) -> Result<Outcome, RuleFault>
+        requires fits { Fits input.now }
+        ensures right { IfOk result (λ outcome. IsOutcomeOf track.now input.now (record_in self.old.records) outcome) }
+        ensures fit { IfOk result (λ outcome. AreSendable outcome.messages) }
+        ensures memory { IfErr result (λ fault. IsMemoryOf track.now (record_in self.old.records) fault) }
+        ensures same { standing self.new ≡ standing self.old }
+        ensures in_order { IsInOrder self.old }
+    {
+        decide(alloc, track, input, &mut self.records)
+    }
+
+    /// Takes an input in: decides it by the records, and takes its messages, its result and its writes over. There has to be room for
+    /// one more result. If the desk is one of the rules, it is then the one that they give after this input.
+    ///
+    /// # Errors
+    ///
+    /// If the desk is one of the rules, this fails only for lack of memory. After an error nothing is changed, and the same input can
+    /// be taken in again.
+    pub fn take_in(&mut self, alloc: Global, track: &Track, input: &Input) -> Result<(), RuleFault>
+        requires fits { Fits input.now }
+        requires room { length self.old.results < MAX_RESULTS }
+        ensures taken { OnOk result (IsTakenIn track.now input.now (standing self.old) (standing self.new)) }
+        ensures memory { IfErr result (λ fault. IsMemoryOf track.now (record_in self.old.records) fault) }
+        ensures err { OnErr result (standing self.new ≡ standing self.old) }
+    {
+        keeps(track);
+        let outcome = self.decide(alloc, track, input)?;
+        match self.take_over(alloc, outcome) {
+            Ok(_) => Ok(()),
+            Err(_) => Err(RuleFault::OutOfMemory),
+        }
+    }
+
+    /// Takes an outcome over: its messages, its result and its writes. There has to be room for one more result. Hands back what is
+    /// left of it, with the records that its writes replaced in their place. Fails only for lack of memory: then nothing is changed,
+    /// and the error hands the outcome back.
+    pub fn take_over(&mut self, alloc: Global, outcome: Outcome) -> Result<Outcome, Outcome>
+        requires fit { AreSendable outcome.messages }
+        requires room { length self.old.results < MAX_RESULTS }
+        ensures ok { OnOk result (standing self.new ≡ after_outcome (standing self.old) outcome) }
+        ensures left { IfOk result (λ left. left ≡ record outcome { writes = replaced outcome.writes (record_in self.old.records) }) }
+        ensures err { OnErr result (self.new ≡ self.old) }
+        ensures back { IfErr result (λ back. back ≡ outcome) }
+    {
+        if self.results.reserve(1).is_err() {
+            return Err(outcome);
+        }
+        let number = self.results.len() as u32 + 1;
+        if outbox::post_all(alloc, &mut self.outboxes, number, &outcome.messages).is_err() {
+            return Err(outcome);
+        }
+        let Outcome {
+            result,
+            writes,
+            messages,
+        } = outcome;
+        match exchange(&mut self.records, writes) {
+            Ok(writes) => {
+                self.results.push_reserved(result);
+                Ok(Outcome {
+                    result,
+                    writes,
+                    messages,
+                })
+            }
+            Err(writes) => {
+                outbox::take_back_all(&mut self.outboxes, &messages, messages.len());
+                Err(Outcome {
+                    result,
+                    writes,
+                    messages,
+                })
+            }
+        }
+    }
+}
+
+/// Says in its contract what every track satisfies, because a step keeps the records in order only on such a track.
+fn keeps(track: &Track)
+    ensures { IsPlan track.now }
+{
+    let _ = track.horizon();
+}

@@ -1,0 +1,9 @@
+//! What the mails of each run say.
+
+ghost use Rattle.rbc_desk.specs.SaidMails.{EachRunSays};
+
+/// Each mail that a run adds to an engine's outbox has the number of the input that caused it, and says what the rules give that train
+/// after that input, for one thing that settling it does.
+pub fn mails_law()
+    ensures { EachRunSays }
+{}

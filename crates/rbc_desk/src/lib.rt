@@ -1,0 +1,12 @@
+//! The desk: the records, the results and the outboxes, and what its mails say.
+#![tactic(auto)]
+
+mod desk;
+mod law;
+mod outbox;
+mod witnesses;
+
+pub use desk::{Desk, MAX_RESULTS};
+pub use law::mails_law;
+pub use outbox::{Mail, Outbox};
+pub use witnesses::mails_law_witnesses;

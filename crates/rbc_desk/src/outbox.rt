@@ -1,0 +1,193 @@
+//! The messages that were sent to each engine.
+
+ghost use Rattle.std.specs.Prelude.{◌≡◌, ◌-◌, ◌≤◌, ℕ, List, [], ◌∷◌, ◌++◌, length, take, OnOk, OnErr};
+ghost use Rattle.ertms_codec.specs.ToTrain.{Fits, HoldsReference, Spells, fields_of, spelling_of};
+ghost use Rattle.ertms_codec.specs.Layout.{HoldValues};
+ghost use Rattle.rbc_maps.specs.Maps.{with_value, value_or};
+ghost use Rattle.rbc_rule.specs.Gathered as gathered;
+ghost use Rattle.rbc_desk.specs.declared.outbox.Mail.{Mail};
+ghost use Rattle.rbc_desk.specs.Sendable.{AreSendable};
+ghost use Rattle.rbc_desk.specs.Held.{AreOutboxes, post_each, taken_back};
+
+use ertms_codec::ToTrain;
+use rbc_rule::SentList;
+use rbc_settle::Sent;
+use std::alloc::{AllocError, Global};
+use std::cell::Cell;
+use std::marker::Model;
+
+/// A message that was sent, and the number of the input, from 1, that caused it.
+#[derive(Clone, Copy, Debug, PartialEq, Eq)]
+pub struct Mail {
+    pub input: u32,
+    pub message: ToTrain,
+}
+
+/// The messages that were sent to one engine, in order. In contracts a list of mails.
+#[derive(Debug, Drop)]
+pub struct Outbox {
+    mails: Vec<Mail>,
+}
+
+impl Model for Outbox {
+    ghost use Rattle.std.specs.Prelude.{List};
+    ghost use Rattle.rbc_desk.specs.declared.outbox.Mail.{Mail};
+
+    ghost Value = { List Mail };
+
+    ghost view = { λ o. o.mails.items };
+
+    ghost use Rattle.rbc_desk.specs.Sendable.{AreSendable};
+
+    // Each message can be written, and is what its bytes encode.
+    ghost invariant = { λ o. AreSendable o.mails.items };
+}
+
+impl Outbox {
+    /// Makes an empty outbox. It allocates nothing.
+    fn new(alloc: Global) -> Self
+        ensures { result ≡ [] }
+    {
+        Outbox {
+            mails: Vec::new(alloc),
+        }
+    }
+
+    /// The messages, in the order in which they were sent.
+    pub fn mails(&self) -> &[Mail]
+        ensures mails { result.now ≡ self.now }
+        ensures sendable { AreSendable self.now }
+    {
+        self.mails.as_slice()
+    }
+
+    /// Takes the last message out, if there is one.
+    fn drop_last(&mut self)
+        ensures { self.new ≡ take (length self.old - 1) self.old }
+    {
+        let _ = self.mails.pop();
+    }
+
+    /// Adds a message at the end. Fails only for lack of memory, and then changes nothing.
+    fn add(&mut self, mail: Mail) -> Result<(), AllocError>
+        requires { Fits mail.message }
+        ensures ok { OnOk result (self.new ≡ self.old ++ mail ∷ []) }
+        ensures err { OnErr result (self.new ≡ self.old) }
+    {
+        spells(mail.message);
+        self.mails.push(mail)?;
+        Ok(())
+    }
+}
+
+/// The messages in the outbox of an engine; none if it has no outbox.
+pub(crate) fn mails_of(outboxes: &[(u32, Outbox)], engine: u32) -> &[Mail]
+    requires { AreOutboxes outboxes.now }
+    ensures mails { result.now ≡ value_or [] outboxes.now engine }
+    ensures sendable { AreSendable result.now }
+{
+    match rbc_maps::value_of(outboxes, engine) {
+        Some(outbox) => outbox.mails(),
+        None => &[],
+    }
+}
+
+/// Says in its contract that each variable of a message that fits has room for its value.
+fn has_room(message: ToTrain)
+    requires { Fits message }
+    ensures values { HoldValues (fields_of message) }
+    ensures reference { HoldsReference message }
+{
+    match message {
+        ToTrain::StopAt { .. } => {}
+        ToTrain::Stop { .. } => {}
+        ToTrain::Revoke { .. } => {}
+        ToTrain::Restrict { .. } => {}
+        ToTrain::Lift { .. } => {}
+    }
+}
+
+/// Says in its contract that a message that fits is what its own bytes encode.
+fn spells(message: ToTrain)
+    requires { Fits message }
+    ensures { Spells (spelling_of message) message }
+{
+    has_room(message);
+}
+
+/// Puts a message into its engine's outbox. An engine gets an outbox with its first message. It is looked for at the index `near`
+/// first, which is the index behind it from then on. Fails only for lack of memory, and then changes nothing.
+fn post(
+    alloc: Global,
+    outboxes: &mut Vec<(u32, Outbox)>,
+    engine: u32,
+    mail: Mail,
+    near: &Cell<usize>,
+) -> Result<(), AllocError>
+    requires outboxes { AreOutboxes outboxes.old.items }
+    requires fit { Fits mail.message }
+    ensures posted { OnOk result (outboxes.new.items ≡ with_value engine (value_or [] outboxes.old.items engine ++ mail ∷ []) outboxes.old.items) }
+    ensures outboxes { AreOutboxes outboxes.new.items }
+    ensures err { OnErr result (outboxes.new.items ≡ outboxes.old.items) }
+{
+    let at = rbc_maps::index_near(outboxes, engine, near.get());
+    near.set(at.saturating_add(1));
+    if at < outboxes.len() && outboxes[at].0 == engine {
+        outboxes[at].1.add(mail)?;
+    } else {
+        let mut outbox = Outbox::new(alloc);
+        outbox.add(mail)?;
+        outboxes.insert(at, (engine, outbox))?;
+    }
+    Ok(())
+}
+
+/// Takes the last message out of an engine's outbox, and the outbox with it where it has no other.
+fn take_back(outboxes: &mut Vec<(u32, Outbox)>, engine: u32)
+    requires { AreOutboxes outboxes.old.items }
+    ensures taken { outboxes.new.items ≡ taken_back engine outboxes.old.items }
+    ensures outboxes { AreOutboxes outboxes.new.items }
+{
+    if mails_of(outboxes, engine).len() > 1 {
+        let at = rbc_maps::index_for(outboxes, engine);
+        outboxes[at].1.drop_last();
+    } else {
+        let _ = rbc_maps::remove(outboxes, engine);
+    }
+}
+
+/// Takes back the first messages of an input, the last of them first.
+pub(crate) fn take_back_all(outboxes: &mut Vec<(u32, Outbox)>, messages: &SentList, count: usize)
+    requires outboxes { AreOutboxes outboxes.old.items }
+    requires within { count ≤ length messages.now }
+    ensures back { (input : ℕ) (boxes : List (ℕ × List Mail)) → AreOutboxes boxes → outboxes.old.items ≡ post_each input boxes (take count messages.now) → outboxes.new.items ≡ boxes }
+{
+    for done in 0..count {
+        take_back(outboxes, messages.at(count - 1 - done).engine);
+    }
+}
+
+/// Puts the messages of an input into the outboxes of their engines, one after another. Fails only for lack of memory, and
+/// then changes nothing.
+pub(crate) fn post_all(
+    alloc: Global,
+    outboxes: &mut Vec<(u32, Outbox)>,
+    input: u32,
+    messages: &SentList,
+) -> Result<(), AllocError>
+    requires outboxes { AreOutboxes outboxes.old.items }
+    requires fit { gathered.AreSendable messages.now }
+    ensures posted { OnOk result (outboxes.new.items ≡ post_each input outboxes.old.items messages.now) }
+    ensures outboxes { AreOutboxes outboxes.new.items }
+    ensures err { OnErr result (outboxes.new.items ≡ outboxes.old.items) }
+{
+    let near = Cell::new(0);
+    for index in 0..messages.len() {
+        let Sent { engine, message } = *messages.at(index);
+        if post(alloc, outboxes, engine, Mail { input, message }, &near).is_err() {
+            take_back_all(outboxes, messages, index);
+            return Err(AllocError);
+        }
+    }
+    Ok(())
+}
