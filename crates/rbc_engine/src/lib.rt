@@ -1,7 +1,6 @@
 //! Workers that attempt many inputs of a run at once. What they leave is as if one had done the inputs one after another.
 #![tactic(auto)]
 
-mod alone;
 mod gate;
 mod job;
 mod locking;

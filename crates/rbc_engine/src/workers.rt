@@ -11,7 +11,6 @@ ghost use Rattle.rbc_core.specs.Runs.{IsGoodRun};
 ghost use Rattle.rbc_engine.specs.Answers.{IsOpening, IsRun, IsStretch, IsFinished};
 ghost use Rattle.rbc_engine.specs.Fronts.{IsWaiting, IsGivenUp, IsNext, IsAtItsEnd};
 
-use crate::alone::run_alone;
 use crate::gate::{Behind, Gate};
 use crate::job::Job;
 use crate::pace::Pace;
@@ -184,6 +183,34 @@ fn run_named<N: RunName + Send + Sync, G: Gate + Sync, R: Threads + Wait + Sync>
             Err(RunError::OutOfMemory { committed: 0 })
         }
     }
+}
+
+/// Takes all inputs of a stretch in on the desk itself, one after another, without a book, a log or a lock. Nothing is computed twice.
+fn run_alone(
+    alloc: Global,
+    track: &Track,
+    desk: &mut Desk,
+    inputs: &[Input],
+    pace: &Pace,
+) -> Result<Stats, RunError>
+    requires good { IsGoodRun (record { track = track.now; opening = desk.old; inputs = inputs.now }) }
+    ensures { IsStretch (record { track = track.now; opening = desk.old; inputs = inputs.now }) result desk.new }
+{
+    let mut taken = 0u32;
+    while (taken as usize) < inputs.len() {
+        let input = &inputs[taken as usize];
+        match desk.take_in(alloc, track, input) {
+            Ok(()) => {
+                pace.note_taken_in(input, desk);
+                taken += 1;
+            }
+            Err(_) => return Err(RunError::OutOfMemory { committed: taken }),
+        }
+    }
+    Ok(Stats {
+        taken,
+        recomputed: 0,
+    })
 }
 
 /// Runs a stretch of a run: by one worker on the desk itself, if nobody sees it and it is no slower, and else by all workers on a log of
