@@ -36,7 +36,7 @@ CITATION = re.compile(
 )
 CITED_IN = {".rt", ".antt", ".md", ".edit", ".txt", ".toml", ".sh", ".py", ""}
 NAME = re.compile(r"(?<!\w)[A-Za-z_][A-Za-z0-9_']*")
-CRATE = r"(?:rbc|ertms)_[a-z_]+"
+CRATE = r"(?:rbc|ertms|test)_[a-z_]+"
 FILE = re.compile(r"(?<![\w/.-])((?:[\w.-]+/)*[\w.-]+\.(?:md|rt|antt|sh|py|toml|batch|expected|edit|tsv|txt|c|h)|"
                   r"(?:crates|docs|examples|bench|include|\.ci)(?:/[\w.-]+)*/?)(?![\w/-])")
 

@@ -20,12 +20,10 @@ from documents_source import TOKEN, Crate
 # the program, the crates that it calls, and the one function of another crate that it calls
 CALLED = {"rbc_dispatch", "rbc_batch", "ertms_codec"}
 CALLED_FUNCTIONS = {("rbc_track", "track_from_toml")}
-# calls of those crates that the program does not make itself
-UNCALLED_FUNCTIONS = {("rbc_batch", "render")}
 
 # where the rules stand; the rest of what has to be believed is formats
 RULES = {"rbc_place", "rbc_zones", "rbc_ids", "rbc_maps", "rbc_settle", "rbc_rule"}
-RULES_FILES = {("rbc_core", "Serial"), ("rbc_core", "outbox.rt")}
+RULES_FILES = {("rbc_desk", "Serial"), ("rbc_desk", "outbox.rt")}
 
 # parts of contracts that need not be believed, since a law says as much of what the contract says beside them
 STATEMENTS = {("rbc_batch", "Process", "AreSaid")}
@@ -35,7 +33,7 @@ CLASSES = ("believed", "law", "boundary")
 
 def is_called(crate, found):
     call = (crate.name, found.name)
-    return call in CALLED_FUNCTIONS or crate.name in CALLED and call not in UNCALLED_FUNCTIONS
+    return call in CALLED_FUNCTIONS or crate.name in CALLED
 
 
 def is_rule(crate, file):

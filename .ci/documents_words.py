@@ -22,9 +22,9 @@ unfolding w16 was weaker where with_items xs zip line_turn ReadLines define alon
 # of the kit's other crates
 PORTED = "anyhow boxcar clap hex indexmap itoa memchr rayon thiserror toml toml_parser toml_writer"
 
-# of rt, and of the folders and files that it knows
+# of rt and of the scripts here, and of the folders and files that they know
 TOOL = """
-bash python3 Prelude ci must-fail edits check doc fail fmt lemma must plant program proofs specs src test tests tidy tries try version rt allocations rlib PID RLIMIT_AS autogroup proc
+bash python3 Prelude ci must-fail edits check doc fail fmt lemma must plant program proofs specs src test tests tidy tries try version rt allocations rlib PID RLIMIT_AS autogroup proc selftest SOURCES
 """
 
 # of batches, outputs, tracks, texts of messages and command lines
