@@ -13,6 +13,11 @@ import sys
 import tempfile
 import time
 
+
+def program_of(root):
+    """The program that ./dispatch starts."""
+    return subprocess.run([f"{root}/dispatch", "--program"], stdout=subprocess.PIPE, check=True, text=True).stdout.strip()
+
 MIB = 1024 * 1024
 JUNK = 100 * MIB
 DEEPEST = 10_000_000  # brackets one in another
@@ -108,7 +113,7 @@ def main():
         for name, text in words.FILES.items():
             with open(f"{folder}/{name}", "wb") as it:
                 it.write(text)
-        runs = words.Runs(f"{root}/crates/rbc_dispatch/out/rbc_dispatch", folder)
+        runs = words.Runs(program_of(root), folder)
         at_tracks(words, runs)
         at_batches(words, runs)
         at_streams(words, runs)
