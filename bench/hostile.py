@@ -13,10 +13,7 @@ import sys
 import tempfile
 import time
 
-
-def program_of(root):
-    """The program that ./dispatch starts."""
-    return subprocess.run([f"{root}/dispatch", "--program"], stdout=subprocess.PIPE, check=True, text=True).stdout.strip()
+from program import program_of
 
 MIB = 1024 * 1024
 JUNK = 100 * MIB

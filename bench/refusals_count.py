@@ -16,10 +16,7 @@ import tempfile
 
 from codec_loads import spelled
 
-
-def program_of(root):
-    """The program that ./dispatch starts."""
-    return subprocess.run([f"{root}/dispatch", "--program"], stdout=subprocess.PIPE, check=True, text=True).stdout.strip()
+from program import program_of
 
 SECONDS = 60  # no run takes so long
 SHOWN = 10  # so many wrong ends are printed of each call

@@ -15,10 +15,7 @@ import time
 from loads import Random
 from soak_batches import PROFILES, made
 
-
-def program_of(root):
-    """The program that ./dispatch starts."""
-    return subprocess.run([f"{root}/dispatch", "--program"], stdout=subprocess.PIPE, check=True, text=True).stdout.strip()
+from program import program_of
 
 WORKERS = (1, 2, 4, 16)
 SIZES = (50, 300, 300, 1_000, 3_000, 20_000)  # lines of a batch
