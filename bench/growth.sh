@@ -1,7 +1,7 @@
 #!/usr/bin/env bash
 # Measures what a report costs as batches, trains, stops and restrictions elsewhere grow: bench/growth.sh [--runs N] [PROGRAM]
 #
-# PROGRAM is the built one, which ./dispatch builds where that is needed; N is 7 if left out. It needs python3. The batches go to
+# PROGRAM is the one that ./dispatch starts; N is 7 if left out. It needs python3. The batches go to
 # bench/data, which is not kept.
 set -euo pipefail
 

@@ -13,6 +13,8 @@ import sys
 import tempfile
 import time
 
+from program import program_of
+
 MIB = 1024 * 1024
 JUNK = 100 * MIB
 DEEPEST = 10_000_000  # brackets one in another
@@ -108,7 +110,7 @@ def main():
         for name, text in words.FILES.items():
             with open(f"{folder}/{name}", "wb") as it:
                 it.write(text)
-        runs = words.Runs(f"{root}/crates/rbc_dispatch/out/rbc_dispatch", folder)
+        runs = words.Runs(program_of(root), folder)
         at_tracks(words, runs)
         at_batches(words, runs)
         at_streams(words, runs)

@@ -1,5 +1,5 @@
 # Sourced by the scripts beside it, with their words, after they have set `runs`: [--runs N] [PROGRAM]. Sets `here`,
-# `root`, `runs`, and `program`, the built one where none is given.
+# `root`, `runs`, and `program`, the one that ./dispatch starts where none is given.
 here=$(cd "$(dirname "$(readlink -f "${BASH_SOURCE[0]}")")" && pwd)
 root=$(dirname "$here")
 if [[ ${1-} == --runs ]]; then
@@ -8,7 +8,6 @@ if [[ ${1-} == --runs ]]; then
 fi
 program=${1-}
 if [[ -z $program ]]; then
-    "$root/dispatch" --help > /dev/null
-    program=$root/crates/rbc_dispatch/out/rbc_dispatch
+    program=$("$root/dispatch" --program)
 fi
 program=$(readlink -f "$program")

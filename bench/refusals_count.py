@@ -16,6 +16,8 @@ import tempfile
 
 from codec_loads import spelled
 
+from program import program_of
+
 SECONDS = 60  # no run takes so long
 SHOWN = 10  # so many wrong ends are printed of each call
 
@@ -150,7 +152,7 @@ def at_tests(root, refuse):
 
 def at_program(root, refuse):
     """Refuses memory to the program on each batch of examples/, and where it describes messages."""
-    program, wrong = f"{root}/crates/rbc_dispatch/out/rbc_dispatch", 0
+    program, wrong = program_of(root), 0
     for message, text in DESCRIBED.items():
         name = f"the program on message {text.split()[0].decode()}"
         wrong += count(name, [program, "decode", message], b"", refuse, lambda ended: end_of_program(ended, text))
@@ -185,7 +187,7 @@ def at_threads(root, refuse, folder):
     with open(f"{folder}/heavy.toml", "wb") as it:
         it.write(HEAVY_TRACK)
     wrong, batch = 0, heavy_batch()
-    words = [f"{root}/crates/rbc_dispatch/out/rbc_dispatch", "run", "--track", f"{folder}/heavy.toml", "--workers"]
+    words = [program_of(root), "run", "--track", f"{folder}/heavy.toml", "--workers"]
     expected = subprocess.run([*words, "1"], input=batch, capture_output=True, check=True).stdout
     for workers in ("2", "4", "16"):
         name = f"the program, {workers} workers"

@@ -1,7 +1,7 @@
 #!/usr/bin/env bash
 # Measures the program and prints a table: bench/run.sh [--runs N] [PROGRAM]
 #
-# PROGRAM is the built one, which ./dispatch builds where that is needed; N is 5 if left out. It needs
+# PROGRAM is the one that ./dispatch starts; N is 5 if left out. It needs
 # python3. The batches go to bench/data, which is not kept, and are the same bytes each time.
 set -euo pipefail
 

@@ -15,6 +15,8 @@ import time
 from loads import Random
 from soak_batches import PROFILES, made
 
+from program import program_of
+
 WORKERS = (1, 2, 4, 16)
 SIZES = (50, 300, 300, 1_000, 3_000, 20_000)  # lines of a batch
 LONG = 20  # seconds that one process runs one batch over and over, so that its memory is seen to stay
@@ -53,7 +55,7 @@ class Soak:
     """The programs, and what came of their runs so far."""
 
     def __init__(self, root, seed, processes, folder):
-        self.dispatch = f"{root}/crates/rbc_dispatch/out/rbc_dispatch"
+        self.dispatch = program_of(root)
         self.golden = f"{root}/crates/rbc_golden/out/rbc_golden"
         self.seed, self.folder = seed, folder
         self.pool = concurrent.futures.ThreadPoolExecutor(processes)

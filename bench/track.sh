@@ -1,7 +1,7 @@
 #!/usr/bin/env bash
 # Measures the reading of a track: bench/track.sh [--runs N] [PROGRAM]
 #
-# PROGRAM is the built one, which ./dispatch builds where that is needed; N is 15 if left out. It needs
+# PROGRAM is the one that ./dispatch starts; N is 15 if left out. It needs
 # python3. The tracks go to bench/data, which is not kept.
 set -euo pipefail
 

@@ -2,20 +2,12 @@
 use Rattle.std.proofs.Common.{◌≡◌, Result, Ok, Err}
 use Rattle.std.specs.Result.{IsErrAnd}
 use Rattle.rbc_dispatch.specs.Ending.{AtTask}
-use Rattle.rbc_dispatch.specs.Words.{IsWantOfMemory}
 use Rattle.rbc_dispatch.specs.declared.ending.Ending.{Ending}
 use Rattle.rbc_dispatch.specs.declared.ending.Ending.TheVariants.{Fault as at_fault}
 use Rattle.rbc_dispatch.specs.declared.fault.Fault.{Fault}
-use Rattle.rbc_dispatch.specs.declared.fault.Fault.TheVariants.{OutOfMemory}
 
 -- a fault that is handed on
 pub at_handed_on : {E : Type 0} (r : Result E Ending) (P : Result E Fault → Type 0) (fault : Fault) → IsErrAnd r (λ x. x ≡ at_fault fault)
     → P (Err fault) → AtTask P r
 at_handed_on (Ok done) P fault same holds = absurd same
 at_handed_on (Err ending) P fault same holds = rw same holds
-
--- want of memory that is handed on
-pub at_want_of_memory : {E : Type 0} (r : Result E Ending) (P : Result E Fault → Type 0) (ending : Ending) → IsErrAnd r (λ x. x ≡ ending)
-    → IsWantOfMemory ending → P (Err OutOfMemory) → AtTask P r
-at_want_of_memory (Ok done) P ending same memory holds = absurd same
-at_want_of_memory (Err other) P ending same memory holds = rw (same, memory) holds

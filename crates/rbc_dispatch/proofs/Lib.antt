@@ -1,4 +1,1 @@
 mod Ends
-mod Findings
-mod Forms
-mod WitnessWords

@@ -2,34 +2,24 @@
 use Rattle.std.specs.Prelude.{ℕ, List, [], ◌∷◌, ◌++◌, Option, Result, Ok, Err}
 use Rattle.std.specs.Io.KnownBytes.{Appends}
 use Rattle.clap.specs.Words.{kind_of}
-use Rattle.clap.specs.declared.error.Error.{Error}
-use Rattle.clap.specs.declared.error.kind.ErrorKind.{ErrorKind}
-use Rattle.clap.specs.declared.error.kind.ErrorKind.TheVariants as kind
+use Rattle.rbc_command_line.specs.NoTask.{status_of_kind}
+use Rattle.rbc_command_line.specs.declared.no_task.NoTask.{NoTask}
+use Rattle.rbc_command_line.specs.declared.no_task.NoTask.TheVariants as no_task
 use Rattle.rbc_dispatch.specs.Fault.{line_of}
 use Rattle.rbc_dispatch.specs.declared.ending.Ending.{Ending}
 use Rattle.rbc_dispatch.specs.declared.ending.Ending.TheVariants.{Words, Fault}
 use Rattle.rbc_dispatch.specs.declared.fault.Fault.{Fault as AnyFault}
 use Rattle.rbc_dispatch.specs.declared.fault.Fault.TheVariants.{OutOfMemory}
 
--- the exit status of what clap answers: help is no mistake
-abbrev pub status_of_kind : ErrorKind → ℕ
-status_of_kind kind.DisplayHelp = 0
-status_of_kind kind.DisplayVersion = 0
-status_of_kind _ = 2
-
 -- the exit status of an ending
 abbrev pub status_of : Ending → ℕ
 status_of (Words error) = status_of_kind (kind_of error)
 status_of (Fault fault) = 1
 
--- the ending by what clap answers: want of memory is a fault
-abbrev pub ending_of_kind : ErrorKind → Error → Ending
-ending_of_kind kind.OutOfMemory error = Fault OutOfMemory
-ending_of_kind _ error = Words error
-
--- what the program makes of clap's answer
-abbrev pub ending_of : Error → Ending
-ending_of error = ending_of_kind (kind_of error) error
+-- the ending where the words ask for no task: want of memory is a fault
+abbrev pub ending_of : NoTask → Ending
+ending_of (no_task.Words error) = Words error
+ending_of no_task.OutOfMemory = Fault OutOfMemory
 
 -- a fault adds its line, with a line feed, to what the stream held
 abbrev pub PrintsFault : Ending → Option (List ℕ) → Option (List ℕ) → Type 0

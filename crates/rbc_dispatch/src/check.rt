@@ -4,7 +4,7 @@ ghost use Rattle.rbc_dispatch.specs.Checking.{ChecksText, IsUnreported};
 
 use crate::fault::Fault;
 use rbc_batch::write_text;
-use rbc_check::{Verdict, check};
+use rbc_track_report::{Verdict, check};
 use std::alloc::Global;
 use std::io::Write;
 

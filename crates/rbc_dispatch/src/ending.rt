@@ -1,7 +1,6 @@
 //! How the program ends where its task was not done.
 use crate::fault::Fault;
-use clap::error::ErrorKind;
-use std::alloc::AllocError;
+use rbc_command_line::NoTask;
 use std::io;
 use std::io::Write;
 use std::process::ExitCode;
@@ -47,27 +46,17 @@ impl Ending {
     }
 }
 
-impl From<clap::Error> for Ending {
+impl From<NoTask> for Ending {
     ghost use Rattle.std.specs.Prelude.{◌≡◌};
     ghost use Rattle.rbc_dispatch.specs.Ending.{ending_of};
 
-    ghost from_gives = { λ error ending. ending ≡ ending_of error };
+    ghost from_gives = { λ no_task ending. ending ≡ ending_of no_task };
 
-    fn from(error: clap::Error) -> Ending {
-        match error.kind() {
-            ErrorKind::OutOfMemory => Ending::Fault(Fault::OutOfMemory),
-            _ => Ending::Words(error),
+    fn from(no_task: NoTask) -> Ending {
+        match no_task {
+            NoTask::Words(error) => Ending::Words(error),
+            NoTask::OutOfMemory => Ending::Fault(Fault::OutOfMemory),
         }
-    }
-}
-
-impl From<AllocError> for Ending {
-    ghost use Rattle.rbc_dispatch.specs.Words.{IsWantOfMemory};
-
-    ghost from_gives = { λ _ ending. IsWantOfMemory ending };
-
-    fn from(_refused: AllocError) -> Ending {
-        Ending::Fault(Fault::OutOfMemory)
     }
 }
 

@@ -8,7 +8,7 @@ use std::alloc::AllocError;
 use std::{fmt, io};
 
 /// Why a task that the arguments named was not done. Its `Display` is the line for the user.
-#[derive(Clone, Copy, Debug, PartialEq, Eq)]
+#[derive(Clone, Copy)]
 pub enum Fault {
     /// The track file could not be read, or is no UTF-8. Nothing was read or written.
     TrackUnreadable,

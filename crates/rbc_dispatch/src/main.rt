@@ -10,16 +10,12 @@
 //! for bad arguments. A fault is one line on standard error.
 #![tactic(auto)]
 
-mod arguments;
 mod check;
 mod codes;
 mod decode;
 mod ending;
 mod fault;
-mod law;
 mod program;
-mod witnesses;
-mod words;
 
 use std::process::ExitCode;
 

@@ -6,16 +6,15 @@ ghost use Rattle.rbc_dispatch.specs.Checking.{Checks, IsUnreported};
 ghost use Rattle.rbc_dispatch.specs.Decoding.{Decodes, IsUntouched};
 ghost use Rattle.rbc_dispatch.specs.Ending.{AtTask, status_of};
 ghost use Rattle.rbc_dispatch.specs.Running.{IsUnread, Keeps, Runs, RunsOn};
-ghost use Rattle.rbc_dispatch.specs.Words.{AsksToCheck, AsksToDecode, AsksToRun, command_line};
+ghost use Rattle.rbc_command_line.specs.Words.{AsksToCheck, AsksToDecode, AsksToRun, IsCheckOf, IsDecode, IsRunOn, command_line};
 
 use crate::check::check_text;
 use crate::codes::write_codes;
 use crate::decode::decode;
 use crate::ending::Ending;
 use crate::fault::Fault;
-use crate::words;
-use crate::words::Task;
 use rbc_batch::process;
+use rbc_command_line::Task;
 use rbc_engine::OpenGate;
 use rbc_track::track_from_toml;
 use std::env::Env;
@@ -36,9 +35,9 @@ where
     E: Write,
     ensures { exit_status result ≤ 2 }
 {
-    let outcome = match words::read(rt) {
+    let outcome = match rbc_command_line::read(rt) {
         Ok(words) => perform(rt, words.as_slice(), input, output),
-        Err(ending) => Err(ending),
+        Err(no_task) => Err(Ending::from(no_task)),
     };
     conclude(outcome, output, errors)
 }
@@ -83,11 +82,32 @@ where
     ensures refused { fault_of command_line (map string_bytes words.now) ≢ []
         → (input.new ≡ input.old) × (output.new ≡ output.old) }
 {
-    match words::parse(rt.alloc(), words)? {
-        Task::Run { track, workers } => Ok(run_file(rt, track, workers, input, output)?),
-        Task::Check { track, other_keys } => Ok(check_file(rt, track, other_keys, output)?),
-        Task::Decode(word) => Ok(decode(rt.alloc(), word, output)?),
-        Task::Codes => Ok(write_codes(rt.alloc(), output)?),
+    let task = rbc_command_line::parse(rt.alloc(), words)?;
+    Ok(carry_out(rt, task, input, output)?)
+}
+
+/// Does a task.
+fn carry_out<R, I, O>(rt: &R, task: Task<'_>, input: &mut I, output: &mut O) -> Result<(), Fault>
+where
+    R: AllocGlobal + Files + Threads + Wait + Sync,
+    I: Read,
+    O: Write,
+    ensures run { (file : List ℕ) (workers : ℕ) → IsRunOn file workers task.entry
+        → Runs workers (I.remaining input.old) (I.remaining input.new)
+        (O.contents output.old) (O.contents output.new) result }
+    ensures keeps { (file : List ℕ) (workers : ℕ) → IsRunOn file workers task.entry
+        → Keeps result input.old input.new output.old output.new }
+    ensures decode { (word : List ℕ) → IsDecode word task.entry
+        → Decodes word (O.contents output.old) (O.contents output.new) result }
+    ensures unread { (word : List ℕ) → IsDecode word task.entry
+        → (input.new ≡ input.old) × IsUntouched result output.old output.new }
+    ensures check { (file : List ℕ) → IsCheckOf file task.entry → (input.new ≡ input.old) × Checks result }
+{
+    match task {
+        Task::Run { track, workers } => run_file(rt, track, workers, input, output),
+        Task::Check { track, other_keys } => check_file(rt, track, other_keys, output),
+        Task::Decode(word) => decode(rt.alloc(), word, output),
+        Task::Codes => write_codes(rt.alloc(), output),
     }
 }
 

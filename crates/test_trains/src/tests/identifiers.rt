@@ -279,28 +279,47 @@ fn copies_each_slot(rt: HostRuntime) {
     }
 }
 
+/// Whether a table is the same as another one once an identifier is issued in it. Before, it is not.
+fn is_same_once_issued(
+    rt: &impl Abort,
+    alloc: Global,
+    table: &IdTable<15>,
+    number: u32,
+    stamp: u32,
+    kind: Kind,
+) -> bool {
+    let mut other = IdTable::new(alloc);
+    same(rt, other.is_same(table), false);
+    same(rt, issue(&mut other, number, stamp, kind), Some(Ok(0)));
+    other.is_same(table)
+}
+
+/// A table in which one identifier is used, for number 30.
+fn told_under(rt: &impl Abort, alloc: Global, id: u8) -> IdTable<15> {
+    let mut table = IdTable::new(alloc);
+    same(rt, tell(rt, &mut table, id, 30), true);
+    table
+}
+
 #[test]
 fn tables_differ_by_each_part_of_a_slot(rt: HostRuntime) {
-    let table = one(&rt, rt.alloc(), Kind::Conditional);
+    let alloc = rt.alloc();
+    let table = one(&rt, alloc, Kind::Conditional);
     for (number, stamp, kind, wanted) in [
         (1, 7, Kind::Conditional, true),
         (2, 7, Kind::Conditional, false),
         (1, 8, Kind::Conditional, false),
         (1, 7, Kind::Unconditional, false),
     ] {
-        let mut other = IdTable::<15>::new(rt.alloc());
-        same(&rt, other.is_same(&table), false);
-        same(&rt, issue(&mut other, number, stamp, kind), Some(Ok(0)));
-        same(&rt, other.is_same(&table), wanted);
+        let is_same = is_same_once_issued(&rt, alloc, &table, number, stamp, kind);
+        same(&rt, is_same, wanted);
     }
-    let mut other = table.copy(rt.alloc()).expect(&rt, "memory");
+    let mut other = table.copy(alloc).expect(&rt, "memory");
     same(&rt, other.ack_id(0, 1), IdAck::Marked);
     same(&rt, other.is_same(&table), false);
-    assert!(rt; revoke(&mut other, 0, 7));
+    same(&rt, revoke(&mut other, 0, 7), true);
     same(&rt, other.is_same(&table), false);
-    let mut first = IdTable::<15>::new(rt.alloc());
-    let mut second = IdTable::<15>::new(rt.alloc());
-    assert!(rt; tell(&rt, &mut first, 1, 30) && tell(&rt, &mut second, 2, 30));
+    let (first, second) = (told_under(&rt, alloc, 1), told_under(&rt, alloc, 2));
     same(&rt, first.is_same(&second), false);
 }
 

@@ -1,0 +1,56 @@
+-- What clap finds in the words of the worked cases.
+use Rattle.std.proofs.Common.{refl, ◌≡◌, ℕ, [], ◌∷◌, codes}
+use Rattle.clap.specs.Kinds.{Kinds}
+use Rattle.clap.specs.declared.error.kind.ErrorKind.{ErrorKind}
+use Rattle.clap.specs.declared.error.kind.ErrorKind.TheVariants as kind
+use Rattle.clap.proofs.OnLiterals.{clap_on_literals}
+use Rattle.rbc_command_line.specs.Witnesses.{AskFor, AskForNone}
+
+pub one : AskFor 1 []
+unfolding clap_on_literals
+one = (refl, refl, refl)
+
+pub sixteen : AskFor 16 (codes "--workers" ∷ codes "16" ∷ [])
+unfolding clap_on_literals
+sixteen = (refl, refl, refl)
+
+pub leading_zeros : AskFor 7 (codes "--workers=007" ∷ [])
+unfolding clap_on_literals
+leading_zeros = (refl, refl, refl)
+
+pub zero : AskFor 0 (codes "--workers" ∷ codes "0" ∷ [])
+unfolding clap_on_literals
+zero = (refl, refl, refl)
+
+-- one number is not another
+other : (a b found : ℕ) → found ≡ a → (a ≡ b → ⊥) → found ≡ b → ⊥
+other a b found is apart same = apart (rw (← is) same)
+
+pub two_by_default : AskFor 2 [] → ⊥
+unfolding clap_on_literals
+two_by_default asked = other 1 2 _ refl (λ e. cc) asked.2
+
+pub one_whatever_is_named : AskFor 1 (codes "--workers" ∷ codes "2" ∷ []) → ⊥
+unfolding clap_on_literals
+one_whatever_is_named asked = other 2 1 _ refl (λ e. cc) asked.2
+
+-- words with a fault ask for nothing
+faulty : (found : Kinds) (fault : ErrorKind) → found ≡ fault ∷ [] → found ≡ [] → ⊥
+faulty [] fault is none = cc
+faulty (k ∷ more) fault is none = cc
+
+pub too_great : AskForNone (codes "--workers" ∷ codes "256" ∷ [])
+unfolding clap_on_literals
+too_great workers asked = faulty _ kind.ValueValidation refl asked.0
+
+pub below_zero : AskForNone (codes "--workers" ∷ codes "-1" ∷ [])
+unfolding clap_on_literals
+below_zero workers asked = faulty _ kind.UnknownArgument refl asked.0
+
+pub no_number : AskForNone (codes "--workers" ∷ codes "x" ∷ [])
+unfolding clap_on_literals
+no_number workers asked = faulty _ kind.ValueValidation refl asked.0
+
+pub twice : AskForNone (codes "--workers" ∷ codes "1" ∷ codes "--workers" ∷ codes "1" ∷ [])
+unfolding clap_on_literals
+twice workers asked = faulty _ kind.ArgumentConflict refl asked.0

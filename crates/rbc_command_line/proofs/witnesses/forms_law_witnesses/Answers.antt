@@ -1,0 +1,32 @@
+use Rattle.rbc_command_line.proofs.WitnessWords.{below_zero, leading_zeros, no_number, one, one_whatever_is_named, sixteen, too_great, twice, two_by_default, zero}
+use Rattle.rbc_command_line.proofs.witnesses.forms_law_witnesses.Goals as goal
+
+pub returns-clause-one : goal.returns-clause-one
+returns-clause-one c = one
+
+pub returns-clause-sixteen : goal.returns-clause-sixteen
+returns-clause-sixteen c = sixteen
+
+pub returns-clause-leading_zeros : goal.returns-clause-leading_zeros
+returns-clause-leading_zeros c = leading_zeros
+
+pub returns-clause-zero : goal.returns-clause-zero
+returns-clause-zero c = zero
+
+pub returns-clause-two_by_default : goal.returns-clause-two_by_default
+returns-clause-two_by_default c = two_by_default
+
+pub returns-clause-one_whatever_is_named : goal.returns-clause-one_whatever_is_named
+returns-clause-one_whatever_is_named c = one_whatever_is_named
+
+pub returns-clause-too_great : goal.returns-clause-too_great
+returns-clause-too_great c = too_great
+
+pub returns-clause-below_zero : goal.returns-clause-below_zero
+returns-clause-below_zero c = below_zero
+
+pub returns-clause-no_number : goal.returns-clause-no_number
+returns-clause-no_number c = no_number
+
+pub returns-clause-twice : goal.returns-clause-twice
+returns-clause-twice c = twice

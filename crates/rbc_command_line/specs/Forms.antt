@@ -1,0 +1,31 @@
+-- The forms of `run`, and what they ask for.
+use Rattle.std.specs.Prelude.{◌≡◌, ◌≢◌, ◌<◌, ℕ, List, [], ◌∷◌, ◌++◌, codes}
+use Rattle.std.specs.List.{AllByRecursion}
+use Rattle.std.specs.Str.Parse.{IsNumeral, digits_value}
+use Rattle.clap.specs.Walk.{Text}
+use Rattle.rbc_command_line.specs.Words.{AsksToRun}
+
+-- the word has a first byte, which is no hyphen
+abbrev pub IsPlain : Text → Type 0
+IsPlain [] = ⊥
+IsPlain (c ∷ rest) = c ≢ 45
+
+-- the word is a number up to 255 in decimal digits
+abbrev pub WritesByte : Text → ℕ → Type 0
+WritesByte word number = IsNumeral 10 word × (digits_value 10 word ≡ number) × (number < 256)
+
+-- `run` with a track, and with a number of workers: in two words or in one, before the track or behind it
+abbrev pub forms_of : Text → Text → List (List Text)
+forms_of file word =
+    (codes "run" ∷ codes "--track" ∷ file ∷ codes "--workers" ∷ word ∷ [])
+    ∷ (codes "run" ∷ codes "--track" ∷ file ∷ (codes "--workers=" ++ word) ∷ [])
+    ∷ (codes "run" ∷ codes "--workers" ∷ word ∷ codes "--track" ∷ file ∷ [])
+    ∷ (codes "run" ∷ (codes "--workers=" ++ word) ∷ codes "--track" ∷ file ∷ []) ∷ []
+
+-- without a number there is one worker
+abbrev pub OneByDefault : Type 0
+OneByDefault = (file : Text) → IsPlain file → AsksToRun file 1 (codes "run" ∷ codes "--track" ∷ file ∷ [])
+
+-- with a number there are so many workers
+abbrev pub AsManyAsNamed : Type 0
+AsManyAsNamed = (file word : Text) (number : ℕ) → IsPlain file → WritesByte word number → AllByRecursion (AsksToRun file number) (forms_of file word)

@@ -1,0 +1,4 @@
+pub mod Forms
+pub mod NoTask
+pub mod Witnesses
+pub mod Words

@@ -1,0 +1,138 @@
+-- What the words ask for.
+use Rattle.std.specs.Prelude.{◌≡◌, ℕ, List, [], ◌∷◌, Option, Some, None, Result, MatchResult, option_and_then, if◌then◌else◌, pos, true, codes}
+use Rattle.std.specs.Option.{option_map_or}
+use Rattle.std.specs.Str.{bytes_eq}
+use Rattle.clap.specs.Simple.{App, Shape, new_app, new_rule, on_top, subcommand_of, with_rule, with_subcommand}
+use Rattle.clap.specs.Walk.{Row, Rule, Text, byte_or_zero, first_of, one_of}
+use Rattle.clap.specs.Words.{fault_of}
+use Rattle.clap.specs.declared.builder.action.ArgAction.TheVariants.{SetTrue}
+use Rattle.clap.specs.declared.builder.value_parser.ValueParser.TheVariants as vp
+use Rattle.rbc_command_line.specs.declared.no_task.NoTask.{NoTask}
+use Rattle.rbc_command_line.specs.declared.no_task.NoTask.TheVariants.{OutOfMemory}
+use Rattle.rbc_command_line.specs.declared.words.Task.{Task}
+use Rattle.rbc_command_line.specs.declared.words.Task.TheVariants.{Run, Check, Decode, Codes}
+
+-- the option that names the track file
+abbrev pub track_rule : Rule
+track_rule = record (new_rule (codes "track")) { long = Some (codes "track"); value_names = 1; required = true }
+
+-- the option that says how many workers there are: a number up to 255, which is 1 by default
+abbrev pub workers_rule : Rule
+workers_rule = record (new_rule (codes "workers")) {
+  long = Some (codes "workers");
+  value_names = 1;
+  parser = Some (vp.Signed (pos 0) (pos 255));
+  defaults = codes "1" ∷ [];
+}
+
+-- `run`, with both options
+abbrev pub run_shape : Shape
+run_shape = (with_rule (with_rule (new_app (codes "run")) track_rule) workers_rule).top
+
+-- the option by which unknown keys are notes
+abbrev pub other_keys_rule : Rule
+other_keys_rule = record (new_rule (codes "other-keys")) { long = Some (codes "other-keys"); action = Some SetTrue }
+
+-- `check`, with both options
+abbrev pub check_shape : Shape
+check_shape = (with_rule (with_rule (new_app (codes "check")) track_rule) other_keys_rule).top
+
+-- `codes`, alone
+abbrev pub codes_shape : Shape
+codes_shape = (new_app (codes "codes")).top
+
+-- `decode`, with one word after it
+abbrev pub decode_shape : Shape
+decode_shape = (with_rule (new_app (codes "decode")) (record (new_rule (codes "HEX")) { required = true })).top
+
+-- the command line without its subcommands, from the word after its name
+abbrev pub bare_line : App
+bare_line = on_top (λ top. record top { no_binary_name = true; subcommand_required = true; has_version = true }) (new_app (codes "dispatch"))
+
+-- the command line with those subcommands alone that take a track
+abbrev pub track_line : App
+track_line = with_subcommand (with_subcommand bare_line run_shape) check_shape
+
+-- the command line that the program takes: `run`, `check`, `decode` or `codes`
+abbrev pub command_line : App
+command_line = with_subcommand (with_subcommand track_line decode_shape) codes_shape
+
+-- memory ran out
+abbrev pub IsWantOfMemory : NoTask → Type 0
+IsWantOfMemory no_task = no_task ≡ OutOfMemory
+
+-- the name of a subcommand, and what was found for its arguments
+abbrev pub Finding : Type 0
+Finding = Option (Text × List Row)
+
+-- what clap finds in the words
+abbrev pub finding_in : List Text → Finding
+finding_in words = subcommand_of command_line words
+
+-- what was found for the arguments of the subcommand of this name
+abbrev pub found_after : Text → Finding → Option (List Row)
+found_after name None = None
+found_after name (Some p) = if bytes_eq p.0 name then Some p.1 else None
+
+-- the word that an argument was given after the subcommand of this name
+abbrev pub word_after : Text → Text → Finding → Option Text
+word_after name id found = option_and_then (first_of id) (found_after name found)
+
+-- the number that an argument was given after the subcommand of this name, or 0 where it was given none
+abbrev pub number_after : Text → Text → Finding → ℕ
+number_after name id found = option_map_or byte_or_zero (option_and_then (one_of id) (found_after name found)) 0
+
+-- words without a fault that ask for the batch, on the track in the file of this name, with so many workers
+abbrev pub AsksToRun : Text → ℕ → List Text → Type 0
+AsksToRun file workers words = (fault_of command_line words ≡ [])
+    × (word_after (codes "run") (codes "track") (finding_in words) ≡ Some file)
+    × (number_after (codes "run") (codes "workers") (finding_in words) ≡ workers)
+
+-- words without a fault that ask for the text of the message that this word stands for
+abbrev pub AsksToDecode : Text → List Text → Type 0
+AsksToDecode word words = (fault_of command_line words ≡ []) × (word_after (codes "decode") (codes "HEX") (finding_in words) ≡ Some word)
+
+-- words without a fault that ask for the report on the track in the file of this name
+abbrev pub AsksToCheck : Text → List Text → Type 0
+AsksToCheck file words = (fault_of command_line words ≡ []) × (word_after (codes "check") (codes "track") (finding_in words) ≡ Some file)
+
+-- no word was found for a run or a message
+abbrev pub IsNeither : Finding → Type 0
+IsNeither found = (word_after (codes "run") (codes "track") found ≡ None) × (word_after (codes "decode") (codes "HEX") found ≡ None)
+
+-- the task is what was found
+abbrev pub IsFound : Finding → Task → Type 0
+IsFound found (Run track workers) = (word_after (codes "run") (codes "track") found ≡ Some track.now)
+    × (number_after (codes "run") (codes "workers") found ≡ workers)
+IsFound found (Check track other) = IsNeither found × (word_after (codes "check") (codes "track") found ≡ Some track.now)
+IsFound found Codes = IsNeither found × (word_after (codes "check") (codes "track") found ≡ None)
+IsFound found (Decode hex) = word_after (codes "decode") (codes "HEX") found ≡ Some hex.now
+
+-- no word was found for any task
+abbrev pub IsNoTask : Finding → Type 0
+IsNoTask found = IsNeither found × (word_after (codes "check") (codes "track") found ≡ None)
+
+-- the task is the batch, on the track in the file of this name, with so many workers
+abbrev pub IsRunOn : Text → ℕ → Task → Type 0
+IsRunOn file workers (Run track number) = (track.now ≡ file) × (number ≡ workers)
+IsRunOn file workers (Check track other) = ⊥
+IsRunOn file workers (Decode hex) = ⊥
+IsRunOn file workers Codes = ⊥
+
+-- the task is the text of the message that this word stands for
+abbrev pub IsDecode : Text → Task → Type 0
+IsDecode word (Run track number) = ⊥
+IsDecode word (Check track other) = ⊥
+IsDecode word Codes = ⊥
+IsDecode word (Decode hex) = hex.now ≡ word
+
+-- the task is the report on the track in the file of this name
+abbrev pub IsCheckOf : Text → Task → Type 0
+IsCheckOf file (Check track other) = track.now ≡ file
+IsCheckOf file (Run track number) = ⊥
+IsCheckOf file (Decode hex) = ⊥
+IsCheckOf file Codes = ⊥
+
+-- the words are taken for a task, unless memory runs out
+abbrev pub IsTakenFor : (Task → Type 0) → Result Task NoTask → Type 0
+IsTakenFor P r = MatchResult r P IsWantOfMemory

@@ -1,0 +1,22 @@
+//! Worked cases of the law of forms, right ones and wrong ones.
+
+ghost use Rattle.std.specs.Prelude.{[], ◌∷◌, codes};
+ghost use Rattle.rbc_command_line.specs.Witnesses.{AskFor, AskForNone};
+
+/// What words behind `run --track t` ask for.
+///
+/// - No word asks for one worker, and not for two. `--workers 16` asks for 16 workers, and `--workers=007` for 7.
+/// - `--workers 0` asks for none, which the run refuses. `--workers 2` does not ask for one.
+/// - `--workers 256`, `--workers -1`, `--workers x` and a number that is named twice ask for no run.
+pub fn forms_law_witnesses()
+    ensures one { AskFor 1 [] }
+    ensures sixteen { AskFor 16 (codes "--workers" ∷ codes "16" ∷ []) }
+    ensures leading_zeros { AskFor 7 (codes "--workers=007" ∷ []) }
+    ensures zero { AskFor 0 (codes "--workers" ∷ codes "0" ∷ []) }
+    ensures two_by_default { AskFor 2 [] → ⊥ }
+    ensures one_whatever_is_named { AskFor 1 (codes "--workers" ∷ codes "2" ∷ []) → ⊥ }
+    ensures too_great { AskForNone (codes "--workers" ∷ codes "256" ∷ []) }
+    ensures below_zero { AskForNone (codes "--workers" ∷ codes "-1" ∷ []) }
+    ensures no_number { AskForNone (codes "--workers" ∷ codes "x" ∷ []) }
+    ensures twice { AskForNone (codes "--workers" ∷ codes "1" ∷ codes "--workers" ∷ codes "1" ∷ []) }
+{}

@@ -1,0 +1,12 @@
+use Rattle.std.proofs.Common.{subst, ℕ}
+use Rattle.rbc_command_line.specs.Words.{IsRunOn}
+use Rattle.rbc_command_line.specs.declared.words.Task.{Task}
+use Rattle.rbc_dispatch.specs.Running.{Runs}
+use Rattle.rbc_dispatch.proofs.program.carry_out.Goals as goal
+
+-- the batch is done by as many workers as the task names
+pub returns-in-Run-clause-run : goal.returns-in-Run-clause-run
+returns-in-Run-clause-run g c = λ file workers asked.
+    let taken = subst (λ (task : Task). IsRunOn file workers task) c.in-Run.is asked in
+    subst (λ (n : ℕ). Runs {E = Unit {0}} n (g.I.Read.remaining c.args.input.now) (g.I.Read.remaining c.run_file.new.input)
+    (g.O.Write.contents c.args.output.now) (g.O.Write.contents c.run_file.new.output) c.run_file.result) taken.1 c.run_file.ensures.runs
