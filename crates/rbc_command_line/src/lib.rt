@@ -1,7 +1,6 @@
 //! The words that the program takes: what they ask for, and what is wrong with them.
 #![tactic(auto)]
 
-mod arguments;
 mod law;
 mod no_task;
 mod witnesses;

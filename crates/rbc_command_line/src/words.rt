@@ -6,12 +6,11 @@ ghost use Rattle.clap.specs.declared.builder.command.Command.TheViews.{out-Comma
 ghost use Rattle.rbc_command_line.specs.NoTask.{status_of, status_of_kind};
 ghost use Rattle.rbc_command_line.specs.Words.{AsksToCheck, AsksToDecode, AsksToRun, IsCheckOf, IsDecode, IsFound, IsNoTask, IsRunOn, IsTakenFor, IsWantOfMemory, bare_line, check_shape, codes_shape, command_line, decode_shape, finding_in, number_after, other_keys_rule, run_shape, track_rule, word_after, workers_rule};
 
-use crate::arguments::Nameless;
 use crate::no_task::NoTask;
 use clap::error::ErrorKind;
 use clap::{Arg, ArgAction, ArgMatches, Command, value_parser};
 use std::alloc::{AllocError, Global};
-use std::env::Env;
+use std::env::{Env, FillError};
 use std::{env, io};
 
 /// What the arguments ask the program to do.
@@ -95,7 +94,7 @@ fn bare_command<'a>(alloc: Global) -> Result<Command<'a>, AllocError>
 {
     Command::new(alloc, "dispatch")
         .no_binary_name(true)
-        .version("1.0.0, rules 1")
+        .version("1.1.0, rules 1")
         .about(
             "Emergency stops and speed restrictions, from a signaller's batch to each train's messages",
         )
@@ -276,5 +275,34 @@ fn has_flag_after(matches: &ArgMatches<'_>, name: &str, id: &str) -> bool {
     match matches.subcommand_matches(name) {
         Some(found) => found.get_flag(id),
         None => false,
+    }
+}
+
+/// An environment without the program's name, which may be any bytes.
+#[derive(Clone, Copy)]
+struct Nameless<'a, R>(&'a R);
+
+impl<R: Env> Env for Nameless<'_, R> {
+    fn arg(&self, i: usize, buf: &mut [u8]) -> Result<usize, FillError> {
+        match i.checked_add(1) {
+            Some(next) => self.0.arg(next, buf),
+            None => Err(FillError::NotPresent),
+        }
+    }
+
+    fn var(&self, name: &str, buf: &mut [u8]) -> Result<usize, FillError> {
+        self.0.var(name, buf)
+    }
+
+    fn var_at(&self, i: usize, buf: &mut [u8]) -> Result<usize, FillError> {
+        self.0.var_at(i, buf)
+    }
+}
+
+impl<R: Alloc> Alloc for Nameless<'_, R> {
+    type A = R::A;
+
+    fn alloc(&self) -> R::A {
+        self.0.alloc()
     }
 }
