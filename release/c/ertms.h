@@ -1,0 +1,91 @@
+/* The codec of ertms_codec for C, C++ and Ada: one message at a time, into or out of a struct of fixed layout.
+
+   Library: crates/ertms_c/out/libertms_c.a. It needs no other library, asks for no memory, keeps nothing between calls,
+   reads and writes what its arguments point to and nothing else, and never ends the process, prints or sets errno.
+
+   What the caller owes, of every call:
+   - A pointer is aligned for its type and points to as much as its parameter says. Of bytes with length 0 it may be null;
+     otherwise it is not null.
+   - What a call writes overlaps nothing else that it is given, and nobody else reads or writes it during the call.
+   - A length is below 2^63.
+   Any number of threads may call at once, each with its own structs and bytes.
+
+   Variables are those of SUBSET-026, section 7.5, messages those of section 8. */
+#ifndef ERTMS_H
+#define ERTMS_H
+#include <stddef.h>
+#include <stdint.h>
+#ifdef __cplusplus
+extern "C" {
+#endif
+
+/* Why bytes are refused: the first step that fails, in the order of the checks length, message, length of the message,
+   packet, field. */
+enum {
+    ERTMS_OK = 0,
+    ERTMS_LENGTH = 1,  /* fewer than 3 bytes, L_MESSAGE is not their number, or no length that the message can have */
+    ERTMS_MESSAGE = 2, /* NID_MESSAGE is of no message that the reader takes */
+    ERTMS_PACKET = 3,  /* a packet is missing, is another than the message can have, or has a wrong L_PACKET */
+    ERTMS_FIELD = 4    /* a variable has a spare value */
+};
+
+/* The greatest number of bytes of a message to a train. */
+#define ERTMS_TO_TRAIN_BYTES 32
+
+/* A message to a train. A variable that its kind does not have is 0. 24 bytes. */
+typedef struct ertms_to_train {
+    uint8_t kind;      /* NID_MESSAGE 15 (stop before a place), 16 (stop at once), 18 (revocation of a stop); or of
+                          message 24 NID_PACKET 65 (restriction), 66 (revocation of a restriction) */
+    uint8_t ack;       /* M_ACK: 0 or 1 */
+    uint8_t id;        /* NID_EM of 15, 16, 18: 0 to 15. NID_TSR of 65, 66: 0 to 255 */
+    uint8_t scale;     /* Q_SCALE of 15, 65: 0 is 10 cm, 1 is 1 m, 2 is 10 m */
+    uint8_t dir;       /* Q_DIR of 15, 65, 66: 0 reverse, 1 nominal, 2 both */
+    uint8_t front;     /* Q_FRONT of 65: 0 the length of the train delays the end, 1 it does not */
+    uint8_t speed;     /* V_TSR of 65: 0 to 120, in units of 5 km/h */
+    int16_t reference; /* D_REF of 15, in units of scale */
+    uint16_t distance; /* D_EMERGENCYSTOP of 15: 0 to 32767 units of scale */
+    uint16_t start;    /* D_TSR of 65: 0 to 32767 units of scale */
+    uint16_t length;   /* L_TSR of 65: 0 to 32767 units of scale */
+    uint32_t stamp;    /* T_TRAIN, in units of 10 ms; 4294967295 is unknown */
+    uint32_t lrbg;     /* NID_LRBG, NID_C (10 bits) before NID_BG (14 bits): 0 to 16777214; 16777215 is unknown */
+} ertms_to_train;
+
+/* A message from a train. A variable that its kind does not have is 0. The distances and doubts are in units of scale.
+   36 bytes. */
+typedef struct ertms_from_train {
+    uint8_t kind;      /* NID_MESSAGE: 136 (position report), 146 (acknowledgement), 147 (answer to a stop) */
+    uint8_t id;        /* NID_EM of 147: 0 to 15 */
+    uint8_t answer;    /* Q_EMERGENCYSTOP of 147: 0 conditional, accepted, changed the end of authority; 1 accepted, changed
+                          nothing; 2 unconditional, accepted; 3 rejected */
+    uint8_t packet;    /* NID_PACKET of the position of 136, 147: 0, or 1, which names two balise groups */
+    uint8_t scale;     /* Q_SCALE of the position: 0 is 10 cm, 1 is 1 m, 2 is 10 m */
+    uint8_t dir;       /* Q_DIRLRBG: 0 reverse, 1 nominal, 2 unknown */
+    uint8_t side;      /* Q_DLRBG: 0 reverse, 1 nominal, 2 unknown */
+    uint16_t distance; /* D_LRBG: 0 to 32766; 32767 is unknown */
+    uint16_t over;     /* L_DOUBTOVER: 0 to 32766; 32767 is taken as unknown */
+    uint16_t under;    /* L_DOUBTUNDER: 0 to 32766; 32767 is taken as unknown */
+    uint32_t stamp;    /* T_TRAIN, in units of 10 ms; 4294967295 is unknown */
+    uint32_t engine;   /* NID_ENGINE: 0 to 16777215 */
+    uint32_t acked;    /* of 146, T_TRAIN of the message that is acknowledged */
+    uint32_t lrbg;     /* NID_LRBG of the position: 0 to 16777214; 16777215 is unknown */
+    uint32_t previous; /* NID_PRVLRBG of packet 1 */
+} ertms_from_train;
+
+/* Decodes the bytes of one message to a train. Answers ERTMS_OK, and *fields are those of the message; or why the bytes are
+   refused, and *fields stay as they were. */
+uint32_t ertms_read_to_train(const uint8_t *bytes, size_t length, ertms_to_train *fields);
+
+/* Encodes one message to a train. Answers how many bytes it has, 1 to 32: they stand at the front of bytes, and the rest of
+   bytes stays. Answers 0, and changes nothing, where no message has these fields: the kind is none, a variable is out of its
+   range, or one that the kind does not have is not 0. */
+uint32_t ertms_write_to_train(const ertms_to_train *fields, uint8_t bytes[ERTMS_TO_TRAIN_BYTES]);
+
+/* Decodes the bytes of one message from a train. Answers ERTMS_OK, and *fields are those of the message; or why the bytes are
+   refused, and *fields stay as they were. Of a position, what a train says of its speed, mode, level and integrity is passed
+   over. */
+uint32_t ertms_read_from_train(const uint8_t *bytes, size_t length, ertms_from_train *fields);
+
+#ifdef __cplusplus
+}
+#endif
+#endif

@@ -1,0 +1,80 @@
+/* A live desk for C, C++ and Ada: the emergency and restriction part of a radio block centre, fed one line at a time.
+
+   Libraries: crates/rbc_c/out/librbc_c.a, and heap.c of the kit, which hands memory on from malloc, realloc and free
+   (docs/C_LIBRARY.md has the commands). Nothing else is called. No call ends the process, prints, sets errno, starts a thread or
+   keeps a pointer that it was given.
+
+   What the caller owes, of every call:
+   - A pointer is aligned for its type and points to as much as its parameter says. Where a length or a room is 0 its pointer may
+     be null; otherwise no pointer is null.
+   - What a call writes overlaps nothing else that it is given, and nobody else reads or writes it during the call.
+   - A length is below 2^63, and so is a room times 40.
+   - No call comes from a signal handler, or in the child after a fork of a process with threads.
+
+   Threads. Each desk is for one call at a time: that two calls do not meet on one rbc_desk is the caller's duty (a lock, or one
+   thread). A desk may go from thread to thread, and different desks may be used at once. */
+#ifndef RBC_H
+#define RBC_H
+#include <stddef.h>
+#include <stdint.h>
+#ifdef __cplusplus
+extern "C" {
+#endif
+
+/* A desk that is open, or none. The caller owns this struct, sets it to RBC_NONE once, before its first use, and passes its
+   address; the library alone writes it from then on. It may be moved. A copy of an open desk must not be used: a desk that
+   is closed by one copy is gone for the other. What an open desk holds is given back by rbc_close alone. 16 bytes. */
+typedef struct rbc_desk {
+    uint8_t open; /* 0 or 1 */
+    void *memory;
+} rbc_desk;
+#define RBC_NONE {0, NULL}
+
+/* A message to one train: its bytes as they are sent, of which the first length count; the others stay as they were. 40 bytes. */
+typedef struct rbc_message {
+    uint32_t engine;   /* NID_ENGINE of the train: 0 to 16777215 */
+    uint32_t length;   /* 1 to 32 */
+    uint8_t bytes[32]; /* ertms_read_to_train of ertms.h reads them */
+} rbc_message;
+
+/* What a line led to. 16 bytes. */
+typedef struct rbc_answer {
+    uint32_t refused; /* 0: it was accepted. 1 to 255: why it was refused, a code of docs/RULES.md; then it changed nothing */
+    size_t count;     /* how many messages it sent */
+} rbc_answer;
+
+/* What a call answers. */
+enum {
+    RBC_DONE = 0,
+    RBC_MEMORY = 1,        /* malloc or realloc gave nothing */
+    RBC_NOT_NOW = 2,       /* rbc_feed, rbc_close: no desk is open. rbc_open: one is */
+    RBC_ROOM = 3,          /* rbc_feed: there are more messages than room for them */
+    RBC_NOT_UTF8 = 5,      /* this and all below: of rbc_open alone */
+    RBC_TRACK_TEXT = 10,   /* the track is no TOML text */
+    RBC_TRACK_SHAPE = 11,  /* its keys are not those of a track */
+    RBC_TRACK_LINES = 12,  /* too many lines */
+    RBC_TRACK_GROUPS = 13, /* too many balise groups */
+    RBC_TRACK_LENGTH = 14, /* a line has a bad length */
+    RBC_TRACK_OFF_LINE = 15, /* a balise group is not on its line */
+    RBC_TRACK_TWICE = 16   /* two balise groups have one number */
+};
+
+/* Opens a desk on a track: no train, no stop, no restriction. track is the text of a track in TOML, UTF-8, so many bytes; it is
+   not needed after the call. Answers RBC_DONE, and the desk is open; or why not, and the desk is as it was: at RBC_NOT_NOW
+   still open, otherwise none. */
+uint32_t rbc_open(rbc_desk *desk, const uint8_t *track, size_t length);
+
+/* Gives one line to an open desk, without its line feed: an enrolment, a command or a message, as docs/FORMATS.md has them.
+   Answers RBC_DONE: *answer says what it led to, and its messages stand at the front of out, in the order in which they are sent;
+   what stands behind them stays. At every other answer the desk is as it was, out too, and the line may be fed again. At RBC_ROOM
+   answer->count says how many messages there would be, and answer->refused is 0: feed the line again with room for them.
+   At RBC_MEMORY and RBC_NOT_NOW *answer stays as it was. A room of 0 is a way to ask how many messages there would be. */
+uint32_t rbc_feed(rbc_desk *desk, const uint8_t *line, size_t length, rbc_message *out, size_t room, rbc_answer *answer);
+
+/* Closes an open desk, and gives its memory back. Answers RBC_DONE, or RBC_NOT_NOW where none is open. It is none then. */
+uint32_t rbc_close(rbc_desk *desk);
+
+#ifdef __cplusplus
+}
+#endif
+#endif
