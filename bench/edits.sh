@@ -8,12 +8,13 @@
 # and 1 where one was not. All of them take hours of one processor.
 set -euo pipefail
 
-root=$(dirname "$(dirname "$(readlink -f "$0")")")
+here=$(dirname "$(dirname "$(readlink -f "$0")")")
 scratch=$(mktemp -d)
 trap 'rm -rf "$scratch"' EXIT
 
-(cd "$root" && tar -c --exclude=./.git --exclude=out .) | tar -x -C "$scratch"
+(cd "$here" && tar -c --exclude=./.git --exclude=out .) | tar -x -C "$scratch"
 cd "$scratch"
+root=$scratch
 git init -q .
 if (($# == 0)); then
     set -- $(cd crates && ls -d */edits | cut -d / -f 1)
@@ -24,15 +25,17 @@ for crate in "$@"; do
 done
 
 # What earlier runs proved of a library counts in the copy too, where its sources and those below it are the same.
-for crate in $(ls "$root/crates"); do
-    if [[ -d $root/crates/$crate/out/rlib ]]; then
+for crate in $(ls "$here/crates"); do
+    if [[ -d $here/crates/$crate/out/rlib ]]; then
         mkdir "crates/$crate/out"
-        cp -r "$root/crates/$crate/out/rlib" "crates/$crate/out/"
+        cp -r "$here/crates/$crate/out/rlib" "crates/$crate/out/"
     fi
 done
-# A library is proved here once, so that crates which stand on it do not meet at it.
-while read -r crate kind _; do
-    if [[ -f crates/${crate%:}/src/lib.rt && $kind != staticlib:* ]]; then
+# The libraries below are proved once, in the order of crates.txt, so that crates which stand on one do not meet at it.
+source release/sources.sh
+below=$(for crate in "$@"; do crates_of "$crate" | tail -n +2; done)
+while read -r crate _; do
+    if grep -qxF "${crate%:}" <<< "$below"; then
         (cd "crates/${crate%:}" && rt lib) > "$scratch/log" 2>&1 || { tail -n 20 "$scratch/log" >&2; exit 1; }
     fi
 done < crates.txt
