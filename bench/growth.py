@@ -13,8 +13,7 @@ import statistics
 import subprocess
 import sys
 
-from codec_loads import spelled
-from loads import Random
+from loads import Random, spelled
 
 LINES, LENGTH = 64, 3_000_000
 GROUPS = 100  # on line 0

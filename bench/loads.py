@@ -50,6 +50,16 @@ class Random:
         return sorted(found)
 
 
+def spelled(number, fields):
+    """A message of this number: `fields`, each a value and its width, are what is behind L_MESSAGE."""
+    width = 18 + sum(width for _, width in fields)
+    length = -(-width // 8)
+    bits = number << 10 | length
+    for value, width_of_one in fields:
+        bits = bits << width_of_one | value
+    return (bits << 8 * length - width).to_bytes(length, "big")
+
+
 def segment(random):
     low = random.below(LONGEST_LINE)
     return b"%d:%d-%d" % (random.below(LINES), low, random.between(low, LONGEST_LINE))

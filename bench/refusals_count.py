@@ -14,7 +14,7 @@ import subprocess
 import sys
 import tempfile
 
-from codec_loads import spelled
+from loads import spelled
 
 from program import program_of
 

@@ -6,8 +6,7 @@ and FOLDER/PROFILE-SEED.batch.
 
 import sys
 
-from codec_loads import spelled
-from loads import LONGEST_TRAIN, Random, wrong_line
+from loads import LONGEST_TRAIN, Random, spelled, wrong_line
 
 UNKNOWN = 2**24 - 1  # NID_LRBG
 PLACES = 2**15

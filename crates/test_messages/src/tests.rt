@@ -2,6 +2,7 @@
 //! decoder.
 
 mod agreement;
+mod bit_fields;
 mod described;
 mod edited;
 mod laid_out_from_train;
