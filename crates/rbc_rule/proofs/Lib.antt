@@ -26,6 +26,7 @@ pub mod Says
 pub mod SaysPlaces
 pub mod SaysTold
 pub mod Seeking
+pub mod Sendable
 pub mod SettledPlaces
 pub mod Tells
 pub mod Untouched

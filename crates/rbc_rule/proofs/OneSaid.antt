@@ -37,17 +37,19 @@ module _ (plan : Plan) (lrbg dir scale : ℕ) where
   -- so is the place that lies so many units ahead
   spots_are_one : (distance : ℕ) (spot other : Spot) → IsSpotTold plan lrbg dir scale distance spot → IsSpotTold plan lrbg dir scale distance other → spot ≡ other
   spots_are_one distance spot other a b =
-      let one = counts_are_one spot.line other.line a.origin b.origin a.way b.way spot.unit other.unit a.counts b.counts in
-      let in_unit : IsAhead b.way b.origin (distance * spot.unit) other.place =
-      subst (λ (unit : ℕ). IsAhead b.way b.origin (distance * unit) other.place) (sym one.units) b.ahead in
-      let from_origin : IsAhead b.way a.origin (distance * spot.unit) other.place =
-      subst (λ (origin : ℕ). IsAhead b.way origin (distance * spot.unit) other.place) (sym one.origins) in_unit in
-      let same_way : IsAhead a.way a.origin (distance * spot.unit) other.place =
-      subst (λ (way : Way). IsAhead way a.origin (distance * spot.unit) other.place) (sym one.ways) from_origin in
-      let places : spot.place ≡ other.place = only_place a.way a.origin (distance * spot.unit) spot.place other.place a.ahead same_way in
+      let one = counts_are_one spot.line other.line spot.origin other.origin spot.way other.way spot.unit other.unit a.counts b.counts in
+      let in_unit : IsAhead other.way other.origin (distance * spot.unit) other.place =
+      subst (λ (unit : ℕ). IsAhead other.way other.origin (distance * unit) other.place) (sym one.units) b.ahead in
+      let from_origin : IsAhead other.way spot.origin (distance * spot.unit) other.place =
+      subst (λ (origin : ℕ). IsAhead other.way origin (distance * spot.unit) other.place) (sym one.origins) in_unit in
+      let same_way : IsAhead spot.way spot.origin (distance * spot.unit) other.place =
+      subst (λ (way : Way). IsAhead way spot.origin (distance * spot.unit) other.place) (sym one.ways) from_origin in
+      let places : spot.place ≡ other.place = only_place spot.way spot.origin (distance * spot.unit) spot.place other.place a.ahead same_way in
       let lines = one.lines in
+      let origins = one.origins in
+      let ways = one.ways in
       let units = one.units in
-      λ i. record { line = lines i; place = places i; unit = units i }
+      λ i. record { line = lines i; origin = origins i; way = ways i; place = places i; unit = units i }
 
   -- and the stretch
   stretches_are_one : (start length : ℕ) (stretch other : Stretch) → IsStretchTold plan lrbg dir scale start length stretch

@@ -22,7 +22,7 @@ module _ (plan : Plan) (track : IsPlan plan) where
       let first = All-head (IsKept plan stops limits) train trains kept in (
         refl,
         (
-          all_say plan track stops limits good_stops good_limits train.1 first.well_formed.place,
+          all_say plan track stops limits good_stops good_limits train.1 first.well_formed.place first.well_formed.tables first.well_formed.stamp,
           all_say_to stops limits good_stops good_limits trains (All-tail (IsKept plan stops limits) train trains kept),
         ),
       )

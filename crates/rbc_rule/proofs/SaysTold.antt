@@ -1,10 +1,12 @@
 -- What each action of settling says.
-use Rattle.std.proofs.Common.{◌≡◌, ℕ, ◌-◌, ◌*◌, ◌^◌, ◌≤◌, Bool, true, false, cond, if◌then◌else◌, List, [], ◌∷◌, ◌++◌, get_or, map, Option, Some, None, refl, ap, ◌∙◌, subst}
+use Rattle.std.proofs.Common.{◌≡◌, ℕ, ◌+◌, ◌-◌, ◌*◌, ◌^◌, ◌<◌, ◌≤◌, Bool, true, false, cond, if◌then◌else◌, List, [], ◌∷◌, ◌++◌, length, map, Option, Some, None, refl, sym, ap, ◌∙◌, subst, arith}
 use Rattle.std.specs.List.{All, AllByRecursion, cons_option, scan, zip}
 use Rattle.std.specs.Option.{option_map, option_map_or}
-use Rattle.std.proofs.lemmas.List.Elements.{All-nil, All-cons, All-head, All-tail, All-append, All-take, All-map}
+use Rattle.std.proofs.lemmas.List.{length-take}
+use Rattle.std.proofs.lemmas.List.Elements.{All-nil, All-cons, All-head, All-tail, All-append, All-take, All-map, All-weaker}
 use Rattle.std.proofs.lemmas.Option.{same_Some, cond_some}
 use Rattle.ertms_codec.specs.declared.to_train.ToTrain.{ToTrain}
+use Rattle.ertms_codec.specs.ToTrain.{head_of}
 use Rattle.rbc_track.specs.Plan.{Plan, IsPlan, group_of}
 use Rattle.rbc_track.specs.declared.group.Group.{Group}
 use Rattle.rbc_track.specs.declared.group.Way.TheVariants.{Up, Down}
@@ -28,37 +30,40 @@ use Rattle.rbc_settle.specs.declared.action.ToldStop.{ToldStop}
 use Rattle.rbc_settle.specs.declared.action.ToldStop.TheVariants.{AtOnce, Before}
 use Rattle.rbc_settle.specs.Told.{Part}
 use Rattle.rbc_settle.specs.Numbers.{has_number}
-use Rattle.rbc_settle.specs.Settling.{Stops, Limits, last_stamp, direction_of, told_edge, told_at, told_stop, told_limit, limit_told_to, tell_stop, tell_limit, to_revoke, is_stop_gone, is_limit_gone, stops_revoked, stops_told, limits_revoked, limits_told, carried_out, message_of, messages_of, actions, actions_with_stamp}
+use Rattle.rbc_settle.specs.Settling.{Stops, Limits, last_stamp, unknown_group, direction_of, told_edge, told_at, told_stop, told_limit, limit_told_to, tell_stop, tell_limit, to_revoke, is_stop_gone, is_limit_gone, stops_revoked, stops_told, limits_revoked, limits_told, carried_out, message_of, messages_of, actions, actions_with_stamp}
 use Rattle.rbc_settle.specs.Settling.{group_of as group_by}
+use Rattle.rbc_settle.specs.UpToDate.{HasTables}
 use Rattle.rbc_settle.specs.WellFormed.{IsPlaceOn, HasPlaceOn}
 use Rattle.rbc_settle.proofs.Wanted.{wanted_of}
 use Rattle.rbc_settle.proofs.Concerned.{each_value, told_as, limit_as}
 use Rattle.rbc_rule.specs.WellFormed.{IsGoodStop, AreGoodStops, AreGoodLimits}
 use Rattle.rbc_rule.specs.Saying.{Said, StopsAtOnce, StopsBefore, Restricts, RevokesStop, RevokesLimit, Spot, Stretch, CountsFrom, Says}
-use Rattle.rbc_rule.specs.SaidFor.{stretch_for, IsEdgeSaid, IsConcernSaid, IsLimitSaid, SaysFor, AllSay}
+use Rattle.rbc_rule.specs.SaidFor.{stretch_for, IsEdgeSaid, IsConcernSaid, IsLimitSaid, IsSendable, SaysFor, AllSay}
+use Rattle.rbc_rule.proofs.Sendable.{revoked_below, free_stop_ids, free_limit_ids, group_within, direction_within, revoke_stop, stop_at_once, stop_before, revoke_limit, limit_sendable}
 use Rattle.rbc_rule.proofs.SaysPlaces.{faced, unit_is, distance_within, lies_ahead, whole_fives, sound, good_area, good_limit}
 
 -- ---- the list of what is told
 
-module _ {X T : Type 0} (slots : Slots) (what : ℕ × X → Option T) (tell : (ℕ × T) × ℕ → Action) (P : Action → Type 0) where
-  -- what holds of each telling of an entry holds of all that are told
+module _ {X T : Type 0} (slots : Slots) (what : ℕ × X → Option T) (tell : (ℕ × T) × ℕ → Action) (IsId : ℕ → Type 0) (P : Action → Type 0) where
+  -- what holds of each telling of an entry, under such an identifier, holds of all that are told
   abbrev pub HoldsOfTelling : ℕ × X → Type 0
-  HoldsOfTelling entry = (told : T) → what entry ≡ Some told → (id : ℕ) → P (tell ((entry.0, told), id))
+  HoldsOfTelling entry = (told : T) → what entry ≡ Some told → (id : ℕ) → IsId id → P (tell ((entry.0, told), id))
 
   one_more : (entry : ℕ × X) (wanted : List (ℕ × T)) (told : T) → what entry ≡ Some told → HoldsOfTelling entry
-      → ((ids : List ℕ) → All P (map tell (zip wanted ids))) → (ids : List ℕ) → All P (map tell (zip ((entry.0, told) ∷ wanted) ids))
-  one_more entry wanted told is holds rest [] = All-nil P
-  one_more entry wanted told is holds rest (id ∷ ids) = All-cons P (tell ((entry.0, told), id)) (map tell (zip wanted ids)) (holds told is id) (rest ids)
+      → ((ids : List ℕ) → All IsId ids → All P (map tell (zip wanted ids))) → (ids : List ℕ) → All IsId ids → All P (map tell (zip ((entry.0, told) ∷ wanted) ids))
+  one_more entry wanted told is holds rest [] are = All-nil P
+  one_more entry wanted told is holds rest (id ∷ ids) are =
+      All-cons P (tell ((entry.0, told), id)) (map tell (zip wanted ids)) (holds told is id (All-head IsId id ids are)) (rest ids (All-tail IsId id ids are))
 
-  pub each_telling : (active : List (ℕ × X)) → AllByRecursion HoldsOfTelling active → (ids : List ℕ) → All P (map tell (zip (wanted_of slots what active) ids))
-  each_telling [] all ids = All-nil P
-  each_telling (entry ∷ active) all ids =
+  pub each_telling : (active : List (ℕ × X)) → AllByRecursion HoldsOfTelling active → (ids : List ℕ) → All IsId ids → All P (map tell (zip (wanted_of slots what active) ids))
+  each_telling [] all ids are = All-nil P
+  each_telling (entry ∷ active) all ids are =
       let rest = wanted_of slots what active in
       elim (is_told slots entry.0) as (λ b. All P (map tell (zip (cons_option (cond b None (option_map (λ told. (entry.0, told)) (what entry))) rest) ids))) [
-        | true ↦ each_telling active all.1 ids
+        | true ↦ each_telling active all.1 ids are
         | false ↦ (elim (what entry) as (λ o. what entry ≡ o → All P (map tell (zip (cons_option (option_map (λ told. (entry.0, told)) o) rest) ids))) [
-          | None ↦ λ is. each_telling active all.1 ids
-          | Some told ↦ λ is. one_more entry rest told is all.0 (each_telling active all.1) ids
+          | None ↦ λ is. each_telling active all.1 ids are
+          | Some told ↦ λ is. one_more entry rest told is all.0 (each_telling active all.1) ids are
         ]) refl
       ]
 
@@ -68,14 +73,24 @@ module _ {X T : Type 0} (slots : Slots) (what : ℕ × X → Option T) (tell : (
 abbrev pub group_at : Place → Group
 group_at p = record { line = p.line; at = p.at; nominal = if p.same then Up else Down }
 
--- a message says something, of which a statement holds
+-- a message says something, of which a statement holds, and can be sent
 pub record SaysOne (plan : Plan) (sent : ToTrain) (holds : Said → Type 0) : Type 0 where
   pub said : Said
   pub says : Says plan sent said
   pub is : holds said
+  pub sendable : IsSendable sent
 
-module _ (plan : Plan) (track : IsPlan plan) (train : TrainRec) where
-  -- the balise group that a later message names is that of the place
+-- a train that has a stamp left, and stands where another does
+pub record StandsAs (train later : TrainRec) : Type 0 where
+  pub same : later.place ≡ train.place
+  pub left : later.stamp < last_stamp
+
+module _ (plan : Plan) (track : IsPlan plan) (train : TrainRec) (stands_on : HasPlaceOn plan train.place) where
+  -- the balise group that a later message names has room in its variable
+  group_later : (later : TrainRec) → later.place ≡ train.place → group_by later ≤ 16777215
+  group_later later same = subst (λ (o : Option Place). option_map_or (λ q. q.lrbg) o unknown_group ≤ 16777215) (sym same) (group_within plan track train.place stands_on)
+
+  -- it is that of the place
   found_later : (p : Place) → train.place ≡ Some p → IsPlaceOn plan p → (later : TrainRec) → later.place ≡ train.place → group_of plan (group_by later) ≡ Some (group_at p)
   found_later p placed on later same = ap (λ (o : Option Place). group_of plan (option_map_or (λ q. q.lrbg) o 16777215)) (same ∙ placed) ∙ on.group
 
@@ -93,41 +108,45 @@ module _ (plan : Plan) (track : IsPlan plan) (train : TrainRec) where
 
   -- a stop before an edge
   edge_said : (p : Place) → train.place ≡ Some p → IsPlaceOn plan p → (area : List Segment) (forced : Bool) (edge : ℕ) → All IsSegment area → concern_at area forced p ≡ concern.Before edge
-      → (later : TrainRec) → later.place ≡ train.place → (id number : ℕ)
+      → (later : TrainRec) → StandsAs train later → (id number : ℕ) → id < 15
       → SaysOne plan (message_of later (TellStop id number (Before (told_edge (direction_of p) (told_distance (distance_to p.facing p.at edge)))))) (IsEdgeSaid train edge id)
-  edge_said p placed on area forced edge segments before later same id number =
+  edge_said p placed on area forced edge segments before later stands id number below =
       let distance = distance_to p.facing p.at edge in
       let told = told_distance distance in
       let by = told.1 * 10 ^ told.0 in
       let rightly = told_rightly distance (distance_within p.facing p.at edge (sound plan track p on).at (edge_in_range p area forced edge segments before)) in
-      let spot : Spot = record { line = p.line; place = onward p.facing p.at by; unit = 10 ^ told.0 } in
+      let spot : Spot = record { line = p.line; origin = p.at; way = p.facing; place = onward p.facing p.at by; unit = 10 ^ told.0 } in
       let ahead : IsAhead p.facing p.at by spot.place = lies_ahead p.facing p.at edge by rightly.not_beyond in
       record {
         said = StopsBefore id spot;
-        says = (refl, (spot, (record { origin = p.at; way = p.facing; counts = counts p placed on later same told.0 rightly.not_spare; ahead = ahead }, refl)));
+        says = (refl, (spot, (record { counts = counts p placed on later stands.same told.0 rightly.not_spare; ahead = ahead }, refl)));
         is = record {
           p = p;
           placed = placed;
           spot = spot;
-          is_for = record { scale = told.0; units = told.1; told = rightly; on_line = refl; in_units = refl; ahead = ahead };
+          is_for = record { scale = told.0; units = told.1; told = rightly; on_line = refl; from_group = refl; faces = refl; in_units = refl; ahead = ahead };
           is_said = refl;
         };
+        sendable =
+            let most = rightly.in_field in
+            stop_before later stands.left (group_later later stands.same) id number (told_edge (direction_of p) told) below
+            (record { dir = direction_within p; scale = rightly.not_spare; distance = omega (arith, most) });
       }
 
-  module _ (area : List Segment) (forced : Bool) (segments : All IsSegment area) (id number : ℕ) (later : TrainRec) (same : later.place ≡ train.place) where
+  module _ (area : List Segment) (forced : Bool) (segments : All IsSegment area) (id number : ℕ) (below : id < 15) (later : TrainRec) (stands : StandsAs train later) where
     -- the message of a stop, by what the stop is to the train
     abbrev pub SaidBy : Concern → ToldStop → Type 0
     SaidBy c told = SaysOne plan (message_of later (TellStop id number told)) (IsConcernSaid train c id)
 
     at_once : SaidBy concern.Now AtOnce
-    at_once = record { said = StopsAtOnce id; says = refl; is = refl }
+    at_once = record { said = StopsAtOnce id; says = refl; is = refl; sendable = stop_at_once later stands.left (group_later later stands.same) id number below }
 
     concern_said_at : (p : Place) → train.place ≡ Some p → IsPlaceOn plan p → (c : Concern) → concern_at area forced p ≡ c → (told : ToldStop) → told_at p c ≡ Some told → SaidBy c told
     concern_said_at p placed on concern.None is told tells = absurd (let bad : None ≡ Some told = tells in cc)
     concern_said_at p placed on concern.Now is told tells = subst (SaidBy concern.Now) (same_Some AtOnce told tells) at_once
     concern_said_at p placed on (concern.Before edge) is told tells =
         let before = Before (told_edge (direction_of p) (told_distance (distance_to p.facing p.at edge))) in
-        subst (SaidBy (concern.Before edge)) (same_Some before told tells) (edge_said p placed on area forced edge segments is later same id number)
+        subst (SaidBy (concern.Before edge)) (same_Some before told tells) (edge_said p placed on area forced edge segments is later stands id number below)
 
     concern_said : (place : Option Place) → train.place ≡ place → HasPlaceOn plan place → (told : ToldStop) → told_stop place (concern_of area forced place) ≡ Some told → SaidBy (concern_of area forced place) told
     concern_said None placed on told tells = subst (SaidBy concern.Now) (same_Some AtOnce told tells) at_once
@@ -135,10 +154,10 @@ module _ (plan : Plan) (track : IsPlan plan) (train : TrainRec) where
 
   -- the message of a restriction
   limit_said : (limits : Limits) (limit : Limit) (number : ℕ) → value_of limits.active number ≡ Some limit → IsLimit limit → (place : Option Place) → train.place ≡ place → HasPlaceOn plan place
-      → (told : Part) → limit_told_to plan.horizon place limit ≡ Some told → (id : ℕ) (later : TrainRec) → later.place ≡ train.place
+      → (told : Part) → limit_told_to plan.horizon place limit ≡ Some told → (id : ℕ) → id < 255 → (later : TrainRec) → StandsAs train later
       → SaysOne plan (message_of later (TellLimit id number told)) (IsLimitSaid limits train id number)
-  limit_said limits limit number active kept None placed on told tells id later same = absurd (let bad : None ≡ Some told = tells in cc)
-  limit_said limits limit number active kept (Some p) placed on told tells id later same =
+  limit_said limits limit number active kept None placed on told tells id below later stands = absurd (let bad : None ≡ Some told = tells in cc)
+  limit_said limits limit number active kept (Some p) placed on told tells id below later stands =
       let parts = cond_some (concerns limit p plan.horizon) (told_limit limit p) told tells in
       let part = told_part limit p in
       let rightly = each_limit_is_told_rightly limit p plan.horizon kept (sound plan track p on) parts.0 in
@@ -148,47 +167,91 @@ module _ (plan : Plan) (track : IsPlan plan) (train : TrainRec) where
         says = (
           stretch,
           (
-            record { counts = counts p placed on later same part.0 rightly.not_spare; begins = refl; ends = refl },
+            record { counts = counts p placed on later stands.same part.0 rightly.not_spare; begins = refl; ends = refl },
             ap (λ (speed : ℕ). Restricts id stretch limit.front speed) (whole_fives limit.speed kept.in_fives),
           ),
         );
         is = record { limit = limit; active = active; p = p; placed = placed; is_said = refl };
+        sendable =
+            let start = rightly.start_in_field in
+            let length = rightly.length_in_field in
+            let speed = kept.speed in
+            limit_sendable later stands.left (group_later later stands.same) id number (told_limit limit p) below (record {
+              dir = direction_within p;
+              scale = rightly.not_spare;
+              start = omega (arith, start);
+              length = omega (arith, length);
+              speed = omega (arith, speed);
+            });
       })
 
 -- ---- all messages to a train
 
-module _ (plan : Plan) (track : IsPlan plan) (stops : Stops) (limits : Limits) (good_stops : AreGoodStops plan stops) (good_limits : AreGoodLimits plan limits) (train : TrainRec) (on : HasPlaceOn plan train.place) where
-  -- an action says what it has to, whatever was done to the train before, as long as it stands where it stood
+module _ (plan : Plan) (track : IsPlan plan) (stops : Stops) (limits : Limits) (good_stops : AreGoodStops plan stops) (good_limits : AreGoodLimits plan limits) (train : TrainRec)
+    (on : HasPlaceOn plan train.place) (tables : HasTables train) where
+  -- an action says what it has to, whatever was done to the train before, as long as it stands where it stood and has a stamp left
   abbrev pub IsSaid : Action → Type 0
-  IsSaid action = (later : TrainRec) → later.place ≡ train.place → SaysFor plan stops limits train action (message_of later action)
+  IsSaid action = (later : TrainRec) → StandsAs train later → SaysFor plan stops limits train action (message_of later action)
 
-  revoked_stop : (id : ℕ) → IsSaid (RevokeStop id)
-  revoked_stop id later same = record { said = RevokesStop id; says = refl; is_for = refl }
+  -- the balise group that is named is the train's
+  group_is : (later : TrainRec) → later.place ≡ train.place → group_by later ≡ group_by train
+  group_is later same = ap (λ (o : Option Place). option_map_or (λ q. q.lrbg) o unknown_group) same
+
+  names_group : (later : TrainRec) (action : Action) → later.place ≡ train.place → (head_of (message_of later action)).lrbg ≡ group_by train
+  names_group later (RevokeStop id) same = group_is later same
+  names_group later (TellStop id number AtOnce) same = group_is later same
+  names_group later (TellStop id number (Before edge)) same = group_is later same
+  names_group later (RevokeLimit id) same = group_is later same
+  names_group later (TellLimit id number told) same = group_is later same
+
+  revoked_stop : (id : ℕ) → id < 15 → IsSaid (RevokeStop id)
+  revoked_stop id below later stands = record {
+    said = RevokesStop id;
+    says = refl;
+    is_for = refl;
+    by_its_group = names_group later (RevokeStop id) stands.same;
+    sendable = revoke_stop later stands.left (group_later plan track train on later stands.same) id below;
+  }
 
   revoked_stops : All IsSaid (stops_revoked stops train)
   revoked_stops =
       let ids = to_revoke (is_stop_gone stops) train.stops in
-      All-map IsSaid RevokeStop ids (λ k d below. revoked_stop (get_or ids k d))
+      All-map IsSaid RevokeStop ids (All-weaker (λ id. id < 15) (λ id. IsSaid (RevokeStop id)) revoked_stop ids (revoked_below 15 (is_stop_gone stops) train.stops tables.stops.below))
 
-  revoked_limit : (id : ℕ) → IsSaid (RevokeLimit id)
-  revoked_limit id later same = record { said = RevokesLimit id; says = (refl, refl); is_for = refl }
+  revoked_limit : (id : ℕ) → id < 255 → IsSaid (RevokeLimit id)
+  revoked_limit id below later stands = record {
+    said = RevokesLimit id;
+    says = (refl, refl);
+    is_for = refl;
+    by_its_group = names_group later (RevokeLimit id) stands.same;
+    sendable = revoke_limit later stands.left (group_later plan track train on later stands.same) id below;
+  }
 
   revoked_limits : All IsSaid (limits_revoked limits train)
   revoked_limits =
-      let ids = to_revoke (is_limit_gone limits train.place) train.limits in
-      All-map IsSaid RevokeLimit ids (λ k d below. revoked_limit (get_or ids k d))
+      let gone = is_limit_gone limits train.place in
+      let ids = to_revoke gone train.limits in
+      All-map IsSaid RevokeLimit ids (All-weaker (λ id. id < 255) (λ id. IsSaid (RevokeLimit id)) revoked_limit ids (revoked_below 255 gone train.limits tables.limits.below))
 
   told_stops : All IsSaid (stops_told stops train)
-  told_stops = each_telling train.stops (told_as train.place train.forced) tell_stop IsSaid stops.active (each stops.active (each_value 1 stops.active good_stops.numbered.ascending) good_stops.good) (free_identifiers 15 train.stops)
+  told_stops =
+      each_telling train.stops (told_as train.place train.forced) tell_stop (λ id. id < 15) IsSaid stops.active (each stops.active (each_value 1 stops.active good_stops.numbered.ascending) good_stops.good)
+      (free_identifiers 15 train.stops) (free_stop_ids train.stops)
     where
       each : (some : List (ℕ × List Segment)) → AllByRecursion (λ stop. value_of stops.active stop.0 ≡ Some stop.1) some → All (IsGoodStop plan) some
-          → AllByRecursion (HoldsOfTelling train.stops (told_as train.place train.forced) tell_stop IsSaid) some
+          → AllByRecursion (HoldsOfTelling train.stops (told_as train.place train.forced) tell_stop (λ id. id < 15) IsSaid) some
       each [] values good = tt
       each (stop ∷ some) values good = (
-        λ told tells id later same.
-            let one = concern_said plan track train stop.1 (has_number train.forced stop.0) (good_area plan track stop.1 (All-head (IsGoodStop plan) stop some good).good) id stop.0 later same
+        λ told tells id below later stands.
+            let one = concern_said plan track train on stop.1 (has_number train.forced stop.0) (good_area plan track stop.1 (All-head (IsGoodStop plan) stop some good).good) id stop.0 below later stands
             train.place refl on told tells in
-            record { said = one.said; says = one.says; is_for = record { area = stop.1; active = values.0; concern = one.is } },
+            record {
+              said = one.said;
+              says = one.says;
+              is_for = record { area = stop.1; active = values.0; concern = one.is };
+              by_its_group = names_group later (TellStop id stop.0 told) stands.same;
+              sendable = one.sendable;
+            },
         each some values.1 (All-tail (IsGoodStop plan) stop some good),
       )
 
@@ -196,15 +259,17 @@ module _ (plan : Plan) (track : IsPlan plan) (stops : Stops) (limits : Limits) (
   IsGood limit = is_good_limit plan limit.1.segment limit.1.speed ≡ true
 
   told_limits : All IsSaid (limits_told plan.horizon limits train)
-  told_limits = each_telling train.limits (limit_as plan.horizon train.place) tell_limit IsSaid limits.active (each limits.active (each_value 1 limits.active good_limits.numbered.ascending) good_limits.good) (free_identifiers 255 train.limits)
+  told_limits =
+      each_telling train.limits (limit_as plan.horizon train.place) tell_limit (λ id. id < 255) IsSaid limits.active (each limits.active (each_value 1 limits.active good_limits.numbered.ascending) good_limits.good)
+      (free_identifiers 255 train.limits) (free_limit_ids train.limits)
     where
       each : (some : List (ℕ × Limit)) → AllByRecursion (λ limit. value_of limits.active limit.0 ≡ Some limit.1) some → All IsGood some
-          → AllByRecursion (HoldsOfTelling train.limits (limit_as plan.horizon train.place) tell_limit IsSaid) some
+          → AllByRecursion (HoldsOfTelling train.limits (limit_as plan.horizon train.place) tell_limit (λ id. id < 255) IsSaid) some
       each [] values good = tt
       each (limit ∷ some) values good = (
-        λ told tells id later same.
-            let one = limit_said plan track train limits limit.1 limit.0 values.0 (good_limit plan track limit.1 (All-head IsGood limit some good)) train.place refl on told tells id later same in
-            record { said = one.said; says = one.says; is_for = one.is },
+        λ told tells id below later stands.
+            let one = limit_said plan track train on limits limit.1 limit.0 values.0 (good_limit plan track limit.1 (All-head IsGood limit some good)) train.place refl on told tells id below later stands in
+            record { said = one.said; says = one.says; is_for = one.is; by_its_group = names_group later (TellLimit id limit.0 told) stands.same; sendable = one.sendable },
         each some values.1 (All-tail IsGood limit some good),
       )
 
@@ -214,18 +279,31 @@ module _ (plan : Plan) (track : IsPlan plan) (stops : Stops) (limits : Limits) (
       (All-append IsSaid (stops_revoked stops train ++ stops_told stops train) (limits_revoked limits train)
       (All-append IsSaid (stops_revoked stops train) (stops_told stops train) revoked_stops told_stops) revoked_limits) told_limits
 
-  -- an action moves no train
-  stands : (later : TrainRec) (action : Action) → later.place ≡ train.place → (carried_out later action).place ≡ train.place
-  stands later (RevokeStop id) same = same
-  stands later (TellStop id number told) same = same
-  stands later (RevokeLimit id) same = same
-  stands later (TellLimit id number told) same = same
+  -- an action moves no train, and takes one stamp
+  moves : (later : TrainRec) (action : Action) → later.place ≡ train.place → (carried_out later action).place ≡ train.place
+  moves later (RevokeStop id) same = same
+  moves later (TellStop id number told) same = same
+  moves later (RevokeLimit id) same = same
+  moves later (TellLimit id number told) same = same
+
+  takes_stamp : (later : TrainRec) (action : Action) → (carried_out later action).stamp ≡ later.stamp + 1
+  takes_stamp later (RevokeStop id) = refl
+  takes_stamp later (TellStop id number told) = refl
+  takes_stamp later (RevokeLimit id) = refl
+  takes_stamp later (TellLimit id number told) = refl
 
   -- so each message of actions one after another says what it has to
-  each_says : (acts : List Action) → All IsSaid acts → (later : TrainRec) → later.place ≡ train.place → AllSay plan stops limits train acts (scan carried_out message_of later acts)
-  each_says [] all later same = tt
-  each_says (action ∷ acts) all later same =
-      (All-head IsSaid action acts all later same, each_says acts (All-tail IsSaid action acts all) (carried_out later action) (stands later action same))
+  each_says : (acts : List Action) → All IsSaid acts → (later : TrainRec) → later.place ≡ train.place → later.stamp + length acts ≤ last_stamp
+      → AllSay plan stops limits train acts (scan carried_out message_of later acts)
+  each_says [] all later same left = tt
+  each_says (action ∷ acts) all later same left =
+      let next = takes_stamp later action in (
+        All-head IsSaid action acts all later (record { same = same; left = omega (arith, left) }),
+        each_says acts (All-tail IsSaid action acts all) (carried_out later action) (moves later action same) (omega (arith, left, next)),
+      )
 
-  pub all_say : AllSay plan stops limits train (actions_with_stamp plan stops limits train) (messages_of plan stops limits train)
-  all_say = each_says (actions_with_stamp plan stops limits train) (All-take IsSaid (last_stamp - train.stamp) (actions plan stops limits train) all_said) train refl
+  pub all_say : train.stamp ≤ last_stamp → AllSay plan stops limits train (actions_with_stamp plan stops limits train) (messages_of plan stops limits train)
+  all_say stamp =
+      let count = last_stamp - train.stamp in
+      let most = length-take count (actions plan stops limits train) in
+      each_says (actions_with_stamp plan stops limits train) (All-take IsSaid count (actions plan stops limits train) all_said) train refl (omega (arith, stamp, most))

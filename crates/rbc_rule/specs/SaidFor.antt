@@ -1,7 +1,10 @@
 -- What a message has to say to a train: what the rules give that train (own rule).
 use Rattle.std.specs.Prelude.{◌≡◌, ℕ, ◌+◌, ◌*◌, ◌^◌, List, [], ◌∷◌, Some, Result, Ok, Err}
 use Rattle.ertms_codec.specs.declared.to_train.ToTrain.{ToTrain}
+use Rattle.ertms_codec.specs.Layout.{HoldValues}
+use Rattle.ertms_codec.specs.ToTrain as codec
 use Rattle.rbc_track.specs.Plan.{Plan, IsPlan}
+use Rattle.rbc_track.specs.declared.group.Way.TheVariants.{Up}
 use Rattle.rbc_place.specs.Placing.{Place}
 use Rattle.rbc_place.specs.Reach.{IsAhead}
 use Rattle.rbc_maps.specs.Maps.{value_of}
@@ -13,7 +16,7 @@ use Rattle.rbc_zones.specs.Limits.{Limit, told_part}
 use Rattle.rbc_settle.specs.declared.train.TrainRec.{TrainRec}
 use Rattle.rbc_settle.specs.declared.action.Action.{Action}
 use Rattle.rbc_settle.specs.declared.action.Action.TheVariants.{RevokeStop, TellStop, RevokeLimit, TellLimit}
-use Rattle.rbc_settle.specs.Settling.{Stops, Limits, concern_to, actions_with_stamp}
+use Rattle.rbc_settle.specs.Settling.{Stops, Limits, concern_to, actions_with_stamp, group_of}
 use Rattle.rbc_rule.specs.declared.input.Input.{Input}
 use Rattle.rbc_rule.specs.Inputs.{Fits}
 use Rattle.rbc_rule.specs.World.{World}
@@ -24,12 +27,14 @@ use Rattle.rbc_rule.specs.Saying.{Spot, Stretch, Said, StopsAtOnce, StopsBefore,
 
 -- ---- what it has to say
 
--- the place for an edge: whole units ahead of the balise group, rounded down, in the finest unit that has room
+-- the place for an edge: whole units ahead of the balise group, the way the train faces, rounded down, in the finest unit that has room
 pub record IsSpotFor (p : Place) (edge : ℕ) (spot : Spot) : Type 0 where
   pub scale : ℕ
   pub units : ℕ
   pub told : IsToldFor (distance_to p.facing p.at edge) scale units
   pub on_line : spot.line ≡ p.line
+  pub from_group : spot.origin ≡ p.at
+  pub faces : spot.way ≡ p.facing
   pub in_units : spot.unit ≡ 10 ^ scale
   pub ahead : IsAhead p.facing p.at (units * 10 ^ scale) spot.place
 
@@ -80,11 +85,41 @@ IsSaidFor stops limits train (TellStop id number told) said = IsStopSaid stops t
 IsSaidFor stops limits train (RevokeLimit id) said = said ≡ RevokesLimit id
 IsSaidFor stops limits train (TellLimit id number told) said = IsLimitSaid limits train id number said
 
--- a message says what it has to say for an action
+-- a message can be sent: each variable is in its range, and wide enough for its value
+pub record IsSendable (message : ToTrain) : Type 0 where
+  pub fits : codec.Fits message
+  pub holds : HoldValues (codec.fields_of message)
+  pub reference : codec.HoldsReference message
+
+-- A message says what it has to say for an action, by the balise group of the train, and can be sent.
 pub record SaysFor (plan : Plan) (stops : Stops) (limits : Limits) (train : TrainRec) (action : Action) (message : ToTrain) : Type 0 where
   pub said : Said
   pub says : Says plan message said
   pub is_for : IsSaidFor stops limits train action said
+  pub by_its_group : (codec.head_of message).lrbg ≡ group_of train
+  pub sendable : IsSendable message
+
+-- The same of the place alone, which is less: whatever balise group the message names, and whatever way it counts from there.
+-- All else is as in `SaysFor`.
+abbrev pub by_place : Said → Said
+by_place (StopsBefore id spot) = StopsBefore id (record spot { origin = 0; way = Up })
+by_place (StopsAtOnce id) = StopsAtOnce id
+by_place (Restricts id stretch front speed) = Restricts id stretch front speed
+by_place (RevokesStop id) = RevokesStop id
+by_place (RevokesLimit id) = RevokesLimit id
+
+pub record SaysByPlace (plan : Plan) (stops : Stops) (limits : Limits) (train : TrainRec) (action : Action) (message : ToTrain) : Type 0 where
+  pub said : Said
+  pub wanted : Said
+  pub says : Says plan message said
+  pub is_for : IsSaidFor stops limits train action wanted
+  pub same : by_place said ≡ by_place wanted
+
+-- A message that says what it has to say does so by the place alone too.
+abbrev pub SayingIsByPlace : Type 0
+SayingIsByPlace =
+    (plan : Plan) (stops : Stops) (limits : Limits) (train : TrainRec) (action : Action) (message : ToTrain)
+    → SaysFor plan stops limits train action message → SaysByPlace plan stops limits train action message
 
 -- one message for each action, in order
 abbrev pub AllSay : Plan → Stops → Limits → TrainRec → List Action → List ToTrain → Type 0

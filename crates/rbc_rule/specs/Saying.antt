@@ -10,9 +10,11 @@ use Rattle.rbc_place.specs.Reach.{IsAhead}
 
 -- ---- what can be said
 
--- a place on a line before which a train is to stop, and the unit that it was counted in
+-- a place on a line before which a train is to stop: what it lies ahead of, which way on, and the unit that it was counted in
 pub record Spot : Type 0 where
   pub line : ℕ
+  pub origin : ℕ
+  pub way : Way
   pub place : ℕ
   pub unit : ℕ
 
@@ -55,10 +57,8 @@ pub record CountsFrom (plan : Plan) (lrbg dir scale line origin : ℕ) (way : Wa
 
 -- the place that lies so many units ahead
 pub record IsSpotTold (plan : Plan) (lrbg dir scale distance : ℕ) (spot : Spot) : Type 0 where
-  pub origin : ℕ
-  pub way : Way
-  pub counts : CountsFrom plan lrbg dir scale spot.line origin way spot.unit
-  pub ahead : IsAhead way origin (distance * spot.unit) spot.place
+  pub counts : CountsFrom plan lrbg dir scale spot.line spot.origin spot.way spot.unit
+  pub ahead : IsAhead spot.way spot.origin (distance * spot.unit) spot.place
 
 -- the stretch that begins so many units ahead, and is so many units long
 pub record IsStretchTold (plan : Plan) (lrbg dir scale start length : ℕ) (stretch : Stretch) : Type 0 where

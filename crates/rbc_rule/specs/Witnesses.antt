@@ -1,5 +1,5 @@
 -- Worked cases of the laws, on one track, and of the records. Places and lengths are in units of 10 cm, speeds in km/h.
-use Rattle.std.specs.Prelude.{ℕ, Bool, true, false, List, [], ◌∷◌, Option, Some, None, pos}
+use Rattle.std.specs.Prelude.{ℕ, ℤ, Bool, true, false, List, [], ◌∷◌, Option, Some, None, pos}
 use Rattle.ertms_codec.specs.declared.to_train.Head.{Head}
 use Rattle.ertms_codec.specs.declared.to_train.ToTrain.{ToTrain}
 use Rattle.ertms_codec.specs.declared.to_train.ToTrain.TheVariants as message
@@ -8,12 +8,15 @@ use Rattle.rbc_track.specs.declared.group.Way.TheVariants.{Up, Down}
 use Rattle.rbc_place.specs.Placing.{Place}
 use Rattle.rbc_maps.specs.Numbered.{none_numbered}
 use Rattle.rbc_ids.specs.declared.slot.Slot.TheVariants.{Used}
-use Rattle.rbc_ids.specs.declared.slot.Kind.TheVariants.{Conditional}
+use Rattle.rbc_ids.specs.declared.slot.Kind.TheVariants.{Conditional, Restriction}
 use Rattle.rbc_ids.specs.Table.{Slots}
 use Rattle.rbc_zones.specs.declared.segment.Segment.{Segment}
 use Rattle.rbc_zones.specs.declared.limit.Dirs.TheVariants as dirs
 use Rattle.rbc_zones.specs.Limits.{Limit}
 use Rattle.rbc_settle.specs.declared.train.TrainRec.{TrainRec}
+use Rattle.rbc_settle.specs.declared.action.Action.TheVariants.{TellStop}
+use Rattle.rbc_settle.specs.declared.action.ToldStop.{ToldStop}
+use Rattle.rbc_settle.specs.declared.action.ToldStop.TheVariants.{Before}
 use Rattle.rbc_settle.specs.Settling.{Stops, Limits}
 use Rattle.rbc_records.specs.declared.record.Key.{Key}
 use Rattle.rbc_records.specs.declared.record.Key.TheVariants as key
@@ -25,7 +28,7 @@ use Rattle.rbc_rule.specs.declared.input.Input.TheVariants.{Enrol, Stop, Restric
 use Rattle.rbc_rule.specs.World.{World}
 use Rattle.rbc_rule.specs.Effect.{effect}
 use Rattle.rbc_rule.specs.Saying.{Spot}
-use Rattle.rbc_rule.specs.SaidFor.{IsSaidAfter}
+use Rattle.rbc_rule.specs.SaidFor.{IsSaidAfter, SaysByPlace}
 
 -- ---- the track, and a train on it
 
@@ -40,6 +43,10 @@ track_a = record {
 -- 200 m beyond balise group 5, facing up
 abbrev pub facing_up : Place
 facing_up = record { line = 0; lrbg = 5; at = 10000; same = true; facing = Up; lo = 9900; hi = 12100 }
+
+-- 200 m before balise group 5, facing up
+abbrev pub short_of_5 : Place
+short_of_5 = record { line = 0; lrbg = 5; at = 10000; same = true; facing = Up; lo = 5900; hi = 8100 }
 
 -- 200 m before balise group 5, facing down
 abbrev pub facing_down : Place
@@ -81,12 +88,36 @@ stop_before dir scale distance = message.StopAt (head_at 1001 false) 0 scale (po
 abbrev pub restrict_to : ℕ → ℕ → ℕ → ℕ → ℕ → ToTrain
 restrict_to dir scale start length speed = message.Restrict (head_at 1001 true) dir scale 0 start length false speed
 
+-- message 15 by 10000 units of 10 cm, with NID_EM and D_REF
+abbrev pub stop_before_as : ℕ → ℤ → ToTrain
+stop_before_as id reference = message.StopAt (head_at 1001 false) id 0 reference 1 10000
+
+-- message 24 with packet 65 on a part of 1000 units that begins 1050 units ahead, to 80 km/h, with NID_TSR and Q_FRONT
+abbrev pub restrict_as : ℕ → Bool → ToTrain
+restrict_as id front = message.Restrict (head_at 1001 true) 1 0 id 1050 1000 front 16
+
 -- message 16 to a train without a place, and message 18
 abbrev pub stop_now : ℕ → ℕ → ToTrain
 stop_now stamp id = message.Stop (record { stamp = stamp; ack = false; lrbg = 16777215 }) id
 
 abbrev pub revoke : ℕ → ToTrain
 revoke id = message.Revoke (head_at 1002 true) id
+
+-- message 24 with packet 66, with Q_DIR
+abbrev pub lift : ℕ → ℕ → ToTrain
+lift dir id = message.Lift (head_at 1002 true) dir id
+
+-- message 16 to a train at balise group 5
+abbrev pub stop_at_once : ToTrain
+stop_at_once = message.Stop (head_at 1001 false) 0
+
+-- a message with another number in NID_LRBG
+abbrev pub naming : ℕ → ToTrain → ToTrain
+naming lrbg (message.StopAt head id scale reference dir distance) = message.StopAt (record head { lrbg = lrbg }) id scale reference dir distance
+naming lrbg (message.Stop head id) = message.Stop (record head { lrbg = lrbg }) id
+naming lrbg (message.Revoke head id) = message.Revoke (record head { lrbg = lrbg }) id
+naming lrbg (message.Restrict head dir scale id start length front speed) = message.Restrict (record head { lrbg = lrbg }) dir scale id start length front speed
+naming lrbg (message.Lift head dir id) = message.Lift (record head { lrbg = lrbg }) dir id
 
 -- ---- what is said
 
@@ -106,6 +137,13 @@ IsSaidOfStop place from to sent = IsSaidIn (only_train_7 place) (Stop 1 (on_line
 abbrev pub IsSaidOfLimit : Place → ℕ → ℕ → List ToTrain → Type 0
 IsSaidOfLimit place from to sent = IsSaidIn (only_train_7 place) (Restrict 1 (on_line_0 from to) dirs.Both 80 false) ((7, sent) ∷ [])
 
+-- how stop 1 of 50005 to 60000 is told, and what the law says of a message for it by the place alone
+abbrev pub edge_from_5 : ToldStop
+edge_from_5 = Before (record { dir = 1; scale = 1; distance = 4000 })
+
+abbrev pub SaysByPlaceOf : ToTrain → Type 0
+SaysByPlaceOf sent = SaysByPlace track_a (stop_1 (on_line_0 50005 60000)) none_numbered (train_7 (Some facing_up) 1000 []) (TellStop 0 1 edge_from_5) sent
+
 -- nobody is enrolled, and two stops are active
 abbrev pub two_stops : World
 two_stops = record { trains = []; stops = record { last = 2; active = (1, on_line_0 20000 21000 ∷ []) ∷ (2, on_line_0 40000 41000 ∷ []) ∷ [] }; limits = none_numbered }
@@ -114,9 +152,9 @@ two_stops = record { trains = []; stops = record { last = 2; active = (1, on_lin
 abbrev pub IsSaidAtEnrolment : List ToTrain → Type 0
 IsSaidAtEnrolment sent = IsSaidIn two_stops (Enrol 7 2000) ((7, sent) ∷ [])
 
--- a place of line 0, counted in units of 10 cm
+-- a place of line 0 beyond balise group 5, counted in units of 10 cm
 abbrev pub spot_at : ℕ → Spot
-spot_at place = record { line = 0; place = place; unit = 1 }
+spot_at place = record { line = 0; origin = 10000; way = Up; place = place; unit = 1 }
 
 -- ---- worlds in which stop 1 is active from 20000 to 21000
 
@@ -145,6 +183,11 @@ world_released = world_of (train_7 (Some facing_up) 1001 (told_as_0 1)) (record 
 -- a restriction ahead is active, and not told
 abbrev pub world_restricted : World
 world_restricted = world_of (train_7 (Some facing_up) 1000 []) none_numbered (restriction_1 (on_line_0 11050 12050))
+
+-- it was told a restriction to 80 km/h of 20000 to 21000, which is active
+abbrev pub world_limited : World
+world_limited =
+    world_of (record (train_7 (Some facing_up) 1001 []) { limits = (0, Used 1 1001 Restriction false) ∷ [] }) none_numbered (restriction_1 (on_line_0 20000 21000))
 
 -- it may stand beyond the end of its line
 abbrev pub world_off_line : World

@@ -1,7 +1,7 @@
 //! What the rules promise of each step.
 
 ghost use Rattle.rbc_rule.specs.Laws.{EachStepKeepsWorlds};
-ghost use Rattle.rbc_rule.specs.SaidFor.{EachStepSays, EachMessageSaysOneThing};
+ghost use Rattle.rbc_rule.specs.SaidFor.{EachStepSays, EachMessageSaysOneThing, SayingIsByPlace};
 ghost use Rattle.rbc_rule.specs.Told.{EachStepTells};
 
 /// A step of a valid state leaves a valid state, in which every train is settled.
@@ -10,13 +10,16 @@ pub fn step_law()
 {}
 
 /// Each step sends to each train one message for each action that settling it carries out, in order, and nothing else;
-/// an input that is refused sends nothing. Read back from its variables, by the balise group that it names, each
-/// message says what the rules give its train there: that a stop or a restriction is revoked; to stop at once; to stop
-/// before the last whole unit that does not lie beyond the edge, in the finest unit that has room; or to keep to the
-/// speed of a restriction on the part of it that is told. No message says two things.
+/// an input that is refused sends nothing. Each message names the balise group of its train, or the number for none,
+/// and each of its variables is in its range and wide enough for its value. Read back from its variables, by the balise
+/// group that it names, it says what the rules give its train there: that a stop or a restriction is revoked; to stop at
+/// once; to stop before the last whole unit ahead, the way the train faces, that does not lie beyond the edge, in the
+/// finest unit that has room; or to keep to the speed of a restriction on the part of it that is told. No message says
+/// two things. What says this also says it by the places alone, whatever balise group they are counted from.
 pub fn says_law()
     ensures says { EachStepSays }
     ensures one_thing { EachMessageSaysOneThing }
+    ensures by_place { SayingIsByPlace }
 {}
 
 /// After each step, for each train whose stamps have not ended: every active stop and every active temporary speed

@@ -15,6 +15,7 @@ mod read;
 mod receive;
 mod refuse;
 mod rule;
+mod said_witnesses;
 mod settle_trains;
 mod touch;
 mod withdraw;
@@ -25,6 +26,7 @@ pub use law::{says_law, step_law, told_law};
 pub use outcome::{Outcome, Reply, RuleFault, SentList};
 pub use refuse::Refusal;
 pub use rule::decide;
+pub use said_witnesses::{restriction_witnesses, revocation_witnesses, stop_witnesses};
 pub use witnesses::{
     records_witnesses, says_law_witnesses, step_law_witnesses, told_law_witnesses,
 };

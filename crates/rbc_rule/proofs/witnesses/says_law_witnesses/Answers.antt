@@ -1,68 +1,59 @@
 use Rattle.std.proofs.Common.{◌≡◌, ◌+◌, ◌*◌, ◌/◌, ◌^◌, ◌<◌, ◌≤◌, false, [], ◌∷◌, refl, ap, arith}
 use Rattle.rbc_track.specs.declared.group.Way.TheVariants.{Up, Down}
 use Rattle.rbc_zones.proofs.ToldStops.{told_rightly}
-use Rattle.rbc_rule.specs.Saying.{Spot, Stretch, StopsAtOnce, StopsBefore, Restricts, RevokesStop}
-use Rattle.rbc_rule.specs.Witnesses.{track_a, facing_up, facing_down, on_line_0, limit_80, stop_before, spot_at}
+use Rattle.rbc_rule.specs.Saying.{Spot, StopsAtOnce, StopsBefore, RevokesStop}
+use Rattle.rbc_rule.specs.Witnesses.{track_a, facing_up, facing_down, on_line_0, stop_before, spot_at}
 use Rattle.rbc_rule.proofs.OneSaid.{says_one_thing}
-use Rattle.rbc_rule.proofs.WitnessSays.{right_stop, stop_seen, limit_seen, not_spare, has_way, revokes_right, differ, tens, group_5, counted_from_5, before_20000}
+use Rattle.rbc_rule.proofs.WitnessSays.{stop_before_sendable, stop_now_sendable, revoke_sendable, restrict_sendable, right_stop, right_limit, stop_seen, limit_seen, not_spare, has_way, revokes_right, differ, tens, from_5, counted_from_5, before_20000}
 use Rattle.rbc_rule.proofs.witnesses.says_law_witnesses.Goals as goal
 
 pub returns-clause-edge_at_20000 : goal.returns-clause-edge_at_20000
 returns-clause-edge_at_20000 c =
-    let spot = spot_at 20000 in
-    let one = right_stop facing_up (on_line_0 20000 21000) 1 0 10000 _ 20000 spot refl (counted_from_5 1 0 10000 Up spot refl refl refl refl)
-    (record { scale = 0; units = 10000; told = told_rightly 10000 (omega arith); on_line = refl; in_units = refl; ahead = refl }) in
+    let can_be_sent = stop_before_sendable 1 0 10000 (omega arith) (omega arith) (omega arith) in
+    let one = right_stop facing_up (on_line_0 20000 21000) 1 0 10000 _ 20000 (from_5 Up 20000 1) refl can_be_sent refl (counted_from_5 1 0 10000 Up 20000 1 refl refl refl)
+    (record { scale = 0; units = 10000; told = told_rightly 10000 (omega arith); on_line = refl; from_group = refl; faces = refl; in_units = refl; ahead = refl }) in
     (refl, ((one, tt), tt))
 
 pub returns-clause-edge_at_50005 : goal.returns-clause-edge_at_50005
 returns-clause-edge_at_50005 c =
-    let spot : Spot = record { line = 0; place = 50000; unit = 10 } in
-    let one = right_stop facing_up (on_line_0 50005 60000) 1 1 4000 _ 50005 spot refl (counted_from_5 1 1 4000 Up spot refl refl refl refl)
-    (record { scale = 1; units = 4000; told = told_rightly 40005 (omega arith); on_line = refl; in_units = refl; ahead = refl }) in
+    let can_be_sent = stop_before_sendable 1 1 4000 (omega arith) (omega arith) (omega arith) in
+    let one = right_stop facing_up (on_line_0 50005 60000) 1 1 4000 _ 50005 (from_5 Up 50000 10) refl can_be_sent refl (counted_from_5 1 1 4000 Up 50000 10 refl refl refl)
+    (record { scale = 1; units = 4000; told = told_rightly 40005 (omega arith); on_line = refl; from_group = refl; faces = refl; in_units = refl; ahead = refl }) in
     (refl, ((one, tt), tt))
 
 pub returns-clause-edge_at_3000 : goal.returns-clause-edge_at_3000
 returns-clause-edge_at_3000 c =
-    let spot = spot_at 3000 in
-    let one = right_stop facing_down (on_line_0 1000 3000) 0 0 7000 _ 3000 spot refl (counted_from_5 0 0 7000 Down spot refl refl refl refl)
-    (record { scale = 0; units = 7000; told = told_rightly 7000 (omega arith); on_line = refl; in_units = refl; ahead = refl }) in
+    let can_be_sent = stop_before_sendable 0 0 7000 (omega arith) (omega arith) (omega arith) in
+    let one = right_stop facing_down (on_line_0 1000 3000) 0 0 7000 _ 3000 (from_5 Down 3000 1) refl can_be_sent refl (counted_from_5 0 0 7000 Down 3000 1 refl refl refl)
+    (record { scale = 0; units = 7000; told = told_rightly 7000 (omega arith); on_line = refl; from_group = refl; faces = refl; in_units = refl; ahead = refl }) in
     (refl, ((one, tt), tt))
 
 pub returns-clause-part_ahead : goal.returns-clause-part_ahead
 returns-clause-part_ahead c =
-    let stretch : Stretch = record { line = 0; origin = 10000; way = Up; begin = 0; end = 1000; unit = 1 } in (
-      refl,
-      (
-        (
-          record {
-            said = Restricts 0 stretch false 80;
-            says = (
-              stretch,
-              (
-                record {
-                  counts = record { group = group_5; known = refl; on_line = refl; from_group = refl; one_way = refl; in_units = refl };
-                  begins = refl;
-                  ends = refl;
-                },
-                refl,
-              ),
-            );
-            is_for = record { limit = limit_80 (on_line_0 9000 11000); active = refl; p = facing_up; placed = refl; is_said = refl };
-          },
-          tt,
-        ),
-        tt,
-      ),
-    )
+    let can_be_sent = restrict_sendable 1 0 0 1000 16 (omega arith) (omega arith) (omega arith) (omega arith) (omega arith) in
+    let one = right_limit 9000 11000 1 0 0 1000 16 (record { line = 0; origin = 10000; way = Up; begin = 0; end = 1000; unit = 1 }) refl refl refl refl refl refl refl refl can_be_sent _ in
+    (refl, ((one, tt), tt))
 
 pub returns-clause-both_told : goal.returns-clause-both_told
 returns-clause-both_told c = (
   refl,
   (
     (
-      record { said = StopsAtOnce 0; says = refl; is_for = record { area = on_line_0 20000 21000 ∷ []; active = refl; concern = refl } },
+      record {
+        said = StopsAtOnce 0;
+        says = refl;
+        is_for = record { area = on_line_0 20000 21000 ∷ []; active = refl; concern = refl };
+        by_its_group = refl;
+        sendable = stop_now_sendable 0 0 (omega arith) (omega arith);
+      },
       (
-        record { said = StopsAtOnce 1; says = refl; is_for = record { area = on_line_0 40000 41000 ∷ []; active = refl; concern = refl } },
+        record {
+          said = StopsAtOnce 1;
+          says = refl;
+          is_for = record { area = on_line_0 40000 41000 ∷ []; active = refl; concern = refl };
+          by_its_group = refl;
+          sendable = stop_now_sendable 1 1 (omega arith) (omega arith);
+        },
         tt,
       ),
     ),
@@ -71,7 +62,7 @@ returns-clause-both_told c = (
 )
 
 pub returns-clause-revoked : goal.returns-clause-revoked
-returns-clause-revoked c = (refl, ((record { said = RevokesStop 0; says = refl; is_for = refl }, tt), tt))
+returns-clause-revoked c = (refl, ((record { said = RevokesStop 0; says = refl; is_for = refl; by_its_group = refl; sendable = revoke_sendable 0 (omega arith) }, tt), tt))
 
 pub returns-clause-refused : goal.returns-clause-refused
 returns-clause-refused c = refl
