@@ -26,6 +26,7 @@ use Rattle.rbc_desk.specs.SaidMails.{IsSaidTo, IsSaidMail, EachRunSays}
 use Rattle.rbc_desk.proofs.Kept.{step_keeps}
 use Rattle.rbc_desk.proofs.Runs.{fold_more, All-get}
 use Rattle.rbc_desk.proofs.Sends.{sent_ascends}
+use Rattle.rbc_desk.proofs.Spelled.{spells_itself}
 use Rattle.rbc_desk.proofs.Posts.{all_posted}
 
 module _ (track : Plan) where
@@ -105,7 +106,19 @@ module _ (track : Plan) where
         ap (λ (d : Desk). value_or [] d.outboxes engine) next ∙ posted,
         All-map (IsSaidMail track desk inputs engine) (mail number) (value_or [] sent engine)
             (All-weaker (IsSaidIn (effect track input now.world) engine) (λ message. IsSaidMail track desk inputs engine (mail number message))
-            (λ message s. record { before = n; input = input; is_input = there; numbered = count; changed = s.0; is_effect = s.1; said = s.2 }) (value_or [] sent engine) said),
+            (λ message s.
+            let sendable = s.2.says.sendable in
+            record {
+              before = n;
+              input = input;
+              is_input = there;
+              numbered = count;
+              changed = s.0;
+              is_effect = s.1;
+              said = s.2;
+              fits = sendable.fits;
+              spelled = spells_itself message sendable.fits sendable.holds sendable.reference;
+            }) (value_or [] sent engine) said),
       )
 
   said_upto : (desk : Desk) (inputs : List Input) (n : ℕ) (engine : ℕ) → IsPlan track → IsWellFormed track desk.world → All Fits inputs → n ≤ length inputs

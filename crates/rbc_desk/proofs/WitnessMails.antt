@@ -16,16 +16,17 @@ use Rattle.rbc_rule.specs.declared.input.Input.TheVariants as input
 use Rattle.rbc_rule.specs.World.{World}
 use Rattle.rbc_rule.specs.Effect.{effect}
 use Rattle.rbc_rule.specs.Saying.{RevokesStop}
-use Rattle.rbc_rule.specs.SaidFor.{SaysFor}
-use Rattle.rbc_rule.specs.Witnesses.{track_a, facing_up, on_line_0, train_7, stop_1, told_as_0, told_world, world_of, world_released, spot_at}
+use Rattle.rbc_rule.specs.SaidFor.{SaysFor, IsSendable}
+use Rattle.rbc_rule.specs.Witnesses.{track_a, facing_up, on_line_0, train_7, stop_1, told_as_0, told_world, world_of, world_released, stop_before, revoke}
 use Rattle.rbc_zones.proofs.ToldStops.{told_rightly}
 use Rattle.rbc_track.specs.declared.group.Way.TheVariants.{Up}
-use Rattle.rbc_rule.proofs.WitnessSays.{differ, right_stop, counted_from_5}
+use Rattle.rbc_rule.proofs.WitnessSays.{differ, stop_before_sendable, revoke_sendable, right_stop, from_5, counted_from_5}
 use Rattle.rbc_rule.proofs.WitnessWorlds.{only}
 use Rattle.rbc_desk.specs.declared.outbox.Mail.{Mail}
 use Rattle.rbc_desk.specs.Serial.{serial, mail}
 use Rattle.rbc_desk.specs.SaidMails.{IsSaidTo}
 use Rattle.rbc_desk.specs.Witnesses.{desk_7, stop_and_release, stop_told, stop_revoked, IsSaidThere}
+use Rattle.rbc_desk.proofs.Spelled.{spells_itself}
 
 -- the train before the first mail, and the world with the stop
 abbrev pub waiting : TrainRec
@@ -116,6 +117,12 @@ one_action action = (0, omega arith, refl)
 one_train : (train : TrainRec) → Contains {X = ℕ × TrainRec} ((7, train) ∷ []) (7, train)
 one_train train = (0, omega arith, refl)
 
+stop_sendable : IsSendable (stop_before 1 0 10000)
+stop_sendable = stop_before_sendable 1 0 10000 (omega arith) (omega arith) (omega arith)
+
+revocation_sendable : IsSendable (revoke 0)
+revocation_sendable = revoke_sendable 0 (omega arith)
+
 pub stop_is_told : IsSaidThere 7 stop_told
 stop_is_told = record {
   before = 0;
@@ -129,9 +136,11 @@ stop_is_told = record {
     is_train = one_train waiting;
     action = TellStop 0 1 told_stop;
     is_action = one_action (TellStop 0 1 told_stop);
-    says = right_stop facing_up (on_line_0 20000 21000) 1 0 10000 told_stop 20000 (spot_at 20000) refl (counted_from_5 1 0 10000 Up (spot_at 20000) refl refl refl refl)
-        (record { scale = 0; units = 10000; told = told_rightly 10000 (omega arith); on_line = refl; in_units = refl; ahead = refl });
+    says = right_stop facing_up (on_line_0 20000 21000) 1 0 10000 told_stop 20000 (from_5 Up 20000 1) refl stop_sendable refl (counted_from_5 1 0 10000 Up 20000 1 refl refl refl)
+        (record { scale = 0; units = 10000; told = told_rightly 10000 (omega arith); on_line = refl; from_group = refl; faces = refl; in_units = refl; ahead = refl });
   };
+  fits = stop_sendable.fits;
+  spelled = spells_itself (stop_before 1 0 10000) stop_sendable.fits stop_sendable.holds stop_sendable.reference;
 }
 
 pub stop_is_revoked : IsSaidThere 7 stop_revoked
@@ -147,6 +156,8 @@ stop_is_revoked = record {
     is_train = one_train told_train;
     action = RevokeStop 0;
     is_action = one_action (RevokeStop 0);
-    says = record { said = RevokesStop 0; says = refl; is_for = refl };
+    says = record { said = RevokesStop 0; says = refl; is_for = refl; by_its_group = refl; sendable = revocation_sendable };
   };
+  fits = revocation_sendable.fits;
+  spelled = spells_itself (revoke 0) revocation_sendable.fits revocation_sendable.holds revocation_sendable.reference;
 }

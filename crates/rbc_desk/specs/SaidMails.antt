@@ -2,6 +2,7 @@
 use Rattle.std.specs.Prelude.{◌≡◌, ℕ, ◌+◌, List, [], ◌++◌, length, take, Some, Ok, Contains, slice_get}
 use Rattle.std.specs.List.{All}
 use Rattle.ertms_codec.specs.declared.to_train.ToTrain.{ToTrain}
+use Rattle.ertms_codec.specs.ToTrain as codec
 use Rattle.rbc_track.specs.Plan.{Plan, IsPlan}
 use Rattle.rbc_maps.specs.Maps.{value_or}
 use Rattle.rbc_settle.specs.declared.train.TrainRec.{TrainRec}
@@ -25,7 +26,7 @@ pub record IsSaidTo (track : Plan) (w : World) (engine : ℕ) (message : ToTrain
   pub says : SaysFor track w.stops w.limits train action message
 
 -- A mail to an engine comes from one of the inputs, whose number it has, and says what the rules give its train after the effect of that
--- input.
+-- input. Its message fits, and is what its bytes spell.
 pub record IsSaidMail (track : Plan) (desk : Desk) (inputs : List Input) (engine : ℕ) (mail : Mail) : Type 0 where
   pub before : ℕ
   pub input : Input
@@ -34,6 +35,8 @@ pub record IsSaidMail (track : Plan) (desk : Desk) (inputs : List Input) (engine
   pub changed : World
   pub is_effect : effect track input (serial track desk (take before inputs)).world ≡ Ok changed
   pub said : IsSaidTo track changed engine mail.message
+  pub fits : codec.Fits mail.message
+  pub spelled : codec.Spells (codec.spelling_of mail.message) mail.message
 
 -- to each engine the old mails, and behind them such as say that
 abbrev pub AreSaidMails : Plan → Desk → List Input → List (ℕ × List Mail) → List (ℕ × List Mail) → Type 0

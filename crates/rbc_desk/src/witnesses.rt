@@ -1,7 +1,7 @@
 //! A worked case of the law on mails: right mails, of which its statement holds, and wrong ones, of which it does not.
 
 ghost use Rattle.std.specs.Prelude.{[], ◌∷◌};
-ghost use Rattle.rbc_rule.specs.Witnesses.{stop_before, stop_now, revoke};
+ghost use Rattle.rbc_rule.specs.Witnesses.{stop_before, stop_now, revoke, naming};
 ghost use Rattle.rbc_desk.specs.Serial.{mail};
 ghost use Rattle.rbc_desk.specs.Witnesses.{stop_told, stop_revoked, IsSaidThere, AreSaidThere};
 
@@ -9,8 +9,8 @@ ghost use Rattle.rbc_desk.specs.Witnesses.{stop_told, stop_revoked, IsSaidThere,
 ///
 /// Right: mail 1 tells the train to stop before 20000, mail 2 revokes that, and the train's outbox has these two more.
 ///
-/// Wrong: the stop is told by mail 2, or by mail 3; it is told to engine 8; the train is told to stop at once; another identifier is
-/// revoked; behind the two right mails is one that revokes another identifier; engine 8 has a mail; a mail of before is gone.
+/// Wrong: the stop is told by mail 2, or by mail 3; it is told to engine 8; the train is told to stop at once; the message names balise
+/// group 6; another identifier is revoked, among them 16, which the four bits of its variable would cut to 0; behind the two right mails is one that revokes another identifier; engine 8 has a mail; a mail of before is gone.
 pub fn mails_law_witnesses()
     ensures told { IsSaidThere 7 stop_told }
     ensures revoked { IsSaidThere 7 stop_revoked }
@@ -19,7 +19,9 @@ pub fn mails_law_witnesses()
     ensures past_the_inputs { IsSaidThere 7 (mail 3 (stop_before 1 0 10000)) → ⊥ }
     ensures other_train { IsSaidThere 8 stop_told → ⊥ }
     ensures other_kind { IsSaidThere 7 (mail 1 (stop_now 1 0)) → ⊥ }
+    ensures other_group { IsSaidThere 7 (mail 1 (naming 6 (stop_before 1 0 10000))) → ⊥ }
     ensures other_identifier { IsSaidThere 7 (mail 2 (revoke 1)) → ⊥ }
+    ensures cut_identifier { IsSaidThere 7 (mail 2 (revoke 16)) → ⊥ }
     ensures one_too_many { AreSaidThere [] ((7, stop_told ∷ stop_revoked ∷ mail 2 (revoke 1) ∷ []) ∷ []) → ⊥ }
     ensures engine_8_told { AreSaidThere [] ((7, stop_told ∷ stop_revoked ∷ []) ∷ (8, stop_told ∷ []) ∷ []) → ⊥ }
     ensures one_before_gone { AreSaidThere ((8, stop_told ∷ []) ∷ []) ((7, stop_told ∷ stop_revoked ∷ []) ∷ []) → ⊥ }

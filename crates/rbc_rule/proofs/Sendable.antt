@@ -95,7 +95,7 @@ module _ (later : TrainRec) (left : later.stamp < last_stamp) (group : group_of 
         fits = record { lrbg = group; body = (omega (arith, below), scale, dir, distance) };
         holds = (
           omega arith,
-          (omega arith, (omega (arith, left), (omega arith, (omega (arith, group), (omega (arith, below), (omega (arith, scale), (omega arith, (omega (arith, dir), (omega (arith, distance), tt)))))))))
+          (omega arith, (omega (arith, left), (omega arith, (omega (arith, group), (omega (arith, below), (omega (arith, scale), (omega arith, (omega (arith, dir), (omega (arith, distance), tt))))))))),
         );
         reference = omega arith;
       }

@@ -1,4 +1,4 @@
-use Rattle.std.proofs.Common.{◌≡◌, ℕ, Bool, true, false, cond, eqb, List, [], ◌∷◌, ◌++◌, refl, sym, ◌∙◌, subst}
+use Rattle.std.proofs.Common.{◌≡◌, ℕ, ◌≤◌, Bool, true, false, cond, eqb, List, [], ◌∷◌, ◌++◌, refl, sym, ◌∙◌, subst, arith}
 use Rattle.std.specs.List.{All}
 use Rattle.std.proofs.lemmas.Bool.{eqb-true}
 use Rattle.std.proofs.lemmas.Option.{same_Some}
@@ -7,7 +7,7 @@ use Rattle.rbc_zones.specs.declared.segment.Segment.{Segment}
 use Rattle.rbc_settle.specs.Settling.{concern_to}
 use Rattle.rbc_rule.specs.Saying.{StopsAtOnce, StopsBefore, RevokesStop}
 use Rattle.rbc_rule.specs.SaidFor.{IsEdgeSaid, IsConcernSaid}
-use Rattle.rbc_rule.specs.Witnesses.{on_line_0, stop_before, stop_now, revoke}
+use Rattle.rbc_rule.specs.Witnesses.{on_line_0, stop_before, stop_now, revoke, naming}
 use Rattle.rbc_rule.proofs.WitnessSays.{differ, revokes_right}
 use Rattle.rbc_desk.specs.declared.outbox.Mail.{Mail}
 use Rattle.rbc_desk.specs.Serial.{mail}
@@ -54,6 +54,12 @@ returns-clause-other_kind c h =
 
 other_identifier : IsSaidThere 7 (mail 2 (revoke 1)) → ⊥
 other_identifier h = differ 1 0 refl (revokes_right _ _ _ _ _ _ _ (revokes_stop 7 (revoke 1) h))
+
+pub returns-clause-other_group : goal.returns-clause-other_group
+returns-clause-other_group c h = differ 6 5 refl (tells_stop 7 (naming 6 (stop_before 1 0 10000)) h).by_its_group
+
+pub returns-clause-cut_identifier : goal.returns-clause-cut_identifier
+returns-clause-cut_identifier c h = let most : 16 ≤ 15 = h.fits.body in absurd (omega (arith, most))
 
 pub returns-clause-other_identifier : goal.returns-clause-other_identifier
 returns-clause-other_identifier c h = other_identifier h
