@@ -8,7 +8,7 @@ use Rattle.rbc_records.specs.declared.record.Rec.{Rec}
 use Rattle.rbc_records.specs.declared.record.Rec.TheVariants as rec
 use Rattle.rbc_records.specs.Notes.{same_key}
 use Rattle.rbc_versions.specs.declared.log.Version.{Version}
-use Rattle.rbc_versions.specs.Entries.{NumberedRec}
+use Rattle.rbc_versions.specs.Entries.{NumberedRec, records_of}
 use Rattle.rbc_rule.specs.declared.input.Input.TheVariants as input
 use Rattle.rbc_rule.specs.declared.outcome.Outcome.{Outcome}
 use Rattle.rbc_rule.specs.declared.outcome.Reply.TheVariants.{Done, Refused}
@@ -198,6 +198,28 @@ again_numbers = (key.Roster, under 5 engines) ∷ (key.Train 7, under 6 train_7)
 abbrev pub second_misled : List Event
 second_misled =
     publishing ++ Takes (Some 1) ∷ Takes (Some 2) ∷ Deposits first_try true ∷ Reads 2 (key.Train 7) 2 ∷ Deposits forwarded_try true ∷ Recomputes enrolled again_numbers ∷ []
+
+-- between the two inputs comes another, which enrols train 8
+abbrev pub three_inputs : Run
+three_inputs = record two_inputs { inputs = input.Enrol 7 2000 ∷ input.Enrol 8 2000 ∷ input.Bad 1 ∷ [] }
+
+abbrev pub start_of_three : State
+start_of_three = opening three_inputs no_numbers
+
+-- the engines are read for the third as the attempt at the first writes them; the first is committed by it, and the second, which was given
+-- up, writes the engines anew
+abbrev pub third_try : Try
+third_try = record second_try { number = 3; notes = (key.Roster, under 1 engines) ∷ [] }
+
+abbrev pub both_engines : List (Key × NumberedRec)
+both_engines = (key.Roster, under 4 (rec.Engines (7 ∷ 8 ∷ []))) ∷ (key.Train 8, under 5 (rec.Train (new_train 8 2000 0))) ∷ (key.Unplaced, under 6 (rec.Engines (7 ∷ 8 ∷ []))) ∷ []
+
+abbrev pub third_read : List Event
+third_read = publishing ++ Takes (Some 1) ∷ Takes (Some 2) ∷ Takes (Some 3) ∷ Deposits first_try true ∷ []
+
+abbrev pub third_misled : List Event
+third_misled =
+    third_read ++ Reads 3 key.Roster 1 ∷ Deposits third_try true ∷ Applies enrolled enrolled_numbers ∷ Voids 2 true ∷ Recomputes (record enrolled { writes = records_of both_engines }) both_engines ∷ []
 
 -- ---- states
 

@@ -12,7 +12,7 @@ ghost use Rattle.rbc_core.specs.Witnesses.{two_inputs, engines, train_7, enrolle
 ghost use Rattle.rbc_core.specs.Witnesses.{first_try, second_try, stops_try, computing_again, applying, failing, after_events, one_stale, published_again, second_first};
 ghost use Rattle.rbc_core.specs.Witnesses.{both_tried, first_committed, first_lost, none_tried, second_enrols, second_gone, second_changed, engines_there, stops_there, stops_numbered};
 ghost use Rattle.rbc_core.specs.Witnesses.{second_overtaken, second_given_up, giving_up, again_for_nothing, stops_read, nothing_read};
-ghost use Rattle.rbc_core.specs.Witnesses.{forwarded_try, first_tried, forwarding, applying_forwarded, passing_over, then_again, MissesAnswers, MissesAttempts, MissesLatest, MissesDeposits, started_with_4, second_misled};
+ghost use Rattle.rbc_core.specs.Witnesses.{forwarded_try, first_tried, forwarding, applying_forwarded, passing_over, then_again, MissesAnswers, MissesAttempts, MissesLatest, MissesDeposits, started_with_4, second_misled, start_of_three, third_try, third_misled};
 
 /// From the empty state train 7 is enrolled, and then comes a line that is no input. The three records of the first are published under the
 /// numbers 1, 2 and 3.
@@ -81,7 +81,9 @@ pub fn staying_law_witnesses()
 ///
 /// Right: it was read for the second that there is no train 7, and then the first was committed, which writes that record, so the
 /// attempt at the second is overtaken; and the second was given up. Each note of an attempt was read. Or train 7 was read for the second as
-/// the attempt at the first wrote it, and then the first was computed again, so that the attempt at the second is misled.
+/// the attempt at the first wrote it, and then the first was computed again, so that the attempt at the second is misled. Or the engines were
+/// read for a third as the attempt at the first wrote them, the first was committed by it, and then a second wrote them, so that the attempt
+/// at the third is misled.
 ///
 /// Wrong: the first is computed again though its attempt is fresh; a note of stops is overtaken, which nobody writes; a note is overtaken
 /// that was never read; a note that was never read is answered; and the attempt at the second is misled where the first is committed by its
@@ -100,6 +102,7 @@ pub fn conflict_law_witnesses()
     ensures unanswered { AreAnswered nothing_read → ⊥ }
     ensures misled { IsMisled started_with_4 second_misled forwarded_try (key.Train 7, under 2 train_7) }
     ensures misled_again { Follow two_inputs started_with_4 (then_again second_misled) }
+    ensures misled_in_between { IsMisled start_of_three third_misled third_try (key.Roster, under 1 engines) }
     ensures not_misled { IsMisled start forwarding forwarded_try (key.Train 7, under 2 train_7) → ⊥ }
 {}
 

@@ -2,13 +2,13 @@ use Rattle.std.proofs.Common.{◌≡◌, true, [], ◌∷◌, ◌++◌, refl, ar
 use Rattle.std.proofs.lemmas.List.Elements.{All-nil, All-cons, All-head, All-tail, Contains-get_or}
 use Rattle.rbc_records.specs.declared.record.Key.{Key}
 use Rattle.rbc_records.specs.declared.record.Key.TheVariants as key
-use Rattle.rbc_versions.specs.Entries.{NumberedRec, AreCurrent}
+use Rattle.rbc_versions.specs.Entries.{NumberedRec, AreCurrent, records_of}
 use Rattle.rbc_rule.specs.declared.input.Input.TheVariants as input
 use Rattle.rbc_rule.proofs.WitnessSays.{differ}
 use Rattle.rbc_core.specs.Core.{State}
 use Rattle.rbc_core.specs.Events.Event.{Reads, Deposits, Voids, Applies, Recomputes, Ends}
 use Rattle.rbc_core.specs.Conflicts.{after, IsOvertaken, WasVoided}
-use Rattle.rbc_core.specs.Witnesses.{two_inputs, absent, enrolled, refused, enrolled_numbers, start, first_try, reading_first, committing_first, second_try, stops_try, after_events, second_overtaken, second_given_up, stops_read, nothing_read, train_7, under, forwarded_try, forwarding, started_with_4, stops_at_4, again_numbers, second_misled}
+use Rattle.rbc_core.specs.Witnesses.{two_inputs, absent, enrolled, refused, enrolled_numbers, start, first_try, reading_first, committing_first, second_try, stops_try, after_events, second_overtaken, second_given_up, stops_read, nothing_read, train_7, under, forwarded_try, forwarding, third_try, both_engines, third_read, started_with_4, stops_at_4, again_numbers, second_misled}
 use Rattle.rbc_core.proofs.Fates.{follow_append}
 use Rattle.rbc_core.proofs.WitnessEvents.{follow_given_up, again, right_first, right_second, recomputes_first}
 use Rattle.rbc_core.proofs.WitnessConflicts.{Each, WasRead, IsAnswered, are_answered, IsOther, not_read, not_written, taken, first_answered}
@@ -106,6 +106,34 @@ returns-clause-misled_again c =
     follow_append two_inputs started_with_4 second_misled (Recomputes refused [] ∷ Ends ∷ [])
     (tt, (tt, (tt, ((refl, omega arith, refl), ((refl, omega arith, refl), ((right_first, record { uncommitted = omega arith; taken = omega arith; at = refl }), (inr (1, first_try, omega arith, record { uncommitted = omega arith; taken = omega arith; at = refl }, refl), ((right_second _, record { uncommitted = omega arith; taken = omega arith; at = refl }), ((refl, inr (first_try, record { uncommitted = omega arith; taken = omega arith; at = refl }, stale), (input.Enrol 7 2000, record { first = omega arith; there = refl }, recomputes_first), λ records k. refl), tt)))))))))
     (again s refl refl (inr (forwarded_try, record { uncommitted = omega arith; taken = omega arith; at = refl }, other)))
+
+pub returns-clause-misled_in_between : goal.returns-clause-misled_in_between
+returns-clause-misled_in_between c = (
+  third_read,
+  [],
+  Applies enrolled enrolled_numbers ∷ Voids 2 true ∷ Recomputes (record enrolled { writes = records_of both_engines }) both_engines ∷ [],
+  refl,
+  (
+    1,
+    first_try,
+    omega arith,
+    record { uncommitted = omega arith; taken = omega arith; at = refl },
+    refl,
+    inr (
+      2,
+      omega arith,
+      omega arith,
+      (
+        Deposits third_try true ∷ Applies enrolled enrolled_numbers ∷ Voids 2 true ∷ [],
+        Recomputes (record enrolled { writes = records_of both_engines }) both_engines,
+        [],
+        refl,
+        refl,
+        refl,
+      ),
+    ),
+  ),
+)
 
 pub returns-clause-not_misled : goal.returns-clause-not_misled
 returns-clause-not_misled c h = not_misled forwarding forwarded_try (key.Train 7, under 2 train_7) refl (tt, (tt, (tt, (tt, (tt, (tt, (tt, (tt, (tt, (tt, (tt, (tt, tt)))))))))))) h
