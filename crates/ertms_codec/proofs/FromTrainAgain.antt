@@ -4,14 +4,18 @@ use Rattle.std.specs.Prelude.{IfOk, IfErr}
 use Rattle.ertms_bits.specs.Bits.{bits_of_bytes}
 use Rattle.ertms_bits.proofs.Bits.{length-bits_of_bytes}
 use Rattle.ertms_codec.specs.declared.error.DecodeError.{DecodeError}
+use Rattle.ertms_codec.specs.declared.error.DecodeError.TheVariants.{Length, Message, Packet, Field}
 use Rattle.ertms_codec.specs.declared.from_train.Position.{Position}
 use Rattle.ertms_codec.specs.declared.from_train.FromTrain.{FromTrain}
 use Rattle.ertms_codec.specs.declared.from_train.FromTrain.TheVariants.{Report, Ack, StopAck}
 use Rattle.ertms_codec.specs.Layout.{width_of, bits_of_fields, value_at}
 use Rattle.ertms_codec.specs.FromTrain.{Spells, PositionFits, StandsWithPackets, fields_of, fields_of_position}
-use Rattle.ertms_codec.specs.Refusals.{number_in}
-use Rattle.ertms_codec.specs.RefusalsFromTrain.{Refuses, HavePackets, position_at}
+use Rattle.ertms_codec.specs.Refusals.{number_in, Unless, Never, HasItsLength}
+use Rattle.ertms_codec.specs.RefusalsFromTrain.{Refuses, HavePackets, IsFromTrain, IsLongEnough, HasItsPackets, IsSpelled}
+use Rattle.ertms_codec.specs.FromTrainAtPlaces.{position_at, HasNoSpare, RefusesAtPlaces}
 use Rattle.ertms_codec.specs.Reading.{IsReadFromTrain}
+use Rattle.ertms_codec.proofs.FirstFailing.{IsOnce, never, once, instead, last}
+use Rattle.ertms_codec.proofs.FromTrainLaws.{found}
 use Rattle.ertms_codec.proofs.Fields.{Behind, at_places}
 use Rattle.ertms_codec.proofs.FieldLists.{length-bits_of_fields}
 use Rattle.ertms_codec.proofs.PositionFields.{position_back}
@@ -97,27 +101,51 @@ again bytes (StopAck stamp engine id answer position) s =
       };
     }
 
--- what is read is not refused
-not_refused : (bytes : List ℕ) (m : FromTrain) (e : DecodeError) → IsReadFromTrain bytes m → ¬ Refuses bytes e
-not_refused bytes m e r refused =
-    elim refused [
-      | inl x ↦ x.0 r.sized
-      | inr x ↦ elim x.1 [
-        | inl x ↦ x.0 r.known
+-- the steps before the last one
+module _ (bytes : List ℕ) where
+  abbrev Begins : (DecodeError → Type 0) → DecodeError → Type 0
+  Begins Last = Unless (HasItsLength bytes) Length (Unless (IsFromTrain (number_in bytes)) Message (Unless (IsLongEnough (number_in bytes) (length bytes)) Length (Unless (HasItsPackets (number_in bytes) (bits_of_bytes bytes)) Packet Last)))
+
+  begins_with : (Last Other : DecodeError → Type 0) → ((e : DecodeError) → Last e → Other e) → (e : DecodeError) → Begins Last e → Begins Other e
+  begins_with Last Other follows =
+      instead _ Length _ _ (instead _ Message _ _ (instead _ Length _ _ (instead _ Packet Last Other follows)))
+
+  once_begun : (Last : DecodeError → Type 0) → IsOnce Last → IsOnce (Begins Last)
+  once_begun Last one = once _ Length _ (once _ Message _ (once _ Length _ (once _ Packet Last one)))
+
+  -- what is refused by the places is refused
+  pub refused : (e : DecodeError) → RefusesAtPlaces bytes e → Refuses bytes e
+  refused = begins_with (Unless (HasNoSpare (number_in bytes) (bits_of_bytes bytes)) Field Never) (Unless (IsSpelled bytes) Field Never) (last (HasNoSpare (number_in bytes) (bits_of_bytes bytes)) (IsSpelled bytes) Field (λ spelled. (again bytes spelled.0 spelled.1).behind.spare))
+
+  one_refusal : (a b : DecodeError) → Refuses bytes a → Refuses bytes b → a ≡ b
+  one_refusal = once_begun (Unless (IsSpelled bytes) Field Never) (once (IsSpelled bytes) Field Never never)
+
+  -- what is read is not refused
+  not_refused : (m : FromTrain) (e : DecodeError) → IsReadFromTrain bytes m → ¬ Refuses bytes e
+  not_refused m e r refused =
+      elim refused [
+        | inl x ↦ x.0 r.sized
         | inr x ↦ elim x.1 [
-          | inl x ↦ x.0 r.enough
+          | inl x ↦ x.0 r.known
           | inr x ↦ elim x.1 [
-            | inl x ↦ x.0 r.behind.packets
+            | inl x ↦ x.0 r.enough
             | inr x ↦ elim x.1 [
-              | inl x ↦ x.0 r.behind.spare
-              | inr x ↦ x.1
+              | inl x ↦ x.0 r.behind.packets
+              | inr x ↦ elim x.1 [
+                | inl x ↦ x.0 (m, found bytes m r)
+                | inr x ↦ x.1
+              ]
             ]
           ]
         ]
       ]
-    ]
 
 -- only this message is read
-pub only : (bytes : List ℕ) (result : Result FromTrain DecodeError) (m : FromTrain) → IfOk result (λ m. IsReadFromTrain bytes m) → IfErr result (λ e. Refuses bytes e) → Spells bytes m → result ≡ Ok m
+pub only : (bytes : List ℕ) (result : Result FromTrain DecodeError) (m : FromTrain) → IfOk result (λ m. IsReadFromTrain bytes m) → IfErr result (λ e. RefusesAtPlaces bytes e) → Spells bytes m → result ≡ Ok m
 only bytes (Ok other) m ok err s = ap (λ (x : FromTrain). Ok x) (ok.behind.is ∙ sym (again bytes m s).behind.is)
-only bytes (Err e) m ok err s = absurd (not_refused bytes m e (again bytes m s) err)
+only bytes (Err e) m ok err s = absurd (not_refused bytes m e (again bytes m s) (refused bytes e err))
+
+-- and it is refused for this reason alone
+pub exactly : (bytes : List ℕ) (result : Result FromTrain DecodeError) (e : DecodeError) → IfOk result (λ m. IsReadFromTrain bytes m) → IfErr result (λ e. RefusesAtPlaces bytes e) → Refuses bytes e → result ≡ Err e
+exactly bytes (Ok m) e ok err r = absurd (not_refused bytes m e ok r)
+exactly bytes (Err other) e ok err r = ap (λ (x : DecodeError). Err x) (one_refusal bytes other e (refused bytes other err) r)

@@ -8,7 +8,8 @@ use Rattle.ertms_codec.specs.declared.from_train.FromTrain.{FromTrain}
 use Rattle.ertms_codec.specs.declared.from_train.FromTrain.TheVariants.{Report, Ack, StopAck}
 use Rattle.ertms_codec.specs.Layout.{Field, width_of, bits_of_fields, HoldValues, value_at}
 use Rattle.ertms_codec.specs.FromTrain.{Train, Spells, Fits, StandsBehind, StandsWithPackets, fields_of, fields_of_position}
-use Rattle.ertms_codec.specs.RefusalsFromTrain.{HavePackets, train_place, position_at, message_at}
+use Rattle.ertms_codec.specs.RefusalsFromTrain.{HavePackets, train_place}
+use Rattle.ertms_codec.specs.FromTrainAtPlaces.{position_at, message_at}
 use Rattle.ertms_codec.specs.Reading.{IsReadFromTrain}
 use Rattle.ertms_codec.proofs.Fields.{AreAt, spelled_at, hold_at}
 use Rattle.ertms_codec.proofs.FieldLists.{length-bits_of_fields}

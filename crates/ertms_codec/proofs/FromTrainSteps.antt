@@ -8,7 +8,8 @@ use Rattle.ertms_codec.specs.declared.from_train.FromTrain.TheVariants.{Ack}
 use Rattle.ertms_codec.specs.Layout.{value_at}
 use Rattle.ertms_codec.specs.FromTrain.{PositionFits}
 use Rattle.ertms_codec.specs.Refusals.{Unless, Never, number_in, HasItsLength}
-use Rattle.ertms_codec.specs.RefusalsFromTrain.{Refuses, IsFromTrain, IsLongEnough, HavePackets, HasItsPackets, HasNoSpare, position_at}
+use Rattle.ertms_codec.specs.RefusalsFromTrain.{IsFromTrain, IsLongEnough, HavePackets, HasItsPackets}
+use Rattle.ertms_codec.specs.FromTrainAtPlaces.{HasNoSpare, position_at, RefusesAtPlaces}
 use Rattle.ertms_codec.specs.Reading.{IsReadFromTrain, IsReadBehind, IsReport, IsStopAcknowledgement, RefusesPosition}
 
 -- the refusal of a position is that of message 136
@@ -95,6 +96,6 @@ pub is_read : (bytes : List ℕ) (number : ℕ) (m : FromTrain) → Begins bytes
 is_read bytes number m b is behind =
     record { sized = b.sized; known = b.known; enough = b.enough; behind = subst (λ n. IsReadBehind n (bits_of_bytes bytes) m) is behind }
 
-pub is_refused : (bytes : List ℕ) (number : ℕ) (e : DecodeError) → Begins bytes → number ≡ number_in bytes → Unless (HasItsPackets number (bits_of_bytes bytes)) Packet (Unless (HasNoSpare number (bits_of_bytes bytes)) Field Never) e → Refuses bytes e
+pub is_refused : (bytes : List ℕ) (number : ℕ) (e : DecodeError) → Begins bytes → number ≡ number_in bytes → Unless (HasItsPackets number (bits_of_bytes bytes)) Packet (Unless (HasNoSpare number (bits_of_bytes bytes)) Field Never) e → RefusesAtPlaces bytes e
 is_refused bytes number e b is refused =
     inr (b.sized, inr (b.known, inr (b.enough, subst (λ n. Unless (HasItsPackets n (bits_of_bytes bytes)) Packet (Unless (HasNoSpare n (bits_of_bytes bytes)) Field Never) e) is refused)))

@@ -1,5 +1,6 @@
 pub mod FieldLists
 pub mod Fields
+pub mod FirstFailing
 pub mod FromTrainAgain
 pub mod FromTrainLaws
 pub mod FromTrainSteps

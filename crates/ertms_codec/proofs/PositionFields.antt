@@ -6,7 +6,8 @@ use Rattle.ertms_codec.specs.declared.from_train.Position.{Position}
 use Rattle.ertms_codec.specs.Layout.{Field, width_of, value_at}
 use Rattle.ertms_codec.specs.Variables.{nid_packet, l_packet, q_scale, nid_lrbg, d_lrbg, q_dirlrbg, q_dlrbg, l_doubtover, l_doubtunder, q_length, l_trainint, v_train, q_dirtrain, m_mode, m_level, nid_ntc}
 use Rattle.ertms_codec.specs.FromTrain.{Train, has_length, has_system, optional, number_of_packet, previous_group, fields_of_train, fields_of_position}
-use Rattle.ertms_codec.specs.RefusalsFromTrain.{shift_in, length_width, system_width, train_place, position_width, position_at}
+use Rattle.ertms_codec.specs.RefusalsFromTrain.{shift_in, length_width, system_width, train_place, position_width}
+use Rattle.ertms_codec.specs.FromTrainAtPlaces.{position_at}
 use Rattle.ertms_codec.proofs.Fields.{AreAt}
 use Rattle.ertms_codec.proofs.FieldLists.{AreAt-drop, AreAt-under}
 

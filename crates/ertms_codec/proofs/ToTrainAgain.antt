@@ -6,14 +6,18 @@ use Rattle.std.proofs.lemmas.Int.{to_z-of_z}
 use Rattle.ertms_bits.specs.Bits.{number_of, bits_of_bytes}
 use Rattle.ertms_bits.proofs.Bits.{length-bits_of_bytes}
 use Rattle.ertms_codec.specs.declared.error.DecodeError.{DecodeError}
+use Rattle.ertms_codec.specs.declared.error.DecodeError.TheVariants.{Length, Message, Packet, Field}
 use Rattle.ertms_codec.specs.declared.to_train.Head.{Head}
 use Rattle.ertms_codec.specs.declared.to_train.ToTrain.{ToTrain}
 use Rattle.ertms_codec.specs.declared.to_train.ToTrain.TheVariants.{StopAt, Stop, Revoke, Restrict, Lift}
 use Rattle.ertms_codec.specs.Layout.{width_of, value_at}
 use Rattle.ertms_codec.specs.ToTrain.{Fits, Spells, fields_of, head_of, number_of_message, length_of_message}
-use Rattle.ertms_codec.specs.Refusals.{number_in, HasItsLength}
-use Rattle.ertms_codec.specs.RefusalsToTrain.{Refuses, IsToTrain, IsLongEnough, IsSized, head_at, message_at}
+use Rattle.ertms_codec.specs.Refusals.{number_in, HasItsLength, Unless, Never}
+use Rattle.ertms_codec.specs.RefusalsToTrain.{Refuses, IsToTrain, IsLongEnough, IsSized, HasItsPacket, IsSpelled}
+use Rattle.ertms_codec.specs.ToTrainAtPlaces.{head_at, message_at, HasNoSpare, RefusesAtPlaces}
 use Rattle.ertms_codec.specs.Reading.{IsReadToTrain}
+use Rattle.ertms_codec.proofs.FirstFailing.{IsOnce, never, once, instead, last}
+use Rattle.ertms_codec.proofs.ToTrainLaws.{found}
 use Rattle.ertms_codec.proofs.Fields.{Behind, at_places}
 
 -- the variables of a message that is spelled stand at their places
@@ -131,27 +135,51 @@ again bytes (Lift head dir id) s =
     let same : Lift head dir id ≡ message_at bits = rw (← at.0, ← body.0, ← head_is bytes (Lift head dir id) s, ← body.1.0, ← size.1.0) in
     packet_read bytes (Lift head dir id) s refl 66 31 (inr (refl, refl)) body.0 size.0 refl (omega arith) (omega arith) (omega arith) same
 
--- what is read is not refused
-not_refused : (bytes : List ℕ) (m : ToTrain) (e : DecodeError) → IsReadToTrain bytes m → ¬ Refuses bytes e
-not_refused bytes m e r refused =
-    elim refused [
-      | inl x ↦ x.0 r.sized
-      | inr x ↦ elim x.1 [
-        | inl x ↦ x.0 r.known
+-- the steps before the last one
+module _ (bytes : List ℕ) where
+  abbrev Begins : (DecodeError → Type 0) → DecodeError → Type 0
+  Begins Last = Unless (HasItsLength bytes) Length (Unless (IsToTrain (number_in bytes)) Message (Unless (IsLongEnough (number_in bytes) (length bytes)) Length (Unless (HasItsPacket bytes) Packet Last)))
+
+  begins_with : (Last Other : DecodeError → Type 0) → ((e : DecodeError) → Last e → Other e) → (e : DecodeError) → Begins Last e → Begins Other e
+  begins_with Last Other follows =
+      instead _ Length _ _ (instead _ Message _ _ (instead _ Length _ _ (instead _ Packet Last Other follows)))
+
+  once_begun : (Last : DecodeError → Type 0) → IsOnce Last → IsOnce (Begins Last)
+  once_begun Last one = once _ Length _ (once _ Message _ (once _ Length _ (once _ Packet Last one)))
+
+  -- what is refused by the places is refused
+  pub refused : (e : DecodeError) → RefusesAtPlaces bytes e → Refuses bytes e
+  refused = begins_with (Unless (HasNoSpare bytes) Field Never) (Unless (IsSpelled bytes) Field Never) (last (HasNoSpare bytes) (IsSpelled bytes) Field (λ spelled. (again bytes spelled.0 spelled.1).spare))
+
+  one_refusal : (a b : DecodeError) → Refuses bytes a → Refuses bytes b → a ≡ b
+  one_refusal = once_begun (Unless (IsSpelled bytes) Field Never) (once (IsSpelled bytes) Field Never never)
+
+  -- what is read is not refused
+  not_refused : (m : ToTrain) (e : DecodeError) → IsReadToTrain bytes m → ¬ Refuses bytes e
+  not_refused m e r refused =
+      elim refused [
+        | inl x ↦ x.0 r.sized
         | inr x ↦ elim x.1 [
-          | inl x ↦ x.0 r.enough
+          | inl x ↦ x.0 r.known
           | inr x ↦ elim x.1 [
-            | inl x ↦ x.0 r.packet
+            | inl x ↦ x.0 r.enough
             | inr x ↦ elim x.1 [
-              | inl x ↦ x.0 r.spare
-              | inr x ↦ x.1
+              | inl x ↦ x.0 r.packet
+              | inr x ↦ elim x.1 [
+                | inl x ↦ x.0 (m, found bytes m r)
+                | inr x ↦ x.1
+              ]
             ]
           ]
         ]
       ]
-    ]
 
 -- only this message is read
-pub only : (bytes : List ℕ) (result : Result ToTrain DecodeError) (m : ToTrain) → IfOk result (λ m. IsReadToTrain bytes m) → IfErr result (λ e. Refuses bytes e) → Spells bytes m → result ≡ Ok m
+pub only : (bytes : List ℕ) (result : Result ToTrain DecodeError) (m : ToTrain) → IfOk result (λ m. IsReadToTrain bytes m) → IfErr result (λ e. RefusesAtPlaces bytes e) → Spells bytes m → result ≡ Ok m
 only bytes (Ok other) m ok err s = ap (λ (x : ToTrain). Ok x) (ok.is ∙ sym (again bytes m s).is)
-only bytes (Err e) m ok err s = absurd (not_refused bytes m e (again bytes m s) err)
+only bytes (Err e) m ok err s = absurd (not_refused bytes m e (again bytes m s) (refused bytes e err))
+
+-- and it is refused for this reason alone
+pub exactly : (bytes : List ℕ) (result : Result ToTrain DecodeError) (e : DecodeError) → IfOk result (λ m. IsReadToTrain bytes m) → IfErr result (λ e. RefusesAtPlaces bytes e) → Refuses bytes e → result ≡ Err e
+exactly bytes (Ok m) e ok err r = absurd (not_refused bytes m e ok r)
+exactly bytes (Err other) e ok err r = ap (λ (x : DecodeError). Err x) (one_refusal bytes other e (refused bytes other err) r)

@@ -12,7 +12,8 @@ use Rattle.ertms_codec.specs.declared.to_train.ToTrain.{ToTrain}
 use Rattle.ertms_codec.specs.Layout.{width_of, value_at}
 use Rattle.ertms_codec.specs.ToTrain.{Fits, HoldsReference, Spells, fields_of, body_of, head_of, number_of_message, length_of_message}
 use Rattle.ertms_codec.specs.Refusals.{number_in, HasItsLength}
-use Rattle.ertms_codec.specs.RefusalsToTrain.{IsToTrain, IsLongEnough, IsOnePacket, HasItsPacket, head_at, stop_at, packet_at, message_at}
+use Rattle.ertms_codec.specs.RefusalsToTrain.{IsToTrain, IsLongEnough, IsOnePacket, HasItsPacket}
+use Rattle.ertms_codec.specs.ToTrainAtPlaces.{head_at, stop_at, packet_at, message_at}
 use Rattle.ertms_codec.specs.Reading.{IsReadToTrain}
 use Rattle.ertms_codec.proofs.Fields.{AreAt, spelled_at, hold_at, flag_is}
 

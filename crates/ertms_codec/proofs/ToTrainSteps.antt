@@ -7,7 +7,8 @@ use Rattle.ertms_codec.specs.declared.error.DecodeError.TheVariants.{Packet, Fie
 use Rattle.ertms_codec.specs.declared.to_train.ToTrain.{ToTrain}
 use Rattle.ertms_codec.specs.ToTrain.{Fits}
 use Rattle.ertms_codec.specs.Refusals.{number_in, HasItsLength}
-use Rattle.ertms_codec.specs.RefusalsToTrain.{Refuses, IsToTrain, IsLongEnough, IsOnePacket, HasItsPacket, message_at}
+use Rattle.ertms_codec.specs.RefusalsToTrain.{IsToTrain, IsLongEnough, IsOnePacket, HasItsPacket}
+use Rattle.ertms_codec.specs.ToTrainAtPlaces.{message_at, RefusesAtPlaces}
 use Rattle.ertms_codec.specs.Reading.{IsReadToTrain}
 
 -- so many bits are left behind a place
@@ -39,7 +40,7 @@ ten_bytes number bytes known enough =
       ]
     ]
 
-pub packet_refused : (bytes bits : List ℕ) (number : ℕ) (e : DecodeError) → Begins bytes → number ≡ number_in bytes → bits ≡ drop 75 (bits_of_bytes bytes) → (number ≡ 24) × (¬ IsOnePacket bits) × (e ≡ Packet) → Refuses bytes e
+pub packet_refused : (bytes bits : List ℕ) (number : ℕ) (e : DecodeError) → Begins bytes → number ≡ number_in bytes → bits ≡ drop 75 (bits_of_bytes bytes) → (number ≡ 24) × (¬ IsOnePacket bits) × (e ≡ Packet) → RefusesAtPlaces bytes e
 packet_refused bytes bits number e b is at refused =
     let without : ¬ HasItsPacket bytes = λ has. refused.1 (subst IsOnePacket (sym at) (has (sym is ∙ refused.0))) in
     inr (b.sized, inr (b.known, inr (b.enough, inl (without, refused.2))))
@@ -47,7 +48,7 @@ packet_refused bytes bits number e b is at refused =
 pub has_packet : (bytes bits : List ℕ) (number : ℕ) → number ≡ number_in bytes → bits ≡ drop 75 (bits_of_bytes bytes) → (number ≡ 24 → IsOnePacket bits) → HasItsPacket bytes
 has_packet bytes bits number is at one general = subst IsOnePacket at (one (is ∙ general))
 
-pub field_refused : (bytes : List ℕ) (m : ToTrain) → Begins bytes → HasItsPacket bytes → m ≡ message_at (bits_of_bytes bytes) → ¬ Fits m → Refuses bytes Field
+pub field_refused : (bytes : List ℕ) (m : ToTrain) → Begins bytes → HasItsPacket bytes → m ≡ message_at (bits_of_bytes bytes) → ¬ Fits m → RefusesAtPlaces bytes Field
 field_refused bytes m b packet is spare =
     inr (b.sized, inr (b.known, inr (b.enough, inr (packet, inl (λ fits. spare (subst Fits (sym is) fits), refl)))))
 

@@ -1,4 +1,5 @@
 pub mod FromTrain
+pub mod FromTrainAtPlaces
 pub mod Layout
 pub mod Reading
 pub mod RefusalNames
@@ -7,5 +8,6 @@ pub mod RefusalsFromTrain
 pub mod RefusalsToTrain
 pub mod Texts
 pub mod ToTrain
+pub mod ToTrainAtPlaces
 pub mod Variables
 pub mod Written

@@ -11,6 +11,8 @@ use Rattle.ertms_codec.specs.Refusals.{Unless, Never, number_in, HasItsLength}
 use Rattle.ertms_codec.specs.FromTrain.{PositionFits}
 use Rattle.ertms_codec.specs.RefusalsToTrain as to_train
 use Rattle.ertms_codec.specs.RefusalsFromTrain as from_train
+use Rattle.ertms_codec.specs.ToTrainAtPlaces as to_train_at
+use Rattle.ertms_codec.specs.FromTrainAtPlaces as from_train_at
 
 -- a variable of so many bits was taken from the front
 pub record Takes (width : ℕ) (before : List ℕ) (taken : ℕ) (after : List ℕ) : Type 0 where
@@ -32,33 +34,33 @@ pub record IsReadToTrain (bytes : List ℕ) (m : ToTrain) : Type 0 where
   pub known : to_train.IsToTrain (number_in bytes)
   pub enough : to_train.IsLongEnough (number_in bytes) (length bytes)
   pub packet : to_train.HasItsPacket bytes
-  pub spare : to_train.HasNoSpare bytes
-  pub is : m ≡ to_train.message_at (bits_of_bytes bytes)
+  pub spare : to_train_at.HasNoSpare bytes
+  pub is : m ≡ to_train_at.message_at (bits_of_bytes bytes)
 
 -- the bits are packets to their end, and the position that they begin with has no spare value
 pub record ReadsPosition (bits : List ℕ) : Type 0 where
   pub packets : from_train.HavePackets bits
-  pub fits : PositionFits (from_train.position_at bits)
+  pub fits : PositionFits (from_train_at.position_at bits)
 
 -- why the bits are refused as packets that begin with a position
 abbrev pub RefusesPosition : List ℕ → DecodeError → Type 0
-RefusesPosition bits = Unless (from_train.HavePackets bits) Packet (Unless (PositionFits (from_train.position_at bits)) Field Never)
+RefusesPosition bits = Unless (from_train.HavePackets bits) Packet (Unless (PositionFits (from_train_at.position_at bits)) Field Never)
 
 -- message 136 by the bits behind its header
 pub record IsReport (bits : List ℕ) (stamp engine : ℕ) (m : FromTrain) : Type 0 where
   pub read : ReadsPosition bits
-  pub is : m ≡ Report stamp engine (from_train.position_at bits)
+  pub is : m ≡ Report stamp engine (from_train_at.position_at bits)
 
 -- message 147 by the bits behind its header
 pub record IsStopAcknowledgement (bits : List ℕ) (stamp engine : ℕ) (m : FromTrain) : Type 0 where
   pub read : ReadsPosition (drop 6 bits)
-  pub is : m ≡ StopAck stamp engine (value_at 0 4 bits) (value_at 4 2 bits) (from_train.position_at (drop 6 bits))
+  pub is : m ≡ StopAck stamp engine (value_at 0 4 bits) (value_at 4 2 bits) (from_train_at.position_at (drop 6 bits))
 
 -- the last two steps hold of a message of this number, and it is that at the places of its table
 pub record IsReadBehind (number : ℕ) (bits : List ℕ) (m : FromTrain) : Type 0 where
   pub packets : from_train.HasItsPackets number bits
-  pub spare : from_train.HasNoSpare number bits
-  pub is : m ≡ from_train.message_at bits
+  pub spare : from_train_at.HasNoSpare number bits
+  pub is : m ≡ from_train_at.message_at bits
 
 -- no step fails, and the message is that at the places of its table
 pub record IsReadFromTrain (bytes : List ℕ) (m : FromTrain) : Type 0 where

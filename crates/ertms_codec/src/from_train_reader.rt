@@ -8,7 +8,8 @@ ghost use Rattle.ertms_codec.specs.declared.from_train.FromTrain.TheVariants as 
 ghost use Rattle.ertms_codec.specs.Layout.{value_at};
 ghost use Rattle.ertms_codec.specs.FromTrain.{Spells};
 ghost use Rattle.ertms_codec.specs.Refusals.{Unless, Never};
-ghost use Rattle.ertms_codec.specs.RefusalsFromTrain.{Refuses, IsFromTrain, IsLongEnough, HasItsPackets, HasNoSpare};
+ghost use Rattle.ertms_codec.specs.RefusalsFromTrain.{Refuses, IsFromTrain, IsLongEnough, HasItsPackets};
+ghost use Rattle.ertms_codec.specs.FromTrainAtPlaces.{HasNoSpare, RefusesAtPlaces};
 ghost use Rattle.ertms_codec.specs.Reading.{IsReadFromTrain, IsReadBehind, IsReport, IsStopAcknowledgement, RefusesPosition};
 
 use crate::error::DecodeError;
@@ -40,7 +41,7 @@ pub fn read_from_train(bytes: &[u8]) -> Result<FromTrain, DecodeError>
 /// What `read_from_train` does, by the places of the variables.
 fn read(bytes: &[u8]) -> Result<FromTrain, DecodeError>
     ensures ok { IfOk result (λ m. IsReadFromTrain bytes.now m) }
-    ensures err { IfErr result (λ e. Refuses bytes.now e) }
+    ensures err { IfErr result (λ e. RefusesAtPlaces bytes.now e) }
 {
     let mut bits = BitReader::new(bytes);
     let number = message_number(bytes, &mut bits)?;

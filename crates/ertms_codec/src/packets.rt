@@ -4,7 +4,8 @@ ghost use Rattle.std.specs.Prelude.{◌≡◌, ◌+◌, ◌-◌, ◌<◌, ◌≤
 ghost use Rattle.ertms_codec.specs.declared.error.DecodeError.TheVariants.{Packet as packet_refusal};
 ghost use Rattle.ertms_codec.specs.Layout.{value_at};
 ghost use Rattle.ertms_codec.specs.FromTrain.{ArePackets, has_length, has_system};
-ghost use Rattle.ertms_codec.specs.RefusalsFromTrain.{BeginWithPosition, shift_in, length_width, system_width, train_place, previous_at, position_at};
+ghost use Rattle.ertms_codec.specs.RefusalsFromTrain.{BeginWithPosition, shift_in, length_width, system_width, train_place};
+ghost use Rattle.ertms_codec.specs.FromTrainAtPlaces.{previous_at, position_at};
 ghost use Rattle.ertms_codec.specs.Reading.{BeginsWithPacket, ReadsPosition, RefusesPosition};
 
 use crate::error::DecodeError;

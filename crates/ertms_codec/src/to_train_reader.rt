@@ -9,7 +9,8 @@ ghost use Rattle.ertms_codec.specs.declared.to_train.ToTrain.TheVariants as sent
 ghost use Rattle.ertms_codec.specs.Layout.{value_at};
 ghost use Rattle.ertms_codec.specs.ToTrain.{Spells};
 ghost use Rattle.ertms_codec.specs.Refusals.{Unless, Never};
-ghost use Rattle.ertms_codec.specs.RefusalsToTrain.{Refuses, IsToTrain, IsLongEnough, IsOnePacket, head_at, packet_at, message_at};
+ghost use Rattle.ertms_codec.specs.RefusalsToTrain.{Refuses, IsToTrain, IsLongEnough, IsOnePacket};
+ghost use Rattle.ertms_codec.specs.ToTrainAtPlaces.{head_at, packet_at, message_at, RefusesAtPlaces};
 ghost use Rattle.ertms_codec.specs.Reading.{IsReadToTrain};
 
 use crate::error::DecodeError;
@@ -43,7 +44,7 @@ pub fn read_to_train(bytes: &[u8]) -> Result<ToTrain, DecodeError>
 /// What `read_to_train` does, by the places of the variables.
 fn read(bytes: &[u8]) -> Result<ToTrain, DecodeError>
     ensures ok { IfOk result (λ m. IsReadToTrain bytes.now m) }
-    ensures err { IfErr result (λ e. Refuses bytes.now e) }
+    ensures err { IfErr result (λ e. RefusesAtPlaces bytes.now e) }
 {
     let mut bits = BitReader::new(bytes);
     let number = message_number(bytes, &mut bits)?;
