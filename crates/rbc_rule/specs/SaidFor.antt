@@ -99,8 +99,7 @@ pub record SaysFor (plan : Plan) (stops : Stops) (limits : Limits) (train : Trai
   pub by_its_group : (codec.head_of message).lrbg ≡ group_of train
   pub sendable : IsSendable message
 
--- The same of the place alone, which is less: whatever balise group the message names, and whatever way it counts from there.
--- All else is as in `SaysFor`.
+-- What is said of a stop by the place alone, which is less: whatever it lies ahead of, and whichever way on.
 abbrev pub by_place : Said → Said
 by_place (StopsBefore id spot) = StopsBefore id (record spot { origin = 0; way = Up })
 by_place (StopsAtOnce id) = StopsAtOnce id
@@ -108,6 +107,7 @@ by_place (Restricts id stretch front speed) = Restricts id stretch front speed
 by_place (RevokesStop id) = RevokesStop id
 by_place (RevokesLimit id) = RevokesLimit id
 
+-- A message says, by the place alone, what it has to say for an action, whatever balise group it names.
 pub record SaysByPlace (plan : Plan) (stops : Stops) (limits : Limits) (train : TrainRec) (action : Action) (message : ToTrain) : Type 0 where
   pub said : Said
   pub wanted : Said

@@ -15,7 +15,7 @@ pub fn step_law()
 /// group that it names, it says what the rules give its train there: that a stop or a restriction is revoked; to stop at
 /// once; to stop before the last whole unit ahead, the way the train faces, that does not lie beyond the edge, in the
 /// finest unit that has room; or to keep to the speed of a restriction on the part of it that is told. No message says
-/// two things. What says this also says it by the places alone, whatever balise group they are counted from.
+/// two things. A message that says this also says it by the place of a stop alone, whatever balise group it names.
 pub fn says_law()
     ensures says { EachStepSays }
     ensures one_thing { EachMessageSaysOneThing }
