@@ -12,7 +12,7 @@ What is checked:
 - `name` of CRATE, `TYPE::name`, `CRATE::name`, names in a table's row of a crate, and names before (CRATE, FILE) or (CRATE, FILE.rt) are where that says;
 - docs/MODEL.md names each definition that a public contract or a law reaches, in the part and the section where its class
   belongs (documents_reach.py), each specs file, and each word of the kit that is not of everyday use; and it says how many
-  lines have to be believed;
+  lines of rules, of formats, of the headline and of texts there are;
 - docs/ASSESSMENT.md says how many faulty variants each crate has;
 - the table of docs/ARCHITECTURE.md says what crates.txt says, and an output in README.md is that of its file;
 - no file cites a paper, or a demand by its number.

@@ -4,20 +4,25 @@ import re
 import documents_reach as reach
 import documents_words as words
 
-RULES, FORMATS, LAW, BOUNDARY, CODE = (
+RULES, FORMATS, HEADLINE, TEXT, LAW, BOUNDARY, CODE = (
     "To be believed, under a heading 'Rules: ..'",
-    "To be believed, under another heading than 'Rules: ..'",
+    "To be believed, under another heading than 'Rules: ..', 'Headline: ..' and 'Texts: ..'",
+    "To be believed, under a heading 'Headline: ..'",
+    "To be believed, under a heading 'Texts: ..'",
     "Laws",
     "Of the code alone, under 'Between crates'",
     "Of the code alone, under another heading than 'Between crates'",
 )
-LENGTHS = re.compile(r"(some\s+)[\d,]+(\s+lines\s+of\s+rules\s+and\s+)[\d,]+(\s+of\s+formats)")
+KINDS = ("rules", "formats", "headline", "text")
+LENGTHS = re.compile(
+    r"(some\s+)[\d,]+(\s+lines\s+of\s+rules,\s+)[\d,]+(\s+of\s+formats\s+and\s+)[\d,]+(\s+of\s+the\s+headline;\s+)[\d,]+(\s+of\s+texts\s+apart)"
+)
 
 
 def standing(part, section):
     """What the headings above a row say of its definitions; nothing, where the part is none of the three."""
     if part == "To be believed":
-        return RULES if section.startswith("Rules: ") else FORMATS
+        return {"Rules": RULES, "Headline": HEADLINE, "Texts": TEXT}.get(section.partition(": ")[0], FORMATS)
     if part == "Laws: proved, need not be believed":
         return LAW
     if part == "Of the code alone":
@@ -30,12 +35,12 @@ def belonging(world, crate, file, name):
     found = world.class_of(crate, file, name)
     if found == "believed":
         return RULES if reach.is_rule(crate, file) else FORMATS
-    return {"law": LAW, "boundary": BOUNDARY, "code": CODE}[found]
+    return {"headline": HEADLINE, "text": TEXT, "law": LAW, "boundary": BOUNDARY, "code": CODE}[found]
 
 
 def kit_belonging(world, module, name):
-    """Where a word of the kit has to stand: those that have to be believed serve rules and formats alike."""
-    return {"believed": FORMATS, "law": LAW, "boundary": BOUNDARY}.get(world.kit.get((module, name)))
+    """Where a word of the kit has to stand: those of the class believed serve rules and formats alike."""
+    return {"believed": FORMATS, "headline": HEADLINE, "text": TEXT, "law": LAW, "boundary": BOUNDARY}.get(world.kit.get((module, name)))
 
 
 def rows(text):
@@ -89,8 +94,8 @@ def faults(world, text):
 # ---- lengths
 
 def lengths(world):
-    """The lines of each class, and of what has to be believed those of rules and those of formats."""
-    total = dict.fromkeys(("believed", "rules", "formats", "law", "case", "boundary", "code"), 0)
+    """The lines of each class, and of the class believed those of rules and those of formats."""
+    total = dict.fromkeys((*reach.CLASSES, "rules", "formats", "case", "code"), 0)
     for (crate, file), found in world.by_file().items():
         for name, part, lines in found:
             total[class_or_case(world, crate, file, name, part)] += lines
@@ -112,14 +117,14 @@ def rounded(lines):
 def with_lengths(world, text):
     """The text, with the lengths in the sentence of the introduction that tells them."""
     total = lengths(world)
-    rules, formats = rounded(total["rules"]), rounded(total["formats"])
-    return LENGTHS.sub(lambda m: m.group(1) + rules + m.group(2) + formats + m.group(3), text, count=1)
+    told = [rounded(total[kind]) for kind in KINDS] + [""]
+    return LENGTHS.sub(lambda m: "".join(before + lines for before, lines in zip(m.groups(), told)), text, count=1)
 
 
 def length_faults(world, text):
     found = LENGTHS.search(text)
     if not found:
-        yield None, "does not say how much has to be believed: 'some .. lines of rules and .. of formats'"
+        yield None, "does not say how much has to be believed: 'some .. lines of rules, .. of formats and .. of the headline; .. of texts apart'"
     elif with_lengths(world, text) != text:
         right = with_lengths(world, found.group())
         yield found.start(), f"says '{found.group()}', and there are {right} (python3 .ci/documents.py --write puts that in)"
@@ -141,7 +146,7 @@ def count(world):
                 print(f"{wanted:8} {crate}, {file}: {sum(lines for _, lines in names)} lines: {', '.join(name for name, _ in names)}")
     total = lengths(world)
     print("lines of specs/, without imports, blanks and comments:")
-    print(f"believed: {total['believed']} ({total['rules']} of rules, {total['formats']} of formats)")
+    print(f"believed: {total['rules']} of rules, {total['formats']} of formats, {total['headline']} of the headline; {total['text']} of texts")
     print(f"law: {total['law']}, and {total['case']} of worked cases")
     print(f"boundary: {total['boundary']}")
     print(f"code: {total['code']}")

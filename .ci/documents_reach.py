@@ -1,11 +1,15 @@
 """To which class a definition of specs/ belongs, by the contracts that are said with it.
 
-- believed: the contracts of the calls that the program makes (`is_called`). They are the rules, or formats (`is_rule`).
-- law: laws, and none of those contracts. To these belongs what a contract says beside a law's own statement (`STATEMENTS`): it is proved
-  of what the rest of the contract names.
-- boundary: contracts of functions that some crate gives away, and neither of those. They are proved to compose into the contracts of
+- believed: the contracts of the calls by which a batch is answered and bytes are read and written (`CALLED`), but for what that of
+  `process` says by `SAID`. They are the rules, or formats (`is_rule`).
+- headline: what `SAID` and the contracts of `HEADLINE` say beyond that: any opening desk, any interleaving, what messages say.
+- text: what the contracts of the program itself (`PRINTING`), and the texts of values and faults, say beyond those.
+- law: laws, and none of those.
+- boundary: contracts of functions that some crate gives away, and none of those. They are proved to compose into the contracts of
   the program's calls.
 - code: private contracts and proofs alone.
+
+A definition belongs to the first class that reaches it.
 
 A crate gives a function away where its lib.rt names it, or the type that its method is of. Of a program with a specs/ of its own each
 contract counts, since a program gives nothing away. From the words of a contract the way goes by the imports (`ghost use` in src/,
@@ -17,23 +21,33 @@ import re
 
 from documents_source import TOKEN, Crate
 
-# the program, the crates that it calls, and the one function of another crate that it calls
-CALLED = {"rbc_dispatch", "rbc_batch", "ertms_codec"}
+# the crates that the program calls, and the one function of another crate that it calls
+CALLED = {"rbc_batch", "ertms_codec"}
 CALLED_FUNCTIONS = {("rbc_track", "track_from_toml")}
 
-# where the rules stand; the rest of what has to be believed is formats
+# what the contract of `process` says of what messages say
+SAID = ("rbc_batch", "Process", "AreSaid")
+
+# the functions beside `process` on whose contracts the headline stands
+HEADLINE = {("rbc_engine", "run"), ("rbc_core", "event_law")}
+
+# the program, and the one function that it calls for a text
+PRINTING = {"rbc_dispatch"}
+PRINTING_FUNCTIONS = {("ertms_codec", "describe")}
+
+# where the rules stand; the rest of the class believed is formats
 RULES = {"rbc_place", "rbc_zones", "rbc_ids", "rbc_maps", "rbc_settle", "rbc_rule"}
 RULES_FILES = {("rbc_desk", "Serial"), ("rbc_desk", "outbox.rt")}
 
-# parts of contracts that need not be believed, since a law says as much of what the contract says beside them
-STATEMENTS = {("rbc_batch", "Process", "AreSaid")}
+CLASSES = ("believed", "headline", "text", "law", "boundary")
 
-CLASSES = ("believed", "law", "boundary")
+
+def is_printing(crate, found):
+    return crate.name in PRINTING or (crate.name, found.name) in PRINTING_FUNCTIONS
 
 
 def is_called(crate, found):
-    call = (crate.name, found.name)
-    return call in CALLED_FUNCTIONS or crate.name in CALLED
+    return not is_printing(crate, found) and (crate.name in CALLED or (crate.name, found.name) in CALLED_FUNCTIONS)
 
 
 def is_rule(crate, file):
@@ -107,14 +121,14 @@ class World:
         todo, reached = list(self.roots(part)), set()
         while todo:
             node = todo.pop()
-            if node not in reached and (part == "law" or node[1:] not in STATEMENTS):
+            if node not in reached and (part != "believed" or node[1:] != SAID):
                 reached.add(node)
                 todo.extend(self.next(node))
         return reached
 
     def roots(self, part):
-        if part == "law":
-            yield from (("definition", *statement) for statement in STATEMENTS)
+        if part == "headline":
+            yield ("definition", *SAID)
         for crate in self.crates.values():
             for found in crate.source.functions:
                 if crate.is_given(found) and self.is_root(part, crate, found):
@@ -123,13 +137,16 @@ class World:
                     yield from self.types_in(crate, found.signature)
             for owner, trait, _, text, scope in crate.source.ghosts:
                 if trait != "Model" and (owner in crate.source.given or crate.is_program and crate.specs):
-                    if part == "boundary" or part == "believed" and crate.name in CALLED:
+                    if part == "boundary" or part == "text" and crate.name in CALLED | PRINTING:
                         yield from self.words(crate, scope, text)
 
     def is_root(self, part, crate, found):
+        if part == "headline":
+            return (crate.name, found.name) in HEADLINE
         if part in {"law", "witness"}:
             return found.kind() == part
-        return found.kind() == "call" and (part == "boundary" or is_called(crate, found))
+        roots = {"believed": is_called, "text": is_printing, "boundary": lambda crate, found: True}
+        return found.kind() == "call" and roots[part](crate, found)
 
     def next(self, node):
         kind, crate, file, name = node
