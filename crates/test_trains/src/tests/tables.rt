@@ -21,9 +21,10 @@ pub(super) fn stops(alloc: Global, area: Area, count: u32) -> Result<Stops, Allo
     Ok(stops)
 }
 
-// each stop of a copy is that of its source, and removing one from the copy leaves the source unchanged
+// each stop of a copy is that of its source, and removing one from the copy leaves the source unchanged; each restriction of a
+// copy is that of its source, and one that began and ended since tells them apart
 #[test]
-fn a_copy_of_stops_equals_its_source(rt: HostRuntime) {
+fn copies_equal_their_sources(rt: HostRuntime) {
     let track = good_track(&rt);
     let area = area(&track, 0, 10).expect(&rt, "a good area");
     let stops = stops(rt.alloc(), area, 16).expect(&rt, "memory");
@@ -43,12 +44,6 @@ fn a_copy_of_stops_equals_its_source(rt: HostRuntime) {
         (copy.last(), copy.count(), stops.count()),
         (16, 15, 16),
     );
-}
-
-// each restriction of a copy is that of its source, and one that began and ended since tells them apart
-#[test]
-fn a_copy_of_limits_equals_its_source(rt: HostRuntime) {
-    let track = good_track(&rt);
     let slow = limit(&track, 0, 10, Dirs::Up).expect(&rt, "a good restriction");
     let fast = Limit::new(&track, HERE, Dirs::Both, 80, false).expect(&rt, "a good restriction");
     let mut limits = Limits::new(rt.alloc());
@@ -66,9 +61,9 @@ fn a_copy_of_limits_equals_its_source(rt: HostRuntime) {
     );
 }
 
-// another number of segments, another order, and another line or end of one
+// areas: another number of segments, another order, and another line or end of one; and restrictions
 #[test]
-fn areas_differ_by_each_part(rt: HostRuntime) {
+fn areas_and_restrictions_differ_by_each_part(rt: HostRuntime) {
     let track = good_track(&rt);
     let there = Segment {
         line: 0,
@@ -98,11 +93,6 @@ fn areas_differ_by_each_part(rt: HostRuntime) {
         let other = other.expect(&rt, "a good area");
         same(&rt, area.is_same(&other), wanted);
     }
-}
-
-#[test]
-fn restrictions_differ_by_each_part(rt: HostRuntime) {
-    let track = good_track(&rt);
     let limit = Limit::new(&track, HERE, Dirs::Up, 40, true).expect(&rt, "a good restriction");
     let longer = Segment { to: 11, ..HERE };
     let rows = [
