@@ -91,20 +91,6 @@ const SECOND_FIRST: &[Call] = &[
     Call::TakeSpent(false),
 ];
 
-#[test]
-fn second_first(rt: HostRuntime) {
-    let inputs = enrol_and_stop(&rt);
-    let mail = stopped(2, 1, 0);
-    assert_spelled(&rt, &mail, b"\x10\x02\x80\x00\x00\x00\x5F\xFF\xFF\xE0");
-    let left = Left {
-        taken: 2,
-        recomputed: 1,
-        results: &[DONE, TOLD],
-        mails: &[mail],
-    };
-    assert_left(&rt, &inputs, SECOND_FIRST, &left);
-}
-
 /// The second input is attempted after the first is, and before that one is committed.
 const READ_BEFORE_IT_IS_COMMITTED: &[Call] = &[
     Call::Take(Some(1)),
@@ -115,18 +101,6 @@ const READ_BEFORE_IT_IS_COMMITTED: &[Call] = &[
     APPLIED,
     AT_END,
 ];
-
-#[test]
-fn read_before_it_is_committed(rt: HostRuntime) {
-    let inputs = enrol_and_stop(&rt);
-    let left = Left {
-        taken: 2,
-        recomputed: 0,
-        results: &[DONE, TOLD],
-        mails: &[stopped(2, 1, 0)],
-    };
-    assert_left(&rt, &inputs, READ_BEFORE_IT_IS_COMMITTED, &left);
-}
 
 /// The third input is attempted after the second is, which is attempted before the first and computed again.
 const MISLED: &[Call] = &[
@@ -143,27 +117,6 @@ const MISLED: &[Call] = &[
     AT_END,
 ];
 
-#[test]
-fn misled(rt: HostRuntime) {
-    let inputs = [
-        enrol(8),
-        enrol(7),
-        stop(rt.alloc(), 1).expect(&rt, "memory"),
-    ];
-    let (desk, stats) = run(&rt, &inputs, MISLED);
-    let wanted = Stats {
-        taken: 3,
-        recomputed: 2,
-    };
-    same(&rt, stats, wanted);
-    same(&rt, desk.results(), [DONE, DONE, Reply::Done(2)].as_slice());
-    same(&rt, desk.outboxes(), 2);
-    let mail = stopped(3, 1, 0);
-    assert_spelled(&rt, &mail, b"\x10\x02\x80\x00\x00\x00\x5F\xFF\xFF\xE0");
-    assert_outbox(&rt, &desk, 0, 7, &[mail]);
-    assert_outbox(&rt, &desk, 1, 8, &[mail]);
-}
-
 /// The second input is read for in part before the first is committed, and in part behind it.
 const READ_IN_BETWEEN: &[Call] = &[
     Call::Take(Some(1)),
@@ -177,15 +130,25 @@ const READ_IN_BETWEEN: &[Call] = &[
 ];
 
 #[test]
-fn read_in_between(rt: HostRuntime) {
+fn read_before_and_behind_a_commit(rt: HostRuntime) {
     let inputs = enrol_and_stop(&rt);
-    let left = Left {
+    let mail = stopped(2, 1, 0);
+    assert_spelled(&rt, &mail, b"\x10\x02\x80\x00\x00\x00\x5F\xFF\xFF\xE0");
+    let left_stale = Left {
         taken: 2,
         recomputed: 1,
         results: &[DONE, TOLD],
-        mails: &[stopped(2, 1, 0)],
+        mails: &[mail],
     };
-    assert_left(&rt, &inputs, READ_IN_BETWEEN, &left);
+    let left_fresh = Left {
+        taken: 2,
+        recomputed: 0,
+        results: &[DONE, TOLD],
+        mails: &[mail],
+    };
+    assert_left(&rt, &inputs, SECOND_FIRST, &left_stale);
+    assert_left(&rt, &inputs, READ_BEFORE_IT_IS_COMMITTED, &left_fresh);
+    assert_left(&rt, &inputs, READ_IN_BETWEEN, &left_stale);
 }
 
 /// The last input is attempted before the train leaves and comes again: each record is unchanged, and has another number.
@@ -204,24 +167,6 @@ const THERE_AND_BACK: &[Call] = &[
     RECOMPUTED,
     AT_END,
 ];
-
-#[test]
-fn there_and_back(rt: HostRuntime) {
-    let leaving = Input::Withdraw { engine: 7 };
-    let inputs = [
-        enrol(7),
-        leaving,
-        enrol(7),
-        stop(rt.alloc(), 1).expect(&rt, "memory"),
-    ];
-    let left = Left {
-        taken: 4,
-        recomputed: 1,
-        results: &[DONE, DONE, DONE, TOLD],
-        mails: &[stopped(4, 1, 0)],
-    };
-    assert_left(&rt, &inputs, THERE_AND_BACK, &left);
-}
 
 /// Stops take all 15 identifiers of engine 7; one more waits until the train acknowledges that the first one is revoked.
 pub(crate) fn one_waits<R: Abort + AllocGlobal>(rt: &R) -> Vec<Input> {
@@ -317,20 +262,59 @@ const AT_THE_END: &[Call] = &[
     Call::Take(None),
 ];
 
+// both trains are told: where two attempts are misled, and in a book at whose end each call is made once more
 #[test]
-fn at_the_end(rt: HostRuntime) {
+fn two_trains_are_told(rt: HostRuntime) {
     let inputs = [
+        enrol(8),
+        enrol(7),
+        stop(rt.alloc(), 1).expect(&rt, "memory"),
+    ];
+    let (desk, stats) = run(&rt, &inputs, MISLED);
+    let wanted = Stats {
+        taken: 3,
+        recomputed: 2,
+    };
+    same(&rt, stats, wanted);
+    same(&rt, desk.results(), [DONE, DONE, Reply::Done(2)].as_slice());
+    same(&rt, desk.outboxes(), 2);
+    let mail = stopped(3, 1, 0);
+    assert_spelled(&rt, &mail, b"\x10\x02\x80\x00\x00\x00\x5F\xFF\xFF\xE0");
+    assert_outbox(&rt, &desk, 0, 7, &[mail]);
+    assert_outbox(&rt, &desk, 1, 8, &[mail]);
+    let last_inputs = [
         enrol(9),
         enrol(7),
         stop(rt.alloc(), 1).expect(&rt, "memory"),
     ];
-    let (desk, _) = run(&rt, &inputs, AT_THE_END);
-    same(&rt, desk.results(), [DONE, DONE, Reply::Done(2)].as_slice());
-    same(&rt, desk.outboxes(), 2);
-    let mail = stopped(3, 1, 0);
-    assert_outbox(&rt, &desk, 0, 7, &[mail]);
-    assert_outbox(&rt, &desk, 1, 9, &[mail]);
-    assert!(rt; desk.outbox(8).is_empty());
+    let (last_desk, _) = run(&rt, &last_inputs, AT_THE_END);
+    same(
+        &rt,
+        last_desk.results(),
+        [DONE, DONE, Reply::Done(2)].as_slice(),
+    );
+    same(&rt, last_desk.outboxes(), 2);
+    assert_outbox(&rt, &last_desk, 0, 7, &[mail]);
+    assert_outbox(&rt, &last_desk, 1, 9, &[mail]);
+    assert!(rt; last_desk.outbox(8).is_empty());
+}
+
+#[test]
+fn there_and_back(rt: HostRuntime) {
+    let leaving = Input::Withdraw { engine: 7 };
+    let inputs = [
+        enrol(7),
+        leaving,
+        enrol(7),
+        stop(rt.alloc(), 1).expect(&rt, "memory"),
+    ];
+    let left = Left {
+        taken: 4,
+        recomputed: 1,
+        results: &[DONE, DONE, DONE, TOLD],
+        mails: &[stopped(4, 1, 0)],
+    };
+    assert_left(&rt, &inputs, THERE_AND_BACK, &left);
 }
 
 /// Runs inputs of which nobody is told, all of which are accepted, and asserts how many are computed again.
@@ -377,12 +361,6 @@ const A_NUMBER_FOR_EACH_WRITE: &[Call] = &[
     AT_END,
 ];
 
-#[test]
-fn a_number_for_each_write(rt: HostRuntime) {
-    let inputs = [enrol(7), enrol(9), Input::Withdraw { engine: 9 }];
-    assert_silent(&rt, &inputs, A_NUMBER_FOR_EACH_WRITE, 0);
-}
-
 /// A train that is withdrawn has no number, and a new one once it is enrolled again.
 const NO_NUMBER_IN_BETWEEN: &[Call] = &[
     Call::Take(Some(1)),
@@ -407,12 +385,6 @@ const NO_NUMBER_IN_BETWEEN: &[Call] = &[
     AT_END,
 ];
 
-#[test]
-fn no_number_in_between(rt: HostRuntime) {
-    let inputs = [enrol(7), Input::Withdraw { engine: 7 }, enrol(7)];
-    assert_silent(&rt, &inputs, NO_NUMBER_IN_BETWEEN, 3);
-}
-
 /// The numbers of an attempt that does not stand any more are dropped with it.
 const DROPPED_NUMBERS: &[Call] = &[
     Call::Take(Some(1)),
@@ -430,12 +402,6 @@ const DROPPED_NUMBERS: &[Call] = &[
     Call::Again(Key::Train(9)),
     AT_END,
 ];
-
-#[test]
-fn dropped_numbers(rt: HostRuntime) {
-    let inputs = [enrol(7), enrol(9)];
-    assert_silent(&rt, &inputs, DROPPED_NUMBERS, 1);
-}
 
 /// An input sees what the attempt at the latest input before it writes, a removal too, and nothing of its own or of a later
 /// one.
@@ -469,8 +435,13 @@ const THE_LATEST_BEFORE: &[Call] = &[
 ];
 
 #[test]
-fn the_latest_before(rt: HostRuntime) {
-    let leaving = Input::Withdraw { engine: 7 };
-    let inputs = [enrol(7), leaving, enrol(7), enrol(9)];
-    assert_silent(&rt, &inputs, THE_LATEST_BEFORE, 0);
+fn numbers_of_what_is_written(rt: HostRuntime) {
+    let three = [enrol(7), enrol(9), Input::Withdraw { engine: 9 }];
+    assert_silent(&rt, &three, A_NUMBER_FOR_EACH_WRITE, 0);
+    let back = [enrol(7), Input::Withdraw { engine: 7 }, enrol(7)];
+    assert_silent(&rt, &back, NO_NUMBER_IN_BETWEEN, 3);
+    let two = [enrol(7), enrol(9)];
+    assert_silent(&rt, &two, DROPPED_NUMBERS, 1);
+    let four = [enrol(7), Input::Withdraw { engine: 7 }, enrol(7), enrol(9)];
+    assert_silent(&rt, &four, THE_LATEST_BEFORE, 0);
 }

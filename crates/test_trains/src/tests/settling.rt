@@ -44,6 +44,7 @@ fn the_first_two_actions_get_the_last_two_stamps(rt: HostRuntime) {
     let mut active = stops(alloc, ahead, 2).expect(&rt, "memory");
     assert!(rt; active.remove(1));
     let mut limits = Limits::new(alloc);
+    assert!(rt; limits.last() < 2);
     limits.add(2, slow).expect(&rt, "memory");
     let mut train = TrainRec::new(alloc, 7, 2_000, 4_294_967_292);
     train.place = place_of(&track, &UP, 2_000);
@@ -71,6 +72,8 @@ fn the_first_two_actions_get_the_last_two_stamps(rt: HostRuntime) {
     same(
         &rt,
         train.stops.slot(0),
-        Some(Slot::Revoking { stamp: 4_294_967_293 }),
+        Some(Slot::Revoking {
+            stamp: 4_294_967_293,
+        }),
     );
 }

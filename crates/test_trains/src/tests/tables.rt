@@ -21,10 +21,9 @@ pub(super) fn stops(alloc: Global, area: Area, count: u32) -> Result<Stops, Allo
     Ok(stops)
 }
 
-// each stop of a copy is that of its source, and removing one from the copy leaves the source unchanged; each restriction of a
-// copy is that of its source, and one that began and ended since tells them apart
+// each stop of a copy is that of its source, and removing one from the copy leaves the source unchanged
 #[test]
-fn copies_equal_their_sources(rt: HostRuntime) {
+fn a_copy_of_stops_equals_its_source(rt: HostRuntime) {
     let track = good_track(&rt);
     let area = area(&track, 0, 10).expect(&rt, "a good area");
     let stops = stops(rt.alloc(), area, 16).expect(&rt, "memory");
@@ -44,6 +43,12 @@ fn copies_equal_their_sources(rt: HostRuntime) {
         (copy.last(), copy.count(), stops.count()),
         (16, 15, 16),
     );
+}
+
+// each restriction of a copy is that of its source, and one that began and ended since tells them apart
+#[test]
+fn a_copy_of_limits_equals_its_source(rt: HostRuntime) {
+    let track = good_track(&rt);
     let slow = limit(&track, 0, 10, Dirs::Up).expect(&rt, "a good restriction");
     let fast = Limit::new(&track, HERE, Dirs::Both, 80, false).expect(&rt, "a good restriction");
     let mut limits = Limits::new(rt.alloc());
