@@ -1,6 +1,5 @@
 mod attempting;
 mod calls;
-mod crowd;
 mod gates;
 mod numbers;
 mod refusals;

@@ -222,7 +222,8 @@ Done(0) +Train(7)
 Done(0) -Roster -Train(7) -Unplaced
 ";
 
-/// To a train at a place: the restriction, a stop before its edge, the same stop at once after it was rejected, and that both end.
+/// To a train at a place: the restriction, a stop before its edge, the same stop at once after it was rejected, and that
+/// both end.
 const AT_A_PLACE: &str = "> enrol 7 2000
 Done(0) +Roster +Train(7) +Unplaced
 > restrict 1 0:11000-12000 40
@@ -283,7 +284,8 @@ Refused(16)
 Refused(2)
 ";
 
-/// A train stands in one list at a time: that of its line, or that of the trains without a place, of which an empty one has no record.
+/// A train stands in one list at a time: that of its line, or that of the trains without a place, of which an empty one
+/// has no record.
 const MOVING: &str = "> enrol 7 2000
 Done(0) +Roster +Train(7) +Unplaced
 > report 7 1000 5

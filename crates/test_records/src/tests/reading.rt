@@ -107,7 +107,8 @@ Torn Limits Stops Roster Train(9)
 Refused(7) Train(9)
 ";
 
-/// Train 7 stands on line 0 and train 8 has no place: what begins reads the lists of its trains, what ends reads all trains.
+/// Train 7 stands on line 0 and train 8 has no place: what begins reads the lists of its trains, what ends reads all
+/// trains.
 const CONCERNED: &str = "> enrol 7 2000
 Done(0) +Roster +Train(7) +Unplaced
 > report 7 1000 5

@@ -169,7 +169,7 @@ const THERE_AND_BACK: &[Call] = &[
 ];
 
 /// Stops take all 15 identifiers of engine 7; one more waits until the train acknowledges that the first one is revoked.
-pub(crate) fn one_waits<R: Abort + AllocGlobal>(rt: &R) -> Vec<Input> {
+fn one_waits<R: Abort + AllocGlobal>(rt: &R) -> Vec<Input> {
     let mut inputs = Vec::new(rt.alloc());
     inputs.push(enrol(7)).expect(rt, "memory");
     for number in 1..=16 {
@@ -226,7 +226,7 @@ fn mails_of_waiting<R: Abort + AllocGlobal>(rt: &R) -> Vec<Mail> {
 }
 
 /// Asserts what these inputs leave where each of them is computed as it is committed.
-pub(crate) fn assert_waited<R: Abort + AllocGlobal>(rt: &R, desk: &Desk, stats: Stats) {
+fn assert_waited<R: Abort + AllocGlobal>(rt: &R, desk: &Desk, stats: Stats) {
     let mails = mails_of_waiting(rt);
     let left = Left {
         taken: 19,
