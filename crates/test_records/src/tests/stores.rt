@@ -4,21 +4,9 @@ use super::same;
 use crate::tests::records::{
     assert_engines, engines, limits, limits_in, stops, stops_in, train, train_in,
 };
-use rbc_records::{Key, PlainStore, Reader, Rec, Writes, apply, exchange, same_record};
+use rbc_records::{Key, PlainStore, Rec, Writes, apply, exchange, same_record};
 use std::alloc::Global;
 use std::process::Abort;
-
-/// A key of each kind, and the least and the greatest of a train and of a line.
-const KEYS: [Key; 8] = [
-    Key::Roster,
-    Key::Train(0),
-    Key::Train(u32::MAX),
-    Key::Stops,
-    Key::Limits,
-    Key::Line(0),
-    Key::Line(u8::MAX),
-    Key::Unplaced,
-];
 
 /// The keys of the full store, in the order in which they are written.
 const FULL: [Key; 8] = [
@@ -213,21 +201,4 @@ fn what_writes_replace_is_handed_back(rt: HostRuntime) {
     assert_replaced(&rt, &replace(&rt, &mut store));
     let stamps = [stamp(&store, 1), stamp(&store, 2), stamp(&store, 3)];
     same(&rt, stamps, [None, Some((2, 20)), Some((3, 30))]);
-}
-
-/// Reads under each of the keys, which never fails, and asserts what is seen then.
-fn read_all(rt: &impl Abort, store: &mut PlainStore) {
-    for key in KEYS {
-        assert!(rt; store.fetch(key).is_ok(), "{key:?}");
-    }
-    same(rt, store.failures(), 0);
-    assert_engines(rt, store.seen(Key::Roster), &[1, 2]);
-    assert!(rt; store.seen(Key::Train(3)).is_none());
-}
-
-#[test]
-fn a_read_never_fails_and_changes_nothing(rt: HostRuntime) {
-    let mut store = full(&rt);
-    read_all(&rt, &mut store);
-    assert_full(&rt, &store, Some((1, 10)));
 }

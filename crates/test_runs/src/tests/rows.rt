@@ -3,9 +3,8 @@
 use super::same;
 use crate::tests::calls::{Call, run};
 use crate::tests::numbers::Origin;
-use crate::tests::setting::{assert_outbox, enrol, revoked, stop, stopped};
-use ertms_codec::{FromTrain, write_to_train};
-use rbc_core::{Commit, Desk, Mail, Stats};
+use crate::tests::setting::{assert_outbox, enrol, stop, stopped};
+use rbc_core::{Commit, Mail, Stats};
 use rbc_records::Key;
 use rbc_rule::{Input, Reply};
 use std::process::Abort;
@@ -32,18 +31,6 @@ struct Left<'a> {
     mails: &'a [Mail],
 }
 
-/// Asserts what a run has left.
-fn assert_is_left(rt: &impl Abort, desk: &Desk, stats: Stats, left: &Left<'_>) {
-    let counts = Stats {
-        taken: left.taken,
-        recomputed: left.recomputed,
-    };
-    same(rt, stats, counts);
-    same(rt, desk.results(), left.results);
-    same(rt, desk.outboxes(), 1);
-    assert_outbox(rt, desk, 0, 7, left.mails);
-}
-
 /// Runs inputs by these calls of a book, and asserts what is left.
 fn assert_left<R: Abort + AllocGlobal + Wait>(
     rt: &R,
@@ -52,21 +39,19 @@ fn assert_left<R: Abort + AllocGlobal + Wait>(
     left: &Left<'_>,
 ) {
     let (desk, stats) = run(rt, inputs, calls);
-    assert_is_left(rt, &desk, stats, left);
+    let counts = Stats {
+        taken: left.taken,
+        recomputed: left.recomputed,
+    };
+    same(rt, stats, counts);
+    same(rt, desk.results(), left.results);
+    same(rt, desk.outboxes(), 1);
+    assert_outbox(rt, &desk, 0, 7, left.mails);
 }
 
 /// Train 7 is enrolled, and there is a stop.
 fn enrol_and_stop<R: Abort + AllocGlobal>(rt: &R) -> [Input; 2] {
     [enrol(7), stop(rt.alloc(), 1).expect(rt, "memory")]
-}
-
-/// Asserts the bytes of a message.
-fn assert_spelled(rt: &impl Abort, mail: &Mail, bytes: &[u8]) {
-    let mut buffer = [0; 32];
-    assert!(rt; mail.message.fits());
-    let length = write_to_train(&mail.message, &mut buffer);
-    assert!(rt; length <= buffer.len());
-    same(rt, &buffer[..length], bytes);
 }
 
 /// The second input is attempted before the first is.
@@ -133,7 +118,6 @@ const READ_IN_BETWEEN: &[Call] = &[
 fn read_before_and_behind_a_commit(rt: HostRuntime) {
     let inputs = enrol_and_stop(&rt);
     let mail = stopped(2, 1, 0);
-    assert_spelled(&rt, &mail, b"\x10\x02\x80\x00\x00\x00\x5F\xFF\xFF\xE0");
     let left_stale = Left {
         taken: 2,
         recomputed: 1,
@@ -167,81 +151,6 @@ const THERE_AND_BACK: &[Call] = &[
     RECOMPUTED,
     AT_END,
 ];
-
-/// Stops take all 15 identifiers of engine 7; one more waits until the train acknowledges that the first one is revoked.
-fn one_waits<R: Abort + AllocGlobal>(rt: &R) -> Vec<Input> {
-    let mut inputs = Vec::new(rt.alloc());
-    inputs.push(enrol(7)).expect(rt, "memory");
-    for number in 1..=16 {
-        let told = stop(rt.alloc(), number).expect(rt, "memory");
-        inputs.push(told).expect(rt, "memory");
-    }
-    let released = Input::Release { number: 1 };
-    let acked = Input::Received(FromTrain::Ack {
-        stamp: 1_000,
-        engine: 7,
-        acked: 16,
-    });
-    inputs.push(released).expect(rt, "memory");
-    inputs.push(acked).expect(rt, "memory");
-    inputs
-}
-
-/// Each input is taken, given up and committed before the next.
-fn void_each<R: Abort + AllocGlobal>(rt: &R, count: u32) -> Vec<Call> {
-    let mut calls = Vec::new(rt.alloc());
-    for number in 1..=count {
-        let made = [
-            Call::Take(Some(number)),
-            Call::Void(number, true),
-            RECOMPUTED,
-        ];
-        calls.extend_from_slice(&made).expect(rt, "memory");
-    }
-    calls
-}
-
-/// What these inputs are answered.
-const ANSWERS: [Reply; 19] = [
-    DONE, TOLD, TOLD, TOLD, TOLD, TOLD, TOLD, TOLD, TOLD, TOLD, TOLD, TOLD, TOLD, TOLD, TOLD, TOLD,
-    DONE, TOLD, TOLD,
-];
-
-/// What engine 7 is told.
-fn mails_of_waiting<R: Abort + AllocGlobal>(rt: &R) -> Vec<Mail> {
-    let mut mails = Vec::new(rt.alloc());
-    for number in 1..=15u8 {
-        let stamp = u32::from(number);
-        let told = stopped(stamp + 1, stamp, number - 1);
-        mails.push(told).expect(rt, "memory");
-    }
-    let opened = revoked(18, 16, 0);
-    let told_late = stopped(19, 1_001, 0);
-    assert_spelled(rt, &opened, b"\x12\x02\x80\x00\x00\x04\x3F\xFF\xFF\xE0");
-    assert_spelled(rt, &told_late, b"\x10\x02\x80\x00\x00\xFA\x5F\xFF\xFF\xE0");
-    mails
-        .extend_from_slice(&[opened, told_late])
-        .expect(rt, "memory");
-    mails
-}
-
-/// Asserts what these inputs leave where each of them is computed as it is committed.
-fn assert_waited<R: Abort + AllocGlobal>(rt: &R, desk: &Desk, stats: Stats) {
-    let mails = mails_of_waiting(rt);
-    let left = Left {
-        taken: 19,
-        recomputed: 19,
-        results: &ANSWERS,
-        mails: &mails,
-    };
-    assert_is_left(rt, desk, stats, &left);
-}
-
-#[test]
-fn voided(rt: HostRuntime) {
-    let (desk, stats) = run(&rt, &one_waits(&rt), &void_each(&rt, 19));
-    assert_waited(&rt, &desk, stats);
-}
 
 /// Two engines, the higher one enrolled first; a book answers the same once it is at its end.
 const AT_THE_END: &[Call] = &[
@@ -279,7 +188,6 @@ fn two_trains_are_told(rt: HostRuntime) {
     same(&rt, desk.results(), [DONE, DONE, Reply::Done(2)].as_slice());
     same(&rt, desk.outboxes(), 2);
     let mail = stopped(3, 1, 0);
-    assert_spelled(&rt, &mail, b"\x10\x02\x80\x00\x00\x00\x5F\xFF\xFF\xE0");
     assert_outbox(&rt, &desk, 0, 7, &[mail]);
     assert_outbox(&rt, &desk, 1, 8, &[mail]);
     let last_inputs = [
