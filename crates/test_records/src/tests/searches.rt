@@ -7,7 +7,7 @@ use ertms_codec::Position;
 use rbc_ids::Kind;
 use rbc_place::place_of;
 use rbc_records::{Key, PlainStore, Reader, Rec, Sought, Writes, exchange};
-use rbc_settle::{Numbers, TrainRec};
+use rbc_settle::TrainRec;
 use rbc_track::Track;
 use rbc_zones::Area;
 use std::process::Abort;
@@ -125,36 +125,4 @@ fn a_search_finds_what_a_command_seeks(rt: HostRuntime) {
         finds(&rt, &store, sought, engines);
     }
     finds_stoppable(&rt, &track, &store, 15_000, 20_000, &[3]);
-}
-
-/// A store of trains 0 to 256, each told of stop 4.
-fn many<R: Abort + AllocGlobal>(rt: &R) -> PlainStore {
-    let track = track(rt.alloc()).expect(rt, "a good track");
-    let mut store = PlainStore::new(rt.alloc());
-    for engine in 0..257 {
-        let told = train(rt, &track, None, &[4], &[], &[]);
-        write(rt, rt.alloc(), &mut store, Key::Train(engine), Some(told));
-    }
-    store
-}
-
-/// What a search finds that seeks the trains that were told of stop 4.
-fn told_of_4<R: Abort + AllocGlobal>(rt: &R, store: &PlainStore) -> Option<Numbers> {
-    let sought = Sought::ToldOfStop(4);
-    store.search(rt.alloc(), sought).expect(rt, "memory")
-}
-
-/// Asserts that these are 256 engines, without engine 0.
-fn assert_few(rt: &impl Abort, engines: &Numbers) {
-    same(rt, engines.len(), 256);
-    same(rt, (engines.has(0), engines.has(256)), (false, true));
-}
-
-// 256 trains are returned, and one more are too many
-#[test]
-fn many_trains_are_not_listed(rt: HostRuntime) {
-    let mut store = many(&rt);
-    same(&rt, told_of_4(&rt, &store).is_none(), true);
-    write(&rt, rt.alloc(), &mut store, Key::Train(0), None);
-    assert_few(&rt, &told_of_4(&rt, &store).expect(&rt, "few trains"));
 }

@@ -240,8 +240,8 @@ fn assert_silent<R: Abort + AllocGlobal + Wait>(
     same(rt, desk.outboxes(), 0);
 }
 
-/// Each commit puts the numbers of its attempt under the keys that it writes, and under no other; a list that is again what it
-/// was first has a number of its own.
+/// Each commit puts the numbers of its attempt under the keys that it writes, and under no other; also under a list that is
+/// again what it was first.
 const A_NUMBER_FOR_EACH_WRITE: &[Call] = &[
     Call::Number(Key::Roster, Origin::Nowhere),
     Call::Number(Key::Unplaced, Origin::Nowhere),
@@ -262,8 +262,6 @@ const A_NUMBER_FOR_EACH_WRITE: &[Call] = &[
     APPLIED,
     Call::Number(Key::Roster, Origin::Attempt(3)),
     Call::Number(Key::Unplaced, Origin::Attempt(3)),
-    Call::Again(Key::Roster),
-    Call::Again(Key::Unplaced),
     Call::Number(Key::Train(7), Origin::Attempt(1)),
     Call::Number(Key::Train(9), Origin::Nowhere),
     AT_END,
@@ -288,8 +286,6 @@ const NO_NUMBER_IN_BETWEEN: &[Call] = &[
     RECOMPUTED,
     Call::Number(Key::Train(7), Origin::Commit),
     Call::Number(Key::Roster, Origin::Commit),
-    Call::Again(Key::Train(7)),
-    Call::Again(Key::Roster),
     AT_END,
 ];
 
@@ -307,7 +303,6 @@ const DROPPED_NUMBERS: &[Call] = &[
     Call::Number(Key::Train(9), Origin::Commit),
     Call::Number(Key::Unplaced, Origin::Commit),
     Call::Number(Key::Train(7), Origin::Attempt(1)),
-    Call::Again(Key::Train(9)),
     AT_END,
 ];
 
