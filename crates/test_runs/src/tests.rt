@@ -1,5 +1,6 @@
 mod attempting;
 mod calls;
+mod crowd;
 mod gates;
 mod numbers;
 mod refusals;

@@ -2,7 +2,7 @@
 
 ghost use Rattle.rbc_engine.specs.Answers.{IsOpening};
 
-use super::gates::{Both, Hold, Moment};
+use super::gates::{Both, Hold, Idle, Moment, Site};
 use super::same;
 use super::setting::good_track;
 use rbc_batch::{parse_batch, process, render};
@@ -158,6 +158,20 @@ fn applies_what_is_apart(rt: HostRuntime) {
 /// So many lines of the batch in which a stop waits for an identifier, behind the first ones.
 fn stops<R: Abort + AllocGlobal>(rt: &R, from: usize, count: usize) -> String {
     lines_of(rt.alloc(), FULL.batch, from, count).expect(rt, "memory")
+}
+
+// Sixteen workers lose time in one call of their gate, in each of the four by turns.
+#[test]
+fn answers_the_same_where_workers_idle(rt: HostRuntime) {
+    for at in [
+        Site::BeforeRule,
+        Site::AfterRead,
+        Site::BeforeDeposit,
+        Site::AfterDeposit,
+    ] {
+        let stats = assert_answers(&rt, FULL.batch, 16, &Idle { at }, FULL.output);
+        same(&rt, stats.taken, 19);
+    }
 }
 
 // Two runs of parts of a batch leave what a run of all its lines leaves.
