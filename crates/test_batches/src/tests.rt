@@ -1,9 +1,7 @@
 mod live;
-mod parsing;
 mod processing;
 mod refusals;
 mod refused_runs;
-mod rows;
 
 use std::fmt::Debug;
 use std::process::Abort;

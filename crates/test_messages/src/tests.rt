@@ -4,17 +4,14 @@
 mod agreement;
 mod bit_fields;
 mod described;
-mod edited;
-mod laid_out_from_train;
-mod laid_out_to_train;
 mod ranges;
-mod spelling;
 mod vectors;
 
 use crate::bits_of;
 use crate::from_train::decode_from_train;
 use crate::to_train::decode_to_train;
-use ertms_codec::{DecodeError, FromTrain, ToTrain, read_from_train, read_to_train};
+use ertms_codec::{DecodeError, ToTrain, read_from_train, read_to_train};
+use std::fmt::Debug;
 use std::process::Abort;
 
 /// The bytes of a message in hexadecimal.
@@ -22,15 +19,9 @@ fn bytes_of<R: Abort + AllocGlobal>(rt: &R, text: &str) -> Vec<u8> {
     hex::decode(rt.alloc(), text).expect(rt, "hexadecimal digits")
 }
 
-/// Asserts what the bytes of a message from a train are read as.
-fn assert_from_train<R: Abort + AllocGlobal>(
-    rt: &R,
-    bytes: &[u8],
-    wanted: Result<FromTrain, DecodeError>,
-) {
-    let bits = bits_of(rt.alloc(), bytes).expect(rt, "memory");
-    assert_eq!(rt; read_from_train(bytes), wanted, "{bytes:?}");
-    assert_eq!(rt; decode_from_train(&bits), wanted, "slowly, {bytes:?}");
+/// Asserts that two values are the same.
+fn same<T: Debug + PartialEq + Copy>(rt: &impl Abort, got: T, wanted: T) {
+    assert_eq!(rt; got, wanted);
 }
 
 /// Asserts what the bytes of a message to a train are read as.
@@ -40,17 +31,13 @@ fn assert_to_train<R: Abort + AllocGlobal>(
     wanted: Result<ToTrain, DecodeError>,
 ) {
     let bits = bits_of(rt.alloc(), bytes).expect(rt, "memory");
-    assert_eq!(rt; read_to_train(bytes), wanted, "{bytes:?}");
-    assert_eq!(rt; decode_to_train(&bits), wanted, "slowly, {bytes:?}");
+    same(rt, read_to_train(bytes), wanted);
+    same(rt, decode_to_train(&bits), wanted);
 }
 
 /// Asserts that both readers answer as the slow decoder does.
 fn assert_agreement<R: Abort + AllocGlobal>(rt: &R, bytes: &[u8]) {
     let bits = bits_of(rt.alloc(), bytes).expect(rt, "memory");
-    assert_eq!(rt;
-        read_from_train(bytes),
-        decode_from_train(&bits),
-        "{bytes:?}"
-    );
-    assert_eq!(rt; read_to_train(bytes), decode_to_train(&bits), "{bytes:?}");
+    same(rt, read_from_train(bytes), decode_from_train(&bits));
+    same(rt, read_to_train(bytes), decode_to_train(&bits));
 }

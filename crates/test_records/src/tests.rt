@@ -2,7 +2,6 @@ mod copies;
 mod inputs;
 mod log;
 mod noted_numbers;
-mod notes;
 mod playing;
 mod present;
 mod published;
@@ -14,7 +13,6 @@ mod refusals;
 mod searches;
 mod stores;
 mod versions;
-mod writes;
 
 use std::fmt::Debug;
 use std::process::Abort;

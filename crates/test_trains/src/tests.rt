@@ -1,5 +1,3 @@
-mod desk;
-mod full_tables;
 mod identifiers;
 mod limits;
 mod numbered;

@@ -1,6 +1,5 @@
 //! That the readers answer as the slow decoder does, whatever the bytes are.
 
-use super::edited::replaced;
 use super::{assert_agreement, bytes_of};
 use std::process::Abort;
 use test_fixtures::{
@@ -31,6 +30,15 @@ const MESSAGES: [&str; 19] = [
     RESTRICT,
     LIFT,
 ];
+
+/// Some bytes, of which the one at a place is another.
+fn replaced<R: Abort + AllocGlobal>(rt: &R, bytes: &[u8], place: usize, byte: u8) -> Vec<u8> {
+    let mut edited = bytes.to_vec(rt.alloc()).expect(rt, "memory");
+    if let Some(old) = edited.get_mut(place) {
+        *old = byte;
+    }
+    edited
+}
 
 /// The bytes with their number as L_MESSAGE.
 fn counted<R: Abort + AllocGlobal>(rt: &R, bytes: &[u8]) -> Vec<u8> {

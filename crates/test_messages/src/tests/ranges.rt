@@ -1,5 +1,6 @@
 //! Which variables are in their ranges.
 
+use super::same;
 use ertms_codec::ToTrain;
 use test_fixtures::head;
 
@@ -35,6 +36,6 @@ fn fits_within_its_ranges(rt: HostRuntime) {
         (restrict(2, 2, 32768, 120), false),
         (restrict(2, 2, 32767, 121), false),
     ] {
-        assert_eq!(rt; message.fits(), fits);
+        same(&rt, message.fits(), fits);
     }
 }

@@ -26,15 +26,6 @@ const EACH: u32 = 100;
 /// So many workers publish at once.
 const WORKERS: u8 = 4;
 
-#[test]
-fn an_empty_log_shows_nothing(rt: HostRuntime) {
-    let log = empty_log(&rt, rt.alloc());
-    same(&rt, log.count(), 0);
-    for number in [0, 1, 2, u64::MAX] {
-        same(&rt, log.look(number).is_none(), true);
-    }
-}
-
 /// Publishes all, and gives the numbers in turn.
 fn publish_each<R: Wait + Abort>(rt: &R, alloc: Global, log: &VersionLog) -> Vec<u64> {
     let mut numbers = Vec::new(alloc);
@@ -45,21 +36,20 @@ fn publish_each<R: Wait + Abort>(rt: &R, alloc: Global, log: &VersionLog) -> Vec
     numbers
 }
 
+// an empty log shows nothing; then each publication shows its record, under a number of its own
 #[test]
 fn each_publication_shows_its_record(rt: HostRuntime) {
     let log = empty_log(&rt, rt.alloc());
+    same(&rt, log.count(), 0);
+    for number in [0, 1, 2, u64::MAX] {
+        same(&rt, log.look(number).is_none(), true);
+    }
     let numbers = publish_each(&rt, rt.alloc(), &log);
     same(&rt, (numbers.len(), log.count()), (6, 6));
     for (number, (key, all)) in numbers.iter().zip(&PUBLICATIONS) {
         same(&rt, *number > 0, true);
         same(&rt, shows(&log, *number, *key, all), true);
     }
-}
-
-#[test]
-fn each_publication_has_a_number_of_its_own(rt: HostRuntime) {
-    let log = empty_log(&rt, rt.alloc());
-    let numbers = publish_each(&rt, rt.alloc(), &log);
     for (index, number) in numbers.iter().enumerate() {
         let first = numbers.iter().position(|other| other == number);
         same(&rt, first, Some(index));

@@ -10,9 +10,6 @@
 //! - `reads INPUT` decides an input over a reader that reads one record at a time, and takes nothing over. It is answered by the
 //!   reply, or the fault, and the keys that were read, in turn.
 //! - `put LIST ENGINE` puts a list of this engine alone, and has no answer. LIST is `roster`, `unplaced` or the number of a line.
-//! - `seven` is answered by the stamp of train 7, whether it has a place, for how many stops it stops at once, and how many
-//!   identifiers of stops and of restrictions it holds, or by `None`. `lists` is answered by the engines of the roster, of those
-//!   without a place, of those on line 0, and of those on line 1, each `None` where it has no record.
 
 use super::same;
 use crate::tests::inputs::track;
@@ -134,8 +131,6 @@ impl Play {
     fn follow(&mut self, rt: &impl Abort, line: &str, said: &mut String) {
         let mut words = line.split_whitespace();
         match words.next().unwrap_or("") {
-            "seven" => self.seven(rt, said),
-            "lists" => self.lists(rt, said),
             "put" => self.put(rt, &mut words),
             "reads" => {
                 let first = words.next().unwrap_or("");
@@ -188,35 +183,6 @@ impl Play {
         let engines = Rec::Engines(numbers(rt, self.alloc, &[engine]));
         write(rt, self.alloc, &mut self.store, list, Some(engines));
     }
-
-    /// The engines of a list.
-    fn engines(&self, list: Key) -> Option<&[u32]> {
-        match self.store.get(list) {
-            Some(Rec::Engines(engines)) => Some(engines.as_slice()),
-            _ => None,
-        }
-    }
-
-    /// The engines of each list.
-    fn lists(&self, rt: &impl Abort, said: &mut String) {
-        let (all, unplaced) = (self.engines(Key::Roster), self.engines(Key::Unplaced));
-        let (first, second) = (self.engines(Key::Line(0)), self.engines(Key::Line(1)));
-        writeln!(said, "{all:?} {unplaced:?} {first:?} {second:?}").expect(rt, "memory");
-    }
-
-    /// What is known of train 7.
-    fn seven(&self, rt: &impl Abort, said: &mut String) {
-        let known = match self.store.get(Key::Train(7)) {
-            Some(Rec::Train(train)) => Some((
-                train.stamp,
-                train.place.is_some(),
-                train.forced.len(),
-                (train.stops.held(), train.limits.held()),
-            )),
-            _ => None,
-        };
-        writeln!(said, "{known:?}").expect(rt, "memory");
-    }
 }
 
 /// Plays a transcript over an empty store, and asserts that the answers are those that stand there. Returns the store after it.
@@ -237,45 +203,28 @@ pub(crate) fn assert_transcript(rt: &impl Abort, alloc: Global, transcript: &str
     play.store
 }
 
-// to a train without a place: a stop at once, and its revocation; no restriction
-#[test]
-fn a_train_without_a_place_is_told_to_stop(rt: HostRuntime) {
-    let transcript = "> enrol 7 2000
+/// To a train without a place: a stop at once, and its revocation; no restriction.
+const WITHOUT_A_PLACE: &str = "> enrol 7 2000
 Done(0) +Roster +Train(7) +Unplaced
-> seven
-Some((0, false, 0, (0, 0)))
 > stop 1 0:20000-21000
 Done(1) +Train(7) +Stops
 7 Stop { head: Head { stamp: 1, ack: false, lrbg: 16777215 }, id: 0 }
-> seven
-Some((1, false, 0, (1, 0)))
 > withdraw 7
 Refused(10)
 > release 1
 Done(1) +Train(7) +Stops
 7 Revoke { head: Head { stamp: 2, ack: true, lrbg: 16777215 }, id: 0 }
-> seven
-Some((2, false, 0, (1, 0)))
 > restrict 1 0:11000-12000 40
 Done(0) +Limits
 > ack 1000 2
 Done(0) +Train(7)
-> seven
-Some((1000, false, 0, (0, 0)))
 > withdraw 7
 Done(0) -Roster -Train(7) -Unplaced
-> seven
-None
-> lists
-None None None None
 ";
-    assert_transcript(&rt, rt.alloc(), transcript);
-}
 
-// to a train at a place: the restriction, a stop before its edge, the same stop at once after it was rejected, and that both end
-#[test]
-fn a_train_at_a_place_is_told_what_lies_ahead(rt: HostRuntime) {
-    let transcript = "> enrol 7 2000
+/// To a train at a place: the restriction, a stop before its edge, the same stop at once after it was rejected, and that
+/// both end.
+const AT_A_PLACE: &str = "> enrol 7 2000
 Done(0) +Roster +Train(7) +Unplaced
 > restrict 1 0:11000-12000 40
 Done(0) +Limits
@@ -288,24 +237,16 @@ Done(1) +Train(7) +Stops
 > reject 1100
 Done(1) +Train(7)
 7 Stop { head: Head { stamp: 1101, ack: false, lrbg: 5 }, id: 0 }
-> seven
-Some((1101, true, 1, (1, 1)))
 > release 4
 Done(1) +Train(7) +Stops
 7 Revoke { head: Head { stamp: 1102, ack: true, lrbg: 5 }, id: 0 }
 > lift 1
 Done(1) +Train(7) +Limits
 7 Lift { head: Head { stamp: 1103, ack: true, lrbg: 5 }, dir: 2, id: 0 }
-> seven
-Some((1103, true, 0, (1, 1)))
 ";
-    assert_transcript(&rt, rt.alloc(), transcript);
-}
 
-// train 7 is enrolled and stop 5 is active: the least code that applies refuses each of these, and nothing changes
-#[test]
-fn refusals_change_nothing(rt: HostRuntime) {
-    let transcript = "> withdraw 7
+/// Train 7 is enrolled and stop 5 is active: the least code that applies refuses each of these, and nothing changes.
+const REFUSED: &str = "> withdraw 7
 Refused(7)
 > enrol 7 2000
 Done(0) +Roster +Train(7) +Unplaced
@@ -341,23 +282,14 @@ Refused(16)
 Refused(16)
 > bad 2
 Refused(2)
-> seven
-Some((1000, true, 0, (0, 0)))
 ";
-    assert_transcript(&rt, rt.alloc(), transcript);
-}
 
-// a train stands in one list at a time: that of its line, or that of the trains without a place, of which an empty one has no record
-#[test]
-fn trains_move_from_list_to_list(rt: HostRuntime) {
-    let transcript = "> enrol 7 2000
+/// A train stands in one list at a time: that of its line, or that of the trains without a place, of which an empty one
+/// has no record.
+const MOVING: &str = "> enrol 7 2000
 Done(0) +Roster +Train(7) +Unplaced
-> lists
-Some([7]) Some([7]) None None
 > report 7 1000 5
 Done(0) -Unplaced +Line(0) +Train(7)
-> lists
-Some([7]) None Some([7]) None
 > report 7 1100 5
 Done(0) +Train(7)
 > enrol 3 2000
@@ -366,34 +298,30 @@ Done(0) +Roster +Train(3) +Unplaced
 Done(0) +Roster +Train(8) +Unplaced
 > report 3 1000 5
 Done(0) +Unplaced +Line(0) +Train(3)
-> lists
-Some([3, 7, 8]) Some([8]) Some([3, 7]) None
 > report 7 1200 6
 Done(0) +Line(0) +Line(1) +Train(7)
 > report 3 1100 6
 Done(0) -Line(0) +Line(1) +Train(3)
-> lists
-Some([3, 7, 8]) Some([8]) None Some([3, 7])
 > report 8 1000 9
 Done(0) +Train(8)
 > report 3 1200 9
 Done(0) +Line(1) +Unplaced +Train(3)
 > report 7 1300 9
 Done(0) -Line(1) +Unplaced +Train(7)
-> lists
-Some([3, 7, 8]) Some([3, 7, 8]) None None
 > withdraw 3
 Done(0) +Roster -Train(3) +Unplaced
 > report 8 1100 6
 Done(0) +Unplaced +Line(1) +Train(8)
 > withdraw 8
 Done(0) +Roster -Train(8) -Line(1)
-> lists
-Some([7]) Some([7]) None None
 > withdraw 7
 Done(0) -Roster -Train(7) -Unplaced
-> lists
-None None None None
 ";
-    assert_transcript(&rt, rt.alloc(), transcript);
+
+#[test]
+fn each_input_writes_what_it_changes(rt: HostRuntime) {
+    assert_transcript(&rt, rt.alloc(), WITHOUT_A_PLACE);
+    assert_transcript(&rt, rt.alloc(), AT_A_PLACE);
+    assert_transcript(&rt, rt.alloc(), REFUSED);
+    assert_transcript(&rt, rt.alloc(), MOVING);
 }

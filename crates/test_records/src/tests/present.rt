@@ -96,14 +96,6 @@ fn assert_present(rt: &impl Abort, log: &VersionLog, present: &Present, table: T
     }
 }
 
-#[test]
-fn each_record_of_a_store_has_a_number(rt: HostRuntime) {
-    let log = empty_log(&rt, rt.alloc());
-    let present = present(&rt, rt.alloc(), &log);
-    same(&rt, log.count(), 3);
-    assert_present(&rt, &log, &present, STORED);
-}
-
 /// Whether notes of the numbers before a write are current after it.
 fn is_current_after<R: Wait + Abort>(
     rt: &R,
@@ -127,10 +119,13 @@ fn notes_are_current_until_a_noted_key_is_written(rt: HostRuntime) {
     }
 }
 
+// each record of a store has a number, and one that is removed and comes back has a new one
 #[test]
 fn a_record_that_comes_back_has_a_new_number(rt: HostRuntime) {
     let log = empty_log(&rt, rt.alloc());
     let mut present = present(&rt, rt.alloc(), &log);
+    same(&rt, log.count(), 3);
+    assert_present(&rt, &log, &present, STORED);
     let before = present.number(Key::Roster);
     take_over(&rt, rt.alloc(), &log, &mut present, &[(Key::Roster, None)]);
     same(&rt, present.number(Key::Roster), 0);
@@ -145,35 +140,4 @@ fn a_record_that_comes_back_has_a_new_number(rt: HostRuntime) {
     same(&rt, now == before, false);
     same(&rt, shows(&log, before, Key::Roster, &[7, 9]), true);
     assert_present(&rt, &log, &present, STORED);
-}
-
-/// Writes in turn. Of two writes of one key the last counts.
-const LATER: Table<'static> = &[
-    (Key::Roster, Some(&[8])),
-    (Key::Line(3), None),
-    (Key::Line(4), Some(&[7])),
-    (Key::Roster, Some(&[7, 8])),
-    (Key::Limits, None),
-    (Key::Unplaced, Some(&[])),
-];
-
-/// What stands after them.
-const AFTER: Table<'static> = &[
-    (Key::Roster, Some(&[7, 8])),
-    (Key::Train(7), Some(&[7])),
-    (Key::Train(9), None),
-    (Key::Limits, None),
-    (Key::Line(3), None),
-    (Key::Line(4), Some(&[7])),
-    (Key::Unplaced, Some(&[])),
-];
-
-#[test]
-fn the_numbers_of_all_writes_are_taken_over(rt: HostRuntime) {
-    let log = empty_log(&rt, rt.alloc());
-    let mut present = present(&rt, rt.alloc(), &log);
-    let before = present.number(Key::Train(7));
-    take_over(&rt, rt.alloc(), &log, &mut present, LATER);
-    assert_present(&rt, &log, &present, AFTER);
-    same(&rt, present.number(Key::Train(7)), before);
 }

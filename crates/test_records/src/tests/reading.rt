@@ -76,10 +76,8 @@ fn assert_returns(rt: &impl Abort, alloc: Global, store: &PlainStore, input: &In
     same(rt, reader.failures(), 0);
 }
 
-// lists by hand, in place of those that the inputs write: engine 9 is not enrolled, and train 7 stands on line 0
-#[test]
-fn lists_that_name_a_wrong_train_are_torn(rt: HostRuntime) {
-    let transcript = "> enrol 7 2000
+/// Lists by hand, in place of those that the inputs write: engine 9 is not enrolled, and train 7 stands on line 0.
+const TORN: &str = "> enrol 7 2000
 Done(0) +Roster +Train(7) +Unplaced
 > report 7 1000 5
 Done(0) -Unplaced +Line(0) +Train(7)
@@ -108,13 +106,10 @@ Torn Limits Stops Roster Train(9)
 > reads withdraw 9
 Refused(7) Train(9)
 ";
-    assert_transcript(&rt, rt.alloc(), transcript);
-}
 
-// train 7 stands on line 0 and train 8 has no place: what begins reads the lists of its trains, what ends reads all trains
-#[test]
-fn reads_no_more_than_can_be_concerned(rt: HostRuntime) {
-    let transcript = "> enrol 7 2000
+/// Train 7 stands on line 0 and train 8 has no place: what begins reads the lists of its trains, what ends reads all
+/// trains.
+const CONCERNED: &str = "> enrol 7 2000
 Done(0) +Roster +Train(7) +Unplaced
 > report 7 1000 5
 Done(0) -Unplaced +Line(0) +Train(7)
@@ -162,7 +157,12 @@ Refused(7) Train(9)
 > reads bad 2
 Refused(2)
 ";
-    assert_transcript(&rt, rt.alloc(), transcript);
+
+// and lists that name a wrong train are torn
+#[test]
+fn reads_no_more_than_can_be_concerned(rt: HostRuntime) {
+    assert_transcript(&rt, rt.alloc(), TORN);
+    assert_transcript(&rt, rt.alloc(), CONCERNED);
 }
 
 // the stops are those after a stop, and the train is the one before it

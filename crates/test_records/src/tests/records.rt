@@ -126,9 +126,3 @@ pub(super) fn assert_engines(rt: &impl Abort, rec: Option<&Rec>, wanted: &[u32])
         same(rt, at(engines, index), Some(*n));
     }
 }
-
-/// Asserts that a record is a train with this engine number and stamp.
-pub(super) fn assert_train(rt: &impl Abort, rec: Option<&Rec>, engine: u32, stamp: u32) {
-    let train = train_in(rec).expect(rt, "a train");
-    same(rt, (train.engine, train.stamp), (engine, stamp));
-}

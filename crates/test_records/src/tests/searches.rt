@@ -7,7 +7,7 @@ use ertms_codec::Position;
 use rbc_ids::Kind;
 use rbc_place::place_of;
 use rbc_records::{Key, PlainStore, Reader, Rec, Sought, Writes, exchange};
-use rbc_settle::{Numbers, TrainRec};
+use rbc_settle::TrainRec;
 use rbc_track::Track;
 use rbc_zones::Area;
 use std::process::Abort;
@@ -84,17 +84,6 @@ const TOLD: [(Sought<'static>, &[u32]); 6] = [
     (Sought::ToldOfLimit(8), &[]),
 ];
 
-#[test]
-fn a_search_finds_what_a_command_seeks(rt: HostRuntime) {
-    let track = track(rt.alloc()).expect(&rt, "a good track");
-    let store = three(&rt, &track);
-    for (sought, engines) in TOLD {
-        finds(&rt, &store, sought, engines);
-    }
-    finds_stoppable(&rt, &track, &store, 15_000, 20_000, &[1, 2, 3]);
-    finds_stoppable(&rt, &track, &store, 0, 5_000, &[2, 3]);
-}
-
 /// The stops that are told to a train until it holds every identifier.
 const STOPS: [u32; 15] = [20, 21, 22, 23, 24, 25, 26, 27, 28, 29, 30, 31, 32, 33, 34];
 
@@ -121,45 +110,19 @@ const TOLD_AFTERWARDS: [(Sought<'static>, &[u32]); 4] = [
     (Sought::ToldOfLimit(8), &[1]),
 ];
 
+// before an exchange and after it
 #[test]
-fn a_search_follows_an_exchange(rt: HostRuntime) {
+fn a_search_finds_what_a_command_seeks(rt: HostRuntime) {
     let track = track(rt.alloc()).expect(&rt, "a good track");
     let mut store = three(&rt, &track);
+    for (sought, engines) in TOLD {
+        finds(&rt, &store, sought, engines);
+    }
+    finds_stoppable(&rt, &track, &store, 15_000, 20_000, &[1, 2, 3]);
+    finds_stoppable(&rt, &track, &store, 0, 5_000, &[2, 3]);
     change(&rt, &track, &mut store);
     for (sought, engines) in TOLD_AFTERWARDS {
         finds(&rt, &store, sought, engines);
     }
     finds_stoppable(&rt, &track, &store, 15_000, 20_000, &[3]);
-}
-
-/// A store of trains 0 to 256, each told of stop 4.
-fn many<R: Abort + AllocGlobal>(rt: &R) -> PlainStore {
-    let track = track(rt.alloc()).expect(rt, "a good track");
-    let mut store = PlainStore::new(rt.alloc());
-    for engine in 0..257 {
-        let told = train(rt, &track, None, &[4], &[], &[]);
-        write(rt, rt.alloc(), &mut store, Key::Train(engine), Some(told));
-    }
-    store
-}
-
-/// What a search finds that seeks the trains that were told of stop 4.
-fn told_of_4<R: Abort + AllocGlobal>(rt: &R, store: &PlainStore) -> Option<Numbers> {
-    let sought = Sought::ToldOfStop(4);
-    store.search(rt.alloc(), sought).expect(rt, "memory")
-}
-
-/// Asserts that these are 256 engines, without engine 0.
-fn assert_few(rt: &impl Abort, engines: &Numbers) {
-    same(rt, engines.len(), 256);
-    same(rt, (engines.has(0), engines.has(256)), (false, true));
-}
-
-// 256 trains are returned, and one more are too many
-#[test]
-fn many_trains_are_not_listed(rt: HostRuntime) {
-    let mut store = many(&rt);
-    same(&rt, told_of_4(&rt, &store).is_none(), true);
-    write(&rt, rt.alloc(), &mut store, Key::Train(0), None);
-    assert_few(&rt, &told_of_4(&rt, &store).expect(&rt, "few trains"));
 }

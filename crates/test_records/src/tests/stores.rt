@@ -1,26 +1,12 @@
 //! Writes done to a store.
 
-ghost use Rattle.std.specs.Prelude.{◌+◌, ◌<◌, ◌^◌};
-
 use super::same;
 use crate::tests::records::{
     assert_engines, engines, limits, limits_in, stops, stops_in, train, train_in,
 };
-use rbc_records::{Key, PlainStore, Reader, Rec, Writes, apply, exchange, same_record};
+use rbc_records::{Key, PlainStore, Rec, Writes, apply, exchange, same_record};
 use std::alloc::Global;
 use std::process::Abort;
-
-/// A key of each kind, and the least and the greatest of a train and of a line.
-const KEYS: [Key; 8] = [
-    Key::Roster,
-    Key::Train(0),
-    Key::Train(u32::MAX),
-    Key::Stops,
-    Key::Limits,
-    Key::Line(0),
-    Key::Line(u8::MAX),
-    Key::Unplaced,
-];
 
 /// The keys of the full store, in the order in which they are written.
 const FULL: [Key; 8] = [
@@ -115,28 +101,6 @@ fn assert_full(rt: &impl Abort, store: &PlainStore, first: Option<(u32, u32)>) {
     assert_others(rt, store);
 }
 
-/// Reads a record, and says whether there is one.
-fn reads<S: Reader>(rt: &impl Abort, store: &mut S, key: Key) -> bool
-    requires { S.failed store.old + 1 < 2 ^ 64 }
-{
-    store.fetch(key).expect(rt, "a read");
-    store.seen(key).is_some()
-}
-
-/// Asserts that nothing is under a key, and that a read says so.
-fn assert_nothing(rt: &impl Abort, store: &mut PlainStore, key: Key) {
-    assert!(rt; store.get(key).is_none(), "{key:?}");
-    assert!(rt; !reads(rt, store, key), "{key:?}");
-}
-
-#[test]
-fn an_empty_store_has_nothing(rt: HostRuntime) {
-    let mut store = written(&rt, Writes::new(rt.alloc()));
-    for key in KEYS {
-        assert_nothing(&rt, &mut store, key);
-    }
-}
-
 // a removal, one of what is not there any more, and a new record: each changes what is under its key,
 // and nothing else; so does a removal of what is kept of a line beside another
 #[test]
@@ -199,14 +163,6 @@ fn overwritten<R: Abort + AllocGlobal>(rt: &R) -> Writes {
     writes
 }
 
-#[test]
-fn the_last_write_for_a_key_counts(rt: HostRuntime) {
-    let store = written(&rt, overwritten(&rt));
-    assert_engines(&rt, store.get(Key::Roster), &[2, 3]);
-    let stamps = [stamp(&store, 1), stamp(&store, 2)];
-    same(&rt, stamps, [None, Some((2, 20))]);
-}
-
 /// The key of the write at an index, and the stamp of its train.
 fn stamp_at(writes: &Writes, index: usize) -> Option<(Key, Option<u32>)> {
     if index >= writes.len() {
@@ -234,27 +190,15 @@ fn assert_replaced(rt: &impl Abort, replaced: &Writes) {
     same(rt, stamp_at(replaced, 2), Some((Key::Train(1), Some(11))));
 }
 
+// and the last write for a key counts
 #[test]
 fn what_writes_replace_is_handed_back(rt: HostRuntime) {
+    let last = written(&rt, overwritten(&rt));
+    assert_engines(&rt, last.get(Key::Roster), &[2, 3]);
+    let stamps = [stamp(&last, 1), stamp(&last, 2)];
+    same(&rt, stamps, [None, Some((2, 20))]);
     let mut store = full(&rt);
     assert_replaced(&rt, &replace(&rt, &mut store));
     let stamps = [stamp(&store, 1), stamp(&store, 2), stamp(&store, 3)];
     same(&rt, stamps, [None, Some((2, 20)), Some((3, 30))]);
-}
-
-/// Reads under each of the keys, which never fails, and asserts what is seen then.
-fn read_all(rt: &impl Abort, store: &mut PlainStore) {
-    for key in KEYS {
-        assert!(rt; store.fetch(key).is_ok(), "{key:?}");
-    }
-    same(rt, store.failures(), 0);
-    assert_engines(rt, store.seen(Key::Roster), &[1, 2]);
-    assert!(rt; store.seen(Key::Train(3)).is_none());
-}
-
-#[test]
-fn a_read_never_fails_and_changes_nothing(rt: HostRuntime) {
-    let mut store = full(&rt);
-    read_all(&rt, &mut store);
-    assert_full(&rt, &store, Some((1, 10)));
 }

@@ -5,7 +5,7 @@ ghost use Rattle.rbc_core.specs.Runs.{IsGoodRun};
 
 use super::same;
 use crate::tests::attempting::{Ahead, Scene, Tried, attempt, read_ahead};
-use crate::tests::numbers::{Numbers, Origin, is_same_version};
+use crate::tests::numbers::{Numbers, Origin};
 use crate::tests::setting::{all_fit, good_track};
 use rbc_core::{Attempt, Book, Commit, Desk, MAX_RESULTS, RunName, Stats};
 use rbc_records::Key;
@@ -27,8 +27,6 @@ pub(crate) enum Call {
     Number(Key, Origin),
     /// The number of what stands under a key, as an input is to see it, is asked for: where it comes from.
     Seen(u32, Key, Origin),
-    /// The number of what stands under a key is asked for: it is not the first one there, but its record is the same.
-    Again(Key),
     /// A key is read for an input, whose attempt is made later.
     Read(u32, Key),
     /// An attempt is made at an input, and deposited: whether it is kept.
@@ -103,17 +101,6 @@ fn assert_origin<N: RunName, R: Abort>(
     same(scene.rt, origin, wanted);
 }
 
-/// Asserts that the record under a key is the first one that is known there, published once more.
-fn assert_again<N: RunName, R: Abort>(
-    scene: &Scene<'_, N, R>,
-    book: &Book<'_, N>,
-    numbers: &Numbers,
-    key: Key,
-) {
-    let (first, now) = (numbers.first(key), book.present(1, key));
-    assert!(scene.rt; first != now && is_same_version(scene.log, first, now));
-}
-
 /// Takes what commits have no more use for, which is not counted. Tells whether there was anything.
 fn take_spent<N: RunName>(rt: &impl Abort, book: &mut Book<'_, N>) -> bool {
     let stats = book.stats();
@@ -134,7 +121,6 @@ fn make_call<N: RunName, R: Abort + Wait>(
         Call::Take(wanted) => same(rt, book.take(), wanted),
         Call::Number(key, wanted) => assert_origin(scene, book, kept, 1, key, wanted),
         Call::Seen(input, key, wanted) => assert_origin(scene, book, kept, input, key, wanted),
-        Call::Again(key) => assert_again(scene, book, &kept.numbers, key),
         Call::Read(input, key) => kept.ahead = read_ahead(scene, book, input, key),
         Call::Deposit(number, wanted) => same(rt, deposit(scene, book, kept, number), wanted),
         Call::Void(number, wanted) => same(rt, book.void(number), wanted),

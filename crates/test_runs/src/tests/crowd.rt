@@ -4,8 +4,8 @@ ghost use Rattle.std.specs.Prelude.{◌≡◌};
 ghost use Rattle.rbc_core.specs.Runs.{IsGoodRun};
 
 use super::same;
-use crate::tests::rows::{assert_waited, one_waits};
 use crate::tests::setting::{all_fit, good_track};
+use rbc_batch::{parse_batch, render};
 use rbc_core::{Book, Commit, Desk, MAX_RESULTS, RunName, Stats};
 use rbc_rule::Input;
 use rbc_track::Track;
@@ -16,6 +16,7 @@ use std::process::Abort;
 use std::sync::{Mutex, Wait};
 use std::thread::{self, Threads};
 use std::time::{Clock, Duration};
+use test_fixtures::FULL;
 
 /// How many threads take inputs.
 const TAKERS: u8 = 2;
@@ -130,9 +131,16 @@ where
     close_crowded::<Brand, R>(rt, alloc, &track, desk, inputs, &log)
 }
 
-// each input is computed as it is committed, and nothing else comes of it
+// Each input is computed as it is committed, and nothing else comes of it.
 #[test]
 fn given_up_by_two_threads(rt: HostRuntime) {
-    let (desk, stats) = run_crowded(&rt, &one_waits(&rt));
-    assert_waited(&rt, &desk, stats);
+    let inputs = parse_batch(&rt, FULL.batch.as_bytes()).expect(&rt, "memory");
+    let (desk, stats) = run_crowded(&rt, &inputs);
+    let counts = Stats {
+        taken: 19,
+        recomputed: 19,
+    };
+    same(&rt, stats, counts);
+    let text = render(rt.alloc(), &desk).expect(&rt, "memory");
+    same(&rt, text.as_slice(), FULL.output.as_bytes());
 }

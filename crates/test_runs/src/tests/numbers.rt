@@ -2,7 +2,6 @@
 
 use super::same;
 use rbc_records::Key;
-use rbc_versions::VersionLog;
 use std::alloc::Global;
 use std::process::Abort;
 
@@ -69,25 +68,4 @@ impl Numbers {
         self.known.push(known).expect(rt, "memory");
         Origin::Commit
     }
-
-    /// The first number above 0 that is known under a key, and 0 if none is.
-    pub(crate) fn first(&self, key: Key) -> u64 {
-        let mut all = self.known.iter();
-        match all.find(|known| known.key == key && known.number > 0) {
-            Some(known) => known.number,
-            None => 0,
-        }
-    }
-}
-
-/// Whether a log has a version under each of two numbers, both of one key and with the same record.
-pub(crate) fn is_same_version(log: &VersionLog, one: u64, other: u64) -> bool {
-    let Some(one) = log.look(one) else {
-        return false;
-    };
-    let Some(other) = log.look(other) else {
-        return false;
-    };
-    let (one, other) = (log.version(&one), log.version(&other));
-    one.key == other.key && one.rec.is_same(&other.rec)
 }

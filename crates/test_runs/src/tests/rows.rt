@@ -3,9 +3,8 @@
 use super::same;
 use crate::tests::calls::{Call, run};
 use crate::tests::numbers::Origin;
-use crate::tests::setting::{assert_outbox, enrol, revoked, stop, stopped};
-use ertms_codec::{FromTrain, write_to_train};
-use rbc_core::{Commit, Desk, Mail, Stats};
+use crate::tests::setting::{assert_outbox, enrol, stop, stopped};
+use rbc_core::{Commit, Mail, Stats};
 use rbc_records::Key;
 use rbc_rule::{Input, Reply};
 use std::process::Abort;
@@ -32,18 +31,6 @@ struct Left<'a> {
     mails: &'a [Mail],
 }
 
-/// Asserts what a run has left.
-fn assert_is_left(rt: &impl Abort, desk: &Desk, stats: Stats, left: &Left<'_>) {
-    let counts = Stats {
-        taken: left.taken,
-        recomputed: left.recomputed,
-    };
-    same(rt, stats, counts);
-    same(rt, desk.results(), left.results);
-    same(rt, desk.outboxes(), 1);
-    assert_outbox(rt, desk, 0, 7, left.mails);
-}
-
 /// Runs inputs by these calls of a book, and asserts what is left.
 fn assert_left<R: Abort + AllocGlobal + Wait>(
     rt: &R,
@@ -52,21 +39,19 @@ fn assert_left<R: Abort + AllocGlobal + Wait>(
     left: &Left<'_>,
 ) {
     let (desk, stats) = run(rt, inputs, calls);
-    assert_is_left(rt, &desk, stats, left);
+    let counts = Stats {
+        taken: left.taken,
+        recomputed: left.recomputed,
+    };
+    same(rt, stats, counts);
+    same(rt, desk.results(), left.results);
+    same(rt, desk.outboxes(), 1);
+    assert_outbox(rt, &desk, 0, 7, left.mails);
 }
 
 /// Train 7 is enrolled, and there is a stop.
 fn enrol_and_stop<R: Abort + AllocGlobal>(rt: &R) -> [Input; 2] {
     [enrol(7), stop(rt.alloc(), 1).expect(rt, "memory")]
-}
-
-/// Asserts the bytes of a message.
-fn assert_spelled(rt: &impl Abort, mail: &Mail, bytes: &[u8]) {
-    let mut buffer = [0; 32];
-    assert!(rt; mail.message.fits());
-    let length = write_to_train(&mail.message, &mut buffer);
-    assert!(rt; length <= buffer.len());
-    same(rt, &buffer[..length], bytes);
 }
 
 /// The second input is attempted before the first is.
@@ -91,20 +76,6 @@ const SECOND_FIRST: &[Call] = &[
     Call::TakeSpent(false),
 ];
 
-#[test]
-fn second_first(rt: HostRuntime) {
-    let inputs = enrol_and_stop(&rt);
-    let mail = stopped(2, 1, 0);
-    assert_spelled(&rt, &mail, b"\x10\x02\x80\x00\x00\x00\x5F\xFF\xFF\xE0");
-    let left = Left {
-        taken: 2,
-        recomputed: 1,
-        results: &[DONE, TOLD],
-        mails: &[mail],
-    };
-    assert_left(&rt, &inputs, SECOND_FIRST, &left);
-}
-
 /// The second input is attempted after the first is, and before that one is committed.
 const READ_BEFORE_IT_IS_COMMITTED: &[Call] = &[
     Call::Take(Some(1)),
@@ -115,18 +86,6 @@ const READ_BEFORE_IT_IS_COMMITTED: &[Call] = &[
     APPLIED,
     AT_END,
 ];
-
-#[test]
-fn read_before_it_is_committed(rt: HostRuntime) {
-    let inputs = enrol_and_stop(&rt);
-    let left = Left {
-        taken: 2,
-        recomputed: 0,
-        results: &[DONE, TOLD],
-        mails: &[stopped(2, 1, 0)],
-    };
-    assert_left(&rt, &inputs, READ_BEFORE_IT_IS_COMMITTED, &left);
-}
 
 /// The third input is attempted after the second is, which is attempted before the first and computed again.
 const MISLED: &[Call] = &[
@@ -143,27 +102,6 @@ const MISLED: &[Call] = &[
     AT_END,
 ];
 
-#[test]
-fn misled(rt: HostRuntime) {
-    let inputs = [
-        enrol(8),
-        enrol(7),
-        stop(rt.alloc(), 1).expect(&rt, "memory"),
-    ];
-    let (desk, stats) = run(&rt, &inputs, MISLED);
-    let wanted = Stats {
-        taken: 3,
-        recomputed: 2,
-    };
-    same(&rt, stats, wanted);
-    same(&rt, desk.results(), [DONE, DONE, Reply::Done(2)].as_slice());
-    same(&rt, desk.outboxes(), 2);
-    let mail = stopped(3, 1, 0);
-    assert_spelled(&rt, &mail, b"\x10\x02\x80\x00\x00\x00\x5F\xFF\xFF\xE0");
-    assert_outbox(&rt, &desk, 0, 7, &[mail]);
-    assert_outbox(&rt, &desk, 1, 8, &[mail]);
-}
-
 /// The second input is read for in part before the first is committed, and in part behind it.
 const READ_IN_BETWEEN: &[Call] = &[
     Call::Take(Some(1)),
@@ -177,15 +115,24 @@ const READ_IN_BETWEEN: &[Call] = &[
 ];
 
 #[test]
-fn read_in_between(rt: HostRuntime) {
+fn read_before_and_behind_a_commit(rt: HostRuntime) {
     let inputs = enrol_and_stop(&rt);
-    let left = Left {
+    let mail = stopped(2, 1, 0);
+    let left_stale = Left {
         taken: 2,
         recomputed: 1,
         results: &[DONE, TOLD],
-        mails: &[stopped(2, 1, 0)],
+        mails: &[mail],
     };
-    assert_left(&rt, &inputs, READ_IN_BETWEEN, &left);
+    let left_fresh = Left {
+        taken: 2,
+        recomputed: 0,
+        results: &[DONE, TOLD],
+        mails: &[mail],
+    };
+    assert_left(&rt, &inputs, SECOND_FIRST, &left_stale);
+    assert_left(&rt, &inputs, READ_BEFORE_IT_IS_COMMITTED, &left_fresh);
+    assert_left(&rt, &inputs, READ_IN_BETWEEN, &left_stale);
 }
 
 /// The last input is attempted before the train leaves and comes again: each record is unchanged, and has another number.
@@ -204,99 +151,6 @@ const THERE_AND_BACK: &[Call] = &[
     RECOMPUTED,
     AT_END,
 ];
-
-#[test]
-fn there_and_back(rt: HostRuntime) {
-    let leaving = Input::Withdraw { engine: 7 };
-    let inputs = [
-        enrol(7),
-        leaving,
-        enrol(7),
-        stop(rt.alloc(), 1).expect(&rt, "memory"),
-    ];
-    let left = Left {
-        taken: 4,
-        recomputed: 1,
-        results: &[DONE, DONE, DONE, TOLD],
-        mails: &[stopped(4, 1, 0)],
-    };
-    assert_left(&rt, &inputs, THERE_AND_BACK, &left);
-}
-
-/// Stops take all 15 identifiers of engine 7; one more waits until the train acknowledges that the first one is revoked.
-pub(crate) fn one_waits<R: Abort + AllocGlobal>(rt: &R) -> Vec<Input> {
-    let mut inputs = Vec::new(rt.alloc());
-    inputs.push(enrol(7)).expect(rt, "memory");
-    for number in 1..=16 {
-        let told = stop(rt.alloc(), number).expect(rt, "memory");
-        inputs.push(told).expect(rt, "memory");
-    }
-    let released = Input::Release { number: 1 };
-    let acked = Input::Received(FromTrain::Ack {
-        stamp: 1_000,
-        engine: 7,
-        acked: 16,
-    });
-    inputs.push(released).expect(rt, "memory");
-    inputs.push(acked).expect(rt, "memory");
-    inputs
-}
-
-/// Each input is taken, given up and committed before the next.
-fn void_each<R: Abort + AllocGlobal>(rt: &R, count: u32) -> Vec<Call> {
-    let mut calls = Vec::new(rt.alloc());
-    for number in 1..=count {
-        let made = [
-            Call::Take(Some(number)),
-            Call::Void(number, true),
-            RECOMPUTED,
-        ];
-        calls.extend_from_slice(&made).expect(rt, "memory");
-    }
-    calls
-}
-
-/// What these inputs are answered.
-const ANSWERS: [Reply; 19] = [
-    DONE, TOLD, TOLD, TOLD, TOLD, TOLD, TOLD, TOLD, TOLD, TOLD, TOLD, TOLD, TOLD, TOLD, TOLD, TOLD,
-    DONE, TOLD, TOLD,
-];
-
-/// What engine 7 is told.
-fn mails_of_waiting<R: Abort + AllocGlobal>(rt: &R) -> Vec<Mail> {
-    let mut mails = Vec::new(rt.alloc());
-    for number in 1..=15u8 {
-        let stamp = u32::from(number);
-        let told = stopped(stamp + 1, stamp, number - 1);
-        mails.push(told).expect(rt, "memory");
-    }
-    let opened = revoked(18, 16, 0);
-    let told_late = stopped(19, 1_001, 0);
-    assert_spelled(rt, &opened, b"\x12\x02\x80\x00\x00\x04\x3F\xFF\xFF\xE0");
-    assert_spelled(rt, &told_late, b"\x10\x02\x80\x00\x00\xFA\x5F\xFF\xFF\xE0");
-    mails
-        .extend_from_slice(&[opened, told_late])
-        .expect(rt, "memory");
-    mails
-}
-
-/// Asserts what these inputs leave where each of them is computed as it is committed.
-pub(crate) fn assert_waited<R: Abort + AllocGlobal>(rt: &R, desk: &Desk, stats: Stats) {
-    let mails = mails_of_waiting(rt);
-    let left = Left {
-        taken: 19,
-        recomputed: 19,
-        results: &ANSWERS,
-        mails: &mails,
-    };
-    assert_is_left(rt, desk, stats, &left);
-}
-
-#[test]
-fn voided(rt: HostRuntime) {
-    let (desk, stats) = run(&rt, &one_waits(&rt), &void_each(&rt, 19));
-    assert_waited(&rt, &desk, stats);
-}
 
 /// Two engines, the higher one enrolled first; a book answers the same once it is at its end.
 const AT_THE_END: &[Call] = &[
@@ -317,20 +171,58 @@ const AT_THE_END: &[Call] = &[
     Call::Take(None),
 ];
 
+// both trains are told: where two attempts are misled, and in a book at whose end each call is made once more
 #[test]
-fn at_the_end(rt: HostRuntime) {
+fn two_trains_are_told(rt: HostRuntime) {
     let inputs = [
-        enrol(9),
+        enrol(8),
         enrol(7),
         stop(rt.alloc(), 1).expect(&rt, "memory"),
     ];
-    let (desk, _) = run(&rt, &inputs, AT_THE_END);
+    let (desk, stats) = run(&rt, &inputs, MISLED);
+    let wanted = Stats {
+        taken: 3,
+        recomputed: 2,
+    };
+    same(&rt, stats, wanted);
     same(&rt, desk.results(), [DONE, DONE, Reply::Done(2)].as_slice());
     same(&rt, desk.outboxes(), 2);
     let mail = stopped(3, 1, 0);
     assert_outbox(&rt, &desk, 0, 7, &[mail]);
-    assert_outbox(&rt, &desk, 1, 9, &[mail]);
-    assert!(rt; desk.outbox(8).is_empty());
+    assert_outbox(&rt, &desk, 1, 8, &[mail]);
+    let last_inputs = [
+        enrol(9),
+        enrol(7),
+        stop(rt.alloc(), 1).expect(&rt, "memory"),
+    ];
+    let (last_desk, _) = run(&rt, &last_inputs, AT_THE_END);
+    same(
+        &rt,
+        last_desk.results(),
+        [DONE, DONE, Reply::Done(2)].as_slice(),
+    );
+    same(&rt, last_desk.outboxes(), 2);
+    assert_outbox(&rt, &last_desk, 0, 7, &[mail]);
+    assert_outbox(&rt, &last_desk, 1, 9, &[mail]);
+    assert!(rt; last_desk.outbox(8).is_empty());
+}
+
+#[test]
+fn there_and_back(rt: HostRuntime) {
+    let leaving = Input::Withdraw { engine: 7 };
+    let inputs = [
+        enrol(7),
+        leaving,
+        enrol(7),
+        stop(rt.alloc(), 1).expect(&rt, "memory"),
+    ];
+    let left = Left {
+        taken: 4,
+        recomputed: 1,
+        results: &[DONE, DONE, DONE, TOLD],
+        mails: &[stopped(4, 1, 0)],
+    };
+    assert_left(&rt, &inputs, THERE_AND_BACK, &left);
 }
 
 /// Runs inputs of which nobody is told, all of which are accepted, and asserts how many are computed again.
@@ -348,8 +240,8 @@ fn assert_silent<R: Abort + AllocGlobal + Wait>(
     same(rt, desk.outboxes(), 0);
 }
 
-/// Each commit puts the numbers of its attempt under the keys that it writes, and under no other; a list that is again what it
-/// was first has a number of its own.
+/// Each commit puts the numbers of its attempt under the keys that it writes, and under no other; also under a list that is
+/// again what it was first.
 const A_NUMBER_FOR_EACH_WRITE: &[Call] = &[
     Call::Number(Key::Roster, Origin::Nowhere),
     Call::Number(Key::Unplaced, Origin::Nowhere),
@@ -370,18 +262,10 @@ const A_NUMBER_FOR_EACH_WRITE: &[Call] = &[
     APPLIED,
     Call::Number(Key::Roster, Origin::Attempt(3)),
     Call::Number(Key::Unplaced, Origin::Attempt(3)),
-    Call::Again(Key::Roster),
-    Call::Again(Key::Unplaced),
     Call::Number(Key::Train(7), Origin::Attempt(1)),
     Call::Number(Key::Train(9), Origin::Nowhere),
     AT_END,
 ];
-
-#[test]
-fn a_number_for_each_write(rt: HostRuntime) {
-    let inputs = [enrol(7), enrol(9), Input::Withdraw { engine: 9 }];
-    assert_silent(&rt, &inputs, A_NUMBER_FOR_EACH_WRITE, 0);
-}
 
 /// A train that is withdrawn has no number, and a new one once it is enrolled again.
 const NO_NUMBER_IN_BETWEEN: &[Call] = &[
@@ -402,16 +286,8 @@ const NO_NUMBER_IN_BETWEEN: &[Call] = &[
     RECOMPUTED,
     Call::Number(Key::Train(7), Origin::Commit),
     Call::Number(Key::Roster, Origin::Commit),
-    Call::Again(Key::Train(7)),
-    Call::Again(Key::Roster),
     AT_END,
 ];
-
-#[test]
-fn no_number_in_between(rt: HostRuntime) {
-    let inputs = [enrol(7), Input::Withdraw { engine: 7 }, enrol(7)];
-    assert_silent(&rt, &inputs, NO_NUMBER_IN_BETWEEN, 3);
-}
 
 /// The numbers of an attempt that does not stand any more are dropped with it.
 const DROPPED_NUMBERS: &[Call] = &[
@@ -427,15 +303,8 @@ const DROPPED_NUMBERS: &[Call] = &[
     Call::Number(Key::Train(9), Origin::Commit),
     Call::Number(Key::Unplaced, Origin::Commit),
     Call::Number(Key::Train(7), Origin::Attempt(1)),
-    Call::Again(Key::Train(9)),
     AT_END,
 ];
-
-#[test]
-fn dropped_numbers(rt: HostRuntime) {
-    let inputs = [enrol(7), enrol(9)];
-    assert_silent(&rt, &inputs, DROPPED_NUMBERS, 1);
-}
 
 /// An input sees what the attempt at the latest input before it writes, a removal too, and nothing of its own or of a later
 /// one.
@@ -469,8 +338,13 @@ const THE_LATEST_BEFORE: &[Call] = &[
 ];
 
 #[test]
-fn the_latest_before(rt: HostRuntime) {
-    let leaving = Input::Withdraw { engine: 7 };
-    let inputs = [enrol(7), leaving, enrol(7), enrol(9)];
-    assert_silent(&rt, &inputs, THE_LATEST_BEFORE, 0);
+fn numbers_of_what_is_written(rt: HostRuntime) {
+    let three = [enrol(7), enrol(9), Input::Withdraw { engine: 9 }];
+    assert_silent(&rt, &three, A_NUMBER_FOR_EACH_WRITE, 0);
+    let back = [enrol(7), Input::Withdraw { engine: 7 }, enrol(7)];
+    assert_silent(&rt, &back, NO_NUMBER_IN_BETWEEN, 3);
+    let two = [enrol(7), enrol(9)];
+    assert_silent(&rt, &two, DROPPED_NUMBERS, 1);
+    let four = [enrol(7), Input::Withdraw { engine: 7 }, enrol(7), enrol(9)];
+    assert_silent(&rt, &four, THE_LATEST_BEFORE, 0);
 }

@@ -62,7 +62,8 @@ fn assert_desk<R: Abort + AllocGlobal>(rt: &R, desk: &Desk, text: &str) {
     same(rt, written.as_slice(), text.as_bytes());
 }
 
-// The second input reads what the first one writes, and is deposited before it: it is computed again.
+// The second input reads what the first one writes, and is deposited before it: it is computed again. Then the first input is begun after
+// attempts at all others are deposited, each of which has read what it writes.
 #[test]
 fn computes_again_what_went_stale(rt: HostRuntime) {
     let gate = Hold::new(&rt, Moment::BeforeDeposit(1), Moment::AfterDeposit(2));
@@ -73,6 +74,14 @@ fn computes_again_what_went_stale(rt: HostRuntime) {
     };
     same(&rt, stats, wanted);
     same(&rt, gate.was_passed(), true);
+    let late = Hold::new(&rt, Moment::BeforeRule(1), Moment::AfterDeposit(19));
+    let of_all = assert_answers(&rt, FULL.batch, 2, &late, FULL.output);
+    let wanted = Stats {
+        taken: 19,
+        recomputed: 18,
+    };
+    same(&rt, of_all, wanted);
+    same(&rt, late.was_passed(), true);
 }
 
 // The second input reads what the attempt at the first one writes, which is not committed yet: nothing is computed again.
@@ -165,28 +174,12 @@ fn answers_the_same_where_workers_idle(rt: HostRuntime) {
     }
 }
 
-// The first input is begun after attempts at all others are deposited, each of which has read what it writes.
-#[test]
-fn computes_all_again_behind_a_late_first_input(rt: HostRuntime) {
-    let gate = Hold::new(&rt, Moment::BeforeRule(1), Moment::AfterDeposit(19));
-    let stats = assert_answers(&rt, FULL.batch, 2, &gate, FULL.output);
-    let wanted = Stats {
-        taken: 19,
-        recomputed: 18,
-    };
-    same(&rt, stats, wanted);
-    same(&rt, gate.was_passed(), true);
-}
-
-// A run of all lines leaves what two runs of their parts leave.
+// Two runs of parts of a batch leave what a run of all its lines leaves.
 #[test]
 fn goes_on_from_the_desk_of_an_earlier_run(rt: HostRuntime) {
     let alloc = rt.alloc();
     let track = good_track(&rt);
     for workers in [1, 2, 16] {
-        let mut whole = new_desk(alloc, &track);
-        let stats = run_lines(&rt, &track, &mut whole, FULL.batch, workers, &AllWorkers);
-        same(&rt, stats.ok().map(|stats| stats.taken), Some(19));
         let mut parts = new_desk(alloc, &track);
         let first = run_lines(
             &rt,
@@ -205,7 +198,6 @@ fn goes_on_from_the_desk_of_an_earlier_run(rt: HostRuntime) {
             &AllWorkers,
         );
         same(&rt, (first.is_ok(), second.is_ok()), (true, true));
-        assert_desk(&rt, &whole, FULL.output);
         assert_desk(&rt, &parts, FULL.output);
     }
 }

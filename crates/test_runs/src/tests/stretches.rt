@@ -1,4 +1,4 @@
-//! Runs that take more than one stretch: more inputs than one takes, or records that weigh more than the log of one may hold.
+//! Runs that take more than one stretch: their records weigh more than the log of one may hold.
 
 ghost use Rattle.rbc_engine.specs.Answers.{IsOpening};
 
@@ -19,9 +19,6 @@ use std::time::{Clock, Duration};
 
 /// How many trains are enrolled. The rosters that this writes weigh as much as the logs of three stretches may hold.
 const TRAINS: u32 = 1000;
-
-/// How many lines are no input, which is more than three stretches take.
-const BAD_LINES: u32 = 50_000;
 
 /// A batch that enrols all trains.
 fn enrolments<R: Abort + AllocGlobal>(rt: &R) -> String {
@@ -47,60 +44,21 @@ fn text_of<R: Abort + AllocGlobal>(rt: &R, desk: &Desk) -> Vec<u8> {
     render(rt.alloc(), desk).expect(rt, "memory")
 }
 
-/// What enrolling all trains and one stop give.
-fn stopped<R: Abort + AllocGlobal>(rt: &R) -> String {
-    let mut text = String::new(rt.alloc());
-    for number in 1..=TRAINS {
-        writeln!(text, "{number} ok 0").expect(rt, "memory");
-    }
-    writeln!(text, "{} ok {TRAINS}", TRAINS + 1).expect(rt, "memory");
-    for engine in 1..=TRAINS {
-        writeln!(text, "{engine} {} 1002800000005FFFFFE0", TRAINS + 1).expect(rt, "memory");
-    }
-    text
-}
-
 // Each enrolment writes the list of all trains anew, so these weigh more than a million.
 #[test]
 fn goes_on_where_a_log_is_full(rt: HostRuntime) {
     let track = good_track(&rt);
     let mut batch = enrolments(&rt);
     batch.push_str("stop 1 0:0-10\n").expect(&rt, "memory");
-    let wanted = stopped(&rt);
+    let mut alone = new_desk(rt.alloc(), &track);
+    let of_one = run_lines(&rt, &track, &mut alone, &batch, 1, &OpenGate);
+    same(&rt, of_one.is_ok(), true);
+    let wanted = text_of(&rt, &alone);
     for workers in [1, 2, 16] {
         let mut desk = new_desk(rt.alloc(), &track);
         let stats = run_lines(&rt, &track, &mut desk, &batch, workers, &AllWorkers);
         same(&rt, stats.ok().map(|stats| stats.taken), Some(TRAINS + 1));
-        same(&rt, text_of(&rt, &desk).as_slice(), wanted.as_bytes());
-    }
-}
-
-// A train is stopped by the last line. Alone, a worker computes nothing twice in any stretch, and the numbers of all add up.
-#[test]
-fn goes_on_where_a_stretch_has_enough_inputs(rt: HostRuntime) {
-    let track = good_track(&rt);
-    let mut batch = String::new(rt.alloc());
-    batch.push_str("enrol 7 2000\n").expect(&rt, "memory");
-    for _ in 0..BAD_LINES {
-        batch.push('\n').expect(&rt, "memory");
-    }
-    batch.push_str("stop 1 0:0-10\n").expect(&rt, "memory");
-    for workers in [1, 2, 16] {
-        let mut desk = new_desk(rt.alloc(), &track);
-        let stats = run_lines(&rt, &track, &mut desk, &batch, workers, &AllWorkers);
-        same(
-            &rt,
-            stats.ok().map(|stats| stats.taken),
-            Some(BAD_LINES + 2),
-        );
-        let text = text_of(&rt, &desk);
-        same(
-            &rt,
-            text.starts_with(b"1 ok 0\n2 refused 1\n3 refused 1\n"),
-            true,
-        );
-        let end = b"\n50001 refused 1\n50002 ok 1\n7 50002 1002800000005FFFFFE0\n";
-        same(&rt, text.ends_with(end), true);
+        same(&rt, text_of(&rt, &desk).as_slice(), wanted.as_slice());
     }
 }
 

@@ -84,15 +84,11 @@ fn told(kind: Kind, acked: bool) -> Option<Slot> {
     })
 }
 
+// the least free one, up to the last of 15 and of 255; one that is being revoked is not free
 #[test]
-fn fills_and_frees(rt: HostRuntime) {
+fn issues_the_least_free_identifier(rt: HostRuntime) {
     let mut table = stops::<15>(&rt, rt.alloc(), 15);
     same(&rt, table.least_free(), None);
-    same(
-        &rt,
-        issue(&mut table, 15, 15, Kind::Conditional),
-        Some(Err(IssueError::Full)),
-    );
     for id in 0u8..15 {
         same(&rt, table.slot(id), Some(stop(id)));
     }
@@ -104,18 +100,11 @@ fn fills_and_frees(rt: HostRuntime) {
         Some(Err(IssueError::Full)),
     );
     same(&rt, table.held(), 15);
-    assert!(rt; free(&mut table, 3));
-    same(&rt, table.least_free(), Some(3));
-    same(&rt, table.held(), 14);
-}
-
-#[test]
-fn issues_the_least_free_identifier(rt: HostRuntime) {
-    let mut table = stops::<15>(&rt, rt.alloc(), 6);
-    for id in [1u8, 4, 2] {
+    for id in [3u8, 1, 4] {
         assert!(rt; free(&mut table, id));
     }
-    for (number, want) in [(20, 1), (21, 2), (22, 4), (23, 6)] {
+    same(&rt, table.held(), 12);
+    for (number, want) in [(20, 1), (21, 3), (22, 4)] {
         same(&rt, table.least_free(), Some(want));
         same(
             &rt,
@@ -124,6 +113,14 @@ fn issues_the_least_free_identifier(rt: HostRuntime) {
         );
         same(&rt, table.of_number(number), Some(want));
     }
+    let mut many = stops::<255>(&rt, rt.alloc(), 255);
+    same(
+        &rt,
+        issue(&mut many, 255, 0, Kind::Restriction),
+        Some(Err(IssueError::Full)),
+    );
+    same(&rt, many.slot(254), Some(stop(254)));
+    same(&rt, many.slot(255), None);
 }
 
 // identifiers below it may be free, and identifiers above it held
@@ -148,93 +145,21 @@ fn tells_under_the_identifier_that_was_chosen(rt: HostRuntime) {
     same(&rt, (table.held(), table.least_free()), (4, Some(1)));
 }
 
+// no answer about a stop marks a restriction
 #[test]
-fn issues_255_identifiers(rt: HostRuntime) {
-    let mut table = stops::<255>(&rt, rt.alloc(), 255);
-    same(
-        &rt,
-        issue(&mut table, 255, 0, Kind::Restriction),
-        Some(Err(IssueError::Full)),
-    );
-    same(&rt, table.held(), 255);
-    same(&rt, table.slot(0), Some(stop(0)));
-    same(&rt, table.slot(254), Some(stop(254)));
-    same(&rt, table.slot(255), None);
-}
-
-#[test]
-fn acknowledges_stops_by_their_identifier(rt: HostRuntime) {
-    for (kind, id, answer, want) in [
-        (Kind::Conditional, 0u8, 0u8, IdAck::Marked),
-        (Kind::Conditional, 0, 1, IdAck::Marked),
-        (Kind::Conditional, 0, 2, IdAck::Nothing),
-        (Kind::Conditional, 0, 3, IdAck::Rejected(1)),
-        (Kind::Conditional, 0, 4, IdAck::Nothing),
-        (Kind::Conditional, 1, 3, IdAck::Nothing),
-        (Kind::Conditional, 15, 2, IdAck::Nothing),
-        (Kind::Unconditional, 0, 0, IdAck::Nothing),
-        (Kind::Unconditional, 0, 1, IdAck::Nothing),
-        (Kind::Unconditional, 0, 2, IdAck::Marked),
-        (Kind::Unconditional, 0, 3, IdAck::Nothing),
-        (Kind::Restriction, 0, 0, IdAck::Nothing),
-        (Kind::Restriction, 0, 2, IdAck::Nothing),
-        (Kind::Restriction, 0, 3, IdAck::Nothing),
-    ] {
-        let mut table = one(&rt, rt.alloc(), kind);
-        same(&rt, table.ack_id(id, answer), want);
-        let after = match want {
-            IdAck::Marked => told(kind, true),
-            IdAck::Rejected(_) => None,
-            IdAck::Nothing => told(kind, false),
-        };
-        same(&rt, table.slot(0), after);
+fn acknowledges_no_restriction_by_its_identifier(rt: HostRuntime) {
+    let mut table = one(&rt, rt.alloc(), Kind::Restriction);
+    for answer in 0u8..5 {
+        same(&rt, table.ack_id(0, answer), IdAck::Nothing);
     }
+    same(&rt, table.slot(0), told(Kind::Restriction, false));
+    same(&rt, table.ack_stamp(7), StampAck::Marked);
+    same(&rt, table.slot(0), told(Kind::Restriction, true));
 }
 
+// numbers 0 and 2, and 1 again, after its first identifier is being revoked; each with the index behind its slot
 #[test]
-fn acknowledges_a_stop_twice(rt: HostRuntime) {
-    let mut table = one(&rt, rt.alloc(), Kind::Conditional);
-    same(&rt, table.ack_id(0, 1), IdAck::Marked);
-    same(&rt, table.ack_id(0, 1), IdAck::Marked);
-    same(&rt, table.ack_id(0, 3), IdAck::Rejected(1));
-    same(&rt, table.ack_id(0, 3), IdAck::Nothing);
-}
-
-#[test]
-fn acknowledges_no_stop_that_is_revoked(rt: HostRuntime) {
-    for kind in [Kind::Conditional, Kind::Unconditional] {
-        let mut table = one(&rt, rt.alloc(), kind);
-        assert!(rt; revoke(&mut table, 0, 8));
-        for answer in 0u8..4 {
-            same(&rt, table.ack_id(0, answer), IdAck::Nothing);
-        }
-        same(&rt, table.slot(0), Some(Slot::Revoking { stamp: 8 }));
-    }
-}
-
-#[test]
-fn acknowledges_by_the_stamp(rt: HostRuntime) {
-    for (kind, want) in [
-        (Kind::Conditional, StampAck::Nothing),
-        (Kind::Unconditional, StampAck::Nothing),
-        (Kind::Restriction, StampAck::Marked),
-    ] {
-        let mut table = one(&rt, rt.alloc(), kind);
-        same(&rt, table.ack_stamp(6), StampAck::Nothing);
-        for _ in 0..2 {
-            same(&rt, table.ack_stamp(7), want);
-            same(&rt, table.slot(0), told(kind, want == StampAck::Marked));
-        }
-        assert!(rt; revoke(&mut table, 0, 8));
-        same(&rt, table.ack_stamp(7), StampAck::Nothing);
-        same(&rt, table.ack_stamp(8), StampAck::Freed);
-        same(&rt, table.slot(0), None);
-        same(&rt, table.ack_stamp(8), StampAck::Nothing);
-    }
-}
-
-#[test]
-fn finds_numbers_that_are_told(rt: HostRuntime) {
+fn finds_numbers_wherever_the_search_begins(rt: HostRuntime) {
     let mut table = stops::<15>(&rt, rt.alloc(), 3);
     same(&rt, table.of_number(1), Some(1));
     same(&rt, table.of_number(3), None);
@@ -246,18 +171,6 @@ fn finds_numbers_that_are_told(rt: HostRuntime) {
         Some(Ok(3)),
     );
     same(&rt, table.of_number(1), Some(3));
-}
-
-// numbers 0 and 2, and 1 again, after its first identifier is being revoked; each with the index behind its slot
-#[test]
-fn finds_numbers_wherever_the_search_begins(rt: HostRuntime) {
-    let mut table = stops::<15>(&rt, rt.alloc(), 3);
-    assert!(rt; revoke(&mut table, 1, 9));
-    same(
-        &rt,
-        issue(&mut table, 1, 10, Kind::Conditional),
-        Some(Ok(3)),
-    );
     for start in [0, 1, 2, 3, 4, 5, usize::MAX] {
         for (number, behind) in [(0, Some(1)), (1, Some(4)), (2, Some(3)), (9, None)] {
             let near = Cell::new(start);
@@ -319,12 +232,8 @@ fn tables_differ_by_each_part_of_a_slot(rt: HostRuntime) {
     same(&rt, other.is_same(&table), false);
     same(&rt, revoke(&mut other, 0, 7), true);
     same(&rt, other.is_same(&table), false);
+    same(&rt, Slot::Revoking { stamp: 6 }.stamp(), 6);
+    same(&rt, stop(5).stamp(), 5);
     let (first, second) = (told_under(&rt, alloc, 1), told_under(&rt, alloc, 2));
     same(&rt, first.is_same(&second), false);
-}
-
-#[test]
-fn reads_the_stamp_of_a_slot(rt: HostRuntime) {
-    same(&rt, stop(5).stamp(), 5);
-    same(&rt, Slot::Revoking { stamp: 6 }.stamp(), 6);
 }

@@ -66,9 +66,9 @@ fn a_copy_of_limits_equals_its_source(rt: HostRuntime) {
     );
 }
 
-// another number of segments, another order, and another line or end of one
+// areas: another number of segments, another order, and another line or end of one; and restrictions
 #[test]
-fn areas_differ_by_each_part(rt: HostRuntime) {
+fn areas_and_restrictions_differ_by_each_part(rt: HostRuntime) {
     let track = good_track(&rt);
     let there = Segment {
         line: 0,
@@ -98,11 +98,6 @@ fn areas_differ_by_each_part(rt: HostRuntime) {
         let other = other.expect(&rt, "a good area");
         same(&rt, area.is_same(&other), wanted);
     }
-}
-
-#[test]
-fn restrictions_differ_by_each_part(rt: HostRuntime) {
-    let track = good_track(&rt);
     let limit = Limit::new(&track, HERE, Dirs::Up, 40, true).expect(&rt, "a good restriction");
     let longer = Segment { to: 11, ..HERE };
     let rows = [
