@@ -4,6 +4,7 @@ use Rattle.std.specs.List.{filter, find, list_any, range_with_len, All}
 use Rattle.rbc_maps.specs.Maps.{has, value_of, with_value, without, keys, IsMap}
 use Rattle.rbc_ids.specs.declared.slot.Slot.{Slot}
 use Rattle.rbc_ids.specs.declared.slot.Slot.TheVariants.{Used, Revoking}
+use Rattle.rbc_ids.specs.declared.slot.UsedSlot.{UsedSlot}
 use Rattle.rbc_ids.specs.declared.slot.Kind.{Kind}
 use Rattle.rbc_ids.specs.declared.slot.Kind.TheVariants.{Conditional, Unconditional, Restriction}
 use Rattle.rbc_ids.specs.declared.slot.StampAck.{StampAck}
@@ -23,7 +24,7 @@ pub record IsTable (count : ℕ) (slots : Slots) : Type 0 where
 
 -- A slot tells this number. A slot that is being revoked tells none.
 abbrev pub tells : ℕ → Slot → Bool
-tells number (Used told stamp kind acked) = told == number
+tells number (Used used) = used.number == number
 tells number (Revoking stamp) = false
 
 -- a number is told if a slot tells it
@@ -32,7 +33,7 @@ is_told slots number = list_any (λ held. tells number held.1) slots
 
 -- a slot is used, and not being revoked
 abbrev pub is_used : Slot → Bool
-is_used (Used number stamp kind acked) = true
+is_used (Used used) = true
 is_used (Revoking stamp) = false
 
 -- an identifier is held by a slot that is used
@@ -53,7 +54,11 @@ identifier_of slots number = option_map (λ held. held.0) (find (λ held. tells 
 
 -- the slot of a number that is told now, which the train has not acknowledged
 abbrev pub told_now : ℕ → ℕ → Kind → Slot
-told_now number stamp kind = Used number stamp kind false
+told_now number stamp kind = Used (record { number = number; stamp = stamp; kind = kind; acked = false })
+
+-- the slot once the train has acknowledged the message that told its number
+abbrev pub marked : UsedSlot → Slot
+marked used = Used (record used { acked = true })
 
 -- the table after the least free identifier was issued for a number
 pub record IsIssued (count : ℕ) (old : Slots) (number stamp : ℕ) (kind : Kind) (id : ℕ) (new : Slots) : Type 0 where
@@ -62,7 +67,7 @@ pub record IsIssued (count : ℕ) (old : Slots) (number stamp : ℕ) (kind : Kin
 
 -- the stamp of a slot
 abbrev pub stamp_of : Slot → ℕ
-stamp_of (Used number stamp kind acked) = stamp
+stamp_of (Used used) = used.stamp
 stamp_of (Revoking stamp) = stamp
 
 -- the least identifier whose slot has a stamp, with that slot
@@ -77,13 +82,16 @@ freed answer id slots = (answer, without id slots)
 abbrev pub put : {A : Type 0} → A → ℕ → Slot → Slots → A × Slots
 put answer id slot slots = (answer, with_value id slot slots)
 
+abbrev pub is_of_restriction : Kind → Bool
+is_of_restriction Conditional = false
+is_of_restriction Unconditional = false
+is_of_restriction Restriction = true
+
 -- The message of a slot is acknowledged: a revocation frees its identifier, a restriction is marked, and a stop stays as it is.
 abbrev pub acked_by_stamp : Slots → Option (ℕ × Slot) → StampAck × Slots
 acked_by_stamp slots None = (stamp_ack.Nothing, slots)
 acked_by_stamp slots (Some (id, Revoking stamp)) = freed stamp_ack.Freed id slots
-acked_by_stamp slots (Some (id, Used number stamp Restriction acked)) = put stamp_ack.Marked id (Used number stamp Restriction true) slots
-acked_by_stamp slots (Some (id, Used number stamp Conditional acked)) = (stamp_ack.Nothing, slots)
-acked_by_stamp slots (Some (id, Used number stamp Unconditional acked)) = (stamp_ack.Nothing, slots)
+acked_by_stamp slots (Some (id, Used used)) = if is_of_restriction used.kind then put stamp_ack.Marked id (marked used) slots else (stamp_ack.Nothing, slots)
 
 -- what the acknowledgement of the message with this stamp does, and the table after it
 abbrev pub after_stamp_ack : Slots → ℕ → StampAck × Slots
@@ -105,9 +113,9 @@ is_rejection Restriction answer = false
 abbrev pub acked_by_id : Slots → ℕ → ℕ → Option Slot → IdAck × Slots
 acked_by_id slots id answer None = (id_ack.Nothing, slots)
 acked_by_id slots id answer (Some (Revoking stamp)) = (id_ack.Nothing, slots)
-acked_by_id slots id answer (Some (Used number stamp kind acked)) =
-    if is_acceptance kind answer then put id_ack.Marked id (Used number stamp kind true) slots
-    else if is_rejection kind answer then freed (id_ack.Rejected number) id slots
+acked_by_id slots id answer (Some (Used used)) =
+    if is_acceptance used.kind answer then put id_ack.Marked id (marked used) slots
+    else if is_rejection used.kind answer then freed (id_ack.Rejected used.number) id slots
     else (id_ack.Nothing, slots)
 
 -- what the train's answer to the stop under an identifier does, and the table after it

@@ -4,5 +4,5 @@
 mod slot;
 mod table;
 
-pub use slot::{IdAck, IssueError, Kind, Slot, StampAck};
+pub use slot::{IdAck, IssueError, Kind, Slot, StampAck, UsedSlot};
 pub use table::IdTable;

@@ -14,22 +14,27 @@ pub enum Kind {
     Restriction,
 }
 
+/// What an identifier is used for.
+#[derive(Clone, Copy, Debug, PartialEq, Eq)]
+pub struct UsedSlot {
+    /// The number of the stop or the restriction that was told.
+    pub number: u32,
+    /// The stamp of the message that told it (T_TRAIN, 10 ms).
+    pub stamp: u32,
+    /// The kind of that message.
+    pub kind: Kind,
+    /// Whether the train has acknowledged that message.
+    pub acked: bool,
+}
+
 /// What a held identifier is held for.
 #[derive(Clone, Copy, Debug, PartialEq, Eq)]
 pub enum Slot {
-    /// It is used by a number, which a message with this stamp (T_TRAIN, 10 ms) told the train. `acked` is true once the
-    /// train has acknowledged that message.
-    Used {
-        number: u32,
-        stamp: u32,
-        kind: Kind,
-        acked: bool,
-    },
+    /// It is used by a number that the train was told.
+    Used(UsedSlot),
     /// It is being revoked by a message with this stamp (T_TRAIN, 10 ms), which the train has not acknowledged yet. It is
     /// not free.
-    Revoking {
-        stamp: u32,
-    },
+    Revoking { stamp: u32 },
 }
 
 impl Slot {
@@ -41,7 +46,8 @@ impl Slot {
         ensures { result ≡ stamp_of self.now }
     {
         match self {
-            Slot::Used { stamp, .. } | Slot::Revoking { stamp } => *stamp,
+            Slot::Used(used) => used.stamp,
+            Slot::Revoking { stamp } => *stamp,
         }
     }
 
@@ -49,7 +55,7 @@ impl Slot {
     pub fn tells(&self, number: u32) -> bool
         ensures { result ≡ tells number self.now }
     {
-        matches!(self, Slot::Used { number: told, .. } if *told == number)
+        matches!(self, Slot::Used(used) if used.number == number)
     }
 }
 

@@ -5,9 +5,9 @@ ghost use Rattle.std.specs.List.{position_or_len, enumerate_from};
 ghost use Rattle.rbc_maps.specs.Maps.{has, index_for, value_of, with_value, without};
 ghost use Rattle.rbc_ids.specs.declared.slot.IssueError.TheVariants.{Full};
 ghost use Rattle.rbc_ids.specs.declared.slot.Slot.TheVariants.{Revoking};
-ghost use Rattle.rbc_ids.specs.Table.{IsTable, is_told, is_used_at, least_free, identifier_of, told_now, IsIssued, with_stamp, after_stamp_ack, after_id_ack};
+ghost use Rattle.rbc_ids.specs.Table.{IsTable, is_told, is_used_at, least_free, identifier_of, told_now, marked, IsIssued, with_stamp, after_stamp_ack, after_id_ack};
 
-use crate::slot::{IdAck, IssueError, Kind, Slot, StampAck};
+use crate::slot::{IdAck, IssueError, Kind, Slot, StampAck, UsedSlot};
 use std::alloc::{AllocError, Global};
 use std::cell::Cell;
 use std::marker::Model;
@@ -143,13 +143,7 @@ impl<const N: usize> IdTable<N> {
             return Err(IssueError::Full);
         }
         let id = gap as u8;
-        let slot = Slot::Used {
-            number,
-            stamp,
-            kind,
-            acked: false,
-        };
-        self.held.insert(gap, (id, slot))?;
+        self.held.insert(gap, (id, told_now(number, stamp, kind)))?;
         Ok(id)
     }
 
@@ -162,13 +156,7 @@ impl<const N: usize> IdTable<N> {
         ensures err { OnErr result (self.new ≡ self.old) }
     {
         let at = self.index_of(id);
-        let told = Slot::Used {
-            number,
-            stamp,
-            kind,
-            acked: false,
-        };
-        self.held.insert(at, (id, told))?;
+        self.held.insert(at, (id, told_now(number, stamp, kind)))?;
         Ok(())
     }
 
@@ -203,24 +191,11 @@ impl<const N: usize> IdTable<N> {
                 self.free(id);
                 StampAck::Freed
             }
-            Slot::Used {
-                number,
-                stamp,
-                kind: Kind::Restriction,
-                ..
-            } => {
-                self.put(
-                    id,
-                    Slot::Used {
-                        number,
-                        stamp,
-                        kind: Kind::Restriction,
-                        acked: true,
-                    },
-                );
+            Slot::Used(used) if used.kind == Kind::Restriction => {
+                self.put(id, marked(used));
                 StampAck::Marked
             }
-            Slot::Used { .. } => StampAck::Nothing,
+            Slot::Used(_) => StampAck::Nothing,
         }
     }
 
@@ -229,33 +204,17 @@ impl<const N: usize> IdTable<N> {
     pub fn ack_id(&mut self, id: u8, answer: u8) -> IdAck
         ensures { (result, self.new) ≡ after_id_ack self.old id answer }
     {
-        let Some(
-            Slot::Used {
-                number,
-                stamp,
-                kind,
-                ..
-            },
-        ) = self.slot(id)
-        else {
+        let Some(Slot::Used(used)) = self.slot(id) else {
             return IdAck::Nothing;
         };
-        match (kind, answer) {
+        match (used.kind, answer) {
             (Kind::Conditional, 0 | 1) | (Kind::Unconditional, 2) => {
-                self.put(
-                    id,
-                    Slot::Used {
-                        number,
-                        stamp,
-                        kind,
-                        acked: true,
-                    },
-                );
+                self.put(id, marked(used));
                 IdAck::Marked
             }
             (Kind::Conditional, 3) => {
                 self.free(id);
-                IdAck::Rejected(number)
+                IdAck::Rejected(used.number)
             }
             _ => IdAck::Nothing,
         }
@@ -303,6 +262,28 @@ impl<const N: usize> IdTable<N> {
             .position(|(at, held)| usize::from(held.0) != at)
             .unwrap_or(self.held.len())
     }
+}
+
+/// The slot of a number that is told now, which the train has not acknowledged.
+fn told_now(number: u32, stamp: u32, kind: Kind) -> Slot
+    ensures { result ≡ told_now number stamp kind }
+{
+    Slot::Used(UsedSlot {
+        number,
+        stamp,
+        kind,
+        acked: false,
+    })
+}
+
+/// The slot once the train has acknowledged the message that told its number.
+fn marked(used: UsedSlot) -> Slot
+    ensures { result ≡ marked used }
+{
+    Slot::Used(UsedSlot {
+        acked: true,
+        ..used
+    })
 }
 
 /// Returns the least index of a slot that is used by a number.

@@ -7,6 +7,7 @@ use Rattle.std.proofs.lemmas.Option.{same_Some}
 use Rattle.rbc_maps.specs.Maps.{value_of, with_value, without}
 use Rattle.rbc_ids.specs.declared.slot.Slot.{Slot}
 use Rattle.rbc_ids.specs.declared.slot.Slot.TheVariants.{Used}
+use Rattle.rbc_ids.specs.declared.slot.UsedSlot.{UsedSlot}
 use Rattle.rbc_ids.specs.declared.slot.Kind.{Kind}
 use Rattle.rbc_ids.specs.Table.{Slots, IsTable, stamp_of}
 use Rattle.rbc_ids.proofs.Tables.{has-value, stays_without, stays_with, held_below}
@@ -65,10 +66,10 @@ told-first : (P : ℕ → Type 0) (o : Option ℕ) (n : ℕ) (xs : List ℕ) →
 told-first P o n xs e all = All-head P n xs (subst (λ (p : Option ℕ). All P (cons_option p xs)) e all)
 
 -- holds of one that is told under an identifier
-pub told-given : (P : ℕ → Type 0) (slots : Slots) (id number stamp : ℕ) (kind : Kind) (acked : Bool) → All P (told_numbers slots) → value_of slots id ≡ Some (Used number stamp kind acked) → P number
-told-given P [] id number stamp kind acked all found = absurd (let bad : None ≡ Some (Used number stamp kind acked) = found in cc)
-told-given P (held ∷ slots) id number stamp kind acked all found =
-    (elim (eqb held.0 id) as (λ b. cond b (Some held.1) (value_of slots id) ≡ Some (Used number stamp kind acked) → P number) [
-      | true ↦ λ e. told-first P (number_in held.1) number (told_numbers slots) (ap number_in (same_Some held.1 (Used number stamp kind acked) e)) all
-      | false ↦ λ e. told-given P slots id number stamp kind acked (told-rest P (number_in held.1) (told_numbers slots) all) e
+pub told-given : (P : ℕ → Type 0) (slots : Slots) (id : ℕ) (used : UsedSlot) → All P (told_numbers slots) → value_of slots id ≡ Some (Used used) → P used.number
+told-given P [] id used all found = absurd (let bad : None ≡ Some (Used used) = found in cc)
+told-given P (held ∷ slots) id used all found =
+    (elim (eqb held.0 id) as (λ b. cond b (Some held.1) (value_of slots id) ≡ Some (Used used) → P used.number) [
+      | true ↦ λ e. told-first P (number_in held.1) used.number (told_numbers slots) (ap number_in (same_Some held.1 (Used used) e)) all
+      | false ↦ λ e. told-given P slots id used (told-rest P (number_in held.1) (told_numbers slots) all) e
     ]) found

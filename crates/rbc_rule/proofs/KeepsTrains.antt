@@ -16,7 +16,7 @@ use Rattle.rbc_ids.specs.declared.slot.Kind.TheVariants.{Conditional, Unconditio
 use Rattle.rbc_ids.specs.declared.slot.StampAck.{StampAck}
 use Rattle.rbc_ids.specs.declared.slot.StampAck.TheVariants as stamp_ack
 use Rattle.rbc_ids.specs.declared.slot.IdAck.TheVariants as id_ack
-use Rattle.rbc_ids.specs.Table.{Slots, IsTable, stamp_of, with_stamp, acked_by_stamp, after_stamp_ack, is_acceptance, is_rejection, acked_by_id}
+use Rattle.rbc_ids.specs.Table.{Slots, IsTable, stamp_of, with_stamp, acked_by_stamp, after_stamp_ack, is_acceptance, is_rejection, acked_by_id, marked, is_of_restriction}
 use Rattle.rbc_settle.specs.declared.train.TrainRec.{TrainRec}
 use Rattle.rbc_settle.specs.Numbers.{AreNumbers, has_number, with_number, without_number}
 use Rattle.rbc_settle.specs.Trains.{new_train}
@@ -244,11 +244,12 @@ module _ (count : ℕ) (is_kind : Kind → Bool) (slots : Slots) (table : IsTabl
   stay-acked : (stamp : ℕ) (o : Option (ℕ × Slot)) → with_stamp slots stamp ≡ o → SlotsStay count is_kind slots (acked_by_stamp slots o).1
   stay-acked stamp None e = stay-same
   stay-acked stamp (Some (id, Revoking s)) e = stay-without count is_kind slots table kinds id
-  stay-acked stamp (Some (id, Used number s Restriction acked)) e =
-      stay-put count is_kind slots table kinds id (Used number s Restriction acked) (Used number s Restriction true)
-      (value_of-found (λ held. eqb (stamp_of held.1) stamp) (id, Used number s Restriction acked) 0 slots table.ascending e) refl refl refl
-  stay-acked stamp (Some (id, Used number s Conditional acked)) e = stay-same
-  stay-acked stamp (Some (id, Used number s Unconditional acked)) e = stay-same
+  stay-acked stamp (Some (id, Used used)) e =
+      let there = value_of-found (λ held. eqb (stamp_of held.1) stamp) (id, Used used) 0 slots table.ascending e in
+      elim (is_of_restriction used.kind) as (λ b. SlotsStay count is_kind slots (cond b (stamp_ack.Marked, with_value id (marked used) slots) (stamp_ack.Nothing, slots)).1) [
+        | true ↦ stay-put count is_kind slots table kinds id (Used used) (marked used) there refl refl refl
+        | false ↦ stay-same
+      ]
 
 module _ (plan : Plan) (stops : Stops) (limits : Limits) (engine : ℕ) where
   module _ (train : TrainRec) (same : train.engine ≡ engine) (well : IsWellFormedTrain plan stops limits train) where
@@ -270,16 +271,16 @@ module _ (plan : Plan) (stops : Stops) (limits : Limits) (engine : ℕ) where
     well_stop_acked : (id answer : ℕ) (o : Option Slot) → value_of train.stops id ≡ o → WellIfOk plan stops limits engine (stop_acked train (acked_by_id train.stops id answer o))
     well_stop_acked id answer None e = tt
     well_stop_acked id answer (Some (Revoking stamp)) e = tt
-    well_stop_acked id answer (Some (Used number stamp kind acked)) e =
-        let marked = well_stops plan stops limits train well (with_value id (Used number stamp kind true) train.stops)
-        (stay-put 15 is_stop_kind train.stops well.tables.stops well.stop_slots.kinds id (Used number stamp kind acked) (Used number stamp kind true) e refl refl refl) in
+    well_stop_acked id answer (Some (Used used)) e =
+        let accepted = well_stops plan stops limits train well (with_value id (marked used) train.stops)
+        (stay-put 15 is_stop_kind train.stops well.tables.stops well.stop_slots.kinds id (Used used) (marked used) e refl refl refl) in
         let freed_then = well_stops plan stops limits train well (without id train.stops) (stay-without 15 is_stop_kind train.stops well.tables.stops well.stop_slots.kinds id) in
-        let rejected = well_forced plan stops limits (record train { stops = without id train.stops }) freed_then number
-        (told-given (IsGiven stops.last) train.stops id number stamp kind acked well.stop_slots.given e) in
-        elim (is_acceptance kind answer) as (λ b. WellIfOk plan stops limits engine (stop_acked train (cond b (id_ack.Marked, with_value id (Used number stamp kind true) train.stops)
-        (cond (is_rejection kind answer) (id_ack.Rejected number, without id train.stops) (id_ack.Nothing, train.stops))))) [
-          | true ↦ (same, marked)
-          | false ↦ elim (is_rejection kind answer) as (λ b. WellIfOk plan stops limits engine (stop_acked train (cond b (id_ack.Rejected number, without id train.stops) (id_ack.Nothing, train.stops)))) [
+        let rejected = well_forced plan stops limits (record train { stops = without id train.stops }) freed_then used.number
+        (told-given (IsGiven stops.last) train.stops id used well.stop_slots.given e) in
+        elim (is_acceptance used.kind answer) as (λ b. WellIfOk plan stops limits engine (stop_acked train (cond b (id_ack.Marked, with_value id (marked used) train.stops)
+        (cond (is_rejection used.kind answer) (id_ack.Rejected used.number, without id train.stops) (id_ack.Nothing, train.stops))))) [
+          | true ↦ (same, accepted)
+          | false ↦ elim (is_rejection used.kind answer) as (λ b. WellIfOk plan stops limits engine (stop_acked train (cond b (id_ack.Rejected used.number, without id train.stops) (id_ack.Nothing, train.stops)))) [
             | true ↦ (same, rejected)
             | false ↦ tt
           ]

@@ -190,7 +190,8 @@ module _ {V : Type 0} (number : ℕ) where
 none_gone_still : (before after : ℕ → Bool) (slots : Slots) → ((n : ℕ) → is_told slots n ≡ true → before n ≡ false → after n ≡ false)
     → list_any (λ held. is_used_by before held.1) slots ≡ false → list_any (λ held. is_used_by after held.1) slots ≡ false
 none_gone_still before after [] kept none = refl
-none_gone_still before after ((id, Used number stamp kind acked) ∷ slots) kept none =
+none_gone_still before after ((id, Used used) ∷ slots) kept none =
+    let number = used.number in
     let parts = or_parts (before number) (list_any (λ held. is_used_by before held.1) slots) none in
     or_from (after number) (list_any (λ held. is_used_by after held.1) slots)
     (kept number (or_left (eqb number number) (is_told slots number) (eq-eqb number number refl)) parts.0)

@@ -7,9 +7,8 @@ use Rattle.rbc_track.specs.Plan.{Plan}
 use Rattle.rbc_track.specs.declared.group.Way.TheVariants.{Up, Down}
 use Rattle.rbc_place.specs.Placing.{Place}
 use Rattle.rbc_maps.specs.Numbered.{none_numbered}
-use Rattle.rbc_ids.specs.declared.slot.Slot.TheVariants.{Used}
 use Rattle.rbc_ids.specs.declared.slot.Kind.TheVariants.{Conditional, Restriction}
-use Rattle.rbc_ids.specs.Table.{Slots}
+use Rattle.rbc_ids.specs.Table.{Slots, told_now}
 use Rattle.rbc_zones.specs.declared.segment.Segment.{Segment}
 use Rattle.rbc_zones.specs.declared.limit.Dirs.TheVariants as dirs
 use Rattle.rbc_zones.specs.Limits.{Limit}
@@ -160,7 +159,7 @@ spot_at place = record { line = 0; origin = 10000; way = Up; place = place; unit
 
 -- identifier 0 is used by a stop, told under stamp 1001
 abbrev pub told_as_0 : ℕ → Slots
-told_as_0 number = (0, Used number 1001 Conditional false) ∷ []
+told_as_0 number = (0, told_now number 1001 Conditional) ∷ []
 
 -- train 7 with its last stamp, told what stands in its slots
 abbrev pub world_told : Option Place → ℕ → Slots → World
@@ -172,7 +171,7 @@ told_world = world_told (Some facing_up) 1001 (told_as_0 1)
 
 -- it was told the stop under two identifiers
 abbrev pub told_twice : World
-told_twice = world_told (Some facing_up) 1002 ((0, Used 1 1001 Conditional false) ∷ (1, Used 1 1002 Conditional false) ∷ [])
+told_twice = world_told (Some facing_up) 1002 ((0, told_now 1 1001 Conditional) ∷ (1, told_now 1 1002 Conditional) ∷ [])
 
 -- ---- other worlds
 
@@ -187,7 +186,7 @@ world_restricted = world_of (train_7 (Some facing_up) 1000 []) none_numbered (re
 -- it was told a restriction to 80 km/h of 20000 to 21000, which is active
 abbrev pub world_limited : World
 world_limited =
-    world_of (record (train_7 (Some facing_up) 1001 []) { limits = (0, Used 1 1001 Restriction false) ∷ [] }) none_numbered (restriction_1 (on_line_0 20000 21000))
+    world_of (record (train_7 (Some facing_up) 1001 []) { limits = (0, told_now 1 1001 Restriction) ∷ [] }) none_numbered (restriction_1 (on_line_0 20000 21000))
 
 -- it may stand beyond the end of its line
 abbrev pub world_off_line : World

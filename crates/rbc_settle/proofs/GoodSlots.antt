@@ -12,7 +12,7 @@ use Rattle.rbc_settle.proofs.Labels.{all_has, all_from, from_with, distinct_with
 -- the numbers that a table tells are those that are told
 number_told : (slots : Slots) (n : ℕ) → has_number (told_numbers slots) n ≡ is_told slots n
 number_told [] n = refl
-number_told ((id, Used number stamp kind acked) ∷ slots) n = ap (λ b. tells n (Used number stamp kind acked) || b) (number_told slots n)
+number_told ((id, Used used) ∷ slots) n = ap (λ b. tells n (Used used) || b) (number_told slots n)
 number_told ((id, Revoking stamp) ∷ slots) n = number_told slots n
 
 -- a table stays good where a slot is put in that tells no number, or one that was given and is not told

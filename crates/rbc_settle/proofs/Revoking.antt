@@ -111,7 +111,7 @@ module _ (gone : ℕ → Bool) where
 
   -- the slot of a gone number tells no other one
   tells_gone : (n : ℕ) (slot : Slot) → is_used_by gone slot ≡ true → gone n ≡ false → tells n slot ≡ false
-  tells_gone n (Used m stamp kind acked) used stays = ne_eqb m n (λ same. both_ways (gone n) stays (subst (λ k. gone k ≡ true) same used))
+  tells_gone n (Used slot) used stays = ne_eqb slot.number n (λ same. both_ways (gone n) stays (subst (λ k. gone k ≡ true) same used))
   tells_gone n (Revoking stamp) used stays = refl
 
   -- a number that is not gone is told as before
@@ -135,7 +135,7 @@ module _ (gone : ℕ → Bool) where
 
   -- a slot that a number uses is used
   used_by : (slot : Slot) → is_used_by gone slot ≡ true → is_used slot ≡ true
-  used_by (Used m stamp kind acked) used = refl
+  used_by (Used slot) used = refl
   used_by (Revoking stamp) used = used
 
   -- what is used stays so beside one more slot

@@ -105,7 +105,7 @@ limit_to_tell horizon train limit =
 
 -- a slot is used by a number that has to be revoked
 abbrev pub is_used_by : (ℕ → Bool) → Slot → Bool
-is_used_by is_gone (Used number stamp kind acked) = is_gone number
+is_used_by is_gone (Used used) = is_gone used.number
 is_used_by is_gone (Revoking stamp) = false
 
 -- the identifiers that are used by such numbers, in ascending order

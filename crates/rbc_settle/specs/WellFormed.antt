@@ -27,7 +27,7 @@ IsGiven last n = (1 ≤ n) × (n ≤ last)
 
 -- The number that a slot tells: a slot that is being revoked tells none.
 abbrev pub number_in : Slot → Option ℕ
-number_in (Used number stamp kind acked) = Some number
+number_in (Used used) = Some used.number
 number_in (Revoking stamp) = None
 
 -- the numbers that a table tells, in ascending order of the identifiers
@@ -40,7 +40,7 @@ stamps train = map (λ held. stamp_of held.1) (train.stops ++ train.limits)
 
 -- a slot has such a kind, if it is used
 abbrev pub has_kind : (Kind → Bool) → Slot → Bool
-has_kind is_kind (Used number stamp kind acked) = is_kind kind
+has_kind is_kind (Used used) = is_kind used.kind
 has_kind is_kind (Revoking stamp) = true
 
 -- the kinds of stops

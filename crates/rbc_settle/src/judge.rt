@@ -83,7 +83,7 @@ fn is_used_by_gone_stop(stops: &Stops, slot: Slot, near: &Cell<usize>) -> bool
     ensures { result ≡ is_used_by (is_stop_gone stops.now) slot }
 {
     match slot {
-        Slot::Used { number, .. } => stops.get_near(number, near).is_none(),
+        Slot::Used(used) => stops.get_near(used.number, near).is_none(),
         Slot::Revoking { .. } => false,
     }
 }
@@ -183,7 +183,7 @@ fn is_used_by_gone_limit(
     ensures { result ≡ is_used_by (is_limit_gone limits.now (option_copied place.entry)) slot }
 {
     match slot {
-        Slot::Used { number, .. } => is_limit_gone(limits, place, number, near),
+        Slot::Used(used) => is_limit_gone(limits, place, used.number, near),
         Slot::Revoking { .. } => false,
     }
 }

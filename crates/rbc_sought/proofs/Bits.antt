@@ -30,11 +30,11 @@ bit_set n bits m h =
 
 -- the same of a slot, which tells one number or none
 slot_kept : (n bits : ℕ) (slot : Slot) → has_bit bits n ≡ true → has_bit (with_slot bits slot) n ≡ true
-slot_kept n bits (Used number stamp kind acked) h = bit_kept n bits number h
+slot_kept n bits (Used used) h = bit_kept n bits used.number h
 slot_kept n bits (Revoking stamp) h = h
 
 slot_set : (n bits : ℕ) (slot : Slot) → tells n slot ≡ true → has_bit (with_slot bits slot) n ≡ true
-slot_set n bits (Used number stamp kind acked) h = bit_set n bits number h
+slot_set n bits (Used used) h = bit_set n bits used.number h
 slot_set n bits (Revoking stamp) h = cc
 
 -- what one step keeps and sets, all steps do

@@ -18,7 +18,7 @@ with_bit bits number = bit_or bits (2 ^ (number % 64))
 
 -- with the bit of the number that a slot tells; one that is being revoked tells none
 abbrev pub with_slot : ℕ → Slot → ℕ
-with_slot bits (Used number stamp kind acked) = with_bit bits number
+with_slot bits (Used used) = with_bit bits used.number
 with_slot bits (Revoking stamp) = bits
 
 -- the bits of the numbers that are told

@@ -70,7 +70,7 @@ fn with_slot(bits: u64, slot: Slot) -> u64
     ensures { result ≡ with_slot bits slot }
 {
     match slot {
-        Slot::Used { number, .. } => with_bit(bits, number),
+        Slot::Used(used) => with_bit(bits, used.number),
         Slot::Revoking { .. } => bits,
     }
 }

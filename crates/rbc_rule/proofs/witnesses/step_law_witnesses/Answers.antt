@@ -3,7 +3,7 @@ use Rattle.std.proofs.lemmas.List.Elements.{All-nil, All-head}
 use Rattle.std.proofs.lemmas.Option.{same_Some}
 use Rattle.rbc_maps.specs.Numbered.{none_numbered}
 use Rattle.rbc_ids.specs.declared.slot.Slot.{Slot}
-use Rattle.rbc_ids.specs.declared.slot.Slot.TheVariants.{Used}
+use Rattle.rbc_ids.specs.Table.{told_now}
 use Rattle.rbc_ids.specs.declared.slot.Kind.TheVariants.{Conditional}
 use Rattle.rbc_place.specs.Placing.{Place}
 use Rattle.rbc_zones.specs.Limits.{Limit, is_good_limit}
@@ -50,7 +50,7 @@ well_formed_train = record {
     limits = record { small = omega arith; ascending = refl; below = All-nil (λ (id : ℕ). id < 255) };
   };
   stop_slots = record {
-    kinds = only (λ (held : ℕ × Slot). has_kind is_stop_kind held.1 ≡ true) (0, Used 1 1001 Conditional false) refl;
+    kinds = only (λ (held : ℕ × Slot). has_kind is_stop_kind held.1 ≡ true) (0, told_now 1 1001 Conditional) refl;
     given = only (IsGiven 1) 1 (omega arith, omega arith);
     once = (refl, tt);
   };
@@ -75,7 +75,7 @@ returns-clause-well_formed c =
 
 pub returns-clause-told_twice : goal.returns-clause-told_twice
 returns-clause-told_twice c h =
-    let train = train_7 (Some facing_up) 1002 ((0, Used 1 1001 Conditional false) ∷ (1, Used 1 1002 Conditional false) ∷ []) in
+    let train = train_7 (Some facing_up) 1002 ((0, told_now 1 1001 Conditional) ∷ (1, told_now 1 1002 Conditional) ∷ []) in
     let once : true ≡ false = (good_train train (stop_1 (on_line_0 20000 21000)) none_numbered h).well_formed.stop_slots.once.0 in
     cc
 

@@ -2,7 +2,7 @@ use Rattle.std.proofs.Common.{◌≡◌, ◌⊎◌, ℕ, true, false, ◌≤◌,
 use Rattle.std.proofs.lemmas.List.Elements.{All-nil, All-head}
 use Rattle.rbc_maps.specs.Numbered.{none_numbered}
 use Rattle.rbc_ids.specs.declared.slot.Slot.{Slot}
-use Rattle.rbc_ids.specs.declared.slot.Slot.TheVariants.{Used}
+use Rattle.rbc_ids.specs.Table.{told_now}
 use Rattle.rbc_ids.specs.declared.slot.Kind.TheVariants.{Conditional}
 use Rattle.rbc_zones.specs.declared.edge.Concern.TheVariants as concern
 use Rattle.rbc_settle.specs.declared.train.TrainRec.{TrainRec}
@@ -25,7 +25,7 @@ returns-clause-told c =
     let now : IsUpToDate track_a stops none_numbered train = record {
       told = only (IsToldIfItCan train) (1, on_line_0 20000 21000 ∷ []) (inr (inl refl));
       limits_told = All-nil (IsLimitToldIfItCan 100000 train);
-      no_stop_gone = only (λ (held : ℕ × Slot). is_used_by (is_stop_gone stops) held.1 ≡ false) (0, Used 1 1001 Conditional false) refl;
+      no_stop_gone = only (λ (held : ℕ × Slot). is_used_by (is_stop_gone stops) held.1 ≡ false) (0, told_now 1 1001 Conditional) refl;
       no_limit_gone = All-nil (λ (held : ℕ × Slot). is_used_by (is_limit_gone none_numbered (Some facing_up)) held.1 ≡ false);
     } in
     only (IsNow stops none_numbered) (7, train) (inr now)
@@ -70,7 +70,7 @@ returns-clause-not_revoked c h =
     let train = train_7 (Some facing_up) 1001 (told_as_0 1) in
     let stops : Stops = record { last = 1; active = [] } in
     let now = now_up_to_date train stops none_numbered (omega arith) h in
-    let gone : true ≡ false = All-head (λ (held : ℕ × Slot). is_used_by (is_stop_gone stops) held.1 ≡ false) (0, Used 1 1001 Conditional false) [] now.no_stop_gone in
+    let gone : true ≡ false = All-head (λ (held : ℕ × Slot). is_used_by (is_stop_gone stops) held.1 ≡ false) (0, told_now 1 1001 Conditional) [] now.no_stop_gone in
     cc
 
 pub returns-clause-restriction_not_told : goal.returns-clause-restriction_not_told

@@ -1,5 +1,6 @@
-use Rattle.std.proofs.Common.{◌≡◌, ◌≤◌, ◌∙◌, length, sym, ap, arith, refl}
-use Rattle.rbc_ids.specs.Table.{told_now}
+use Rattle.std.proofs.Common.{◌≡◌, ◌≤◌, ◌∙◌, length, sym, ap, subst, arith, refl}
+use Rattle.rbc_maps.specs.Maps.{with_value}
+use Rattle.rbc_ids.specs.declared.slot.Slot.{Slot}
 use Rattle.rbc_ids.proofs.Gaps.{run, run_within, run_below, run_is_all, all_from_run, least_at, inserted_there, inserted_stays, full_only_where}
 use Rattle.rbc_ids.proofs.table.IdTable.issue.Goals as goal
 
@@ -28,12 +29,14 @@ returns-in_err-insert-clause-full g c =
 pub invariant_of-self-2 : goal.invariant_of-self-2
 invariant_of-self-2 g c =
     let same : c.self.inside.held.items ≡ c.args.self.now = c.self.view_is in
-    inserted_stays g.row.N c.args.self.now c.gap-gap.ensures.sound c.self.inside.held.items same c.gap-gap.result c.gap-gap.ensures.value c.if-gap.false (told_now c.args.number c.args.stamp c.args.kind) c.insert.new.self.items c.in_ok-insert.ensures.items
+    inserted_stays g.row.N c.args.self.now c.gap-gap.ensures.sound c.self.inside.held.items same c.gap-gap.result c.gap-gap.ensures.value c.if-gap.false c.told_now.result c.insert.new.self.items c.in_ok-insert.ensures.items
 
 pub returns-clause-issued : goal.returns-clause-issued
 returns-clause-issued g c =
     let same : c.self.inside.held.items ≡ c.args.self.now = c.self.view_is in
     record {
       least = least_at g.row.N c.args.self.now c.gap-gap.ensures.sound c.self.inside.held.items same c.gap-gap.result c.gap-gap.ensures.value c.if-gap.false;
-      slots = inserted_there g.row.N c.args.self.now c.gap-gap.ensures.sound c.self.inside.held.items same c.gap-gap.result c.gap-gap.ensures.value c.if-gap.false (told_now c.args.number c.args.stamp c.args.kind) c.insert.new.self.items c.in_ok-insert.ensures.items;
+      slots =
+          subst (λ (slot : Slot). c.insert.new.self.items ≡ with_value c.gap-gap.result slot c.args.self.now) c.told_now.ensures
+          (inserted_there g.row.N c.args.self.now c.gap-gap.ensures.sound c.self.inside.held.items same c.gap-gap.result c.gap-gap.ensures.value c.if-gap.false c.told_now.result c.insert.new.self.items c.in_ok-insert.ensures.items);
     }

@@ -1,5 +1,7 @@
 use Rattle.std.proofs.Common.{◌≡◌, ◌≤◌, length, subst, arith}
-use Rattle.rbc_ids.specs.Table.{IsTable, told_now}
+use Rattle.rbc_maps.specs.Maps.{with_value}
+use Rattle.rbc_ids.specs.declared.slot.Slot.{Slot}
+use Rattle.rbc_ids.specs.Table.{IsTable}
 use Rattle.rbc_ids.proofs.Tables.{place_within, told_there, told_stays}
 use Rattle.rbc_ids.proofs.table.IdTable.tell.Goals as goal
 
@@ -13,10 +15,11 @@ pub invariant_of-self-2 : goal.invariant_of-self-2
 invariant_of-self-2 g c =
     let same : c.self.inside.held.items ≡ c.args.self.now = c.self.view_is in
     told_stays g.row.N c.self.inside.held.items c.args.self.now same (subst (IsTable g.row.N) same c.self.invariant) c.args.id c.index_of-at.result c.index_of-at.ensures c.requires.free c.requires.below
-    (told_now c.args.number c.args.stamp c.args.kind) c.insert.new.self.items c.in_ok-insert.ensures.items
+    c.told_now.result c.insert.new.self.items c.in_ok-insert.ensures.items
 
 pub returns-clause-ok : goal.returns-clause-ok
 returns-clause-ok g c =
     let same : c.self.inside.held.items ≡ c.args.self.now = c.self.view_is in
-    told_there g.row.N c.self.inside.held.items c.args.self.now same (subst (IsTable g.row.N) same c.self.invariant) c.args.id c.index_of-at.result c.index_of-at.ensures c.requires.free
-    (told_now c.args.number c.args.stamp c.args.kind) c.insert.new.self.items c.in_ok-insert.ensures.items
+    subst (λ (slot : Slot). c.insert.new.self.items ≡ with_value c.args.id slot c.args.self.now) c.told_now.ensures
+    (told_there g.row.N c.self.inside.held.items c.args.self.now same (subst (IsTable g.row.N) same c.self.invariant) c.args.id c.index_of-at.result c.index_of-at.ensures c.requires.free
+    c.told_now.result c.insert.new.self.items c.in_ok-insert.ensures.items)
