@@ -3,7 +3,7 @@
 ghost use Rattle.std.specs.Prelude.{◌≤◌};
 
 use super::same;
-use rbc_ids::{IdAck, IdTable, IssueError, Kind, Slot, StampAck};
+use rbc_ids::{IdAck, IdTable, IssueError, Kind, Slot, StampAck, UsedSlot};
 use std::alloc::Global;
 use std::cell::Cell;
 use std::process::Abort;
@@ -25,7 +25,7 @@ fn tell(rt: &impl Abort, table: &mut IdTable<15>, id: u8, number: u32) -> bool {
 /// Revokes an identifier if it is used, and returns whether it was.
 fn revoke<const N: usize>(table: &mut IdTable<N>, id: u8, stamp: u32) -> bool {
     match table.slot(id) {
-        Some(Slot::Used { .. }) => {
+        Some(Slot::Used(_)) => {
             table.revoke(id, stamp);
             true
         }
@@ -59,12 +59,12 @@ fn stops<const N: usize>(rt: &impl Abort, alloc: Global, count: u8) -> IdTable<N
 
 /// Returns the slot of such an identifier.
 fn stop(id: u8) -> Slot {
-    Slot::Used {
+    Slot::Used(UsedSlot {
         number: u32::from(id),
         stamp: u32::from(id),
         kind: Kind::Unconditional,
         acked: false,
-    }
+    })
 }
 
 /// Makes a table of 15 in which identifier 0 is used by number 1 with stamp 7.
@@ -76,12 +76,12 @@ fn one(rt: &impl Abort, alloc: Global, kind: Kind) -> IdTable<15> {
 
 /// Returns the slot of `one`, acknowledged or not.
 fn told(kind: Kind, acked: bool) -> Option<Slot> {
-    Some(Slot::Used {
+    Some(Slot::Used(UsedSlot {
         number: 1,
         stamp: 7,
         kind,
         acked,
-    })
+    }))
 }
 
 // the least free one, up to the last of 15 and of 255; one that is being revoked is not free
@@ -132,12 +132,12 @@ fn tells_under_the_identifier_that_was_chosen(rt: HostRuntime) {
         assert!(rt; tell(&rt, &mut table, id, number));
     }
     for (id, number) in numbers {
-        let slot = Slot::Used {
+        let slot = Slot::Used(UsedSlot {
             number,
             stamp: 40,
             kind: Kind::Conditional,
             acked: false,
-        };
+        });
         same(&rt, table.slot(id), Some(slot));
         assert!(rt; !tell(&rt, &mut table, id, 34));
     }

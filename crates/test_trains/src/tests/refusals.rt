@@ -6,7 +6,7 @@
 use super::same;
 use super::tables::stops;
 use ertms_codec::ToTrain;
-use rbc_ids::{IdTable, IssueError, Kind, Slot};
+use rbc_ids::{IdTable, IssueError, Kind, Slot, UsedSlot};
 use rbc_place::place_of;
 use rbc_settle::{Sent, TrainRec, settle};
 use rbc_track::Track;
@@ -115,12 +115,12 @@ fn issues_or_keeps_the_table(rt: HostRuntime) -> Result<(), Fail> {
     }
     same(&rt, table.held(), 255);
     for id in 0..255u8 {
-        let used = Slot::Used {
+        let used = Slot::Used(UsedSlot {
             number: u32::from(id) + 1,
             stamp: u32::from(id) + 1,
             kind: Kind::Restriction,
             acked: false,
-        };
+        });
         same(&rt, table.slot(id), Some(used));
     }
     ending(refused)
