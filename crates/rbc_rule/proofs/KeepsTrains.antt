@@ -246,7 +246,7 @@ module _ (count : ℕ) (is_kind : Kind → Bool) (slots : Slots) (table : IsTabl
   stay-acked stamp (Some (id, Revoking s)) e = stay-without count is_kind slots table kinds id
   stay-acked stamp (Some (id, Used used)) e =
       let there = value_of-found (λ held. eqb (stamp_of held.1) stamp) (id, Used used) 0 slots table.ascending e in
-      elim (is_of_restriction used.kind) as (λ b. SlotsStay count is_kind slots (cond b (stamp_ack.Marked, with_value id (marked used) slots) (stamp_ack.Nothing, slots)).1) [
+      elim (is_of_restriction used.kind) as (λ b. SlotsStay count is_kind slots (cond {A = StampAck × Slots} b (stamp_ack.Marked, with_value id (marked used) slots) (stamp_ack.Nothing, slots)).1) [
         | true ↦ stay-put count is_kind slots table kinds id (Used used) (marked used) there refl refl refl
         | false ↦ stay-same
       ]
