@@ -272,8 +272,8 @@ fn gives_up_on_endless_interruptions(rt: HostRuntime) {
     same(&rt, writer.calls, 1_000);
 }
 
-/// Takes one byte a call up to some number, then gives 0 or fails for so many calls, and works again; every other call is
-/// interrupted.
+/// Takes one byte a call up to some number, then gives 0 or fails for so many calls, and works again. Every other call
+/// is interrupted.
 #[derive(Drop)]
 struct Narrow {
     taken: Vec<u8>,
