@@ -152,9 +152,9 @@ impl Gate for Idle {
     }
 }
 
-/// Counts the calls for the inputs of a run that enrols engine 7 first, then 8, and then 9: one hexadecimal digit for
-/// each call and input. Of the reads only those of trains are counted. A call for another input, or a read of another
-/// train, counts beyond these digits.
+/// Counts the calls for the inputs of a run that withdraws engine 7 first, then 8, and then 9, of which none is enrolled:
+/// one hexadecimal digit for each call and input. Each input reads its own train and nothing else; what is told of
+/// another input, or of another key, is counted beyond these digits.
 #[derive(Drop)]
 pub(super) struct Told {
     calls: AtomicU64,
@@ -196,10 +196,8 @@ impl Gate for Told {
     }
 
     fn after_read(&self, input: u32, key: Key) {
-        if let Key::Train(engine) = key {
-            let is_own = engine == input.wrapping_add(6);
-            self.count(Site::AfterRead, if is_own { input } else { 0 });
-        }
+        let is_own = key == Key::Train(input.wrapping_add(6));
+        self.count(Site::AfterRead, if is_own { input } else { 0 });
     }
 
     fn before_deposit(&self, input: u32) {

@@ -155,13 +155,14 @@ fn stops<R: Abort + AllocGlobal>(rt: &R, from: usize, count: usize) -> String {
 // at an input at once as are asked for, and no more.
 #[test]
 fn tells_the_gate_each_input(rt: HostRuntime) {
-    let batch = "enrol 7 2000\nenrol 8 2000\nenrol 9 2000\n";
+    let batch = "withdraw 7\nwithdraw 8\nwithdraw 9\n";
+    let text = "1 refused 7\n2 refused 7\n3 refused 7\n";
     for workers in [1, 2] {
         let told = Told::new();
-        assert_answers(&rt, batch, workers, &told, "1 ok 0\n2 ok 0\n3 ok 0\n");
+        assert_answers(&rt, batch, workers, &told, text);
         same(&rt, told.calls(), 0x1111_1111_1111);
         let inside = Inside::new(&rt, u32::from(workers));
-        assert_answers(&rt, batch, workers, &inside, "1 ok 0\n2 ok 0\n3 ok 0\n");
+        assert_answers(&rt, batch, workers, &inside, text);
         same(&rt, inside.most(), u32::from(workers));
     }
 }
