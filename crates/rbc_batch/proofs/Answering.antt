@@ -1,6 +1,7 @@
 -- A run from a new desk, and what is written of it.
-use Rattle.std.proofs.Common.{◌≡◌, ℕ, ◌≤◌, List, [], length, take, Option, Ok, Err, ap, ◌∙◌, subst, arith}
-use Rattle.std.specs.Io.KnownBytes.{Appends}
+use Rattle.std.proofs.Common.{◌≡◌, ℕ, ◌≤◌, List, [], length, take, Option, Some, None, Result, Ok, Err, refl, sym, ap, ◌∙◌, subst, arith}
+use Rattle.std.specs.Prelude.{IsErrAnd}
+use Rattle.std.specs.Io.KnownBytes.{Appends, Keeps}
 use Rattle.std.proofs.lemmas.List.{take_all}
 use Rattle.rbc_track.specs.Plan.{Plan}
 use Rattle.rbc_rule.specs.declared.input.Input.{Input}
@@ -14,8 +15,11 @@ use Rattle.rbc_engine.specs.declared.workers.RunError.{RunError}
 use Rattle.rbc_engine.specs.declared.workers.RunError.TheVariants.{Workers, TooManyInputs, OutOfMemory}
 use Rattle.rbc_engine.specs.Answers.{IsRun}
 use Rattle.rbc_batch.specs.declared.batch.ProcessError.TheVariants as fault
+use Rattle.rbc_text.specs.BatchText.{lines_of}
 use Rattle.rbc_text.specs.OutputText.{output_of}
-use Rattle.rbc_batch.specs.Process.{AreRead, Answers, IsRunOf, text_of}
+use Rattle.rbc_batch.specs.declared.batch.ProcessError.{ProcessError}
+use Rattle.rbc_batch.specs.Process.{AreRead, Answers, IsBeforeRun, IsRunOf, text_of}
+use Rattle.rbc_batch.proofs.Existing.{have_inputs}
 
 -- it came to its end
 pub ran : (plan : Plan) (held new : Held) (inputs : List Input) (workers : ℕ) (stats : Stats) → Holds plan (standing held) new_desk
@@ -53,3 +57,32 @@ wrote_all plan workers read_old read_new old new inputs held stats text read ran
     let desk = serial plan new_desk inputs in
     let same : text ≡ text_of plan inputs = is ∙ (ap (λ (xs : List Reply). output_of xs held.outboxes) ran.2.results ∙ ap (λ (boxes : List (ℕ × List Mail)). output_of desk.results boxes) ran.2.outboxes) in
     (inputs, read, ran.0, ran.1, subst (λ (t : List ℕ). Appends old new t) same out, ran.3, ran.4)
+
+-- a batch that is refused before its lines are read has inputs all the same
+pub before_run : (plan : Plan) (workers : ℕ) (read_old read_new old new : Option (List ℕ)) (error : ProcessError) → IsBeforeRun workers read_old read_new error → Keeps old new
+    → Answers plan workers read_old read_new old new (Err error)
+before_run plan workers read_old read_new old new (fault.Run Workers) (batch, all, short, refused) keeps =
+    let have = have_inputs (lines_of batch) in
+    (have.inputs, record { batch = batch; all = all; short = short; lines = have.are }, refused, keeps)
+before_run plan workers read_old read_new old new (fault.Run TooManyInputs) (batch, all, short, refused) keeps =
+    let have = have_inputs (lines_of batch) in
+    let many = refused.1 in
+    let as_many = have.as_many in
+    (have.inputs, record { batch = batch; all = all; short = short; lines = have.are }, refused.0, (λ few. absurd (omega (arith, few, as_many, many))), keeps)
+before_run plan workers read_old read_new old new (fault.Run (OutOfMemory committed)) (batch, all, short, refused) keeps = absurd refused
+before_run plan workers read_old read_new old new (fault.Write sent) h keeps = absurd h
+before_run plan workers read_old read_new old new fault.Read h keeps = keeps
+before_run plan workers read_old read_new old new fault.TooLong h keeps = keeps
+before_run plan workers read_old read_new old new fault.Memory h keeps = keeps
+
+-- what stays is kept
+stays : (bytes : Option (List ℕ)) → Keeps bytes bytes
+stays None = tt
+stays (Some bytes) = refl
+
+-- it is handed on, and nothing is written
+pub handed_on : (plan : Plan) (workers : ℕ) (read_old read_new old : Option (List ℕ)) (result : Result Stats ProcessError) (error : ProcessError) → IsErrAnd result (λ other. other ≡ error)
+    → IsBeforeRun workers read_old read_new error → Answers plan workers read_old read_new old old result
+handed_on plan workers read_old read_new old (Ok stats) error is h = absurd is
+handed_on plan workers read_old read_new old (Err other) error is h =
+    subst (λ (e : ProcessError). Answers plan workers read_old read_new old old (Err e)) (sym is) (before_run plan workers read_old read_new old old error h (stays old))

@@ -1,3 +1,4 @@
+mod Existing
 mod LineInputs
 mod Transfers
 mod Answering

@@ -1,12 +1,12 @@
 -- What is out after a batch.
-use Rattle.std.specs.Prelude.{◌≡◌, ◌≤◌, ℕ, List, [], Option, Result, Ok, Err, ◌++◌, codes, take, length, ⊤}
+use Rattle.std.specs.Prelude.{◌≡◌, ◌<◌, ◌≤◌, ℕ, List, [], Option, Result, Ok, Err, ◌++◌, codes, take, length, ⊤}
 use Rattle.std.specs.Fmt.{decimal}
 use Rattle.std.specs.Io.KnownBytes.{Appends, Consumes, IsAtEnd, Keeps}
 use Rattle.rbc_track.specs.Plan.{Plan}
 use Rattle.rbc_batch.specs.declared.batch.ProcessError.{ProcessError}
 use Rattle.rbc_batch.specs.declared.batch.ProcessError.TheVariants as fault
 use Rattle.rbc_rule.specs.declared.input.Input.{Input}
-use Rattle.rbc_text.specs.BatchText.{AreInputsOf}
+use Rattle.rbc_text.specs.BatchText.{lines_of, AreInputsOf}
 use Rattle.rbc_core.specs.declared.book.Stats.{Stats}
 use Rattle.rbc_desk.specs.Serial.{serial, new_desk}
 use Rattle.rbc_desk.specs.Held.{Held, Holds, standing}
@@ -85,6 +85,20 @@ IsBeforeWriting fault.Read = ⊤
 IsBeforeWriting fault.TooLong = ⊤
 IsBeforeWriting (fault.Run error) = ⊥
 IsBeforeWriting fault.Memory = ⊤
+
+-- a batch is refused before its lines are read: for the number of workers first, and then for the number of its lines
+abbrev pub IsRefusal : ℕ → List ℕ → RunError → Type 0
+IsRefusal workers batch Workers = ¬ (MayWork workers)
+IsRefusal workers batch TooManyInputs = MayWork workers × (max_inputs < length (lines_of batch))
+IsRefusal workers batch (OutOfMemory committed) = ⊥
+
+-- a fault before the run: one of reading, or the batch that was read is refused
+abbrev pub IsBeforeRun : ℕ → Option (List ℕ) → Option (List ℕ) → ProcessError → Type 0
+IsBeforeRun workers old new (fault.Run error) = (batch : List ℕ) × IsAllRead old new batch × (length batch ≤ max_batch) × IsRefusal workers batch error
+IsBeforeRun workers old new (fault.Write sent) = ⊥
+IsBeforeRun workers old new fault.Read = ⊤
+IsBeforeRun workers old new fault.TooLong = ⊤
+IsBeforeRun workers old new fault.Memory = ⊤
 
 -- the text of a fault
 abbrev pub fault_text : ProcessError → List ℕ

@@ -1,14 +1,16 @@
 //! Processing a batch, from a reader to a writer.
 
-ghost use Rattle.std.specs.Prelude.{◌<◌, length, IfOk, IfErr, IfSome, IsErrOf};
+ghost use Rattle.std.specs.Prelude.{◌<◌, ◌≤◌, length, IfOk, IfErr, OnOk, IfSome, IsErrOf};
 ghost use Rattle.std.specs.List.{All};
 ghost use Rattle.rbc_rule.specs.Inputs.{Fits};
-ghost use Rattle.rbc_batch.specs.Process.{Answers, AreRead, IsBeforeWriting, IsRunOf, IsUntouched, max_batch};
+ghost use Rattle.rbc_text.specs.BatchText.{lines_of};
+ghost use Rattle.rbc_engine.specs.Answers.{MayWork, max_inputs};
+ghost use Rattle.rbc_batch.specs.Process.{Answers, AreRead, IsBeforeRun, IsRefusal, IsRunOf, IsUntouched, max_batch};
 
-use crate::inputs::parse_batch;
+use crate::inputs::{count_lines, parse_batch};
 use crate::streams::{read_batch, write_text};
 use rbc_core::{Desk, Stats};
-use rbc_engine::{Gate, RunError, run};
+use rbc_engine::{Gate, MAX_INPUTS, MAX_WORKERS, RunError, run};
 use rbc_rule::Input;
 use rbc_text::render;
 use rbc_track::Track;
@@ -76,17 +78,35 @@ impl From<RunError> for ProcessError {
     }
 }
 
-/// Reads a batch to its end, and returns the inputs of its lines. Its bytes are freed.
+/// Whether a batch can be run by so many workers. It is refused for the number of workers first, and then for the
+/// number of its lines.
+fn admit(batch: &[u8], workers: u8) -> Result<(), RunError>
+    ensures admitted { OnOk result (MayWork workers × (length (lines_of batch.now) ≤ max_inputs)) }
+    ensures refused { IfErr result (IsRefusal workers batch.now) }
+{
+    if workers == 0 || workers > MAX_WORKERS {
+        return Err(RunError::Workers);
+    }
+    if count_lines(batch) > MAX_INPUTS {
+        return Err(RunError::TooManyInputs);
+    }
+    Ok(())
+}
+
+/// Reads a batch to its end, and returns the inputs of its lines, if so many workers can run them: what is refused is
+/// not parsed. The bytes of the batch are freed.
 fn read_inputs<R: Read>(
     rt: &(impl AllocGlobal + Threads + Sync),
     reader: &mut R,
+    workers: u8,
 ) -> Result<Vec<Input>, ProcessError>
     ensures read { IfOk result (λ inputs. AreRead (R.remaining reader.old) (R.remaining reader.new) inputs.items) }
     ensures fit { IfOk result (λ inputs. All Fits inputs.items) }
     ensures too_long { IsErrOf result ProcessError.TooLong → IfSome (R.remaining reader.old) (λ batch. max_batch < length batch) }
-    ensures before { IfErr result (λ e. IsBeforeWriting e) }
+    ensures before { IfErr result (λ e. IsBeforeRun workers (R.remaining reader.old) (R.remaining reader.new) e) }
 {
     let batch = read_batch(rt.alloc(), reader)?;
+    admit(&batch, workers)?;
     Ok(parse_batch(rt, &batch)?)
 }
 
@@ -114,7 +134,8 @@ fn run_all<G: Gate + Sync>(
 /// # Errors
 ///
 /// See [`ProcessError`]. If the bytes that the reader has left are known, `TooLong` means that there were more than
-/// 16,777,216 of them. The whole batch is read before the number of workers is looked at.
+/// 16,777,216 of them. The whole batch is read before the number of workers is looked at, and this before the number of
+/// its lines; no line of a batch that is refused for either is parsed.
 pub fn process<R: Read, W: Write, G: Gate + Sync>(
     rt: &(impl AllocGlobal + Threads + Wait + Sync),
     track: &Track,
@@ -128,7 +149,7 @@ pub fn process<R: Read, W: Write, G: Gate + Sync>(
     ensures untouched { IsUntouched result writer.old writer.new }
 {
     let (desk, stats) = {
-        let inputs = read_inputs(rt, reader)?;
+        let inputs = read_inputs(rt, reader, workers)?;
         run_all(rt, track, &inputs, workers, gate)?
     };
     let text = render(rt.alloc(), &desk)?;

@@ -30,6 +30,20 @@ fn lines(alloc: Global, text: &[u8]) -> Result<Vec<&[u8]>, AllocError>
     Ok(lines)
 }
 
+/// The number of lines of a text.
+pub(crate) fn count_lines(text: &[u8]) -> usize
+    ensures { result ≡ length (lines_of text.now) }
+{
+    let mut count = 0;
+    let mut rest = text;
+    while !rest.is_empty() {
+        let (_, behind) = first_line(rest);
+        count += 1;
+        rest = behind;
+    }
+    count
+}
+
 /// The inputs of lines, read one after another. Fails only for lack of memory.
 fn inputs_in_turn(alloc: Global, lines: &[&[u8]]) -> Result<Vec<Input>, AllocError>
     ensures inputs { IfOk result (λ inputs. AreInputs (texts_of lines.now) inputs.items) }

@@ -1,5 +1,6 @@
 -- A run in stretches: some of its first inputs, and then the rest from the desk that these leave.
-use Rattle.std.proofs.Common.{◌≡◌, ◌⊎◌, inl, inr, ℕ, ◌+◌, ◌<◌, ◌≤◌, List, [], ◌∷◌, length, take, drop, Result, Ok, Err, sym, ap, ◌∙◌, subst, arith, take-add, take-take}
+use Rattle.std.proofs.Common.{◌≡◌, ◌⊎◌, inl, inr, ℕ, ◌+◌, ◌<◌, ◌≤◌, List, [], ◌∷◌, length, take, drop, Result, Ok, Err, refl, sym, ap, ◌∙◌, subst, arith, take-add, take-take}
+use Rattle.std.specs.Prelude.{IsErrAnd}
 use Rattle.std.specs.List.{fold}
 use Rattle.std.proofs.lemmas.List.{length-append, length-take-le, length-drop}
 use Rattle.std.proofs.lemmas.List.Elements.{All-drop, All-take}
@@ -16,16 +17,12 @@ use Rattle.rbc_core.specs.Runs.{Run, IsGoodRun, IsSerialRun}
 use Rattle.rbc_core.proofs.Mails.{said_since}
 use Rattle.rbc_engine.specs.declared.workers.RunError.{RunError}
 use Rattle.rbc_engine.specs.declared.workers.RunError.TheVariants.{Workers, TooManyInputs, OutOfMemory}
-use Rattle.rbc_engine.specs.Answers.{IsDeskAfter, IsStretch, IsFinished}
+use Rattle.rbc_engine.specs.Answers.{IsDeskAfter, IsStretch, IsFinished, rest_of, plus, all_of, AreStretches, IsNextStretch, AreCounts}
 use Rattle.rbc_engine.proofs.Ends.{desk_before}
 
 -- a run of these inputs from there on
 abbrev pub run_of : Plan → Held → List Input → Run
 run_of track opening inputs = record { track = track; opening = opening; inputs = inputs }
-
--- the inputs of a run behind so many, from the desk that these left
-abbrev pub rest_of : Run → ℕ → Held → Run
-rest_of run count mid = run_of run.track mid (drop count run.inputs)
 
 -- the inputs in two parts
 serial_in_parts : (track : Plan) (desk : Desk) (inputs : List Input) (n m : ℕ) → serial track (serial track desk (take n inputs)) (take m (drop n inputs)) ≡ serial track desk (take (n + m) inputs)
@@ -112,37 +109,62 @@ pub record AreDone (run : Run) (all : Stats) (held : Held) : Type 0 where
   pub desk : IsDeskAfter run all.taken held
   pub within : all.taken ≤ length run.inputs
   pub some : all.recomputed ≤ all.taken
+  pub counted : AreCounts run all held
 
 -- none at first
 pub none_done : (run : Run) → IsGoodRun run → AreDone run (record { taken = 0; recomputed = 0 }) run.opening
-none_done run good = record { desk = desk_before run good; within = omega arith; some = omega arith }
+none_done run good = record { desk = desk_before run good; within = omega arith; some = omega arith; counted = ([], refl, refl) }
+
+-- the counts of one stretch more
+one_more_counted : (run : Run) (all stats now : Stats) (mid new : Held) → AreCounts run all mid → IsStretch (rest_of run all.taken mid) (Ok stats) new → now ≡ plus all stats → AreCounts run now new
+one_more_counted run all stats now mid new (before, are, is) h e =
+    (stats ∷ before, (mid, are, subst (λ (a : Stats). IsStretch (rest_of run a.taken mid) (Ok stats) new) is h), e ∙ ap (λ (a : Stats). plus a stats) is)
 
 module _ (run : Run) (all : Stats) (mid : Held) (good : IsGoodRun run) (before : AreDone run all mid) where
   -- the inputs of the next stretch too
-  pub more_done : (stats now : Stats) (new : Held) → IsStretch (rest_of run all.taken mid) (Ok stats) new → now.taken ≡ all.taken + stats.taken → now.recomputed ≡ all.recomputed + stats.recomputed → AreDone run now new
-  more_done stats now new h taken recomputed =
+  pub more_done : (now : Stats) (new : Held) → IsNextStretch (run_of run.track mid run.inputs) all (Ok now) new → AreDone run now new
+  more_done now new (stats, h, is) =
       let within = before.within in
       let some = before.some in
       let left = length-drop all.taken run.inputs in
       let few = h.1 in
       let fewer = h.3 in
+      let taken : now.taken ≡ all.taken + stats.taken = ap (λ (s : Stats). s.taken) is in
+      let recomputed : now.recomputed ≡ all.recomputed + stats.recomputed = ap (λ (s : Stats). s.recomputed) is in
       record {
         desk = subst (λ n. IsDeskAfter run n new) (sym taken) (onward run all.taken stats.taken mid new good before.desk h.0);
         within = omega (arith, within, left, few, taken);
         some = omega (arith, some, fewer, taken, recomputed);
+        counted = one_more_counted run all stats now mid new before.counted h is;
       }
 
   -- memory was refused in the next stretch: those that were committed in it too
-  pub refused_in : (committed now : ℕ) (new : Held) → IsStretch (rest_of run all.taken mid) (Err (OutOfMemory committed)) new → now ≡ all.taken + committed → IsFinished run (Err (OutOfMemory now)) new
-  refused_in committed now new h is =
+  pub refused_in : (error : RunError) (new : Held) → IsNextStretch (run_of run.track mid run.inputs) all (Err error) new → IsFinished run (Err error) new
+  refused_in (OutOfMemory committed) new (more, h, is) =
       let within = before.within in
       let left = length-drop all.taken run.inputs in
       let few = h.1 in
-      (subst (λ n. IsDeskAfter run n new) (sym is) (onward run all.taken committed mid new good before.desk h.0), omega (arith, within, left, few, is))
+      (subst (λ n. IsDeskAfter run n new) (sym is) (onward run all.taken more mid new good before.desk h.0), omega (arith, within, left, few, is))
+  refused_in Workers new h = absurd h
+  refused_in TooManyInputs new h = absurd h
+
+  -- a stretch that is not at the end takes one input at least
+  pub one_at_a_time : (now : Stats) (new : Held) → IsNextStretch (run_of run.track mid run.inputs) all (Ok now) new → all.taken < length run.inputs → all.taken < now.taken
+  one_at_a_time now new (stats, h, is) more =
+      let left = length-drop all.taken run.inputs in
+      let taken : now.taken ≡ all.taken + stats.taken = ap (λ (s : Stats). s.taken) is in
+      let some : 0 < stats.taken = one_at_least (length (drop all.taken run.inputs)) (length (drop all.taken run.inputs)) stats.taken (omega (arith, left, more)) (omega arith) h.2 in
+      omega (arith, taken, some)
+
+-- it is handed on
+pub refusal_handed_on : (run : Run) (all : Stats) (mid new : Held) (result : Result Stats RunError) (error : RunError) → IsGoodRun run → AreDone run all mid → IsErrAnd result (λ other. other ≡ error)
+    → IsNextStretch (run_of run.track mid run.inputs) all (Err error) new → IsFinished run result new
+refusal_handed_on run all mid new (Ok stats) error good before is h = absurd is
+refusal_handed_on run all mid new (Err other) error good before is h = subst (λ (e : RunError). IsFinished run (Err e) new) (sym is) (refused_in run all mid good before error new h)
 
 -- all are done
 pub all_done : (run : Run) (all : Stats) (held : Held) → AreDone run all held → length run.inputs ≤ all.taken → IsFinished run (Ok all) held
 all_done run all held before past =
     let within = before.within in
     let same : all.taken ≡ length run.inputs = omega (arith, within, past) in
-    (subst (λ n. IsDeskAfter run n held) same before.desk, same, before.some)
+    (subst (λ n. IsDeskAfter run n held) same before.desk, same, before.some, before.counted)

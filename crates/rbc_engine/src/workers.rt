@@ -8,7 +8,7 @@ ghost use Rattle.rbc_desk.specs.Held.{IsInOrder};
 ghost use Rattle.rbc_core.specs.Books.{state_of};
 ghost use Rattle.rbc_core.specs.Core.{front};
 ghost use Rattle.rbc_core.specs.Runs.{IsGoodRun};
-ghost use Rattle.rbc_engine.specs.Answers.{IsOpening, IsRun, IsStretch, IsFinished};
+ghost use Rattle.rbc_engine.specs.Answers.{IsOpening, IsRun, IsStretch, IsNextStretch, IsFinished};
 ghost use Rattle.rbc_engine.specs.Fronts.{IsWaiting, IsGivenUp, IsNext, IsAtItsEnd};
 
 use crate::gate::{Behind, Gate};
@@ -257,8 +257,8 @@ fn run_first<G: Gate + Sync, R: Threads + Wait + Sync>(
     run_stretch(rt, alloc, track, desk, &inputs[..MAX_STRETCH], pace, gate)
 }
 
-/// Runs the next stretch of a run, of which so many inputs are done.
-fn run_next<G: Gate + Sync, R: Threads + Wait + Sync>(
+/// Runs a stretch of a run, of which so many inputs are done.
+fn run_behind<G: Gate + Sync, R: Threads + Wait + Sync>(
     rt: &R,
     alloc: Global,
     track: &Track,
@@ -275,6 +275,34 @@ fn run_next<G: Gate + Sync, R: Threads + Wait + Sync>(
     let behind = Behind { gate, before };
     let rest = &inputs[before as usize..];
     run_first(rt, alloc, track, desk, rest, pace, &behind)
+}
+
+/// Runs the next stretch of a run, behind those with these counts, and adds its counts to theirs.
+fn run_next<G: Gate + Sync, R: Threads + Wait + Sync>(
+    rt: &R,
+    alloc: Global,
+    track: &Track,
+    desk: &mut Desk,
+    inputs: &[Input],
+    all: Stats,
+    pace: &Pace,
+    gate: &G,
+) -> Result<Stats, RunError>
+    requires within { (all.recomputed ≤ all.taken) × (all.taken ≤ length inputs.now) }
+    requires few { length inputs.now ≤ MAX_INPUTS }
+    requires good { IsGoodRun (record { track = track.now; opening = desk.old; inputs = drop all.taken inputs.now }) }
+    ensures { IsNextStretch (record { track = track.now; opening = desk.old; inputs = inputs.now }) all result desk.new }
+{
+    match run_behind(rt, alloc, track, desk, inputs, all.taken, pace, gate) {
+        Ok(stats) => Ok(Stats {
+            taken: all.taken + stats.taken,
+            recomputed: all.recomputed + stats.recomputed,
+        }),
+        Err(RunError::OutOfMemory { committed }) => Err(RunError::OutOfMemory {
+            committed: all.taken + committed,
+        }),
+        Err(error) => Err(error),
+    }
 }
 
 /// Says in its contract what every desk satisfies, because a stretch requires it.
@@ -304,20 +332,8 @@ fn run_stretches<G: Gate + Sync, R: Threads + Wait + Sync>(
         recomputed: 0,
     };
     while (all.taken as usize) < inputs.len() {
-        let before = all.taken;
         keeps_order(desk);
-        match run_next(rt, alloc, track, desk, inputs, before, &pace, gate) {
-            Ok(stats) => {
-                all.taken += stats.taken;
-                all.recomputed += stats.recomputed;
-            }
-            Err(RunError::OutOfMemory { committed }) => {
-                return Err(RunError::OutOfMemory {
-                    committed: before + committed,
-                });
-            }
-            Err(error) => return Err(error),
-        }
+        all = run_next(rt, alloc, track, desk, inputs, all, &pace, gate)?;
     }
     Ok(all)
 }

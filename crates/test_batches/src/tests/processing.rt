@@ -1,7 +1,7 @@
 //! Batches from a reader to a writer.
 
 use super::same;
-use rbc_batch::{ProcessError, process};
+use rbc_batch::{ProcessError, process, write_text};
 use rbc_engine::OpenGate;
 use rbc_track::Track;
 use std::io;
@@ -118,12 +118,14 @@ fn gives_up_on_endless_interruptions(rt: HostRuntime) {
     same(&rt, writer.calls, 1_000);
 }
 
-/// Takes one byte a call up to some number, and then gives 0 or fails; every other call is interrupted.
+/// Takes one byte a call up to some number, then gives 0 or fails for so many calls, and works again. Every other call
+/// is interrupted.
 #[derive(Drop)]
 struct Narrow {
     taken: Vec<u8>,
     room: usize,
     fails: bool,
+    faults: u32,
     interrupts: bool,
 }
 
@@ -133,7 +135,8 @@ impl Write for Narrow {
         if self.interrupts {
             return Err(io::Error::from(ErrorKind::Interrupted));
         }
-        if self.taken.len() >= self.room {
+        if self.taken.len() >= self.room && self.faults > 0 {
+            self.faults -= 1;
             return if self.fails {
                 Err(io::Error::from(ErrorKind::BrokenPipe))
             } else {
@@ -154,18 +157,20 @@ impl Write for Narrow {
     }
 }
 
+// A writer that fails once is not tried again, though it would work.
 #[test]
 fn counts_what_is_out_where_the_writer_fails(rt: HostRuntime) {
     let track = good_track(&rt);
     let batch = STOPPED.batch.as_bytes();
     let whole = STOPPED.output.as_bytes();
     for room in 0..=whole.len() {
-        for fails in [false, true] {
+        for (fails, faults) in [(false, 1), (true, 1), (false, u32::MAX), (true, u32::MAX)] {
             let mut reader = batch;
             let mut writer = Narrow {
                 taken: Vec::new(rt.alloc()),
                 room,
                 fails,
+                faults,
                 interrupts: false,
             };
             let result = process(&rt, &track, &mut reader, &mut writer, 1, &OpenGate);
@@ -178,5 +183,50 @@ fn counts_what_is_out_where_the_writer_fails(rt: HostRuntime) {
                 same(&rt, writer.taken.as_slice(), whole);
             }
         }
+    }
+}
+
+/// Is interrupted 600 times, takes 5 bytes, is interrupted so many times again, and then takes all.
+#[derive(Drop)]
+struct Stuttering {
+    taken: Vec<u8>,
+    calls: u32,
+    again: u32,
+}
+
+impl Write for Stuttering {
+    fn write(&mut self, buf: &[u8]) -> io::Result<usize> {
+        self.calls = self.calls.wrapping_add(1);
+        let is_between = self.calls == 601;
+        if !is_between && self.calls <= self.again.saturating_add(601) {
+            return Err(io::Error::from(ErrorKind::Interrupted));
+        }
+        let room = if is_between {
+            buf.len().min(5)
+        } else {
+            buf.len()
+        };
+        self.taken.extend_from_slice(&buf[..room])?;
+        Ok(room)
+    }
+
+    fn flush(&mut self) -> io::Result<()> {
+        Ok(())
+    }
+}
+
+// Interruptions are counted over all parts: 600 and 400 of them are too many, 600 and 399 are not.
+#[test]
+fn counts_interruptions_of_all_parts(rt: HostRuntime) {
+    let text = STOPPED.output.as_bytes();
+    for (again, sent) in [(400, 5), (399, text.len())] {
+        let mut writer = Stuttering {
+            taken: Vec::new(rt.alloc()),
+            calls: 0,
+            again,
+        };
+        let result = write_text(&mut writer, text);
+        same(&rt, result.err(), (again == 400).then_some(sent));
+        same(&rt, writer.taken.as_slice(), &text[..sent]);
     }
 }

@@ -2,7 +2,7 @@
 
 ghost use Rattle.rbc_engine.specs.Answers.{IsOpening};
 
-use super::gates::{Both, Hold, Idle, Moment, Site};
+use super::gates::{Both, Hold, Idle, Inside, Moment, Site, Told};
 use super::same;
 use super::setting::good_track;
 use rbc_batch::{parse_batch, process, render};
@@ -158,6 +158,22 @@ fn applies_what_is_apart(rt: HostRuntime) {
 /// So many lines of the batch in which a stop waits for an identifier, behind the first ones.
 fn stops<R: Abort + AllocGlobal>(rt: &R, from: usize, count: usize) -> String {
     lines_of(rt.alloc(), FULL.batch, from, count).expect(rt, "memory")
+}
+
+// A gate is told each input by its own number, once in each call, and the train that is read for it. As many workers are
+// at an input at once as are asked for, and no more.
+#[test]
+fn tells_the_gate_each_input(rt: HostRuntime) {
+    let batch = "withdraw 7\nwithdraw 8\nwithdraw 9\n";
+    let text = "1 refused 7\n2 refused 7\n3 refused 7\n";
+    for workers in [1, 2] {
+        let told = Told::new();
+        assert_answers(&rt, batch, workers, &told, text);
+        same(&rt, told.calls(), 0x1111_1111_1111);
+        let inside = Inside::new(&rt, u32::from(workers));
+        assert_answers(&rt, batch, workers, &inside, text);
+        same(&rt, inside.most(), u32::from(workers));
+    }
 }
 
 // Sixteen workers lose time in one call of their gate, in each of the four by turns.

@@ -3,8 +3,13 @@ use Rattle.std.specs.Io.KnownBytes.{Appends}
 use Rattle.rbc_rule.specs.declared.input.Input.{Input}
 use Rattle.rbc_text.specs.OutputText.{output_of}
 use Rattle.rbc_batch.specs.Process.{AreRead, IsRunOf}
-use Rattle.rbc_batch.proofs.Answering.{wrote_all, wrote_part}
+use Rattle.rbc_batch.proofs.Answering.{handed_on, wrote_all, wrote_part}
 use Rattle.rbc_batch.proofs.batch.process.Goals as goal
+
+-- the batch was not read, or is refused before its lines are
+pub returns-in_err-inputs-clause-answers : goal.returns-in_err-inputs-clause-answers
+returns-in_err-inputs-clause-answers g c =
+    handed_on c.args.track.now c.args.workers _ _ (g.W.Write.contents c.args.writer.now) c.from_residual.result _ c.from_residual.ensures.1 c.in_err-inputs.ensures.before
 
 -- all of the text is out
 pub returns-in-Ok-clause-answers : goal.returns-in-Ok-clause-answers

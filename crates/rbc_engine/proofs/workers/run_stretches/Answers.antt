@@ -1,5 +1,5 @@
-use Rattle.std.proofs.Common.{arith}
-use Rattle.rbc_engine.proofs.Stretches.{run_of, rest_is_good, none_done, more_done, refused_in, all_done}
+use Rattle.std.proofs.Common.{◌-◌, ◌<◌, length, arith}
+use Rattle.rbc_engine.proofs.Stretches.{run_of, rest_is_good, none_done, more_done, one_at_a_time, refusal_handed_on, all_done}
 use Rattle.rbc_engine.proofs.workers.run_stretches.Goals as goal
 
 pub loop-all-init : goal.loop-all-init
@@ -13,13 +13,18 @@ run_next-requires-clause-good g c κs within =
 -- what the stretch did is done behind that
 pub loop-all-preserved : goal.loop-all-preserved
 loop-all-preserved g c =
-    more_done (run_of c.args.track.now c.args.desk.now c.args.inputs.now) c.loop-all.all c.loop-all.desk c.requires.good c.loop-all.invariant c.in-Ok.stats _ _ c.in-Ok.ensures (omega arith) (omega arith)
+    more_done (run_of c.args.track.now c.args.desk.now c.args.inputs.now) c.loop-all.all c.loop-all.desk c.requires.good c.loop-all.invariant c.in_ok-all.all c.run_next.new.desk c.in_ok-all.ensures
 
-pub returns-in-Err-OutOfMemory : goal.returns-in-Err-OutOfMemory
-returns-in-Err-OutOfMemory g c =
-    rw c.in-Err-OutOfMemory.field-0-is
-    (refused_in (run_of c.args.track.now c.args.desk.now c.args.inputs.now) c.loop-all.all c.loop-all.desk c.requires.good c.loop-all.invariant
-    c.in-Err-OutOfMemory.committed _ _ (rw c.in-Err-OutOfMemory.field-0-is at c.in-Err-OutOfMemory.ensures) (omega arith))
+pub loop-all-smaller : goal.loop-all-smaller
+loop-all-smaller g c =
+    let more = c.loop-all-test.true in
+    let some = one_at_a_time (run_of c.args.track.now c.args.desk.now c.args.inputs.now) c.loop-all.all c.loop-all.desk c.requires.good c.loop-all.invariant c.in_ok-all.all c.run_next.new.desk c.in_ok-all.ensures more in
+    let less : length c.args.inputs.now - c.in_ok-all.all.taken < length c.args.inputs.now - c.loop-all.all.taken = omega (arith, more, some) in
+    less
+
+pub returns-in_err-all : goal.returns-in_err-all
+returns-in_err-all g c =
+    refusal_handed_on (run_of c.args.track.now c.args.desk.now c.args.inputs.now) c.loop-all.all c.loop-all.desk _ c.from_residual.result _ c.requires.good c.loop-all.invariant c.from_residual.ensures.1 c.in_err-all.ensures
 
 -- the loop ends where all are done
 pub returns : goal.returns
