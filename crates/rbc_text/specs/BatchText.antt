@@ -1,7 +1,7 @@
 -- The inputs of a batch text, one for each line (own rule).
 use Rattle.std.specs.Prelude.{◌≡◌, ℕ, ◌+◌, ◌-◌, ◌*◌, Bool, true, false, ◌&&◌, ◌==◌, nat_le, if◌then◌else◌, List, [], ◌∷◌, length, codes, Option, Some, None, option_map, Result, Ok, Err}
 use Rattle.std.specs.List.{fold, list_all, slice_split, before_first, after_first}
-use Rattle.std.specs.Option.{unwrap_or}
+use Rattle.std.specs.Option.{unwrap_or, option_and_then}
 use Rattle.std.specs.Str.{bytes_eq}
 use Rattle.hex.specs.Hex.{decode_of}
 use Rattle.hex.specs.declared.error.FromHexError.{FromHexError}
@@ -62,10 +62,7 @@ decimal_of word = if is_decimal word && nat_le (value_of word) 4294967295 then S
 
 -- a segment, where all its numbers are there
 abbrev pub segment_from : Option ℕ → Option ℕ → Option ℕ → Option Segment
-segment_from (Some line) (Some from) (Some to) = Some (record { line = line; from = from; to = to })
-segment_from None from to = None
-segment_from (Some line) None to = None
-segment_from (Some line) (Some from) None = None
+segment_from line from to = option_and_then (λ l. option_and_then (λ f. option_map (λ t. record { line = l; from = f; to = t }) to) from) line
 
 -- `LINE:FROM-TO`, three decimals
 abbrev pub segment_of : List ℕ → Option Segment
@@ -74,9 +71,7 @@ segment_of word = let places = after_first is_colon word in
 
 -- a segment before others, where all are there
 abbrev pub onto_all : Option Segment → Option (List Segment) → Option (List Segment)
-onto_all (Some segment) (Some segments) = Some (segment ∷ segments)
-onto_all None segments = None
-onto_all (Some segment) None = None
+onto_all segment segments = option_and_then (λ first. option_map (λ more. first ∷ more) segments) segment
 
 -- the segments that words spell, where each of them spells one
 abbrev pub segments_of : List (List ℕ) → Option (List Segment)
@@ -85,45 +80,36 @@ segments_of (word ∷ words) = onto_all (segment_of word) (segments_of words)
 
 -- an enrolment, where the engine number is in its range, and the length from 1 unit on too
 abbrev pub enrolment_from : Option ℕ → Option ℕ → Option Input
-enrolment_from (Some engine) (Some length) = if nat_le engine max_engine && (nat_le 1 length && nat_le length max_train_length) then Some (Enrol engine length) else None
-enrolment_from None length = None
-enrolment_from (Some engine) None = None
+enrolment_from engine length =
+    option_and_then (λ e. option_and_then (λ l. if nat_le e max_engine && (nat_le 1 l && nat_le l max_train_length) then Some (Enrol e l) else None) length) engine
 
 -- `enrol ENGINE LENGTH`
 abbrev pub enrolment_of : List (List ℕ) → Option Input
 enrolment_of (engine ∷ length ∷ []) = enrolment_from (decimal_of engine) (decimal_of length)
-enrolment_of [] = None
-enrolment_of (engine ∷ []) = None
-enrolment_of (engine ∷ length ∷ word ∷ words) = None
+enrolment_of _ = None
 
 -- a stop, where its number and all its segments are there
 abbrev pub stop_from : Option ℕ → Option (List Segment) → Option Input
-stop_from (Some number) (Some segments) = Some (Stop number segments)
-stop_from None segments = None
-stop_from (Some number) None = None
+stop_from number segments = option_and_then (λ n. option_map (Stop n) segments) number
 
 -- `stop NUMBER SEGMENT SEGMENT ..`, at least one segment
 abbrev pub stop_of : List (List ℕ) → Option Input
 stop_of (number ∷ segment ∷ segments) = stop_from (decimal_of number) (segments_of (segment ∷ segments))
-stop_of [] = None
-stop_of (number ∷ []) = None
+stop_of _ = None
 
 -- a withdrawal, where the engine number is in its range
 abbrev pub withdrawal_from : Option ℕ → Option Input
-withdrawal_from (Some engine) = if nat_le engine max_engine then Some (Withdraw engine) else None
-withdrawal_from None = None
+withdrawal_from engine = option_and_then (λ e. if nat_le e max_engine then Some (Withdraw e) else None) engine
 
 -- `withdraw ENGINE`
 abbrev pub withdrawal_of : List (List ℕ) → Option Input
 withdrawal_of (engine ∷ []) = withdrawal_from (decimal_of engine)
-withdrawal_of [] = None
-withdrawal_of (engine ∷ word ∷ words) = None
+withdrawal_of _ = None
 
 -- a number by itself
 abbrev pub number_of : List (List ℕ) → Option ℕ
 number_of (number ∷ []) = decimal_of number
-number_of [] = None
-number_of (number ∷ word ∷ words) = None
+number_of _ = None
 
 -- `release NUMBER`
 abbrev pub release_of : List (List ℕ) → Option Input
@@ -150,22 +136,13 @@ front_of word =
 
 -- a restriction, where all its values are there
 abbrev pub restriction_from : Option ℕ → Option Segment → Option Dirs → Option ℕ → Option Bool → Option Input
-restriction_from (Some number) (Some segment) (Some dirs) (Some speed) (Some front) = Some (Restrict number segment dirs speed front)
-restriction_from None segment dirs speed front = None
-restriction_from (Some number) None dirs speed front = None
-restriction_from (Some number) (Some segment) None speed front = None
-restriction_from (Some number) (Some segment) (Some dirs) None front = None
-restriction_from (Some number) (Some segment) (Some dirs) (Some speed) None = None
+restriction_from number segment dirs speed front =
+    option_and_then (λ n. option_and_then (λ s. option_and_then (λ d. option_and_then (λ v. option_map (Restrict n s d v) front) speed) dirs) segment) number
 
 -- `restrict NUMBER SEGMENT DIR SPEED FRONT`, the speed in km/h
 abbrev pub restriction_of : List (List ℕ) → Option Input
 restriction_of (number ∷ segment ∷ dirs ∷ speed ∷ front ∷ []) = restriction_from (decimal_of number) (segment_of segment) (dirs_of dirs) (decimal_of speed) (front_of front)
-restriction_of [] = None
-restriction_of (number ∷ []) = None
-restriction_of (number ∷ segment ∷ []) = None
-restriction_of (number ∷ segment ∷ dirs ∷ []) = None
-restriction_of (number ∷ segment ∷ dirs ∷ speed ∷ []) = None
-restriction_of (number ∷ segment ∷ dirs ∷ speed ∷ front ∷ word ∷ words) = None
+restriction_of _ = None
 
 -- what a line spells: an input, or bytes that a train sent
 pub data Line : Type 0 where
@@ -185,8 +162,7 @@ is_hex_word (digit ∷ digits) = list_all (λ byte. if byte == 13 then false els
 -- `recv HEX`
 abbrev pub message_of : List (List ℕ) → Option Line
 message_of (word ∷ []) = if is_hex_word word then Some (line_of_hex (decode_of word)) else None
-message_of [] = None
-message_of (word ∷ more ∷ words) = None
+message_of _ = None
 
 -- a signaller's command by its first word
 abbrev pub command_of : List ℕ → List (List ℕ) → Option Input
