@@ -9,9 +9,11 @@ use Rattle.ertms_codec.specs.declared.from_train.Position.{Position}
 use Rattle.ertms_codec.specs.Layout.{value_at}
 use Rattle.ertms_codec.specs.FromTrain.{ArePackets, PositionFits}
 use Rattle.ertms_codec.specs.Refusals.{number_in, HasItsLength}
-use Rattle.ertms_codec.specs.RefusalsFromTrain.{IsFromTrain, IsLongEnough, position_width, BeginWithPosition, HavePackets, position_at, message_at, HasItsPackets, HasNoSpare, Refuses}
+use Rattle.ertms_codec.specs.RefusalsFromTrain.{IsFromTrain, IsLongEnough, position_width, BeginWithPosition, HavePackets, HasItsPackets}
+use Rattle.ertms_codec.specs.FromTrainAtPlaces.{position_at, message_at, HasNoSpare}
 use Rattle.ertms_codec.specs.Reading.{BeginsWithPacket, IsReadFromTrain}
 use Rattle.ertms_codec.proofs.PacketLists.{packets_end, packets_more, packets_less}
+use Rattle.ertms_codec.proofs.FromTrainAgain.{again}
 use Rattle.ertms_codec.proofs.FromTrainLaws.{found}
 use Rattle.rbc_rule.specs.declared.input.Input.{Input}
 use Rattle.rbc_rule.specs.declared.input.Input.TheVariants.{Received, Bad}
@@ -132,7 +134,7 @@ heard_by bytes (inr none) b c d e = (Bad (code_of (refusal_of Length)), (Length,
 heard_by bytes (inl a) (inr none) c d e = (Bad (code_of (refusal_of Message)), (Message, inr (a, inl (none, refl)), refl))
 heard_by bytes (inl a) (inl b) (inr none) d e = (Bad (code_of (refusal_of Length)), (Length, inr (a, inr (b, inl (none, refl))), refl))
 heard_by bytes (inl a) (inl b) (inl c) (inr none) e = (Bad (code_of (refusal_of Packet)), (Packet, inr (a, inr (b, inr (c, inl (none, refl)))), refl))
-heard_by bytes (inl a) (inl b) (inl c) (inl d) (inr none) = (Bad (code_of (refusal_of Field)), (Field, inr (a, inr (b, inr (c, inr (d, inl (none, refl))))), refl))
+heard_by bytes (inl a) (inl b) (inl c) (inl d) (inr none) = (Bad (code_of (refusal_of Field)), (Field, inr (a, inr (b, inr (c, inr (d, inl ((λ spelled. none (again bytes spelled.0 spelled.1).behind.spare), refl))))), refl))
 heard_by bytes (inl a) (inl b) (inl c) (inl d) (inl e) =
     let m = message_at (bits_of_bytes bytes) in
     let read : IsReadFromTrain bytes m = record { sized = a; known = b; enough = c; behind = record { packets = d; spare = e; is = refl } } in
