@@ -92,6 +92,14 @@ IsRefusal workers batch Workers = ¬ (MayWork workers)
 IsRefusal workers batch TooManyInputs = MayWork workers × (max_inputs < length (lines_of batch))
 IsRefusal workers batch (OutOfMemory committed) = ⊥
 
+-- a fault of a batch that was read: it is refused, or memory is
+abbrev pub IsRefused : ℕ → List ℕ → ProcessError → Type 0
+IsRefused workers batch (fault.Run error) = IsRefusal workers batch error
+IsRefused workers batch (fault.Write sent) = ⊥
+IsRefused workers batch fault.Read = ⊥
+IsRefused workers batch fault.TooLong = ⊥
+IsRefused workers batch fault.Memory = ⊤
+
 -- a fault before the run: one of reading, or the batch that was read is refused
 abbrev pub IsBeforeRun : ℕ → Option (List ℕ) → Option (List ℕ) → ProcessError → Type 0
 IsBeforeRun workers old new (fault.Run error) = (batch : List ℕ) × IsAllRead old new batch × (length batch ≤ max_batch) × IsRefusal workers batch error

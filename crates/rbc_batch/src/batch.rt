@@ -1,20 +1,20 @@
 //! Processing a batch, from a reader to a writer.
 
-ghost use Rattle.std.specs.Prelude.{◌<◌, ◌≤◌, length, IfOk, IfErr, OnOk, IfSome, IsErrOf};
+ghost use Rattle.std.specs.Prelude.{◌≡◌, ◌<◌, length, IfOk, IfErr, IfSome, IsErrOf};
 ghost use Rattle.std.specs.List.{All};
 ghost use Rattle.rbc_rule.specs.Inputs.{Fits};
 ghost use Rattle.rbc_text.specs.BatchText.{lines_of};
-ghost use Rattle.rbc_engine.specs.Answers.{MayWork, max_inputs};
-ghost use Rattle.rbc_batch.specs.Process.{Answers, AreRead, IsBeforeRun, IsRefusal, IsRunOf, IsUntouched, max_batch};
+ghost use Rattle.rbc_text.specs.Pieces.{texts_of};
+ghost use Rattle.rbc_batch.specs.Process.{Answers, AreRead, IsBeforeRun, IsRefused, IsRunOf, IsUntouched, max_batch};
 
-use crate::inputs::{count_lines, parse_batch};
+use crate::inputs::{first_lines, parse_lines};
 use crate::streams::{read_batch, write_text};
 use rbc_core::{Desk, Stats};
 use rbc_engine::{Gate, MAX_INPUTS, MAX_WORKERS, RunError, run};
 use rbc_rule::Input;
 use rbc_text::render;
 use rbc_track::Track;
-use std::alloc::AllocError;
+use std::alloc::{AllocError, Global};
 use std::error::Error;
 use std::fmt;
 use std::io::{Read, Write};
@@ -78,19 +78,20 @@ impl From<RunError> for ProcessError {
     }
 }
 
-/// Whether a batch can be run by so many workers. It is refused for the number of workers first, and then for the
+/// The lines of a batch, if so many workers can run them. It is refused for the number of workers first, and then for the
 /// number of its lines.
-fn admit(batch: &[u8], workers: u8) -> Result<(), RunError>
-    ensures admitted { OnOk result (MayWork workers × (length (lines_of batch.now) ≤ max_inputs)) }
-    ensures refused { IfErr result (IsRefusal workers batch.now) }
+fn admit(alloc: Global, batch: &[u8], workers: u8) -> Result<Vec<&[u8]>, ProcessError>
+    ensures lines { IfOk result (λ lines. texts_of lines.items ≡ lines_of batch.now) }
+    ensures refused { IfErr result (IsRefused workers batch.now) }
 {
     if workers == 0 || workers > MAX_WORKERS {
-        return Err(RunError::Workers);
+        return Err(ProcessError::Run(RunError::Workers));
     }
-    if count_lines(batch) > MAX_INPUTS {
-        return Err(RunError::TooManyInputs);
+    let lines = first_lines(alloc, batch, MAX_INPUTS + 1)?;
+    if lines.len() > MAX_INPUTS {
+        return Err(ProcessError::Run(RunError::TooManyInputs));
     }
-    Ok(())
+    Ok(lines)
 }
 
 /// Reads a batch to its end, and returns the inputs of its lines, if so many workers can run them: what is refused is
@@ -106,8 +107,8 @@ fn read_inputs<R: Read>(
     ensures before { IfErr result (λ e. IsBeforeRun workers (R.remaining reader.old) (R.remaining reader.new) e) }
 {
     let batch = read_batch(rt.alloc(), reader)?;
-    admit(&batch, workers)?;
-    Ok(parse_batch(rt, &batch)?)
+    let lines = admit(rt.alloc(), &batch, workers)?;
+    Ok(parse_lines(rt, &lines)?)
 }
 
 /// Runs inputs on a track from the empty state, and returns the desk with the counts of the run.

@@ -1,6 +1,6 @@
 //! The inputs of a batch, one for each line.
 
-ghost use Rattle.std.specs.Prelude.{◌≡◌, ◌≤◌, length, IfOk};
+ghost use Rattle.std.specs.Prelude.{◌≡◌, ◌≤◌, length, take, IfOk};
 ghost use Rattle.std.specs.List.{All};
 ghost use Rattle.rbc_rule.specs.Inputs.{Fits};
 ghost use Rattle.rbc_text.specs.BatchText.{lines_of, AreInputs, AreInputsOf};
@@ -15,33 +15,23 @@ use std::thread::Threads;
 /// From this number of lines on a batch is read in threads: for fewer they cost more than they give.
 const PARALLEL_FROM: usize = 10_000;
 
-/// The lines of a text. Fails only for lack of memory.
-fn lines(alloc: Global, text: &[u8]) -> Result<Vec<&[u8]>, AllocError>
-    ensures cut { IfOk result (λ lines. texts_of lines.items ≡ lines_of text.now) }
+/// The first lines of a text, so many at most. Fails only for lack of memory.
+pub(crate) fn first_lines(
+    alloc: Global,
+    text: &[u8],
+    most: usize,
+) -> Result<Vec<&[u8]>, AllocError>
+    ensures cut { IfOk result (λ lines. texts_of lines.items ≡ take most (lines_of text.now)) }
     ensures few { IfOk result (λ lines. length lines.items ≤ length text.now) }
 {
     let mut lines = Vec::new(alloc);
     let mut rest = text;
-    while !rest.is_empty() {
+    while lines.len() < most && !rest.is_empty() {
         let (line, behind) = first_line(rest);
         lines.push(line)?;
         rest = behind;
     }
     Ok(lines)
-}
-
-/// The number of lines of a text.
-pub(crate) fn count_lines(text: &[u8]) -> usize
-    ensures { result ≡ length (lines_of text.now) }
-{
-    let mut count = 0;
-    let mut rest = text;
-    while !rest.is_empty() {
-        let (_, behind) = first_line(rest);
-        count += 1;
-        rest = behind;
-    }
-    count
 }
 
 /// The inputs of lines, read one after another. Fails only for lack of memory.
@@ -71,8 +61,23 @@ fn inputs_in_threads(
         .collect::<Result<Vec<_>, AllocError>>(rt, alloc)?
 }
 
-/// Parses a batch into its inputs, one for each line. An empty line is an input too, a refusal. Many lines are read in
-/// threads, each by itself. Fails only for lack of memory.
+/// The inputs of lines, in their order. Many lines are read in threads, each by itself. Fails only for lack of memory.
+pub(crate) fn parse_lines(
+    rt: &(impl AllocGlobal + Threads + Sync),
+    lines: &[&[u8]],
+) -> Result<Vec<Input>, AllocError>
+    ensures inputs { IfOk result (λ inputs. AreInputs (texts_of lines.now) inputs.items) }
+    ensures fit { IfOk result (λ inputs. All Fits inputs.items) }
+{
+    let alloc = rt.alloc();
+    if lines.len() < PARALLEL_FROM {
+        inputs_in_turn(alloc, lines)
+    } else {
+        inputs_in_threads(rt, alloc, lines)
+    }
+}
+
+/// Parses a batch into its inputs, one for each line. An empty line is an input too, a refusal. Fails only for lack of memory.
 pub fn parse_batch(
     rt: &(impl AllocGlobal + Threads + Sync),
     text: &[u8],
@@ -81,11 +86,7 @@ pub fn parse_batch(
     ensures fit { IfOk result (λ inputs. All Fits inputs.items) }
     ensures few { IfOk result (λ inputs. length inputs.items ≤ length text.now) }
 {
-    let alloc = rt.alloc();
-    let lines = lines(alloc, text)?;
-    if lines.len() < PARALLEL_FROM {
-        inputs_in_turn(alloc, &lines)
-    } else {
-        inputs_in_threads(rt, alloc, &lines)
-    }
+    // A text has no more lines than bytes.
+    let lines = first_lines(rt.alloc(), text, text.len())?;
+    parse_lines(rt, &lines)
 }
