@@ -1,5 +1,7 @@
 //! What is doubtful about a track that is good.
 
+ghost use Rattle.rbc_track_report.specs.Growth.{AreWarned, AreNoted};
+
 use crate::draft::{Draft, GroupDraft, Place, rows_under};
 use crate::names::has_hidden_name;
 use crate::remark::{Gap, Remark, Remarks};
@@ -10,32 +12,51 @@ use toml::{Table, Value};
 const NEAR: u32 = 20_000;
 
 /// Adds a warning for each name that cannot be shown.
-pub fn push_hidden_names(remarks: &mut Remarks<'_>, document: &Table) {
-    if has_hidden_name(document) {
-        remarks.warn(Remark::HiddenName(Place::Document));
-    }
+#[tactic(auto, using(crate::proofs::Written::warned_none, crate::proofs::Written::warned_then))]
+pub fn push_hidden_names(remarks: &mut Remarks<'_>, document: &Table)
+    ensures { AreWarned remarks.old remarks.new }
+{
+    push_if_hidden(remarks, Place::Document, document);
     for (index, row) in rows_under(document, "line").iter().enumerate() {
         push_hidden(remarks, Place::Line(index), row);
     }
     push_hidden_in_groups(remarks, rows_under(document, "group"));
 }
 
-fn push_hidden_in_groups(remarks: &mut Remarks<'_>, rows: &[Value]) {
+#[tactic(auto, using(crate::proofs::Written::warned_none, crate::proofs::Written::warned_then))]
+fn push_hidden_in_groups(remarks: &mut Remarks<'_>, rows: &[Value])
+    ensures { AreWarned remarks.old remarks.new }
+{
     for (index, row) in rows.iter().enumerate() {
         push_hidden(remarks, Place::Group(index), row);
     }
 }
 
-fn push_hidden(remarks: &mut Remarks<'_>, place: Place, row: &Value) {
-    if let Value::Table(table) = row
-        && has_hidden_name(table)
-    {
+/// Adds a warning if a row is a table with a name that cannot be shown.
+#[tactic(auto, using(crate::proofs::Written::warned_none))]
+fn push_hidden(remarks: &mut Remarks<'_>, place: Place, row: &Value)
+    ensures { AreWarned remarks.old remarks.new }
+{
+    if let Value::Table(table) = row {
+        push_if_hidden(remarks, place, table);
+    }
+}
+
+/// Adds a warning if a table has a name that cannot be shown.
+#[tactic(auto, using(crate::proofs::Written::warned_none, crate::proofs::Written::warned_one))]
+fn push_if_hidden(remarks: &mut Remarks<'_>, place: Place, table: &Table)
+    ensures { AreWarned remarks.old remarks.new }
+{
+    if has_hidden_name(table) {
         remarks.warn(Remark::HiddenName(place));
     }
 }
 
 /// Adds a warning where there is no line or no balise group, and else one for each line without one.
-pub fn push_bare(remarks: &mut Remarks<'_>, draft: &Draft<'_>) {
+#[tactic(auto, using(crate::proofs::Written::warned_none, crate::proofs::Written::warned_more))]
+pub fn push_bare(remarks: &mut Remarks<'_>, draft: &Draft<'_>)
+    ensures { AreWarned remarks.old remarks.new }
+{
     if draft.lines.is_empty() {
         remarks.warn(Remark::NoLine);
     } else if draft.groups.is_empty() {
@@ -50,16 +71,43 @@ pub fn push_bare(remarks: &mut Remarks<'_>, draft: &Draft<'_>) {
 }
 
 /// Adds the notes on a track whose balise groups are in order.
-pub fn push_notes(remarks: &mut Remarks<'_>, draft: &Draft<'_>) {
+#[tactic(auto, using(crate::proofs::Written::noted_then))]
+pub fn push_notes(remarks: &mut Remarks<'_>, draft: &Draft<'_>)
+    ensures { AreNoted remarks.old remarks.new }
+{
     let groups = draft.groups.as_slice();
-    let horizon = draft.horizon;
     push_same_places(remarks, groups);
+    push_far(remarks, draft);
+    push_near(remarks, draft.horizon);
+    push_wide_gap(remarks, draft.horizon, groups);
+}
+
+/// Adds a note where the horizon is not below the longest line.
+#[tactic(auto, using(crate::proofs::Written::noted_none, crate::proofs::Written::noted_more))]
+fn push_far(remarks: &mut Remarks<'_>, draft: &Draft<'_>)
+    ensures { AreNoted remarks.old remarks.new }
+{
+    let horizon = draft.horizon;
     if !draft.lines.is_empty() && draft.lines.iter().all(|line| line.length <= horizon) {
         remarks.note(Remark::FarHorizon(horizon));
     }
+}
+
+/// Adds a note where the horizon is below 2 km.
+#[tactic(auto, using(crate::proofs::Written::noted_none, crate::proofs::Written::noted_more))]
+fn push_near(remarks: &mut Remarks<'_>, horizon: u32)
+    ensures { AreNoted remarks.old remarks.new }
+{
     if horizon < NEAR {
         remarks.note(Remark::NearHorizon(horizon));
     }
+}
+
+/// Adds a note where the horizon is less than what lies between two neighbours.
+#[tactic(auto, using(crate::proofs::Written::noted_none, crate::proofs::Written::noted_more))]
+fn push_wide_gap(remarks: &mut Remarks<'_>, horizon: u32, groups: &[GroupDraft<'_>])
+    ensures { AreNoted remarks.old remarks.new }
+{
     let gap = widest_gap(groups);
     if horizon < gap.width() {
         remarks.note(Remark::WideGap { horizon, gap });
@@ -67,7 +115,10 @@ pub fn push_notes(remarks: &mut Remarks<'_>, draft: &Draft<'_>) {
 }
 
 /// Adds a note for each two neighbours at one place.
-fn push_same_places(remarks: &mut Remarks<'_>, groups: &[GroupDraft<'_>]) {
+#[tactic(auto, using(crate::proofs::Written::noted_none, crate::proofs::Written::noted_more))]
+fn push_same_places(remarks: &mut Remarks<'_>, groups: &[GroupDraft<'_>])
+    ensures { AreNoted remarks.old remarks.new }
+{
     for index in 1..groups.len() {
         let (one, next) = (groups[index - 1], groups[index]);
         if one.line == next.line && one.at == next.at {

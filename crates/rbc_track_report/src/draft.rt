@@ -1,6 +1,12 @@
 //! A document read table by table, with names, and the first place where it is not what it has to be.
 
-use crate::names::name_in;
+ghost use Rattle.std.specs.Prelude.{◌≡◌, ◌≤◌, Some, None, IsSome, IfSome, option_copied};
+ghost use Rattle.toml.specs.View.{items_view, table_view, view};
+ghost use Rattle.rbc_track.specs.Document.{number_within, number_at, horizon_in};
+ghost use Rattle.rbc_track_report.specs.Drafts.{IsMissed, IsReadOn, IsInRange, IsReordered};
+ghost use Rattle.rbc_track_report.specs.Shown.{rows_under, shown_name};
+
+use crate::names::{name_in, value_at};
 use std::alloc::Global;
 use toml::{Table, Value};
 
@@ -93,23 +99,56 @@ struct Here<'a> {
 }
 
 /// The rows under a key that are to be tables. Without the key there are none.
-pub fn rows_under<'a>(document: &'a Table, key: &str) -> &'a [Value] {
-    match document.get(key) {
+pub fn rows_under<'a>(document: &'a Table, key: &str) -> &'a [Value]
+    ensures { items_view result.now ≡ rows_under key.now (table_view document.now) }
+{
+    match value_at(document, key) {
         Some(Value::Array(rows)) => rows.as_slice(),
         _ => &[],
     }
 }
 
+/// The value as a whole number from 0 to `high`, if it is one.
+fn number_within(value: &Value, high: u32) -> Option<u32>
+    ensures below { IfSome result (λ number. number ≤ high) }
+    ensures exact { result ≡ number_within 0 high (view value.now) }
+{
+    match value {
+        Value::Integer(number) => match u32::try_from(*number) {
+            Ok(number) if number <= high => Some(number),
+            _ => None,
+        },
+        _ => None,
+    }
+}
+
+/// The whole number from 0 to `high` under a key, if there is one.
+fn number_at(table: &Table, key: &str, high: u32) -> Option<u32>
+    ensures exact { result ≡ number_at key.now 0 high (table_view table.now) }
+    ensures below { IfSome result (λ number. number ≤ high) }
+{
+    match value_at(table, key) {
+        Some(value) => number_within(value, high),
+        None => None,
+    }
+}
+
 impl<'a> Draft<'a> {
     /// Keeps a misfit, unless there was one before.
-    fn keep(&mut self, misfit: Misfit<'a>) {
+    fn keep(&mut self, misfit: Misfit<'a>)
+        ensures missed { IsMissed self.old self.new }
+        ensures noted { IsSome self.new.misfit }
+    {
         if self.misfit.is_none() {
             self.misfit = Some(misfit);
         }
     }
 
     /// Keeps the misfit of a key.
-    fn miss(&mut self, here: Here<'a>, key: &'static str, wanted: Wanted) {
+    fn miss(&mut self, here: Here<'a>, key: &'static str, wanted: Wanted)
+        ensures missed { IsMissed self.old self.new }
+        ensures noted { IsSome self.new.misfit }
+    {
         self.keep(Misfit {
             place: here.place,
             key: Some(key),
@@ -118,20 +157,40 @@ impl<'a> Draft<'a> {
         });
     }
 
-    /// The whole number from 0 to `high` under a key.
-    fn number(&mut self, here: Here<'a>, key: &'static str, high: u32, wanted: Wanted) -> u32 {
-        if let Some(Value::Integer(number)) = here.table.get(key)
-            && let Ok(number) = u32::try_from(*number)
-            && number <= high
-        {
-            return number;
+    /// The whole number from 0 to `high` under a key. Without one it is 0, and that is a misfit.
+    fn number(&mut self, here: Here<'a>, key: &'static str, high: u32, wanted: Wanted) -> u32
+        ensures missed { IsMissed self.old self.new }
+        ensures below { result ≤ high }
+        ensures exact { self.new.misfit ≡ None
+            → number_at key.now 0 high (table_view here.entry.table.now) ≡ Some result }
+    {
+        match number_at(here.table, key, high) {
+            Some(number) => number,
+            None => {
+                self.miss(here, key, wanted);
+                0
+            }
         }
-        self.miss(here, key, wanted);
-        0
+    }
+
+    /// Reads the horizon, which is not 0.
+    fn read_horizon(&mut self, document: Here<'a>)
+        ensures range { IsInRange self.old → IsInRange self.new }
+        ensures name { self.new.name ≡ self.old.name }
+        ensures exact { self.new.misfit ≡ None
+            → horizon_in (table_view document.entry.table.now) ≡ Some self.new.horizon }
+    {
+        let horizon = self.number(document, "horizon", MAX_LENGTH, Wanted::Length);
+        self.horizon = horizon;
+        if horizon == 0 {
+            self.miss(document, "horizon", Wanted::Length);
+        }
     }
 
     /// The direction under the key `nominal`.
-    fn nominal(&mut self, here: Here<'a>) -> &'a str {
+    fn nominal(&mut self, here: Here<'a>) -> &'a str
+        ensures { IsMissed self.old self.new }
+    {
         if let Some(Value::String(word)) = here.table.get("nominal")
             && ["up", "down"].contains(&word.as_str())
         {
@@ -142,7 +201,9 @@ impl<'a> Draft<'a> {
     }
 
     /// A row of an array as a table, where it stands.
-    fn table_at(&mut self, row: &'a Value, place: Place) -> Option<Here<'a>> {
+    fn table_at(&mut self, row: &'a Value, place: Place) -> Option<Here<'a>>
+        ensures { IsMissed self.old self.new }
+    {
         match row {
             Value::Table(table) => Some(Here { place, table }),
             _ => {
@@ -157,7 +218,10 @@ impl<'a> Draft<'a> {
         }
     }
 
-    fn read_lines(&mut self, document: Here<'a>) {
+    fn read_lines(&mut self, document: Here<'a>)
+        ensures range { IsInRange self.old → IsInRange self.new }
+        ensures read { IsReadOn self.old self.new }
+    {
         if !matches!(document.table.get("line"), Some(Value::Array(_))) {
             self.miss(document, "line", Wanted::Lines);
         }
@@ -167,7 +231,10 @@ impl<'a> Draft<'a> {
     }
 
     /// Reads a row of `line`, if it is a table. Its length is checked with the others.
-    fn read_line(&mut self, index: usize, row: &'a Value) {
+    fn read_line(&mut self, index: usize, row: &'a Value)
+        ensures range { IsInRange self.old → IsInRange self.new }
+        ensures read { IsReadOn self.old self.new }
+    {
         let Some(here) = self.table_at(row, Place::Line(index)) else {
             return;
         };
@@ -178,7 +245,10 @@ impl<'a> Draft<'a> {
         }
     }
 
-    fn read_groups(&mut self, document: Here<'a>) {
+    fn read_groups(&mut self, document: Here<'a>)
+        ensures range { IsInRange self.old → IsInRange self.new }
+        ensures read { IsReadOn self.old self.new }
+    {
         if !matches!(document.table.get("group"), None | Some(Value::Array(_))) {
             self.miss(document, "group", Wanted::Groups);
         }
@@ -188,7 +258,10 @@ impl<'a> Draft<'a> {
     }
 
     /// Reads a row of `group`, if it is a table. Its line and place are checked with the others.
-    fn read_group(&mut self, index: usize, row: &'a Value) {
+    fn read_group(&mut self, index: usize, row: &'a Value)
+        ensures range { IsInRange self.old → IsInRange self.new }
+        ensures read { IsReadOn self.old self.new }
+    {
         let Some(here) = self.table_at(row, Place::Group(index)) else {
             return;
         };
@@ -205,7 +278,9 @@ impl<'a> Draft<'a> {
     }
 
     /// Puts the balise groups in order: by line, then by place, then by number.
-    pub fn sort_groups(&mut self) {
+    pub fn sort_groups(&mut self)
+        ensures { IsReordered self.old self.new }
+    {
         let sorted = self
             .groups
             .sort_by_key(|group| (group.line, group.at, group.nid));
@@ -216,7 +291,11 @@ impl<'a> Draft<'a> {
 }
 
 /// Reads a document: horizon, lines and groups, in this order.
-pub fn draft_of(alloc: Global, table: &Table) -> Draft<'_> {
+pub fn draft_of(alloc: Global, table: &Table) -> Draft<'_>
+    ensures range { IsInRange result }
+    ensures name { option_copied result.name ≡ shown_name (table_view table.now) }
+    ensures horizon { result.misfit ≡ None → horizon_in (table_view table.now) ≡ Some result.horizon }
+{
     let document = Here {
         place: Place::Document,
         table,
@@ -229,10 +308,7 @@ pub fn draft_of(alloc: Global, table: &Table) -> Draft<'_> {
         misfit: None,
         is_cut: false,
     };
-    draft.horizon = draft.number(document, "horizon", MAX_LENGTH, Wanted::Length);
-    if draft.horizon == 0 {
-        draft.miss(document, "horizon", Wanted::Length);
-    }
+    draft.read_horizon(document);
     draft.read_lines(document);
     draft.read_groups(document);
     draft

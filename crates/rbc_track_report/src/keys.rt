@@ -1,6 +1,7 @@
 //! Keys of a track file that nobody knows.
 
 ghost use Rattle.std.specs.Prelude.{◌≡◌};
+ghost use Rattle.rbc_track_report.specs.Growth.{AreOnKeys};
 ghost use Rattle.rbc_track_report.specs.Keys.{is_known};
 
 use crate::draft::{Place, rows_under};
@@ -39,13 +40,16 @@ struct Found {
 }
 
 /// Keeps the keys of one table that nobody knows.
+#[tactic(auto, using(crate::proofs::Written::on_keys_none, crate::proofs::Written::on_keys_cut))]
 fn keep_unknown<'a>(
     remarks: &mut Remarks<'_>,
     found: &mut BTreeMap<&'a str, Found>,
     kind: Kind,
     index: usize,
     table: &'a Table,
-) {
+)
+    ensures { AreOnKeys remarks.old remarks.new }
+{
     for key in table.keys() {
         let key = key.as_str();
         if !is_known(kind, key) {
@@ -72,7 +76,10 @@ fn found_once_more(before: Option<&Found>, index: usize) -> Found {
 }
 
 /// Adds a remark for each key that was kept, in the order of the keys.
-fn push_found<'a>(remarks: &mut Remarks<'a>, kind: Kind, found: &BTreeMap<&'a str, Found>) {
+#[tactic(auto, using(crate::proofs::Written::on_keys_none, crate::proofs::Written::on_keys_more))]
+fn push_found<'a>(remarks: &mut Remarks<'a>, kind: Kind, found: &BTreeMap<&'a str, Found>)
+    ensures { AreOnKeys remarks.old remarks.new }
+{
     for (key, at) in found {
         remarks.unknown_key(Remark::UnknownKey {
             key: *key,
@@ -83,12 +90,10 @@ fn push_found<'a>(remarks: &mut Remarks<'a>, kind: Kind, found: &BTreeMap<&'a st
     }
 }
 
-fn push_unknown_in_rows<'a>(
-    alloc: Global,
-    remarks: &mut Remarks<'a>,
-    kind: Kind,
-    rows: &'a [Value],
-) {
+#[tactic(auto, using(crate::proofs::Written::on_keys_none, crate::proofs::Written::on_keys_then))]
+fn push_unknown_in_rows<'a>(alloc: Global, remarks: &mut Remarks<'a>, kind: Kind, rows: &'a [Value])
+    ensures { AreOnKeys remarks.old remarks.new }
+{
     let mut found = BTreeMap::new(alloc);
     for (index, row) in rows.iter().enumerate() {
         if let Value::Table(table) = row {
@@ -99,7 +104,10 @@ fn push_unknown_in_rows<'a>(
 }
 
 /// Adds a remark for each key that nobody knows: of the document, of lines, of balise groups, each in the order of the keys.
-pub fn push_unknown<'a>(alloc: Global, remarks: &mut Remarks<'a>, document: &'a Table) {
+#[tactic(auto, using(crate::proofs::Written::on_keys_then))]
+pub fn push_unknown<'a>(alloc: Global, remarks: &mut Remarks<'a>, document: &'a Table)
+    ensures { AreOnKeys remarks.old remarks.new }
+{
     let mut found = BTreeMap::new(alloc);
     keep_unknown(remarks, &mut found, Kind::Document, 0, document);
     push_found(remarks, Kind::Document, &found);

@@ -1,12 +1,18 @@
 //! Which rule a refused track breaks, and where.
 
+ghost use Rattle.std.specs.Prelude.{◌≡◌};
+ghost use Rattle.rbc_track_report.specs.Growth.{IsWrittenOn};
+ghost use Rattle.rbc_track_report.specs.Sentences.{sentence_of};
+
 use crate::draft::{Draft, GroupDraft, MAX_LENGTH, Misfit, Place, Wanted};
 use crate::sheet::Sheet;
 use rbc_track::TrackError;
 use toml::Value;
 
 /// The sentence of a rule.
-pub fn sentence_of(rule: TrackError) -> &'static str {
+pub fn sentence_of(rule: TrackError) -> &'static str
+    ensures { result.now ≡ sentence_of rule }
+{
     match rule {
         TrackError::Text => "The text is no TOML document, or has a number beyond 64 bits.",
         TrackError::Shape => "A key is missing, or is not what it has to be.",
@@ -22,7 +28,10 @@ pub fn sentence_of(rule: TrackError) -> &'static str {
 }
 
 /// Adds where something stands: `[[line]] 2`, counted from 1 as in the file.
-pub fn push_place(sheet: &mut Sheet, place: Place) {
+#[tactic(auto, using(crate::proofs::Written::written_none, crate::proofs::Written::written_then))]
+pub fn push_place(sheet: &mut Sheet, place: Place)
+    ensures { IsWrittenOn sheet.old sheet.new }
+{
     match place {
         Place::Document => sheet.words("the document"),
         Place::Line(index) => sheet.words("[[line]] ").nth(index),
@@ -31,7 +40,10 @@ pub fn push_place(sheet: &mut Sheet, place: Place) {
 }
 
 /// Adds the beginning of a sentence on something in a document.
-fn push_subject(sheet: &mut Sheet, place: Place) {
+#[tactic(auto, using(crate::proofs::Written::written_none, crate::proofs::Written::written_then))]
+fn push_subject(sheet: &mut Sheet, place: Place)
+    ensures { IsWrittenOn sheet.old sheet.new }
+{
     match place {
         Place::Document => sheet.words("  The document"),
         Place::Line(index) => sheet
@@ -45,7 +57,10 @@ fn push_subject(sheet: &mut Sheet, place: Place) {
 }
 
 /// Adds what a value is.
-fn push_kind(sheet: &mut Sheet, value: &Value) {
+#[tactic(auto, using(crate::proofs::Written::written_none, crate::proofs::Written::written_then))]
+fn push_kind(sheet: &mut Sheet, value: &Value)
+    ensures { IsWrittenOn sheet.old sheet.new }
+{
     match value {
         Value::String(word) => sheet.words("the text \"").shown(word.as_str()).words("\""),
         Value::Integer(number) => sheet.words("the whole number ").integer(*number),
@@ -72,8 +87,23 @@ fn words_of(wanted: Wanted) -> &'static str {
 }
 
 /// Adds the two lines on a value that is missing, or is not what it has to be.
-pub fn push_misfit(sheet: &mut Sheet, misfit: &Misfit<'_>) {
+#[tactic(auto, using(crate::proofs::Written::written_none, crate::proofs::Written::written_then))]
+pub fn push_misfit(sheet: &mut Sheet, misfit: &Misfit<'_>)
+    ensures { IsWrittenOn sheet.old sheet.new }
+{
     push_subject(sheet, misfit.place);
+    push_what(sheet, misfit);
+    sheet
+        .words(".\n  It has to be ")
+        .words(words_of(misfit.wanted))
+        .words(".\n");
+}
+
+/// Adds what stands there, or that it is missing.
+#[tactic(auto, using(crate::proofs::Written::written_none, crate::proofs::Written::written_then))]
+fn push_what(sheet: &mut Sheet, misfit: &Misfit<'_>)
+    ensures { IsWrittenOn sheet.old sheet.new }
+{
     match (misfit.key, misfit.value) {
         (Some(key), Some(value)) => {
             sheet.words(": `").words(key).words("` is ");
@@ -90,14 +120,13 @@ pub fn push_misfit(sheet: &mut Sheet, misfit: &Misfit<'_>) {
             sheet.words(" is missing");
         }
     }
-    sheet
-        .words(".\n  It has to be ")
-        .words(words_of(misfit.wanted))
-        .words(".\n");
 }
 
 /// Adds where the rules on whole lists are broken first: the line for this rule.
-pub fn push_list_fault(sheet: &mut Sheet, rule: TrackError, draft: &Draft<'_>) {
+#[tactic(auto, using(crate::proofs::Written::written_none, crate::proofs::Written::written_then))]
+pub fn push_list_fault(sheet: &mut Sheet, rule: TrackError, draft: &Draft<'_>)
+    ensures { IsWrittenOn sheet.old sheet.new }
+{
     match rule {
         TrackError::TooManyLines => push_tables(sheet, "line", draft.lines.len()),
         TrackError::TooManyGroups => push_tables(sheet, "group", draft.groups.len()),
@@ -108,7 +137,10 @@ pub fn push_list_fault(sheet: &mut Sheet, rule: TrackError, draft: &Draft<'_>) {
     }
 }
 
-fn push_tables(sheet: &mut Sheet, kind: &str, number: usize) {
+#[tactic(auto, using(crate::proofs::Written::written_none, crate::proofs::Written::written_then))]
+fn push_tables(sheet: &mut Sheet, kind: &str, number: usize)
+    ensures { IsWrittenOn sheet.old sheet.new }
+{
     sheet
         .words("  There are ")
         .number(number)
@@ -118,7 +150,10 @@ fn push_tables(sheet: &mut Sheet, kind: &str, number: usize) {
 }
 
 /// Adds the first line whose length is out of its range.
-fn push_bad_length(sheet: &mut Sheet, draft: &Draft<'_>) {
+#[tactic(auto, using(crate::proofs::Written::written_none, crate::proofs::Written::written_then))]
+fn push_bad_length(sheet: &mut Sheet, draft: &Draft<'_>)
+    ensures { IsWrittenOn sheet.old sheet.new }
+{
     for (index, line) in draft.lines.iter().enumerate() {
         let length = line.length;
         if !(1..=MAX_LENGTH).contains(&length) {
@@ -133,7 +168,10 @@ fn push_bad_length(sheet: &mut Sheet, draft: &Draft<'_>) {
 }
 
 /// Adds the first balise group that is on no line of the track, or beyond the end of its line.
-fn push_off_line(sheet: &mut Sheet, draft: &Draft<'_>) {
+#[tactic(auto, using(crate::proofs::Written::written_none, crate::proofs::Written::written_then))]
+fn push_off_line(sheet: &mut Sheet, draft: &Draft<'_>)
+    ensures { IsWrittenOn sheet.old sheet.new }
+{
     for (index, group) in draft.groups.iter().enumerate() {
         let Some(line) = draft.lines.get(group.line as usize) else {
             push_no_such_line(sheet, index, group, draft.lines.len());
@@ -147,7 +185,10 @@ fn push_off_line(sheet: &mut Sheet, draft: &Draft<'_>) {
 }
 
 /// Adds a balise group that is beyond the end of its line.
-fn push_beyond(sheet: &mut Sheet, index: usize, group: &GroupDraft<'_>, length: u32) {
+#[tactic(auto, using(crate::proofs::Written::written_none, crate::proofs::Written::written_then))]
+fn push_beyond(sheet: &mut Sheet, index: usize, group: &GroupDraft<'_>, length: u32)
+    ensures { IsWrittenOn sheet.old sheet.new }
+{
     push_group(sheet, index, group.nid);
     sheet
         .words(": `at` is ")
@@ -160,7 +201,10 @@ fn push_beyond(sheet: &mut Sheet, index: usize, group: &GroupDraft<'_>, length: 
 }
 
 /// Adds a balise group that is on none of so many lines.
-fn push_no_such_line(sheet: &mut Sheet, index: usize, group: &GroupDraft<'_>, lines: usize) {
+#[tactic(auto, using(crate::proofs::Written::written_none, crate::proofs::Written::written_then))]
+fn push_no_such_line(sheet: &mut Sheet, index: usize, group: &GroupDraft<'_>, lines: usize)
+    ensures { IsWrittenOn sheet.old sheet.new }
+{
     push_group(sheet, index, group.nid);
     sheet
         .words(": there is no line ")
@@ -175,7 +219,10 @@ fn push_no_such_line(sheet: &mut Sheet, index: usize, group: &GroupDraft<'_>, li
     };
 }
 
-fn push_group(sheet: &mut Sheet, index: usize, nid: u32) {
+#[tactic(auto, using(crate::proofs::Written::written_none, crate::proofs::Written::written_then))]
+fn push_group(sheet: &mut Sheet, index: usize, nid: u32)
+    ensures { IsWrittenOn sheet.old sheet.new }
+{
     sheet
         .words("  [[group]] ")
         .nth(index)
@@ -185,7 +232,10 @@ fn push_group(sheet: &mut Sheet, index: usize, nid: u32) {
 }
 
 /// Adds the first balise group whose number an earlier one has.
-fn push_twice(sheet: &mut Sheet, groups: &[GroupDraft<'_>]) {
+#[tactic(auto, using(crate::proofs::Written::written_none, crate::proofs::Written::written_then))]
+fn push_twice(sheet: &mut Sheet, groups: &[GroupDraft<'_>])
+    ensures { IsWrittenOn sheet.old sheet.new }
+{
     for (index, group) in groups.iter().enumerate() {
         let first = first_with(groups, group.nid);
         if first < index {

@@ -1,5 +1,8 @@
 //! Remarks on a track file: warnings and notes.
 
+ghost use Rattle.std.specs.Prelude.{◌≡◌, ◌-◌, [], true, false};
+ghost use Rattle.rbc_track_report.specs.Growth.{IsWarned, IsNoted};
+
 use crate::draft::Place;
 use crate::keys::Kind;
 use crate::place::push_place;
@@ -31,7 +34,9 @@ pub struct Gap {
 
 impl Gap {
     /// How wide it is.
-    pub fn width(self) -> u32 {
+    pub fn width(self) -> u32
+        ensures { result ≡ self.to - self.from }
+    {
         self.to.saturating_sub(self.from)
     }
 }
@@ -84,7 +89,12 @@ pub struct Remarks<'a> {
 
 impl<'a> Remarks<'a> {
     /// No remarks.
-    pub fn new(alloc: Global, other_keys: bool) -> Self {
+    pub fn new(alloc: Global, other_keys: bool) -> Self
+        ensures warnings { result.warnings.items ≡ [] }
+        ensures notes { result.notes.items ≡ [] }
+        ensures other_keys { result.other_keys ≡ other_keys }
+        ensures whole { result.is_cut ≡ false }
+    {
         Remarks {
             warnings: Vec::new(alloc),
             notes: Vec::new(alloc),
@@ -94,21 +104,28 @@ impl<'a> Remarks<'a> {
     }
 
     /// Adds a warning.
-    pub fn warn(&mut self, remark: Remark<'a>) {
+    pub fn warn(&mut self, remark: Remark<'a>)
+        ensures { IsWarned remark.entry self.old self.new }
+    {
         if self.warnings.push(remark).is_err() {
             self.is_cut = true;
         }
     }
 
     /// Adds a note.
-    pub fn note(&mut self, remark: Remark<'a>) {
+    pub fn note(&mut self, remark: Remark<'a>)
+        ensures { IsNoted remark.entry self.old self.new }
+    {
         if self.notes.push(remark).is_err() {
             self.is_cut = true;
         }
     }
 
     /// Adds what is said of a key that nobody knows.
-    pub fn unknown_key(&mut self, remark: Remark<'a>) {
+    pub fn unknown_key(&mut self, remark: Remark<'a>)
+        ensures allowed { self.old.other_keys ≡ true → IsNoted remark.entry self.old self.new }
+        ensures forbidden { self.old.other_keys ≡ false → IsWarned remark.entry self.old self.new }
+    {
         if self.other_keys {
             self.note(remark);
         } else {

@@ -1,5 +1,8 @@
 //! The text of a report while it is written.
 
+ghost use Rattle.std.specs.Prelude.{◌≡◌, [], false, IfOk, OnOk, string_bytes};
+ghost use Rattle.rbc_track_report.specs.Growth.{IsWrittenOn};
+
 use crate::names::{MAX_SHOWN, is_unruly};
 use rbc_words::{Count, Km};
 use std::alloc::{AllocError, Global};
@@ -15,7 +18,10 @@ pub struct Sheet {
 
 impl Sheet {
     /// An empty sheet.
-    pub fn new(alloc: Global) -> Self {
+    pub fn new(alloc: Global) -> Self
+        ensures text { string_bytes result.text ≡ [] }
+        ensures whole { result.is_cut ≡ false }
+    {
         Sheet {
             text: String::new(alloc),
             is_cut: false,
@@ -27,7 +33,9 @@ impl Sheet {
     /// # Errors
     ///
     /// Memory was refused to a piece of it.
-    pub fn ended(self) -> Result<String, AllocError> {
+    pub fn ended(self) -> Result<String, AllocError>
+        ensures { IfOk result (λ text. (text ≡ self.text) × (self.is_cut ≡ false)) }
+    {
         if self.is_cut {
             return Err(AllocError);
         }
@@ -35,7 +43,10 @@ impl Sheet {
     }
 
     /// Adds words as they are.
-    pub fn words(&mut self, words: &str) -> &mut Self {
+    pub fn words(&mut self, words: &str) -> &mut Self
+        ensures same { result.ghost_name ≡ self.entry.ghost_name }
+        ensures written { IsWrittenOn self.old result.now }
+    {
         if self.text.push_str(words).is_err() {
             self.is_cut = true;
         }
@@ -43,7 +54,10 @@ impl Sheet {
     }
 
     /// Adds a number in decimal.
-    pub fn number(&mut self, number: usize) -> &mut Self {
+    pub fn number(&mut self, number: usize) -> &mut Self
+        ensures same { result.ghost_name ≡ self.entry.ghost_name }
+        ensures written { IsWrittenOn self.old result.now }
+    {
         if write!(self.text, "{number}").is_err() {
             self.is_cut = true;
         }
@@ -51,7 +65,10 @@ impl Sheet {
     }
 
     /// Adds a number in decimal, with its sign where it is below 0.
-    pub fn integer(&mut self, number: i64) -> &mut Self {
+    pub fn integer(&mut self, number: i64) -> &mut Self
+        ensures same { result.ghost_name ≡ self.entry.ghost_name }
+        ensures written { IsWrittenOn self.old result.now }
+    {
         if write!(self.text, "{number}").is_err() {
             self.is_cut = true;
         }
@@ -59,12 +76,18 @@ impl Sheet {
     }
 
     /// Adds the number of a table, counted from 1, by its index.
-    pub fn nth(&mut self, index: usize) -> &mut Self {
+    pub fn nth(&mut self, index: usize) -> &mut Self
+        ensures same { result.ghost_name ≡ self.entry.ghost_name }
+        ensures written { IsWrittenOn self.old result.now }
+    {
         self.number(index.saturating_add(1))
     }
 
     /// Adds a place or a length in units of 10 cm, in kilometres.
-    pub fn length(&mut self, units: u32) -> &mut Self {
+    pub fn length(&mut self, units: u32) -> &mut Self
+        ensures same { result.ghost_name ≡ self.entry.ghost_name }
+        ensures written { IsWrittenOn self.old result.now }
+    {
         let km = Km(units);
         if write!(self.text, "{km}").is_err() {
             self.is_cut = true;
@@ -73,7 +96,10 @@ impl Sheet {
     }
 
     /// Adds so many of a thing.
-    pub fn count(&mut self, number: usize, noun: &str) -> &mut Self {
+    pub fn count(&mut self, number: usize, noun: &str) -> &mut Self
+        ensures same { result.ghost_name ≡ self.entry.ghost_name }
+        ensures written { IsWrittenOn self.old result.now }
+    {
         let count = Count { number, noun };
         if write!(self.text, "{count}").is_err() {
             self.is_cut = true;
@@ -82,7 +108,10 @@ impl Sheet {
     }
 
     /// Adds a number at the right of a column of so many places.
-    pub fn column(&mut self, width: usize, number: usize) -> &mut Self {
+    pub fn column(&mut self, width: usize, number: usize) -> &mut Self
+        ensures same { result.ghost_name ≡ self.entry.ghost_name }
+        ensures written { IsWrittenOn self.old result.now }
+    {
         if write!(self.text, "{number:>width$}").is_err() {
             self.is_cut = true;
         }
@@ -90,23 +119,36 @@ impl Sheet {
     }
 
     /// Adds a name between quotation marks, with a space before it, or nothing.
-    pub fn name(&mut self, name: Option<&str>) -> &mut Self {
+    pub fn name(&mut self, name: Option<&str>) -> &mut Self
+        ensures same { result.ghost_name ≡ self.entry.ghost_name }
+        ensures written { IsWrittenOn self.old result.now }
+    {
         match name {
             Some(name) => self.words(" \"").words(name).words("\""),
             None => self,
         }
     }
 
+    /// Adds a character.
+    fn letter(&mut self, c: char)
+        ensures { IsWrittenOn self.old self.new }
+    {
+        if self.text.push(c).is_err() {
+            self.is_cut = true;
+        }
+    }
+
     /// Adds a text from a file: its first 40 characters, with a dot for each one that is unruly, and two dots where it is longer.
-    pub fn shown(&mut self, shown: &str) -> &mut Self {
+    #[tactic(auto, using(crate::proofs::Written::written_none, crate::proofs::Written::written_then))]
+    pub fn shown(&mut self, shown: &str) -> &mut Self
+        ensures same { result.ghost_name ≡ self.entry.ghost_name }
+        ensures written { IsWrittenOn self.old result.now }
+    {
         for (index, c) in shown.chars().enumerate() {
             if index == MAX_SHOWN {
                 return self.words(" ..");
             }
-            let plain = if is_unruly(c) { '.' } else { c };
-            if self.text.push(plain).is_err() {
-                self.is_cut = true;
-            }
+            self.letter(if is_unruly(c) { '.' } else { c });
         }
         self
     }

@@ -1,0 +1,5 @@
+use Rattle.rbc_track_report.specs.Growth.{AreOnKeys}
+use Rattle.rbc_track_report.proofs.keys.keep_unknown.Given as goal
+
+abbrev pub invariant-loop-key : goal.invariant-loop-key
+invariant-loop-key l = AreOnKeys l.fn.remarks l.remarks

@@ -1,0 +1,33 @@
+-- What a draft of a track file is (own rule).
+use Rattle.std.specs.Prelude.{◌≡◌, ◌≤◌, true, None, IsSome, All, IsPermutation}
+use Rattle.rbc_track.specs.Plan.{max_length, max_group_number}
+use Rattle.rbc_track_report.specs.declared.draft.Draft.{Draft}
+
+-- Of a draft only a first misfit is noted, if there was none.
+pub record IsMissed (old new : Draft) : Type 0 where
+  pub name : new.name ≡ old.name
+  pub horizon : new.horizon ≡ old.horizon
+  pub lines : new.lines ≡ old.lines
+  pub groups : new.groups ≡ old.groups
+  pub first : IsSome old.misfit → new.misfit ≡ old.misfit
+  pub cut : new.is_cut ≡ old.is_cut
+
+-- A draft that was read on: its name and its horizon stay, and with no misfit there was none before.
+pub record IsReadOn (old new : Draft) : Type 0 where
+  pub name : new.name ≡ old.name
+  pub horizon : new.horizon ≡ old.horizon
+  pub misfit : new.misfit ≡ None → old.misfit ≡ None
+
+-- A draft whose horizon and balise groups have numbers of their range.
+pub record IsInRange (draft : Draft) : Type 0 where
+  pub horizon : draft.horizon ≤ max_length
+  pub nids : All (λ group. group.nid ≤ max_group_number) draft.groups.items
+
+-- The balise groups of a draft are put in another order, or memory was refused. All else stays.
+pub record IsReordered (old new : Draft) : Type 0 where
+  pub name : new.name ≡ old.name
+  pub horizon : new.horizon ≡ old.horizon
+  pub lines : new.lines ≡ old.lines
+  pub groups : IsPermutation old.groups.items new.groups.items
+  pub misfit : new.misfit ≡ old.misfit
+  pub cut : old.is_cut ≡ true → new.is_cut ≡ true
