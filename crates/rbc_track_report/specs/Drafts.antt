@@ -1,7 +1,10 @@
 -- What a draft of a track file is (own rule).
 use Rattle.std.specs.Prelude.{◌≡◌, ◌≤◌, true, None, IsSome, All, IsPermutation}
+use Rattle.std.specs.Ordering.{nat_cmp, ordering_then}
+use Rattle.std.specs.declared.cmp.Ordering.{Ordering}
 use Rattle.rbc_track.specs.Plan.{max_length, max_group_number}
 use Rattle.rbc_track_report.specs.declared.draft.Draft.{Draft}
+use Rattle.rbc_track_report.specs.declared.draft.GroupDraft.{GroupDraft}
 
 -- Of a draft only a first misfit is noted, if there was none.
 pub record IsMissed (old new : Draft) : Type 0 where
@@ -31,3 +34,8 @@ pub record IsReordered (old new : Draft) : Type 0 where
   pub groups : IsPermutation old.groups.items new.groups.items
   pub misfit : new.misfit ≡ old.misfit
   pub cut : old.is_cut ≡ true → new.is_cut ≡ true
+
+-- how two balise groups stand in order: by line, then by place, then by number
+abbrev pub group_order : GroupDraft → GroupDraft → Ordering
+group_order one next =
+    ordering_then (ordering_then (nat_cmp one.line next.line) (nat_cmp one.at next.at)) (nat_cmp one.nid next.nid)

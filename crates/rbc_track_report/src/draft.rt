@@ -1,13 +1,14 @@
 //! A document read table by table, with names, and the first place where it is not what it has to be.
 
-ghost use Rattle.std.specs.Prelude.{◌≡◌, ◌≤◌, Some, None, IsSome, IfSome, option_copied};
+ghost use Rattle.std.specs.Prelude.{◌≡◌, ◌≤◌, false, IsPermutation, OnOk, Some, None, IsSome, IfSome, option_copied};
+ghost use Rattle.std.specs.List.Sorted.{IsSorted};
 ghost use Rattle.toml.specs.View.{items_view, table_view, view};
 ghost use Rattle.rbc_track.specs.Document.{number_within, number_at, horizon_in};
-ghost use Rattle.rbc_track_report.specs.Drafts.{IsMissed, IsReadOn, IsInRange, IsReordered};
+ghost use Rattle.rbc_track_report.specs.Drafts.{IsMissed, IsReadOn, IsInRange, IsReordered, group_order};
 ghost use Rattle.rbc_track_report.specs.Shown.{rows_under, shown_name};
 
 use crate::names::{name_in, value_at};
-use std::alloc::Global;
+use std::alloc::{AllocError, Global};
 use toml::{Table, Value};
 
 /// The greatest length of a line, and the greatest horizon, in units of 10 cm.
@@ -279,15 +280,22 @@ impl<'a> Draft<'a> {
 
     /// Puts the balise groups in order: by line, then by place, then by number.
     pub fn sort_groups(&mut self)
-        ensures { IsReordered self.old self.new }
+        ensures reordered { IsReordered self.old self.new }
+        ensures sorted { self.new.is_cut ≡ false → IsSorted group_order self.new.groups.items }
     {
-        let sorted = self
-            .groups
-            .sort_by_key(|group| (group.line, group.at, group.nid));
-        if sorted.is_err() {
+        if put_in_order(&mut self.groups).is_err() {
             self.is_cut = true;
         }
     }
+}
+
+/// Puts balise groups in order: by line, then by place, then by number.
+fn put_in_order(groups: &mut Vec<GroupDraft<'_>>) -> Result<(), AllocError>
+    ensures permutation { IsPermutation groups.old.items groups.new.items }
+    ensures sorted { OnOk result (IsSorted group_order groups.new.items) }
+{
+    groups.sort_by_key(|group| (group.line, group.at, group.nid))?;
+    Ok(())
 }
 
 /// Reads a document: horizon, lines and groups, in this order.
