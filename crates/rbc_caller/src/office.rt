@@ -1,9 +1,10 @@
 //! A dispatcher that keeps a state of its own: records in a plain store.
 
-ghost use Rattle.std.specs.Prelude.{IfOk};
+ghost use Rattle.std.specs.Prelude.{◌≡◌, [], IfOk, string_bytes};
 ghost use Rattle.ertms_codec.specs.ToTrain.{Fits as FitsItsVariables};
 ghost use Rattle.rbc_rule.specs.Gathered.{AreSendable};
 ghost use Rattle.rbc_rule.specs.Inputs.{Fits};
+ghost use Rattle.rbc_caller.specs.SentLine.{sent_line};
 
 use ertms_codec::write_to_train;
 use rbc_records::{PlainStore, apply};
@@ -32,7 +33,10 @@ pub struct Done {
 
 impl<'a> Office<'a> {
     /// Begins with the empty state.
-    pub fn new(alloc: Global, track: &'a Track) -> Self {
+    pub fn new(alloc: Global, track: &'a Track) -> Self
+        ensures store { result.store ≡ [] }
+        ensures track { result.track.now ≡ track.now }
+    {
         Office {
             alloc,
             track,
@@ -82,6 +86,7 @@ impl<'a> Office<'a> {
 /// The line of a message: the train, the input that sent it, and its bytes.
 pub fn sent_line(alloc: Global, number: usize, sent: &Sent) -> Result<String, AllocError>
     requires { FitsItsVariables sent.now.message }
+    ensures { IfOk result (λ line. string_bytes line ≡ sent_line number sent.now) }
 {
     let mut buffer = [0; 32];
     let length = write_to_train(&sent.message, &mut buffer);
