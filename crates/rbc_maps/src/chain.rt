@@ -1,6 +1,6 @@
 //! Values in chains: each leads, by each of its marks, to the next one that carries it.
 
-ghost use Rattle.std.specs.Prelude.{◌≡◌, ◌<◌, ℕ, length, slice_index};
+ghost use Rattle.std.specs.Prelude.{◌≡◌, ◌<◌, ◌+◌, ◌%◌, ℕ, length, slice_index};
 ghost use Rattle.rbc_maps.specs.Chains.{AreChained, headed};
 
 /// The number of marks that lines have.
@@ -77,7 +77,9 @@ fn head(first: &mut Vec<u32>, own: &[u8], place: u32)
 
 /// Where a number may stand: a hint, by its last six bits. It is 0 where there is none.
 #[inline]
-pub(crate) fn hint_of(first: &[u32], number: u32) -> usize {
+pub(crate) fn hint_of(first: &[u32], number: u32) -> usize
+    ensures { result ≡ slice_index first.now (64 + number % 64) }
+{
     let place = first.get(MARKS + number as usize % HINTS);
     place.map_or(0, |place| *place as usize)
 }
