@@ -1,7 +1,7 @@
 //! Remarks on a track file: warnings and notes.
 
 ghost use Rattle.std.specs.Prelude.{◌≡◌, ◌-◌, [], true, false};
-ghost use Rattle.rbc_track_report.specs.Growth.{IsWarned, IsNoted};
+ghost use Rattle.rbc_track_report.specs.Growth.{IsWarned, IsNoted, IsWrittenOn};
 
 use crate::draft::Place;
 use crate::keys::Kind;
@@ -135,7 +135,10 @@ impl<'a> Remarks<'a> {
 }
 
 /// Adds a heading, and below it the remarks, numbered.
-pub fn push_remarks(sheet: &mut Sheet, heading: &str, remarks: &[Remark<'_>]) {
+#[tactic(auto, using(crate::proofs::Written::written_none, crate::proofs::Written::written_then))]
+pub fn push_remarks(sheet: &mut Sheet, heading: &str, remarks: &[Remark<'_>])
+    ensures { IsWrittenOn sheet.old sheet.new }
+{
     sheet.words(heading);
     if remarks.is_empty() {
         sheet.words(": none.\n");
@@ -148,7 +151,10 @@ pub fn push_remarks(sheet: &mut Sheet, heading: &str, remarks: &[Remark<'_>]) {
     }
 }
 
-fn push_remark(sheet: &mut Sheet, remark: Remark<'_>) {
+#[tactic(auto, using(crate::proofs::Written::written_none, crate::proofs::Written::written_then))]
+fn push_remark(sheet: &mut Sheet, remark: Remark<'_>)
+    ensures { IsWrittenOn sheet.old sheet.new }
+{
     match remark {
         Remark::UnknownKey {
             key,
@@ -173,54 +179,84 @@ fn push_remark(sheet: &mut Sheet, remark: Remark<'_>) {
     }
 }
 
-fn push_unknown(sheet: &mut Sheet, key: &str, kind: Kind, tables: usize, first: usize) {
+#[tactic(auto, using(crate::proofs::Written::written_none, crate::proofs::Written::written_then))]
+fn push_unknown(sheet: &mut Sheet, key: &str, kind: Kind, tables: usize, first: usize)
+    ensures { IsWrittenOn sheet.old sheet.new }
+{
     sheet.words("Unknown key `").shown(key).words("` ");
-    let known = match kind {
-        Kind::Document => {
-            sheet.words("at the top of the document");
-            "group, horizon, line, name"
-        }
-        Kind::Line => {
-            push_tables(sheet, "line", tables, first);
-            "length, name"
-        }
-        Kind::Group => {
-            push_tables(sheet, "group", tables, first);
-            "at, line, name, nid, nominal"
-        }
-    };
+    push_where(sheet, kind, tables, first);
     sheet
         .words(".\n      It is ignored. Known there: ")
-        .words(known)
+        .words(known_there(kind))
         .words(".\n");
 }
 
-fn push_tables(sheet: &mut Sheet, kind: &str, tables: usize, first: usize) {
+/// The keys that are known in tables of a kind, in words.
+fn known_there(kind: Kind) -> &'static str {
+    match kind {
+        Kind::Document => "group, horizon, line, name",
+        Kind::Line => "length, name",
+        Kind::Group => "at, line, name, nid, nominal",
+    }
+}
+
+/// Adds where a key stands: in so many tables of a kind, the first of them at an index.
+#[tactic(auto, using(crate::proofs::Written::written_none, crate::proofs::Written::written_then))]
+fn push_where(sheet: &mut Sheet, kind: Kind, tables: usize, first: usize)
+    ensures { IsWrittenOn sheet.old sheet.new }
+{
+    match kind {
+        Kind::Document => {
+            sheet.words("at the top of the document");
+        }
+        Kind::Line => push_tables(sheet, "line", tables, first),
+        Kind::Group => push_tables(sheet, "group", tables, first),
+    }
+}
+
+#[tactic(auto, using(crate::proofs::Written::written_none, crate::proofs::Written::written_then))]
+fn push_tables(sheet: &mut Sheet, kind: &str, tables: usize, first: usize)
+    ensures { IsWrittenOn sheet.old sheet.new }
+{
     sheet.words("in ");
     if tables != 1 {
         sheet
             .number(tables)
             .words(" [[")
             .words(kind)
-            .words("]] tables, first in ");
+            .words("]] tables, first in ")
+            .nth(first);
     } else {
-        sheet.words("[[").words(kind).words("]] ");
+        sheet.words("[[").words(kind).words("]] ").nth(first);
     }
-    sheet.nth(first);
 }
 
-fn push_hidden(sheet: &mut Sheet, place: Place) {
+#[tactic(auto, using(crate::proofs::Written::written_none, crate::proofs::Written::written_then))]
+fn push_hidden(sheet: &mut Sheet, place: Place)
+    ensures { IsWrittenOn sheet.old sheet.new }
+{
     sheet.words("The name of ");
+    push_named(sheet, place);
+    sheet.words(" is not shown: it has to be a text of 1 to 40 plain characters.\n");
+}
+
+/// Adds what has a name.
+#[tactic(auto, using(crate::proofs::Written::written_none, crate::proofs::Written::written_then))]
+fn push_named(sheet: &mut Sheet, place: Place)
+    ensures { IsWrittenOn sheet.old sheet.new }
+{
     match place {
         Place::Document => {
             sheet.words("the track");
         }
         Place::Line(_) | Place::Group(_) => push_place(sheet, place),
     }
-    sheet.words(" is not shown: it has to be a text of 1 to 40 plain characters.\n");
 }
 
-fn push_same_place(sheet: &mut Sheet, nids: (u32, u32), line: u32, at: u32) {
+#[tactic(auto, using(crate::proofs::Written::written_none, crate::proofs::Written::written_then))]
+fn push_same_place(sheet: &mut Sheet, nids: (u32, u32), line: u32, at: u32)
+    ensures { IsWrittenOn sheet.old sheet.new }
+{
     sheet
         .words("Balise groups ")
         .number(nids.0 as usize)
@@ -233,7 +269,10 @@ fn push_same_place(sheet: &mut Sheet, nids: (u32, u32), line: u32, at: u32) {
         .words(".\n");
 }
 
-fn push_horizon(sheet: &mut Sheet, horizon: u32, words: &str) {
+#[tactic(auto, using(crate::proofs::Written::written_none, crate::proofs::Written::written_then))]
+fn push_horizon(sheet: &mut Sheet, horizon: u32, words: &str)
+    ensures { IsWrittenOn sheet.old sheet.new }
+{
     sheet
         .words("The horizon, ")
         .length(horizon)
@@ -241,7 +280,10 @@ fn push_horizon(sheet: &mut Sheet, horizon: u32, words: &str) {
         .words(words);
 }
 
-fn push_wide_gap(sheet: &mut Sheet, horizon: u32, gap: Gap) {
+#[tactic(auto, using(crate::proofs::Written::written_none, crate::proofs::Written::written_then))]
+fn push_wide_gap(sheet: &mut Sheet, horizon: u32, gap: Gap)
+    ensures { IsWrittenOn sheet.old sheet.new }
+{
     sheet
         .words("The horizon, ")
         .length(horizon)

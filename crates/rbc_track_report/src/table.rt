@@ -1,5 +1,9 @@
 //! The lines of a track with their balise groups in order, as a table.
 
+ghost use Rattle.std.specs.Prelude.{◌≡◌, length, nat_eq};
+ghost use Rattle.std.specs.List.{filter};
+ghost use Rattle.rbc_track_report.specs.Growth.{IsWrittenOn};
+
 use crate::draft::{Draft, GroupDraft, LineDraft};
 use crate::sheet::Sheet;
 
@@ -10,7 +14,10 @@ const UP_ROOM: &str = "       ";
 const DOWN_ROOM: &str = "     ";
 
 /// Adds what a track is as a whole.
-pub fn push_head(sheet: &mut Sheet, draft: &Draft<'_>) {
+#[tactic(auto, using(crate::proofs::Written::written_none, crate::proofs::Written::written_then))]
+pub fn push_head(sheet: &mut Sheet, draft: &Draft<'_>)
+    ensures { IsWrittenOn sheet.old sheet.new }
+{
     sheet
         .words("Track")
         .name(draft.name)
@@ -24,7 +31,10 @@ pub fn push_head(sheet: &mut Sheet, draft: &Draft<'_>) {
 }
 
 /// Adds each line with its balise groups, which are in order.
-pub fn push_lines(sheet: &mut Sheet, draft: &Draft<'_>) {
+#[tactic(auto, using(crate::proofs::Written::written_none, crate::proofs::Written::written_then))]
+pub fn push_lines(sheet: &mut Sheet, draft: &Draft<'_>)
+    ensures { IsWrittenOn sheet.old sheet.new }
+{
     for (index, line) in draft.lines.iter().enumerate() {
         push_line(sheet, index, line);
         push_groups_of(sheet, index, draft.groups.as_slice());
@@ -32,14 +42,19 @@ pub fn push_lines(sheet: &mut Sheet, draft: &Draft<'_>) {
 }
 
 /// How many of the balise groups are on a line.
-pub fn count_on(groups: &[GroupDraft<'_>], index: usize) -> usize {
+pub fn count_on(groups: &[GroupDraft<'_>], index: usize) -> usize
+    ensures { result ≡ length (filter (λ group. nat_eq group.line index) groups.now) }
+{
     groups
         .iter()
         .filter(|group| group.line as usize == index)
         .count()
 }
 
-fn push_line(sheet: &mut Sheet, index: usize, line: &LineDraft<'_>) {
+#[tactic(auto, using(crate::proofs::Written::written_none, crate::proofs::Written::written_then))]
+fn push_line(sheet: &mut Sheet, index: usize, line: &LineDraft<'_>)
+    ensures { IsWrittenOn sheet.old sheet.new }
+{
     sheet
         .words("\nLine ")
         .number(index)
@@ -50,7 +65,10 @@ fn push_line(sheet: &mut Sheet, index: usize, line: &LineDraft<'_>) {
 }
 
 /// Adds how many balise groups are on a line, and below that a row for each.
-fn push_groups_of(sheet: &mut Sheet, index: usize, groups: &[GroupDraft<'_>]) {
+#[tactic(auto, using(crate::proofs::Written::written_none, crate::proofs::Written::written_then))]
+fn push_groups_of(sheet: &mut Sheet, index: usize, groups: &[GroupDraft<'_>])
+    ensures { IsWrittenOn sheet.old sheet.new }
+{
     let number = count_on(groups, index);
     if number == 0 {
         sheet.words("no balise groups.\n");
@@ -67,7 +85,10 @@ fn push_groups_of(sheet: &mut Sheet, index: usize, groups: &[GroupDraft<'_>]) {
 }
 
 /// Adds a balise group: its place with the points in line, its number, and NID_C and NID_BG, of which that is made.
-fn push_group(sheet: &mut Sheet, group: &GroupDraft<'_>) {
+#[tactic(auto, using(crate::proofs::Written::written_none, crate::proofs::Written::written_then))]
+fn push_group(sheet: &mut Sheet, group: &GroupDraft<'_>)
+    ensures { IsWrittenOn sheet.old sheet.new }
+{
     push_km(sheet, group.at);
     let nid = group.nid as usize;
     sheet
@@ -79,6 +100,15 @@ fn push_group(sheet: &mut Sheet, group: &GroupDraft<'_>) {
         .column(6, nid % 16_384)
         .words("  ")
         .words(group.nominal);
+    push_name(sheet, group);
+    sheet.words("\n");
+}
+
+/// Adds the name of a balise group in its column, if it has one.
+#[tactic(auto, using(crate::proofs::Written::written_none, crate::proofs::Written::written_then))]
+fn push_name(sheet: &mut Sheet, group: &GroupDraft<'_>)
+    ensures { IsWrittenOn sheet.old sheet.new }
+{
     if let Some(name) = group.name {
         let room = if group.nominal == "up" {
             UP_ROOM
@@ -87,11 +117,13 @@ fn push_group(sheet: &mut Sheet, group: &GroupDraft<'_>) {
         };
         sheet.words(room).words(name);
     }
-    sheet.words("\n");
 }
 
 /// Adds a place of 10 columns, with its point in the sixth.
-fn push_km(sheet: &mut Sheet, at: u32) {
+#[tactic(auto, using(crate::proofs::Written::written_none, crate::proofs::Written::written_then))]
+fn push_km(sheet: &mut Sheet, at: u32)
+    ensures { IsWrittenOn sheet.old sheet.new }
+{
     let units = at as usize;
     sheet
         .column(5, units / 10_000)
