@@ -1,3 +1,4 @@
 pub mod Finding
 pub mod Putting
 pub mod Standing
+pub mod Weights

@@ -1,9 +1,11 @@
 -- Keys with tickets: what notes, publications and the present tickets mean (own rule).
+use Rattle.std.specs.Prelude.{◌+◌, ◌-◌, ◌^◌, ◌≤◌, min, length}
 use Rattle.std.specs.Prelude.{◌≡◌, ℕ, List, [], ◌∷◌, map, Option, Some, None, if◌then◌else◌, IfSome}
 use Rattle.std.specs.List.{All}
 use Rattle.std.specs.Option.{option_map}
 use Rattle.rbc_records.specs.declared.record.Key.{Key}
 use Rattle.rbc_records.specs.declared.record.Rec.{Rec}
+use Rattle.rbc_records.specs.declared.record.Rec.TheVariants as rec
 use Rattle.rbc_records.specs.Notes.{same_key}
 use Rattle.rbc_records.specs.Writes.{written}
 use Rattle.rbc_versions.specs.Log.{LogName, Shown, IsOf, number_of}
@@ -71,6 +73,27 @@ AreCurrent entries numbers = All (λ entry. entry.1.number ≡ numbers entry.0) 
 -- the entries do what the writes do, to any records
 abbrev pub AreOfWrites : List (Key × NumberedRec) → List (Key × Option Rec) → Type 0
 AreOfWrites entries writes = (records : Key → Option Rec) (k : Key) → written (records_of entries) records k ≡ written writes records k
+
+-- what a record counts in the log: one, and one for each item of its lists
+abbrev pub rec_weight : Rec → ℕ
+rec_weight (rec.Engines engines) = length engines + 1
+rec_weight (rec.Train train) = length train.stops + length train.limits + 1
+rec_weight (rec.Stops stops) = length stops.active + 1
+rec_weight (rec.Limits limits) = length limits.active + 1
+
+-- a removal counts nothing
+abbrev pub note_weight : Option Rec → ℕ
+note_weight None = 0
+note_weight (Some r) = rec_weight r
+
+-- what all of them count together
+abbrev pub notes_weight : List (Key × Option Rec) → ℕ
+notes_weight [] = 0
+notes_weight (note ∷ notes) = note_weight note.1 + notes_weight notes
+
+-- a weight counts all of them, as far as a number of 64 bits goes
+abbrev pub CountsAll : ℕ → List (Key × Option Rec) → Type 0
+CountsAll weight notes = min (notes_weight notes) (2 ^ 64 - 1) ≤ weight
 
 -- what contracts see of the present tickets: they, and for how many keys more there is room
 pub record PresentValue : Type 0 where

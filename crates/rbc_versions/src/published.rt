@@ -1,11 +1,13 @@
 //! Publications of what is written.
 
-ghost use Rattle.std.specs.Prelude.{◌≡◌, ◌+◌, ◌<◌, ◌≤◌, Some, length, slice_get, IfOk, IfSome, option_copied};
+ghost use Rattle.std.specs.Prelude.{◌+◌, ◌-◌, ◌^◌, min};
+ghost use Rattle.std.specs.Prelude.{◌≡◌, ◌<◌, ◌≤◌, Some, length, slice_get, IfOk, IfSome, option_copied};
 ghost use Rattle.std.specs.Option.{option_map};
 ghost use Rattle.indexmap.specs.IndexMap.{insert_entry, spare};
 ghost use Rattle.rbc_records.specs.Notes.{IsNotedOnce, same_key};
 ghost use Rattle.rbc_versions.specs.Log.{IsOf};
 ghost use Rattle.rbc_versions.specs.Entries.{numbered, number_for, shown, record_of, AreKeyedOf, AreOfWrites};
+ghost use Rattle.rbc_versions.specs.Entries.{note_weight, CountsAll};
 
 use crate::log::{OutOfMemory, Ticket, VersionLog};
 use indexmap::IndexMap;
@@ -27,20 +29,24 @@ impl Model for Published {
     ghost use Rattle.rbc_records.specs.declared.record.Key.{Key};
     ghost use Rattle.rbc_records.specs.Notes.{IsNotedOnce};
     ghost use Rattle.rbc_versions.specs.Log.{Shown};
-    ghost use Rattle.rbc_versions.specs.Entries.{shown};
+    ghost use Rattle.rbc_versions.specs.Entries.{shown, CountsAll};
 
     ghost Value = { List (Key × Option Shown) };
 
     ghost view = { λ published. published.all.entries };
 
-    // Each key occurs once.
-    ghost invariant = { λ published. IsNotedOnce (shown published.all.entries) };
+    // Each key occurs once, and the weight counts all that was published.
+    ghost invariant = { λ published. IsNotedOnce (shown published.all.entries)
+        × CountsAll published.weight (shown published.all.entries) };
 }
 
 impl Published {
     /// How much was published: one for each record, and one for each item of its lists. It is for whoever bounds the memory of a log;
     /// nothing else hangs on it.
-    pub fn weight(&self) -> usize {
+    pub fn weight(&self) -> usize
+        ensures all { CountsAll result (shown self.now) }
+        ensures once { IsNotedOnce (shown self.now) }
+    {
         self.weight
     }
 
@@ -76,7 +82,9 @@ impl Published {
 }
 
 /// What the publication of a record adds to the weight: one, and one for each item of its lists.
-fn weight_of(rec: Option<&Rec>) -> usize {
+fn weight_of(rec: Option<&Rec>) -> usize
+    ensures { result ≡ min (note_weight (option_copied rec.entry)) (2 ^ 64 - 1) }
+{
     let items = match rec {
         Some(Rec::Engines(engines)) => engines.len(),
         Some(Rec::Train(train)) => train.stops.held().saturating_add(train.limits.held()),
