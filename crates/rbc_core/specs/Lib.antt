@@ -5,5 +5,6 @@ pub mod Conflicts
 pub mod Forwards
 pub mod Reaches
 pub mod Books
+pub mod Leftovers
 pub mod Facts
 pub mod Witnesses

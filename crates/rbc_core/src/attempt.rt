@@ -6,6 +6,7 @@ ghost use Rattle.rbc_records.specs.declared.record.Key.{Key};
 ghost use Rattle.rbc_records.specs.Notes.{Part, AreNow};
 ghost use Rattle.rbc_versions.specs.Log.{number_of};
 ghost use Rattle.rbc_versions.specs.Entries.{AreOf, AreKeyedOf, AreOfWrites, AreCurrent, StandIn, numbered, number_for, records_of, shown, record_of, ticket_in};
+ghost use Rattle.rbc_versions.specs.Entries.{CountsAll};
 ghost use Rattle.rbc_rule.specs.Right.{IsRight};
 ghost use Rattle.rbc_rule.specs.Gathered.{AreSendable};
 ghost use Rattle.rbc_core.specs.Runs.{IsInput};
@@ -84,7 +85,10 @@ impl<N: RunName> Attempt<N> {
     }
 
     /// How much was published for it.
-    pub(crate) fn weight(&self) -> usize {
+    pub(crate) fn weight(&self) -> usize
+        ensures all { CountsAll result (records_of self.now.writes) }
+        ensures right { IsRightTry N.run self.now }
+    {
         self.published.weight()
     }
 

@@ -248,7 +248,9 @@ impl<'a, N: RunName> Book<'a, N> {
 
     /// How much was published for attempts and commits: one for each record, and one for each item of its lists. It is for whoever bounds
     /// the memory of the log; nothing else hangs on it.
-    pub fn weight(&self) -> usize {
+    pub fn weight(&self) -> usize
+        ensures book { IsBook N.run N.log self.now }
+    {
         self.weight
     }
 

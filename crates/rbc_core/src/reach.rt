@@ -1,6 +1,6 @@
 //! How far up the attempts go that write a key: a bound for each bucket of keys, in memory that is taken once.
 
-ghost use Rattle.std.specs.Prelude.{◌≡◌, ◌≤◌, ◌<◌, ℕ, Some, length};
+ghost use Rattle.std.specs.Prelude.{◌≡◌, ◌≤◌, ◌<◌, ℕ, Some, length, replicate, IfOk};
 ghost use Rattle.rbc_records.specs.declared.record.Key.{Key};
 ghost use Rattle.rbc_versions.specs.Entries.{numbered, number_for};
 ghost use Rattle.rbc_core.specs.Reaches.{place_of, reached};
@@ -31,8 +31,10 @@ impl Model for Reach {
 }
 
 impl Reach {
-    /// Nothing was written. Fails only for lack of memory.
-    pub(crate) fn new(alloc: Global) -> Result<Self, AllocError> {
+    /// Nothing was written: each bound is 0. Fails only for lack of memory.
+    pub(crate) fn new(alloc: Global) -> Result<Self, AllocError>
+        ensures { IfOk result (λ reach. reach ≡ replicate BUCKETS 0) }
+    {
         let mut bounds = Vec::with_capacity(alloc, BUCKETS)?;
         for _i in 0..BUCKETS {
             bounds.push_reserved(0u32);

@@ -1,5 +1,9 @@
 //! What a commit has no more use for.
 
+ghost use Rattle.std.specs.Prelude.{◌≡◌, ◌↔◌, IsTrue, IfSome, Some, None};
+ghost use Rattle.rbc_versions.specs.Entries.{shown, CountsAll};
+ghost use Rattle.rbc_core.specs.Leftovers.{nothing_held};
+
 use rbc_rule::Outcome;
 use rbc_versions::{Notes, Published};
 
@@ -14,7 +18,9 @@ pub struct Spent {
 
 impl Spent {
     /// Holds nothing, and takes no memory.
-    pub(crate) fn nothing() -> Self {
+    pub(crate) fn nothing() -> Self
+        ensures { result ≡ nothing_held }
+    {
         Spent {
             notes: None,
             stale: None,
@@ -24,7 +30,9 @@ impl Spent {
     }
 
     /// Whether nothing is held.
-    pub fn is_empty(&self) -> bool {
+    pub fn is_empty(&self) -> bool
+        ensures { IsTrue result ↔ (self.now ≡ nothing_held) }
+    {
         self.notes.is_none()
             && self.stale.is_none()
             && self.outcome.is_none()
@@ -32,27 +40,38 @@ impl Spent {
     }
 
     /// Keeps what was read for an attempt, in place of what is held of that kind.
-    pub(crate) fn keep_notes(&mut self, notes: Notes) {
+    pub(crate) fn keep_notes(&mut self, notes: Notes)
+        ensures { self.new ≡ record self.old { notes = Some notes } }
+    {
         self.notes = Some(notes);
     }
 
     /// Keeps the outcome and the publication of an attempt that does not stand any more, in place of what is held of that kind.
-    pub(crate) fn keep_stale(&mut self, outcome: Outcome, published: Published) {
+    pub(crate) fn keep_stale(&mut self, outcome: Outcome, published: Published)
+        ensures { self.new ≡ record self.old { stale = Some (outcome, published) } }
+    {
         self.stale = Some((outcome, published));
     }
 
     /// Keeps what is left of the outcome of an input, in place of what is held of that kind.
-    pub(crate) fn keep_outcome(&mut self, outcome: Outcome) {
+    pub(crate) fn keep_outcome(&mut self, outcome: Outcome)
+        ensures { self.new ≡ record self.old { outcome = Some outcome } }
+    {
         self.outcome = Some(outcome);
     }
 
     /// Keeps a publication that was taken over, in place of what is held of that kind.
-    pub(crate) fn keep_published(&mut self, published: Published) {
+    pub(crate) fn keep_published(&mut self, published: Published)
+        ensures { self.new ≡ record self.old { published = Some published } }
+    {
         self.published = Some(published);
     }
 
-    /// How much the publication weighs that was taken over.
-    pub(crate) fn weight(&self) -> usize {
+    /// How much the publication weighs that was taken over; 0 where none is held.
+    pub(crate) fn weight(&self) -> usize
+        ensures some { IfSome self.now.published (λ published. CountsAll result (shown published)) }
+        ensures none { self.now.published ≡ None → result ≡ 0 }
+    {
         match &self.published {
             Some(published) => published.weight(),
             None => 0,

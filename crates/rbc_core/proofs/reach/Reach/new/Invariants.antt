@@ -1,7 +1,7 @@
-use Rattle.std.proofs.Common.{◌≡◌, vec_len, length}
-use Rattle.std.specs.Prelude.{vec_capacity}
+use Rattle.std.proofs.Common.{◌≡◌, vec_len}
+use Rattle.std.specs.Prelude.{replicate, vec_capacity}
 use Rattle.rbc_core.proofs.reach.Reach.new.Given as goal
 
--- as many as were pushed are there
+-- as many bounds as were pushed are 0
 abbrev pub invariant-loop-i : goal.invariant-loop-i
-invariant-loop-i l = (length l.bounds.items ≡ l._i) × (vec_len l.bounds ≡ l._i) × (vec_capacity l.bounds ≡ 4096)
+invariant-loop-i l = (l.bounds.items ≡ replicate l._i 0) × (vec_len l.bounds ≡ l._i) × (vec_capacity l.bounds ≡ 4096)
