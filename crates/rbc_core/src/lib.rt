@@ -17,5 +17,6 @@ pub use rbc_desk::{Desk, MAX_RESULTS, Mail, Outbox, mails_law, mails_law_witness
 pub use run_name::RunName;
 pub use spent::Spent;
 pub use witnesses::{
-    conflict_law_witnesses, event_law_witnesses, forward_law_witnesses, staying_law_witnesses,
+    conflict_law_witnesses, event_law_witnesses, event_numbers_witnesses, event_order_witnesses,
+    forward_law_witnesses, staying_law_witnesses,
 };

@@ -14,41 +14,53 @@ ghost use Rattle.rbc_core.specs.Witnesses.{both_tried, first_committed, first_lo
 ghost use Rattle.rbc_core.specs.Witnesses.{second_overtaken, second_given_up, giving_up, again_for_nothing, stops_read, nothing_read};
 ghost use Rattle.rbc_core.specs.Witnesses.{forwarded_try, first_tried, forwarding, applying_forwarded, passing_over, then_again, MissesAnswers, MissesAttempts, MissesLatest, MissesDeposits, started_with_4, second_misled, start_of_three, third_try, third_misled};
 
-/// From the empty state train 7 is enrolled, and then comes a line that is no input. The three records of the first are published under the
-/// numbers 1, 2 and 3.
+/// From the empty state train 7 is enrolled, and then comes a line that is no input. The three records of the first are
+/// published under the numbers 1, 2 and 3.
 ///
-/// Right: both are attempted, the second one first, from a read that does not stand any more when its turn comes, so that it is
-/// computed again, and once in all; what this run says of numbers is what they mean, and so are the numbers of its desk before; both are
-/// attempted one after the other, and nothing is computed again; memory is refused as the first one is to be committed, after which
-/// nothing is committed any more, and the second one is given up; and the second is computed again, and has no numbers, though its attempt
-/// had some.
-///
-/// Wrong: two versions are published under one number; number 0 means a record; an attempt is taken over of whose three numbers one is
-/// not the present one, be it that nothing stands there, or the same record under another number; the second input is committed before
-/// the first; an attempt is kept at an input that was not taken; all is done before the end; the first number is taken twice; an input with
-/// an attempt is not ready; an input is computed again whose attempt is fresh; one that is computed again keeps the numbers of its attempt,
-/// which had another outcome.
+/// Right: both are attempted, the second one first, from a read that does not stand any more when its turn comes, so
+/// that it is computed again, and once in all; both are attempted one after the other, and nothing is computed again;
+/// and memory is refused as the first one is to be committed, after which nothing is committed any more, and the second
+/// one is given up.
 pub fn event_law_witnesses()
     ensures computing_again { Follow two_inputs start computing_again }
     ensures once { (after_events computing_again).recomputed ≡ 1 }
-    ensures meant { All (IsMeant means) computing_again }
-    ensures opening_meant { IsOpeningIn means two_inputs no_numbers }
     ensures applying { Follow two_inputs start applying }
     ensures never { (after_events applying).recomputed ≡ 0 }
     ensures failing { Follow two_inputs start failing }
     ensures none_committed { (after_events failing).committed ≡ 0 }
+{}
+
+/// What the numbers of those records mean, and what they decide.
+///
+/// Right: what the first of those runs says of numbers is what they mean, and so are the numbers of its desk before;
+/// and the second input is computed again, and has no numbers, though its attempt had some.
+///
+/// Wrong: two versions are published under one number; number 0 means a record; an attempt is taken over of whose three
+/// numbers one is not the present one, be it that nothing stands there, or the same record under another number; an
+/// input that is computed again keeps the numbers of its attempt, which had another outcome.
+pub fn event_numbers_witnesses()
+    ensures meant { All (IsMeant means) computing_again }
+    ensures opening_meant { IsOpeningIn means two_inputs no_numbers }
     ensures own_numbers { May two_inputs second_enrols (Recomputes refused []) }
     ensures two_under_one { (meaning : Meaning) → All (IsMeant meaning) two_under_one → ⊥ }
     ensures record_under_zero { (meaning : Meaning) → AreMeant meaning ((key.Roster, under 0 engines) ∷ []) → ⊥ }
     ensures one_stale_note { May two_inputs one_stale (Applies enrolled enrolled_numbers) → ⊥ }
     ensures same_record { May two_inputs published_again (Applies enrolled enrolled_numbers) → ⊥ }
+    ensures dropped_numbers { May two_inputs second_enrols (Recomputes refused enrolled_numbers) → ⊥ }
+{}
+
+/// What may not come at its turn.
+///
+/// Wrong: the second input is committed before the first; an attempt is kept at an input that was not taken; all is
+/// done before the end; the first number is taken twice; an input with an attempt is not ready; an input is computed
+/// again whose attempt is fresh.
+pub fn event_order_witnesses()
     ensures second_before_first { May two_inputs second_first (Applies refused []) → ⊥ }
     ensures not_out { May two_inputs start (Deposits first_try true) → ⊥ }
     ensures done_too_soon { May two_inputs second_first Ends → ⊥ }
     ensures taken_twice { May two_inputs second_first (Takes (Some 1)) → ⊥ }
     ensures ready_yet_waiting { May two_inputs one_stale Waits → ⊥ }
     ensures again_though_fresh { May two_inputs both_tried (Recomputes enrolled enrolled_numbers) → ⊥ }
-    ensures dropped_numbers { May two_inputs second_enrols (Recomputes refused enrolled_numbers) → ⊥ }
 {}
 
 /// There are attempts at both of those inputs.
