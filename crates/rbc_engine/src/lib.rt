@@ -5,7 +5,6 @@ mod gate;
 mod job;
 mod locking;
 mod pace;
-mod progress;
 mod recorder;
 mod workers;
 

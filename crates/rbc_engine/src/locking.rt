@@ -1,5 +1,8 @@
 //! Locking a book.
 
+ghost use Rattle.std.specs.Sync.Mutex.{mutex_guard_value};
+ghost use Rattle.rbc_core.specs.Books.{IsBook};
+
 use rbc_core::{Book, RunName};
 use std::hint::spin_loop;
 use std::sync::{Mutex, MutexGuard, Wait};
@@ -10,18 +13,39 @@ const TRIES: u32 = 64;
 
 const SPINS: u32 = 16;
 
-/// Locks a book.
+/// Locks a book. It is one of the run, whatever others did to it before.
 pub(crate) fn lock<'a, 'b, N: RunName, R: Wait>(
     rt: &R,
     book: &'a Mutex<Book<'b, N>>,
-) -> MutexGuard<'a, Book<'b, N>> {
+) -> MutexGuard<'a, Book<'b, N>>
+    ensures { IsBook N.run N.log (mutex_guard_value result) }
+{
     for _ in 0..TRIES {
         if let Some(guard) = book.try_lock() {
+            keeps(&guard);
             return guard;
         }
         pause();
     }
-    book.lock(rt)
+    let guard = book.lock(rt);
+    keeps(&guard);
+    guard
+}
+
+/// Takes a book out of its lock, when nobody else can lock it any more. It is one of the run.
+pub(crate) fn unlocked<'b, N: RunName>(lock: Mutex<Book<'b, N>>) -> Book<'b, N>
+    ensures { IsBook N.run N.log result }
+{
+    let book = lock.into_inner();
+    keeps(&book);
+    book
+}
+
+/// Says in its contract what every book of a run satisfies, because a lock promises it.
+fn keeps<N: RunName>(book: &Book<'_, N>)
+    ensures { IsBook N.run N.log book.now }
+{
+    let _ = book.committed();
 }
 
 /// Lets a moment pass.

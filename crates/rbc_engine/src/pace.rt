@@ -1,11 +1,12 @@
 //! How many workers a stretch is worth.
 
+ghost use Rattle.std.specs.Prelude.{◌≡◌, ◌⊎◌, ◌↔◌, ◌+◌, ◌-◌, ◌^◌, ◌/◌, ◌≤◌, IsTrue, length, min};
+
 use ertms_codec::FromTrain;
 use rbc_core::Desk;
-use rbc_records::{Key, Rec, Writes};
+use rbc_records::{Key, Rec};
 use rbc_rule::Input;
 use rbc_settle::TrainRec;
-use std::sync::atomic::{AtomicU64, Ordering};
 
 /// How many stops and restrictions a train has to be told of, on average, so that several workers are faster than one. A message of a train
 /// that is told of fewer is decided faster than its records are handed from one worker to another. With 255 one worker was still twice as
@@ -13,33 +14,43 @@ use std::sync::atomic::{AtomicU64, Ordering};
 const HEAVY: u64 = 512;
 
 /// How many messages came from trains, and of how many stops and restrictions these trains are told. It decides how many workers share a
-/// stretch, and no more: nothing that is proved hangs on it.
+/// stretch, and no more: nothing that is proved of a run hangs on it.
 #[derive(Drop)]
 pub(crate) struct Pace {
     workers: u8,
-    messages: AtomicU64,
-    weight: AtomicU64,
+    messages: u64,
+    weight: u64,
 }
 
 impl Pace {
-    /// So many workers can be had, and nothing was written.
-    pub(crate) fn new(workers: u8) -> Self {
+    /// So many workers can be had, and nothing was noted.
+    pub(crate) fn new(workers: u8) -> Self
+        ensures { result ≡ record { workers = workers; messages = 0; weight = 0 } }
+    {
         Pace {
             workers,
-            messages: AtomicU64::new(0),
-            weight: AtomicU64::new(0),
+            messages: 0,
+            weight: 0,
         }
     }
 
-    /// Notes what an input writes, if it is a message from a train.
-    pub(crate) fn note_writes(&self, input: &Input, writes: &Writes) {
-        if self.workers > 1 && matches!(input, Input::Received(_)) {
-            self.note(told_in(writes));
-        }
+    /// Notes so many messages from trains, which are told of so many stops and restrictions together.
+    pub(crate) fn note(&mut self, messages: u64, told: u64)
+        ensures workers { self.new.workers ≡ self.old.workers }
+        ensures messages { self.new.messages ≡ min (self.old.messages + messages) (2 ^ 64 - 1) }
+        ensures weight { self.new.weight ≡ min (self.old.weight + told) (2 ^ 64 - 1) }
+    {
+        self.messages = self.messages.saturating_add(messages);
+        self.weight = self.weight.saturating_add(told);
     }
 
-    /// Notes the train that an input came from, after it was taken in by a desk.
-    pub(crate) fn note_taken_in(&self, input: &Input, desk: &Desk) {
+    /// Notes the train that an input came from, after it was taken in by a desk, unless only one worker can be had.
+    pub(crate) fn note_taken_in(&mut self, input: &Input, desk: &Desk)
+        ensures workers { self.new.workers ≡ self.old.workers }
+        ensures alone { self.old.workers ≡ 1 → self.new ≡ self.old }
+        ensures one { self.new.messages ≤ self.old.messages + 1 }
+        ensures told { self.new.weight ≤ self.old.weight + 270 }
+    {
         if self.workers == 1 {
             return;
         }
@@ -47,34 +58,30 @@ impl Pace {
             return;
         };
         if let Some(Rec::Train(train)) = desk.store().get(Key::Train(engine)) {
-            self.note(told_to(train));
+            self.note(1, told_to(train) as u64);
         }
-    }
-
-    /// Notes a message of a train that is told of so many stops and restrictions.
-    fn note(&self, told: usize) {
-        self.messages.fetch_add(1, Ordering::SeqCst);
-        self.weight.fetch_add(told as u64, Ordering::SeqCst);
     }
 
     /// Whether the next stretch is faster by one worker: if only one can be had, or if the trains before were told of few stops and
     /// restrictions.
-    pub(crate) fn is_for_one(&self) -> bool {
-        let messages = self.messages.load(Ordering::SeqCst);
-        let weight = self.weight.load(Ordering::SeqCst);
-        self.workers == 1 || weight / HEAVY <= messages
+    pub(crate) fn is_for_one(&self) -> bool
+        ensures { IsTrue result ↔ ((self.now.workers ≡ 1) ⊎ (self.now.weight / HEAVY ≤ self.now.messages)) }
+    {
+        self.workers == 1 || self.weight / HEAVY <= self.messages
     }
 
     /// Halves what was noted, so that what came long before counts less.
-    pub(crate) fn fade(&self) {
-        let messages = self.messages.load(Ordering::SeqCst);
-        let weight = self.weight.load(Ordering::SeqCst);
-        self.messages.store(messages / 2, Ordering::SeqCst);
-        self.weight.store(weight / 2, Ordering::SeqCst);
+    pub(crate) fn fade(&mut self)
+        ensures { self.new ≡ record self.old { messages = self.old.messages / 2; weight = self.old.weight / 2 } }
+    {
+        self.messages /= 2;
+        self.weight /= 2;
     }
 
     /// How many workers can be had.
-    pub(crate) fn workers(&self) -> u8 {
+    pub(crate) fn workers(&self) -> u8
+        ensures { result ≡ self.now.workers }
+    {
         self.workers
     }
 }
@@ -90,17 +97,9 @@ fn sender(input: &Input) -> Option<u32> {
 }
 
 /// Of how many stops and restrictions a train is told.
-fn told_to(train: &TrainRec) -> usize {
-    train.stops.held().saturating_add(train.limits.held())
-}
-
-/// Of how many stops and restrictions the trains are told that are written.
-fn told_in(writes: &Writes) -> usize {
-    let mut told = 0usize;
-    for index in 0..writes.len() {
-        if let (_, Some(Rec::Train(train))) = writes.at(index) {
-            told = told.saturating_add(told_to(train));
-        }
-    }
-    told
+pub(crate) fn told_to(train: &TrainRec) -> usize
+    ensures all { result ≡ length train.now.stops + length train.now.limits }
+    ensures most { result ≤ 270 }
+{
+    train.stops.held() + train.limits.held()
 }

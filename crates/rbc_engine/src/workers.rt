@@ -12,9 +12,8 @@ ghost use Rattle.rbc_engine.specs.Answers.{IsOpening, IsRun, IsStretch, IsNextSt
 ghost use Rattle.rbc_engine.specs.Fronts.{IsWaiting, IsGivenUp, IsNext, IsAtItsEnd};
 
 use crate::gate::{Behind, Gate};
-use crate::job::Job;
+use crate::job::work_together;
 use crate::pace::Pace;
-use crate::progress::Progress;
 use rbc_core::{Book, Commit, Desk, MAX_RESULTS, RunName, Stats};
 use rbc_rule::Input;
 use rbc_track::Track;
@@ -22,7 +21,7 @@ use rbc_versions::VersionLog;
 use std::alloc::Global;
 use std::error::Error;
 use std::marker::Brand;
-use std::sync::{Mutex, Wait};
+use std::sync::Wait;
 use std::thread::Threads;
 use std::{fmt, mem};
 
@@ -148,7 +147,7 @@ fn run_named<N: RunName + Send + Sync, G: Gate + Sync, R: Threads + Wait + Sync>
     desk: &mut Desk,
     inputs: &[Input],
     log: &VersionLog,
-    pace: &Pace,
+    pace: &mut Pace,
     gate: &G,
 ) -> Result<Stats, RunError>
     requires track { track.now ≡ N.run.track }
@@ -161,22 +160,8 @@ fn run_named<N: RunName + Send + Sync, G: Gate + Sync, R: Threads + Wait + Sync>
     let opening = mem::replace(desk, Desk::new(alloc));
     match Book::<N>::new(rt, alloc, opening, inputs, log) {
         Ok(book) => {
-            let lock = Mutex::new(book);
-            let workers = pace.workers();
-            let progress = Progress::new(alloc, workers);
-            let job = Job {
-                rt,
-                alloc,
-                track,
-                inputs,
-                log,
-                book: &lock,
-                progress: &progress,
-                pace,
-                gate,
-            };
-            job.share(workers);
-            finish(rt, alloc, track, lock.into_inner(), desk)
+            let book = work_together(rt, alloc, track, inputs, log, book, pace, gate);
+            finish(rt, alloc, track, book, desk)
         }
         Err(opening) => {
             *desk = opening;
@@ -191,7 +176,7 @@ fn run_alone(
     track: &Track,
     desk: &mut Desk,
     inputs: &[Input],
-    pace: &Pace,
+    pace: &mut Pace,
 ) -> Result<Stats, RunError>
     requires good { IsGoodRun (record { track = track.now; opening = desk.old; inputs = inputs.now }) }
     ensures { IsStretch (record { track = track.now; opening = desk.old; inputs = inputs.now }) result desk.new }
@@ -221,7 +206,7 @@ fn run_stretch<G: Gate + Sync, R: Threads + Wait + Sync>(
     track: &Track,
     desk: &mut Desk,
     inputs: &[Input],
-    pace: &Pace,
+    pace: &mut Pace,
     gate: &G,
 ) -> Result<Stats, RunError>
     requires good { IsGoodRun (record { track = track.now; opening = desk.old; inputs = inputs.now }) }
@@ -245,7 +230,7 @@ fn run_first<G: Gate + Sync, R: Threads + Wait + Sync>(
     track: &Track,
     desk: &mut Desk,
     inputs: &[Input],
-    pace: &Pace,
+    pace: &mut Pace,
     gate: &G,
 ) -> Result<Stats, RunError>
     requires good { IsGoodRun (record { track = track.now; opening = desk.old; inputs = inputs.now }) }
@@ -265,7 +250,7 @@ fn run_behind<G: Gate + Sync, R: Threads + Wait + Sync>(
     desk: &mut Desk,
     inputs: &[Input],
     before: u32,
-    pace: &Pace,
+    pace: &mut Pace,
     gate: &G,
 ) -> Result<Stats, RunError>
     requires within { before ≤ length inputs.now }
@@ -285,7 +270,7 @@ fn run_next<G: Gate + Sync, R: Threads + Wait + Sync>(
     desk: &mut Desk,
     inputs: &[Input],
     all: Stats,
-    pace: &Pace,
+    pace: &mut Pace,
     gate: &G,
 ) -> Result<Stats, RunError>
     requires within { (all.recomputed ≤ all.taken) × (all.taken ≤ length inputs.now) }
@@ -326,14 +311,14 @@ fn run_stretches<G: Gate + Sync, R: Threads + Wait + Sync>(
     requires few { length inputs.now ≤ MAX_INPUTS }
     ensures { IsFinished (record { track = track.now; opening = desk.old; inputs = inputs.now }) result desk.new }
 {
-    let pace = Pace::new(workers);
+    let mut pace = Pace::new(workers);
     let mut all = Stats {
         taken: 0,
         recomputed: 0,
     };
     while (all.taken as usize) < inputs.len() {
         keeps_order(desk);
-        all = run_next(rt, alloc, track, desk, inputs, all, &pace, gate)?;
+        all = run_next(rt, alloc, track, desk, inputs, all, &mut pace, gate)?;
     }
     Ok(all)
 }
