@@ -195,7 +195,7 @@ pub(crate) fn work_together<'b, N: RunName + Send + Sync, G: Gate + Sync, R: Thr
     ensures book { IsBook N.run N.log result }
     ensures workers { pace.new.workers ≡ pace.old.workers }
 {
-    let lock = Mutex::new(book);
+    let locked = Mutex::new(book);
     let workers = pace.workers();
     let progress = Progress::new(alloc, workers);
     let noted = Noted::new(workers);
@@ -205,7 +205,7 @@ pub(crate) fn work_together<'b, N: RunName + Send + Sync, G: Gate + Sync, R: Thr
         track,
         inputs,
         log,
-        book: &lock,
+        book: &locked,
         progress: &progress,
         noted: &noted,
         gate,
@@ -214,7 +214,7 @@ pub(crate) fn work_together<'b, N: RunName + Send + Sync, G: Gate + Sync, R: Thr
     let messages = noted.messages.load(Ordering::SeqCst);
     let told = noted.told.load(Ordering::SeqCst);
     pace.note(messages, told);
-    unlocked(lock)
+    unlocked(locked)
 }
 
 /// How many messages from trains were attempted in a stretch, and of how many stops and restrictions these trains are
