@@ -10,8 +10,9 @@ use Rattle.rbc_maps.proofs.MapEdits.{inserted}
 use Rattle.rbc_ids.specs.declared.slot.Slot.{Slot}
 use Rattle.rbc_ids.specs.declared.slot.IssueError.{IssueError}
 use Rattle.rbc_ids.specs.declared.slot.IssueError.TheVariants.{Full, OutOfMemory}
-use Rattle.rbc_ids.specs.Table.{Slots, IsTable, least_free}
-use Rattle.rbc_ids.proofs.Tables.{length_within, absent_below, place_after, place_here, few, stays_with}
+use Rattle.rbc_ids.specs.Table.{Slots, IsTable, TellsApart, least_free}
+use Rattle.rbc_ids.proofs.Lacking.{absent_below}
+use Rattle.rbc_ids.proofs.Tables.{length_within, place_after, place_here, few, stays_with}
 
 chosen : (n count least at : ℕ) → n < count → at ≡ least + n → Some at ≡ cond (ltb n count) (Some (least + n)) None
 chosen n count least at within is = rw (lt-ltb n count within) (ap Some is)
@@ -150,8 +151,8 @@ module _ (count : ℕ) (slots : Slots) (table : IsTable count slots) where
     inserted_there slot new is =
         is ∙ ap (λ (xs : Slots). insert xs gap (gap, slot)) same ∙ ap (λ n. insert slots n (n, slot)) is_gap ∙ insert_at_run slot ∙ sym (ap (λ n. with_value n slot slots) is_gap)
 
-    pub inserted_stays : (slot : Slot) (new : Slots) → new ≡ insert items gap (gap, slot) → IsTable count new
-    inserted_stays slot new is = subst (IsTable count) (sym (inserted_there slot new is)) (stays_with count slots table gap slot gap_below)
+    pub inserted_stays : (slot : Slot) → TellsApart gap slot slots → (new : Slots) → new ≡ insert items gap (gap, slot) → IsTable count new
+    inserted_stays slot apart new is = subst (IsTable count) (sym (inserted_there slot new is)) (stays_with count slots table gap slot gap_below apart)
 
 -- an error that is not `Full`, where there is room
 pub full_only_where : (full : Type 0) → (full → ⊥) → (r : Result ℕ IssueError) → IsErrAnd r (λ error. error ≡ OutOfMemory) → IfErr r (λ error. (error ≡ Full) ↔ full)

@@ -11,7 +11,9 @@ use Rattle.rbc_maps.proofs.MapPlaces.{has_is, has_here, has_past, rises-with_val
 use Rattle.rbc_maps.proofs.MapEdits.{inserted, position_or_len_le, written}
 use Rattle.rbc_maps.proofs.MapFacts.{rises_from-lower}
 use Rattle.rbc_ids.specs.declared.slot.Slot.{Slot}
-use Rattle.rbc_ids.specs.Table.{Slots, IsTable, tells, is_told, is_used, is_used_at, identifier_of}
+use Rattle.rbc_ids.specs.Table.{Slots, IsTable, TellsApart, tells, is_told, is_used, is_used_at, identifier_of, after_report}
+use Rattle.rbc_ids.proofs.Lacking.{absent_below, without_absent}
+use Rattle.rbc_ids.proofs.Once.{once-filter, once-with, once-reported, keys-reported}
 
 module _ {V : Type 0} where
   -- as many stand between a lower and an upper bound as the bounds leave room for
@@ -50,6 +52,25 @@ module _ {V : Type 0} where
         | false ↦ λ e. or_right (eqb first.0 pair.0) (has pairs pair.0) (has-found test pairs pair e)
       ]) found
 
+  -- the pair that a search found is that of its key
+  pub value_of-found : (test : ℕ × V → Bool) (pair : ℕ × V) (least : ℕ) (pairs : List (ℕ × V)) → rises_from least (keys pairs) ≡ true → find test pairs ≡ Some pair → value_of pairs pair.0 ≡ Some pair.1
+  value_of-found test pair least [] rises found = absurd (let bad : None ≡ Some pair = found in cc)
+  value_of-found test pair least (first ∷ pairs) rises found =
+      let parts = and_parts (leb least first.0) (rises_from (first.0 + 1) (keys pairs)) rises in
+      (elim (test first) as (λ b. cond b (Some first) (find test pairs) ≡ Some pair → value_of (first ∷ pairs) pair.0 ≡ Some pair.1) [
+        | true ↦ λ e.
+            let same : first ≡ pair = same_Some first pair e in
+            ap (λ b. cond b (Some first.1) (value_of pairs pair.0)) (eq-eqb first.0 pair.0 (ap (λ (p : ℕ × V). p.0) same)) ∙ ap (λ (p : ℕ × V). Some p.1) same
+        | false ↦ λ e.
+            let there = has-found test pairs pair e in
+            let above : first.0 < pair.0 = elim (cases_lt first.0 pair.0) [
+              | inl lt ↦ lt
+              | inr ge ↦ absurd (let none = absent_below pair.0 (first.0 + 1) pairs (omega (arith, ge)) parts.1 in let bad : false ≡ true = sym none ∙ there in cc)
+            ] in
+            ap (λ b. cond b (Some first.1) (value_of pairs pair.0)) (ne_eqb first.0 pair.0 (λ equal. absurd (omega (arith, equal, above))))
+            ∙ value_of-found test pair (first.0 + 1) pairs parts.1 e
+      ]) found
+
   -- a key that is there and passes a test is there
   pub has-any : (key : ℕ) (test : ℕ × V → Bool) (pairs : List (ℕ × V)) → list_any (λ pair. eqb pair.0 key && test pair) pairs ≡ true → has pairs key ≡ true
   has-any key test [] any = any
@@ -84,20 +105,6 @@ module _ {V : Type 0} where
         let same' : pair.0 ≡ key = subst (λ n. (get_or (pair ∷ pairs) n d).0 ≡ key) here same in
         ap (λ b. cond b (Some pair.1) (value_of pairs key)) (eq-eqb pair.0 key same') ∙ sym (ap (λ n. Some (get_or (pair ∷ pairs) n d).1) here)
   ]
-
-  pub absent_below : (key least : ℕ) (pairs : List (ℕ × V)) → key < least → rises_from least (keys pairs) ≡ true → has pairs key ≡ false
-  absent_below key least [] below rises = refl
-  absent_below key least (pair ∷ pairs) below rises =
-      let parts = and_parts (leb least pair.0) (rises_from (pair.0 + 1) (keys pairs)) rises in
-      let above = leb-true least pair.0 parts.0 in
-      or_from (eqb pair.0 key) (has pairs key) (ne_eqb pair.0 key (λ same. absurd (omega (arith, above, same)))) (absent_below key (pair.0 + 1) pairs (omega (arith, above)) parts.1)
-
-  -- what is not there need not be taken out
-  without_absent : (key : ℕ) (pairs : List (ℕ × V)) → has pairs key ≡ false → without key pairs ≡ pairs
-  without_absent key [] absent = refl
-  without_absent key (pair ∷ pairs) absent =
-      let parts = or_parts (eqb pair.0 key) (has pairs key) absent in
-      ap (λ b. cond (not b) (pair ∷ without key pairs) (without key pairs)) parts.0 ∙ ap (λ (xs : List (ℕ × V)). pair ∷ xs) (without_absent key pairs parts.1)
 
   -- a key is taken out at its place
   pub remove-without : (key least : ℕ) (pairs : List (ℕ × V)) (d : ℕ × V) → rises_from least (keys pairs) ≡ true → index_for key pairs < length pairs → (get_or pairs (index_for key pairs) d).0 ≡ key → remove pairs (index_for key pairs) ≡ without key pairs
@@ -170,13 +177,23 @@ module _ (count : ℕ) (slots : Slots) (table : IsTable count slots) where
     small = table.small;
     ascending = rises-filter (λ held. not (eqb held.0 id)) 0 slots table.ascending;
     below = All-keys-filter (λ other. other < count) (λ held. not (eqb held.0 id)) slots table.below;
+    once = once-filter (λ held. not (eqb held.0 id)) slots table.once;
   }
 
-  pub stays_with : (id : ℕ) (slot : Slot) → id < count → IsTable count (with_value id slot slots)
-  stays_with id slot below = record {
+  pub stays_with : (id : ℕ) (slot : Slot) → id < count → TellsApart id slot slots → IsTable count (with_value id slot slots)
+  stays_with id slot below apart = record {
     small = table.small;
     ascending = rises-with_value id slot 0 slots (omega arith) table.ascending;
     below = All-keys-with_value (λ other. other < count) id slot slots below table.below;
+    once = once-with id slot 0 slots table.ascending table.once apart;
+  }
+
+  pub stays_reported : IsTable count (after_report slots)
+  stays_reported = record {
+    small = table.small;
+    ascending = subst (λ (ks : List ℕ). rises_from 0 ks ≡ true) (sym (keys-reported slots)) table.ascending;
+    below = subst (λ (ks : List ℕ). All (λ id. id < count) ks) (sym (keys-reported slots)) table.below;
+    once = once-reported slots table.once;
   }
 
   pub held_below : (id : ℕ) → has slots id ≡ true → id < count
@@ -202,8 +219,8 @@ module _ (count : ℕ) (items slots : Slots) (same : items ≡ slots) (table : I
   pub put_there : has slots id ≡ true → (slot : Slot) (m : ℕ × Slot) → m ≡ get_or items at m → set items at (m.0, slot) ≡ with_value id slot slots
   put_there held slot m read = written id slot items at m m at_place (there held) read (has_key held m read) read ∙ ap (with_value id slot) same
 
-  pub put_stays : has slots id ≡ true → (slot : Slot) (m : ℕ × Slot) → m ≡ get_or items at m → IsTable count (set items at (m.0, slot))
-  put_stays held slot m read = subst (IsTable count) (sym (put_there held slot m read)) (stays_with count slots table id slot (held_below count slots table id held))
+  pub put_stays : has slots id ≡ true → (slot : Slot) → TellsApart id slot slots → (m : ℕ × Slot) → m ≡ get_or items at m → IsTable count (set items at (m.0, slot))
+  put_stays held slot apart m read = subst (IsTable count) (sym (put_there held slot m read)) (stays_with count slots table id slot (held_below count slots table id held) apart)
 
   -- a pair can be put in at its place
   pub place_within : at ≤ length items
@@ -217,8 +234,8 @@ module _ (count : ℕ) (items slots : Slots) (same : items ≡ slots) (table : I
       ∙ inserted id slot items at at_place (λ d within key. false≢true (sym absent ∙ sym (has_here id items at d ascends at_place within) ∙ eq-eqb (get_or items at d).0 id key))
       ∙ ap (with_value id slot) same
 
-  pub told_stays : has slots id ≡ false → id < count → (slot : Slot) (new : Slots) → new ≡ insert items at (id, slot) → IsTable count new
-  told_stays free below slot new is = subst (IsTable count) (sym (told_there free slot new is)) (stays_with count slots table id slot below)
+  pub told_stays : has slots id ≡ false → id < count → (slot : Slot) → TellsApart id slot slots → (new : Slots) → new ≡ insert items at (id, slot) → IsTable count new
+  told_stays free below slot apart new is = subst (IsTable count) (sym (told_there free slot new is)) (stays_with count slots table id slot below apart)
 
   pub removed_there : has slots id ≡ true → (m : ℕ × Slot) (new : Slots) → new ≡ remove items at → new ≡ without id slots
   removed_there held m new is =

@@ -1,5 +1,6 @@
 -- A table of identifiers, as a map from those that are held to their slots (own rule).
-use Rattle.std.specs.Prelude.{◌≡◌, ℕ, ◌<◌, ◌≤◌, Bool, true, false, not, ◌==◌, ◌&&◌, nat_le, List, Option, Some, None, option_map, slice_get, if◌then◌else◌}
+use Rattle.std.specs.Prelude.{◌≡◌, ℕ, ◌+◌, ◌<◌, ◌≤◌, min, Bool, true, false, not, ◌==◌, ◌&&◌, nat_le, List, [], ◌∷◌, map, Option, Some, None, option_map, slice_get, if◌then◌else◌}
+use Rattle.std.specs.Option.{option_map_or}
 use Rattle.std.specs.List.{filter, find, list_any, range_with_len, All}
 use Rattle.rbc_maps.specs.Maps.{has, value_of, with_value, without, keys, IsMap}
 use Rattle.rbc_ids.specs.declared.slot.Slot.{Slot}
@@ -16,12 +17,6 @@ use Rattle.rbc_ids.specs.declared.slot.IdAck.TheVariants as id_ack
 abbrev pub Slots : Type 0
 Slots = List (ℕ × Slot)
 
--- A table is sound: it has at most 255 identifiers, and those that are held ascend and are below `count`.
-pub record IsTable (count : ℕ) (slots : Slots) : Type 0 where
-  pub small : count ≤ 255
-  pub ascending : IsMap slots
-  pub below : All (λ id. id < count) (keys slots)
-
 -- A slot tells this number. A slot that is being revoked tells none.
 abbrev pub tells : ℕ → Slot → Bool
 tells number (Used used) = used.number == number
@@ -30,6 +25,23 @@ tells number (Revoking stamp) = false
 -- a number is told if a slot tells it
 abbrev pub is_told : Slots → ℕ → Bool
 is_told slots number = list_any (λ held. tells number held.1) slots
+
+-- each number is told by one slot at most
+abbrev pub TellsOnce : Slots → Type 0
+TellsOnce [] = Unit
+TellsOnce (held ∷ slots) = ((n : ℕ) → tells n held.1 ≡ true → is_told slots n ≡ false) × TellsOnce slots
+
+-- A table is sound: it has at most 255 identifiers, those that are held ascend and are below `count`, and no number is told
+-- under two of them.
+pub record IsTable (count : ℕ) (slots : Slots) : Type 0 where
+  pub small : count ≤ 255
+  pub ascending : IsMap slots
+  pub below : All (λ id. id < count) (keys slots)
+  pub once : TellsOnce slots
+
+-- under no other identifier is the number of a slot told
+abbrev pub TellsApart : ℕ → Slot → Slots → Type 0
+TellsApart id slot slots = (n : ℕ) → tells n slot ≡ true → is_told (without id slots) n ≡ false
 
 -- a slot is used, and not being revoked
 abbrev pub is_used : Slot → Bool
@@ -54,11 +66,42 @@ identifier_of slots number = option_map (λ held. held.0) (find (λ held. tells 
 
 -- the slot of a number that is told now, which the train has not acknowledged
 abbrev pub told_now : ℕ → ℕ → Kind → Slot
-told_now number stamp kind = Used (record { number = number; stamp = stamp; kind = kind; acked = false })
+told_now number stamp kind = Used (record { number = number; stamp = stamp; kind = kind; acked = false; count = 0 })
 
 -- the slot once the train has acknowledged the message that told its number
 abbrev pub marked : UsedSlot → Slot
 marked used = Used (record used { acked = true })
+
+-- how many reports without an answer are counted
+abbrev pub most_reports : ℕ
+most_reports = 3
+
+abbrev pub is_conditional : Kind → Bool
+is_conditional Conditional = true
+is_conditional Unconditional = false
+is_conditional Restriction = false
+
+-- a stop was told conditionally, and the train has not acknowledged that
+abbrev pub is_unanswered : UsedSlot → Bool
+is_unanswered used = is_conditional used.kind && not used.acked
+
+-- The slot after one more report of the train: a stop that is not answered counts it, to at most 3.
+abbrev pub reported_slot : Slot → Slot
+reported_slot (Used used) = if is_unanswered used then Used (record used { count = min (used.count + 1) most_reports }) else Used used
+reported_slot (Revoking stamp) = Revoking stamp
+
+-- so do all slots
+abbrev pub after_report : Slots → Slots
+after_report slots = map (λ held. (held.0, reported_slot held.1)) slots
+
+-- a stop was told conditionally, and was left unanswered in three reports
+abbrev pub is_ripe : Slot → Bool
+is_ripe (Used used) = is_unanswered used && used.count == most_reports
+is_ripe (Revoking stamp) = false
+
+-- so was the one under an identifier
+abbrev pub is_ripe_at : Slots → ℕ → Bool
+is_ripe_at slots id = option_map_or is_ripe (value_of slots id) false
 
 -- the table after the least free identifier was issued for a number
 pub record IsIssued (count : ℕ) (old : Slots) (number stamp : ℕ) (kind : Kind) (id : ℕ) (new : Slots) : Type 0 where

@@ -3,6 +3,9 @@
 use std::alloc::AllocFailed;
 use thiserror::Error;
 
+/// How many reports without an answer are counted.
+pub(crate) const MOST_REPORTS: u8 = 3;
+
 /// The kind of message that told a number.
 #[derive(Clone, Copy, Debug, PartialEq, Eq)]
 pub enum Kind {
@@ -25,6 +28,9 @@ pub struct UsedSlot {
     pub kind: Kind,
     /// Whether the train has acknowledged that message.
     pub acked: bool,
+    /// How often the train has reported its position since it was told to stop before a place, without an answer: 0 to 3,
+    /// and 0 for any other message.
+    pub count: u8,
 }
 
 /// What a held identifier is held for.
@@ -37,9 +43,21 @@ pub enum Slot {
     Revoking { stamp: u32 },
 }
 
+impl UsedSlot {
+    ghost use Rattle.std.specs.Prelude.{◌≡◌};
+    ghost use Rattle.rbc_ids.specs.Table.{is_unanswered};
+
+    /// Whether it tells a stop conditionally (message 15), and the train has not acknowledged that.
+    pub fn is_unanswered(&self) -> bool
+        ensures { result ≡ is_unanswered self.now }
+    {
+        self.kind == Kind::Conditional && !self.acked
+    }
+}
+
 impl Slot {
     ghost use Rattle.std.specs.Prelude.{◌≡◌};
-    ghost use Rattle.rbc_ids.specs.Table.{stamp_of, tells};
+    ghost use Rattle.rbc_ids.specs.Table.{stamp_of, tells, is_ripe};
 
     /// Returns the stamp of the message that told the number or revoked it.
     pub fn stamp(&self) -> u32
@@ -49,6 +67,14 @@ impl Slot {
             Slot::Used(used) => used.stamp,
             Slot::Revoking { stamp } => *stamp,
         }
+    }
+
+    /// Whether the slot is used by a stop that the train was told conditionally, and has left unanswered in three
+    /// reports.
+    pub fn is_ripe(&self) -> bool
+        ensures { result ≡ is_ripe self.now }
+    {
+        matches!(self, Slot::Used(used) if used.is_unanswered() && used.count == MOST_REPORTS)
     }
 
     /// Whether the slot is used by a number. A slot that is being revoked is not.

@@ -5,9 +5,9 @@ ghost use Rattle.std.specs.List.{position_or_len, enumerate_from};
 ghost use Rattle.rbc_maps.specs.Maps.{has, index_for, value_of, with_value, without};
 ghost use Rattle.rbc_ids.specs.declared.slot.IssueError.TheVariants.{Full};
 ghost use Rattle.rbc_ids.specs.declared.slot.Slot.TheVariants.{Revoking};
-ghost use Rattle.rbc_ids.specs.Table.{IsTable, is_told, is_used_at, least_free, identifier_of, told_now, marked, IsIssued, with_stamp, after_stamp_ack, after_id_ack};
+ghost use Rattle.rbc_ids.specs.Table.{IsTable, TellsApart, is_told, is_used_at, least_free, identifier_of, told_now, marked, IsIssued, with_stamp, after_stamp_ack, after_id_ack, is_ripe_at, reported_slot, after_report};
 
-use crate::slot::{IdAck, IssueError, Kind, Slot, StampAck, UsedSlot};
+use crate::slot::{IdAck, IssueError, Kind, MOST_REPORTS, Slot, StampAck, UsedSlot};
 use std::alloc::{AllocError, Global};
 use std::cell::Cell;
 use std::marker::Model;
@@ -148,10 +148,12 @@ impl<const N: usize> IdTable<N> {
     }
 
     /// Uses an identifier for a number, told by a message of this kind with this stamp (T_TRAIN, 10 ms). The identifier must
-    /// be free and below `N`. Fails only for lack of memory, which leaves the table unchanged.
+    /// be free and below `N`, and the number must not be told already. Fails only for lack of memory, which leaves the table
+    /// unchanged.
     pub fn tell(&mut self, id: u8, number: u32, stamp: u32, kind: Kind) -> Result<(), AllocError>
         requires below { id < N }
         requires free { has self.old id ≡ false }
+        requires untold { is_told self.old number ≡ false }
         ensures ok { OnOk result (self.new ≡ with_value id (told_now number stamp kind) self.old) }
         ensures err { OnErr result (self.new ≡ self.old) }
     {
@@ -220,9 +222,28 @@ impl<const N: usize> IdTable<N> {
         }
     }
 
-    /// Replaces the slot of a held identifier.
+    /// Counts one more report of the train for each stop that it was told conditionally and has not acknowledged, to at most
+    /// 3 (own rule). Takes no memory.
+    pub fn reported(&mut self)
+        ensures { self.new ≡ after_report self.old }
+    {
+        for held in self.held.iter_mut() {
+            held.1 = reported(held.1);
+        }
+    }
+
+    /// Whether an identifier is used by a stop that the train was told conditionally, and has left unanswered in three
+    /// reports. Takes no memory.
+    pub fn ripe(&self, id: u8) -> bool
+        ensures { result ≡ is_ripe_at self.now id }
+    {
+        self.slot(id).is_some_and(|slot| slot.is_ripe())
+    }
+
+    /// Replaces the slot of a held identifier. No other slot may tell the number of the new one.
     fn put(&mut self, id: u8, slot: Slot)
-        requires { IsTrue (has self.old id) }
+        requires held { IsTrue (has self.old id) }
+        requires once { TellsApart id slot self.old }
         ensures { self.new ≡ with_value id slot self.old }
     {
         let at = self.index_of(id);
@@ -231,7 +252,8 @@ impl<const N: usize> IdTable<N> {
 
     /// Returns the least identifier whose slot has this stamp, with that slot.
     fn with_stamp(&self, stamp: u32) -> Option<(u8, Slot)>
-        ensures { result ≡ with_stamp self.now stamp }
+        ensures slot { result ≡ with_stamp self.now stamp }
+        ensures sound { IsTable N self.now }
     {
         self.held
             .iter()
@@ -273,6 +295,7 @@ fn told_now(number: u32, stamp: u32, kind: Kind) -> Slot
         stamp,
         kind,
         acked: false,
+        count: 0,
     })
 }
 
@@ -284,6 +307,19 @@ fn marked(used: UsedSlot) -> Slot
         acked: true,
         ..used
     })
+}
+
+/// The slot after one more report of the train.
+fn reported(slot: Slot) -> Slot
+    ensures { result ≡ reported_slot slot }
+{
+    match slot {
+        Slot::Used(used) if used.is_unanswered() => Slot::Used(UsedSlot {
+            count: used.count.saturating_add(1).min(MOST_REPORTS),
+            ..used
+        }),
+        _ => slot,
+    }
 }
 
 /// Returns the least index of a slot that is used by a number.

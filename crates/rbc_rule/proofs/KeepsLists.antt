@@ -5,7 +5,7 @@ use Rattle.std.proofs.lemmas.Bool.{cases_lt, or_parts, or_from, and_parts, eqb-t
 use Rattle.std.proofs.lemmas.List.Elements.{All-cons, All-head, All-tail}
 use Rattle.std.proofs.lemmas.Option.{same_Some}
 use Rattle.rbc_maps.specs.Maps.{keys, rises_from, value_of, with_value}
-use Rattle.rbc_ids.proofs.Tables.{has-found, absent_below, value_of-absent}
+use Rattle.rbc_ids.proofs.Tables.{value_of-absent}
 use Rattle.rbc_settle.specs.Numbers.{has_number}
 use Rattle.rbc_settle.specs.WellFormed.{AreDistinct}
 use Rattle.rbc_settle.proofs.Revoking.{with_value-past, with_value-here}
@@ -153,25 +153,6 @@ module _ {V : Type 0} where
               ap (map f) (with_value-here key new pair pairs equal) ∙ ap (λ (x : X). x ∷ map f pairs) (same ∙ sym was)
         ]
       ]
-
-  -- the pair that a search found is that of its key
-  pub value_of-found : (test : ℕ × V → Bool) (pair : ℕ × V) (least : ℕ) (pairs : List (ℕ × V)) → rises_from least (keys pairs) ≡ true → find test pairs ≡ Some pair → value_of pairs pair.0 ≡ Some pair.1
-  value_of-found test pair least [] rises found = absurd (let bad : None ≡ Some pair = found in cc)
-  value_of-found test pair least (first ∷ pairs) rises found =
-      let parts = and_parts (leb least first.0) (rises_from (first.0 + 1) (keys pairs)) rises in
-      (elim (test first) as (λ b. cond b (Some first) (find test pairs) ≡ Some pair → value_of (first ∷ pairs) pair.0 ≡ Some pair.1) [
-        | true ↦ λ e.
-            let same : first ≡ pair = same_Some first pair e in
-            ap (λ b. cond b (Some first.1) (value_of pairs pair.0)) (eq-eqb first.0 pair.0 (ap (λ (p : ℕ × V). p.0) same)) ∙ ap (λ (p : ℕ × V). Some p.1) same
-        | false ↦ λ e.
-            let there = has-found test pairs pair e in
-            let above : first.0 < pair.0 = elim (cases_lt first.0 pair.0) [
-              | inl lt ↦ lt
-              | inr ge ↦ absurd (let none = absent_below pair.0 (first.0 + 1) pairs (omega (arith, ge)) parts.1 in let bad : false ≡ true = sym none ∙ there in cc)
-            ] in
-            ap (λ b. cond b (Some first.1) (value_of pairs pair.0)) (ne_eqb first.0 pair.0 (λ equal. absurd (omega (arith, equal, above))))
-            ∙ value_of-found test pair (first.0 + 1) pairs parts.1 e
-      ]) found
 
   -- leaving out the options that are none goes by the options alone
   pub filter_map-by_map : {X : Type 0} (f : ℕ × V → Option X) (pairs : List (ℕ × V)) → filter_map f pairs ≡ filter_map (λ o. o) (map f pairs)

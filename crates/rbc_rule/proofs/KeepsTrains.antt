@@ -17,6 +17,7 @@ use Rattle.rbc_ids.specs.declared.slot.StampAck.{StampAck}
 use Rattle.rbc_ids.specs.declared.slot.StampAck.TheVariants as stamp_ack
 use Rattle.rbc_ids.specs.declared.slot.IdAck.TheVariants as id_ack
 use Rattle.rbc_ids.specs.Table.{Slots, IsTable, stamp_of, with_stamp, acked_by_stamp, after_stamp_ack, is_acceptance, is_rejection, acked_by_id, marked, is_of_restriction}
+use Rattle.rbc_ids.proofs.Tables.{value_of-found}
 use Rattle.rbc_settle.specs.declared.train.TrainRec.{TrainRec}
 use Rattle.rbc_settle.specs.Numbers.{AreNumbers, has_number, with_number, without_number}
 use Rattle.rbc_settle.specs.Trains.{new_train}
@@ -24,7 +25,7 @@ use Rattle.rbc_settle.specs.Settling.{Stops, Limits}
 use Rattle.rbc_settle.specs.WellFormed.{told_numbers, stamps, IsGiven, is_stop_kind, is_limit_kind, has_kind, IsWellFormedTrain}
 use Rattle.rbc_settle.proofs.NumberLists.{place, added, added_rises}
 use Rattle.rbc_rule.specs.Effect.{forget, unknown_stamp, is_too_high, raised, placed, limits_acked, stops_acked, acknowledged, forced_too, stop_acked, answered, told_by, stamp_of as stamp_told, heard}
-use Rattle.rbc_rule.proofs.KeepsLists.{IsPart, part-same, part-all, part-distinct, part-before, part-behind, value_of-found}
+use Rattle.rbc_rule.proofs.KeepsLists.{IsPart, part-same, part-all, part-distinct, part-before, part-behind}
 use Rattle.rbc_rule.proofs.KeepsSlots.{stamps_in, SlotsStay, stay-without, stay-put, good_slots, told-given}
 use Rattle.rbc_rule.proofs.KeepsPlaces.{place_on}
 use Rattle.rbc_settle.specs.Trains.{max_engine, max_train_length}

@@ -1,7 +1,9 @@
 use Rattle.std.proofs.Common.{◌≡◌, ◌≤◌, ◌∙◌, length, sym, ap, subst, arith, refl}
 use Rattle.rbc_maps.specs.Maps.{with_value}
 use Rattle.rbc_ids.specs.declared.slot.Slot.{Slot}
+use Rattle.rbc_ids.specs.Table.{TellsApart}
 use Rattle.rbc_ids.proofs.Gaps.{run, run_within, run_below, run_is_all, all_from_run, least_at, inserted_there, inserted_stays, full_only_where}
+use Rattle.rbc_ids.proofs.Once.{apart-told}
 use Rattle.rbc_ids.proofs.table.IdTable.issue.Goals as goal
 
 pub returns-then-gap-clause-full : goal.returns-then-gap-clause-full
@@ -29,7 +31,9 @@ returns-in_err-insert-clause-full g c =
 pub invariant_of-self-2 : goal.invariant_of-self-2
 invariant_of-self-2 g c =
     let same : c.self.inside.held.items ≡ c.args.self.now = c.self.view_is in
-    inserted_stays g.row.N c.args.self.now c.gap-gap.ensures.sound c.self.inside.held.items same c.gap-gap.result c.gap-gap.ensures.value c.if-gap.false c.told_now.result c.insert.new.self.items c.in_ok-insert.ensures.items
+    let apart : TellsApart c.gap-gap.result c.told_now.result c.args.self.now =
+    subst (λ (slot : Slot). TellsApart c.gap-gap.result slot c.args.self.now) (sym c.told_now.ensures) (apart-told c.gap-gap.result c.args.number c.args.stamp c.args.kind c.args.self.now c.requires) in
+    inserted_stays g.row.N c.args.self.now c.gap-gap.ensures.sound c.self.inside.held.items same c.gap-gap.result c.gap-gap.ensures.value c.if-gap.false c.told_now.result apart c.insert.new.self.items c.in_ok-insert.ensures.items
 
 pub returns-clause-issued : goal.returns-clause-issued
 returns-clause-issued g c =
