@@ -1,6 +1,6 @@
 -- What settling achieves.
-use Rattle.std.proofs.Common.{◌≡◌, ℕ, ◌+◌, ◌-◌, ◌≤◌, ◌⊎◌, false, List, [], ◌∷◌, ◌++◌, length, map, take, Option, sym, ap, ◌∙◌, subst, arith, inl, inr}
-use Rattle.std.specs.List.{fold, scan, AllByRecursion}
+use Rattle.std.proofs.Common.{◌≡◌, ℕ, ◌+◌, ◌-◌, ◌≤◌, ◌⊎◌, Bool, true, false, ◌||◌, List, [], ◌∷◌, ◌++◌, length, map, take, Option, None, refl, sym, ap, ◌∙◌, subst, arith, inl, inr}
+use Rattle.std.specs.List.{filter, fold, scan, AllByRecursion}
 use Rattle.std.proofs.lemmas.Bool.{cases_lt}
 use Rattle.std.proofs.lemmas.List.{take_all, length-take-le}
 use Rattle.std.proofs.lemmas.List.Elements.{All-from_recursion}
@@ -8,41 +8,54 @@ use Rattle.rbc_track.specs.Plan.{Plan}
 use Rattle.rbc_place.specs.Placing.{Place}
 use Rattle.rbc_maps.specs.Numbered.{AreNumbered}
 use Rattle.rbc_ids.specs.declared.slot.Kind.TheVariants.{Restriction}
-use Rattle.rbc_ids.specs.Table.{Slots}
+use Rattle.rbc_maps.proofs.MapValues.{map_of_numbered}
+use Rattle.rbc_ids.specs.Table.{Slots, free_identifiers}
 use Rattle.rbc_zones.specs.declared.segment.Segment.{Segment}
 use Rattle.rbc_settle.specs.declared.train.TrainRec.{TrainRec}
 use Rattle.rbc_settle.specs.declared.action.Action.{Action}
-use Rattle.rbc_settle.specs.declared.action.Action.TheVariants.{RevokeStop, RevokeLimit}
-use Rattle.rbc_settle.specs.Settling.{Stops, Limits, last_stamp, carried_out, message_of, kind_of, tell_stop, tell_limit, concern_to, is_used_by, is_stop_gone, is_limit_gone, stops_revoked, stops_told, limits_revoked, limits_told, actions, actions_with_stamp, settled}
+use Rattle.rbc_settle.specs.declared.action.Action.TheVariants.{RevokeLimit}
+use Rattle.rbc_settle.specs.Settling.{Stops, Limits, last_stamp, carried_out, message_of, kind_of, revoke_stop, tell_stop, tell_limit, concern_to, is_used_by, is_stop_gone, is_limit_gone, due_number, spare_identifiers, escalated, is_stop_revoked, stops_revoked, stops_told, limits_revoked, limits_told, actions, actions_with_stamp, settled}
 use Rattle.rbc_settle.specs.UpToDate.{HasTables, IsToldIfItCan, IsLimitToldIfItCan, IsUpToDate, IsUpToDateOrAtTheEnd, StaysAsItIs, SettlingTwiceIsOnce}
-use Rattle.rbc_settle.proofs.Revoking.{each_not_gone}
+use Rattle.rbc_settle.proofs.Revoking.{each_not_gone, none_passes, revoked_is}
+use Rattle.rbc_settle.proofs.Telling.{told_all, all_held}
+use Rattle.rbc_settle.proofs.Due.{dues}
+use Rattle.rbc_settle.proofs.NoneDue.{each_not_due}
+use Rattle.rbc_settle.proofs.Escalating.{IsNoneDueOrFull, told_table, stops_done, none_due_after}
 use Rattle.rbc_settle.proofs.Done.{IsDone, IsToldOrFull, is_done, none_told, none_revoked, told_or_full}
 use Rattle.rbc_settle.proofs.Carried.{stamp_after}
-use Rattle.rbc_settle.proofs.Parts.{after_first, after_second, after_third, after_all, stops_at_last, limits_at_last, place_at_last, forced_at_last}
-use Rattle.rbc_settle.proofs.Concerned.{told_as, limit_as, stops_stay, limits_stay, nothing_told}
+use Rattle.rbc_settle.proofs.Parts.{forced_then, stop_pairs, after_first, after_second, after_third, after_all, stops_at_last, limits_at_last, place_at_last, forced_at_last}
+use Rattle.rbc_settle.proofs.Concerned.{told_as, limit_as, limits_stay, nothing_told}
 
 -- nothing is left to do to a train
 pub record AreDone (horizon : ℕ) (active : Stops) (lifted : Limits) (train : TrainRec) : Type 0 where
   pub stops : IsDone 15 (is_stop_gone active) active.active (told_as train.place train.forced) train.stops
   pub limits : IsDone 255 (is_limit_gone lifted train.place) lifted.active (limit_as horizon train.place) train.limits
+  pub due : IsNoneDueOrFull active train.stops
 
 module _ (plan : Plan) (stops : Stops) (limits : Limits) (train : TrainRec) (tables : HasTables train) (h : AreNumbered stops) (k : AreNumbered limits) where
+  -- the table of stops is that after revoking and telling
+  told_at_last : (after_all plan stops limits train).stops ≡ told_table stops train tables.stops h (after_first plan stops limits train).stamp
+  told_at_last =
+      stops_at_last plan stops limits train
+      ∙ ap (told_all kind_of (after_first plan stops limits train).stamp (stop_pairs plan stops limits train)) (revoked_is (is_stop_revoked stops (escalated stops train)) train.stamp 0 train.stops tables.stops.ascending)
+
   -- nothing is left to do for its stops
-  stops_done : IsDone 15 (is_stop_gone stops) stops.active (told_as train.place train.forced) (after_all plan stops limits train).stops
-  stops_done = subst (λ (xs : Slots). IsDone 15 (is_stop_gone stops) stops.active (told_as train.place train.forced) xs) (sym (stops_at_last plan stops limits train))
-      (is_done kind_of 15 (is_stop_gone stops) (told_as train.place train.forced) stops.active train.stops tables.stops (stops_stay stops (told_as train.place train.forced)) train.stamp (after_first plan stops limits train).stamp)
+  stops_then : IsDone 15 (is_stop_gone stops) stops.active (told_as train.place (forced_then plan stops limits train)) (after_all plan stops limits train).stops
+  stops_then = subst (λ (xs : Slots). IsDone 15 (is_stop_gone stops) stops.active (told_as train.place (forced_then plan stops limits train)) xs) (sym told_at_last)
+      (stops_done stops train tables.stops h (after_first plan stops limits train).stamp)
 
   -- nor for its restrictions
-  limits_done : IsDone 255 (is_limit_gone limits train.place) limits.active (limit_as plan.horizon train.place) (after_all plan stops limits train).limits
-  limits_done = subst (λ (xs : Slots). IsDone 255 (is_limit_gone limits train.place) limits.active (limit_as plan.horizon train.place) xs) (sym (limits_at_last plan stops limits train))
-      (is_done (λ told. Restriction) 255 (is_limit_gone limits train.place) (limit_as plan.horizon train.place) limits.active train.limits tables.limits (limits_stay plan.horizon limits train.place k) (after_second plan stops limits train).stamp (after_third plan stops limits train).stamp)
+  limits_then : IsDone 255 (is_limit_gone limits train.place) limits.active (limit_as plan.horizon train.place) (after_all plan stops limits train).limits
+  limits_then = subst (λ (xs : Slots). IsDone 255 (is_limit_gone limits train.place) limits.active (limit_as plan.horizon train.place) xs) (sym (limits_at_last plan stops limits train))
+      (is_done (λ told. Restriction) 255 (is_limit_gone limits train.place) (limit_as plan.horizon train.place) limits.active train.limits tables.limits (map_of_numbered limits k) (limits_stay plan.horizon limits train.place k) (after_second plan stops limits train).stamp (after_third plan stops limits train).stamp)
 
   -- so nothing at all
   all_done : AreDone plan.horizon stops limits (after_all plan stops limits train)
   all_done = record {
     stops = subst (λ (p : Option Place). IsDone 15 (is_stop_gone stops) stops.active (told_as p (after_all plan stops limits train).forced) (after_all plan stops limits train).stops) (sym (place_at_last plan stops limits train))
-        (subst (λ (f : List ℕ). IsDone 15 (is_stop_gone stops) stops.active (told_as train.place f) (after_all plan stops limits train).stops) (sym (forced_at_last plan stops limits train)) stops_done);
-    limits = subst (λ (p : Option Place). IsDone 255 (is_limit_gone limits p) limits.active (limit_as plan.horizon p) (after_all plan stops limits train).limits) (sym (place_at_last plan stops limits train)) limits_done;
+        (subst (λ (f : List ℕ). IsDone 15 (is_stop_gone stops) stops.active (told_as train.place f) (after_all plan stops limits train).stops) (sym (forced_at_last plan stops limits train)) stops_then);
+    limits = subst (λ (p : Option Place). IsDone 255 (is_limit_gone limits p) limits.active (limit_as plan.horizon p) (after_all plan stops limits train).limits) (sym (place_at_last plan stops limits train)) limits_then;
+    due = subst (IsNoneDueOrFull stops) (sym told_at_last) (none_due_after stops train tables.stops h (after_first plan stops limits train).stamp);
   }
 
 -- all actions are taken, or as many as there are stamps
@@ -82,20 +95,52 @@ module _ (plan : Plan) (stops : Stops) (limits : Limits) (train : TrainRec) (don
     limits_told = All-from_recursion (IsLimitToldIfItCan plan.horizon train) limits.active (told_or_full 255 (is_limit_gone limits train.place) limits.active (limit_as plan.horizon train.place) train.limits done.limits);
     no_stop_gone = All-from_recursion (λ held. is_used_by (is_stop_gone stops) held.1 ≡ false) train.stops (each_not_gone (is_stop_gone stops) train.stops done.stops.none_gone);
     no_limit_gone = All-from_recursion (λ held. is_used_by (is_limit_gone limits train.place) held.1 ≡ false) train.limits (each_not_gone (is_limit_gone limits train.place) train.limits done.limits.none_gone);
+    none_due = elim done.due [
+      | inl none_free ↦ inr (all_held 15 train.stops done.stops.table none_free)
+      | inr none ↦ inl (All-from_recursion (λ held. due_number stops held.1 ≡ None) train.stops (each_not_due stops train.stops none))
+    ];
   }
 
 -- four parts without an action are none
 no_four : (a b c d : List Action) → a ≡ [] → b ≡ [] → c ≡ [] → d ≡ [] → a ++ b ++ c ++ d ≡ []
 no_four a b c d ea eb ec ed = ap (λ (x : List Action). x ++ b ++ c ++ d) ea ∙ ap (λ (x : List Action). x ++ c ++ d) eb ∙ ap (λ (x : List Action). x ++ d) ec ∙ ed
 
+-- where no slot is due, or no identifier is free, none is escalated
+none_escalated : (stops : Stops) (train : TrainRec) → IsNoneDueOrFull stops train.stops → escalated stops train ≡ []
+none_escalated stops train due = elim due [
+  | inl none_free ↦
+      let free : length (free_identifiers 15 train.stops) ≡ 0 = ap length none_free in
+      let none : spare_identifiers stops train ≡ 0 = omega (arith, free) in
+      ap (λ (n : ℕ). take n (dues stops train.stops)) none
+  | inr none ↦ ap (take (spare_identifiers stops train)) none ∙ take_all (spare_identifiers stops train) [] (omega arith)
+]
+
+-- where none is escalated, a stop is revoked if it is gone
+revoked_as_gone : (stops : Stops) → is_stop_revoked stops [] ≡ is_stop_gone stops
+revoked_as_gone stops = λ i n. alone (is_stop_gone stops n) i
+  where
+    alone : (a : Bool) → (a || false) ≡ a
+    alone true = refl
+    alone false = refl
+
+-- and the others are told that have to be
+no_stops_left : (stops : Stops) (train : TrainRec) → IsDone 15 (is_stop_gone stops) stops.active (told_as train.place train.forced) train.stops → (stops_revoked [] stops train ≡ []) × (stops_told [] stops train ≡ [])
+no_stops_left stops train done =
+    let none : filter (λ held. is_used_by (is_stop_gone stops) held.1) train.stops ≡ [] = none_passes (is_stop_gone stops) train.stops done.none_gone in
+    (
+      ap (λ (gone : ℕ → Bool). map (revoke_stop []) (filter (λ held. is_used_by gone held.1) train.stops)) (revoked_as_gone stops) ∙ ap (map (revoke_stop [])) none,
+      ap (map tell_stop) (none_told 15 (is_stop_gone stops) stops.active (told_as train.place train.forced) train.stops done),
+    )
+
 -- where nothing is left to do there is no action
 pub no_actions : (plan : Plan) (stops : Stops) (limits : Limits) (train : TrainRec) → AreDone plan.horizon stops limits train → actions plan stops limits train ≡ []
 no_actions plan stops limits train done =
-    let stop_gone = is_stop_gone stops in
     let limit_gone = is_limit_gone limits train.place in
-    no_four (stops_revoked stops train) (stops_told stops train) (limits_revoked limits train) (limits_told plan.horizon limits train)
-    (ap (map RevokeStop) (none_revoked 15 stop_gone stops.active (told_as train.place train.forced) train.stops done.stops))
-    (ap (map tell_stop) (none_told 15 stop_gone stops.active (told_as train.place train.forced) train.stops done.stops))
+    let none = none_escalated stops train done.due in
+    let stops_left = no_stops_left stops train done.stops in
+    no_four (stops_revoked (escalated stops train) stops train) (stops_told (escalated stops train) stops train) (limits_revoked limits train) (limits_told plan.horizon limits train)
+    (ap (λ (forced_now : List ℕ). stops_revoked forced_now stops train) none ∙ stops_left.0)
+    (ap (λ (forced_now : List ℕ). stops_told forced_now stops train) none ∙ stops_left.1)
     (ap (map RevokeLimit) (none_revoked 255 limit_gone limits.active (limit_as plan.horizon train.place) train.limits done.limits))
     (ap (map tell_limit) (none_told 255 limit_gone limits.active (limit_as plan.horizon train.place) train.limits done.limits))
 

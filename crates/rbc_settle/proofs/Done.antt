@@ -2,12 +2,13 @@
 use Rattle.std.proofs.Common.{◌≡◌, ℕ, ◌⊎◌, Bool, true, false, List, [], ◌∷◌, length, Option, Some, None, refl, sym, ap, ◌∙◌, subst, inl, inr}
 use Rattle.std.specs.List.{list_any, zip, AllByRecursion}
 use Rattle.std.proofs.lemmas.Bool.{cases_Bool}
+use Rattle.rbc_maps.specs.Maps.{keys, rises_from}
 use Rattle.rbc_ids.specs.declared.slot.Kind.{Kind}
 use Rattle.rbc_ids.specs.Table.{Slots, IsTable, is_told, free_identifiers}
 use Rattle.rbc_settle.specs.Settling.{is_used_by, to_revoke}
-use Rattle.rbc_settle.proofs.Revoking.{revoked_all, revoked_each, revoked_is, free-revoked, table-revoked, none-revoked, told-revoked, none_to_revoke}
+use Rattle.rbc_settle.proofs.Revoking.{revoked_all, revoked_each, revoked_is, free-revoked, table-revoked, none-revoked, told-revoked, none_to_revoke, untold_each}
 use Rattle.rbc_settle.proofs.Telling.{told_all, IsTelling, is_telling, all_held}
-use Rattle.rbc_settle.proofs.Wanted.{wanted_of, all_wanted, each_wanted, none_wanted}
+use Rattle.rbc_settle.proofs.Wanted.{wanted_of, wanted-rises, wanted-untold, all_wanted, each_wanted, none_wanted}
 
 -- no slot is used by a gone number, and each active entry is nothing to the train or told, unless no identifier is free
 pub record IsDone {X T : Type 0} (count : ℕ) (gone : ℕ → Bool) (active : List (ℕ × X)) (what : ℕ × X → Option T) (slots : Slots) : Type 0 where
@@ -49,7 +50,7 @@ module _ {X T : Type 0} (gone : ℕ → Bool) (what : ℕ × X → Option T) (sl
   )
 
 module _ {X T : Type 0} (kind : T → Kind) (count : ℕ) (gone : ℕ → Bool) (what : ℕ × X → Option T) (active : List (ℕ × X)) (slots : Slots) (table : IsTable count slots)
-    (stay : AllByRecursion (λ entry. (what entry ≡ None) ⊎ (gone entry.0 ≡ false)) active) (first second : ℕ) where
+    (rises : rises_from 0 (keys active) ≡ true) (stay : AllByRecursion (λ entry. (what entry ≡ None) ⊎ (gone entry.0 ≡ false)) active) (first second : ℕ) where
   -- the table between revoking and telling, and after both
   abbrev between : Slots
   between = revoked_each gone first slots
@@ -59,7 +60,8 @@ module _ {X T : Type 0} (kind : T → Kind) (count : ℕ) (gone : ℕ → Bool) 
 
   -- what telling does
   telling : IsTelling count gone (wanted_of slots what active) between (after between)
-  telling = is_telling kind count gone (wanted_of slots what active) (free_identifiers count slots) second between (table-revoked gone count first slots table) (free-revoked gone count first slots)
+  telling = is_telling kind count gone (wanted_of slots what active) (free_identifiers count slots) 0 second between (table-revoked gone count first slots table) (free-revoked gone count first slots)
+      (wanted-rises slots what 0 active rises) (untold_each gone first slots (wanted_of slots what active) (wanted-untold slots what active))
       (all_wanted slots what (λ n. gone n ≡ false) active (stay_wanted gone what slots slots active stay)) (none-revoked gone first slots)
 
   -- it leaves nothing to do

@@ -10,8 +10,8 @@ use Rattle.rbc_ids.specs.Table.{Slots, IsTable, free_identifiers}
 use Rattle.rbc_ids.proofs.Tables.{few}
 use Rattle.rbc_settle.specs.declared.train.TrainRec.{TrainRec}
 use Rattle.rbc_settle.specs.declared.action.Action.{Action}
-use Rattle.rbc_settle.specs.declared.action.Action.TheVariants.{RevokeStop, RevokeLimit}
-use Rattle.rbc_settle.specs.Settling.{Stops, Limits, last_stamp, carried_out, message_of, tell_stop, tell_limit, stop_to_tell, limit_to_tell, is_used_by, to_revoke, is_stop_gone, is_limit_gone, stops_revoked, stops_told, limits_revoked, limits_told, actions, actions_with_stamp, messages_of}
+use Rattle.rbc_settle.specs.declared.action.Action.TheVariants.{RevokeLimit}
+use Rattle.rbc_settle.specs.Settling.{Stops, Limits, last_stamp, carried_out, message_of, revoke_stop, tell_stop, tell_limit, limit_to_tell, is_used_by, to_revoke, is_limit_gone, escalated, is_stop_revoked, next_to_tell, stops_revoked, stops_told, limits_revoked, limits_told, actions, actions_with_stamp, messages_of}
 use Rattle.rbc_settle.specs.UpToDate.{HasTables}
 
 -- what passes a test is no longer than all
@@ -27,6 +27,12 @@ length-scan next out start [] = refl
 length-scan next out start (x ∷ xs) = let rest = length-scan next out (next start x) xs in omega (arith, rest)
 
 -- no more is revoked than there are identifiers
+few_slots : (count : ℕ) (gone : ℕ → Bool) (slots : Slots) → IsTable count slots → length (filter (λ held. is_used_by gone held.1) slots) ≤ count
+few_slots count gone slots table =
+    let kept = shorter (λ held. is_used_by gone held.1) slots in
+    let held = few count slots table in
+    omega (arith, kept, held)
+
 few_revoked : (count : ℕ) (gone : ℕ → Bool) (slots : Slots) → IsTable count slots → length (to_revoke gone slots) ≤ count
 few_revoked count gone slots table =
     let passed = filter (λ held. is_used_by gone held.1) slots in
@@ -53,19 +59,20 @@ length-four a b c d =
 module _ (plan : Plan) (stops : Stops) (limits : Limits) (train : TrainRec) (tables : HasTables train) where
   few_actions : length (actions plan stops limits train) ≤ 540
   few_actions =
-      let stop_ids = to_revoke (is_stop_gone stops) train.stops in
+      let forced_now = escalated stops train in
+      let stop_slots = filter (λ held. is_used_by (is_stop_revoked stops forced_now) held.1) train.stops in
       let limit_ids = to_revoke (is_limit_gone limits train.place) train.limits in
-      let stop_pairs = zip (filter_map (stop_to_tell train) stops.active) (free_identifiers 15 train.stops) in
+      let stop_pairs = zip (filter_map (next_to_tell forced_now train) stops.active) (free_identifiers 15 train.stops) in
       let limit_pairs = zip (filter_map (limit_to_tell plan.horizon train) limits.active) (free_identifiers 255 train.limits) in
-      let first = few_revoked 15 (is_stop_gone stops) train.stops tables.stops in
-      let second = few_told 15 train.stops (filter_map (stop_to_tell train) stops.active) in
+      let first = few_slots 15 (is_stop_revoked stops forced_now) train.stops tables.stops in
+      let second = few_told 15 train.stops (filter_map (next_to_tell forced_now train) stops.active) in
       let third = few_revoked 255 (is_limit_gone limits train.place) train.limits tables.limits in
       let fourth = few_told 255 train.limits (filter_map (limit_to_tell plan.horizon train) limits.active) in
-      let a = length-map stop_ids RevokeStop in
+      let a = length-map stop_slots (revoke_stop forced_now) in
       let b = length-map stop_pairs tell_stop in
       let c = length-map limit_ids RevokeLimit in
       let d = length-map limit_pairs tell_limit in
-      let all = length-four (stops_revoked stops train) (stops_told stops train) (limits_revoked limits train) (limits_told plan.horizon limits train) in
+      let all = length-four (stops_revoked forced_now stops train) (stops_told forced_now stops train) (limits_revoked limits train) (limits_told plan.horizon limits train) in
       omega (arith, first, second, third, fourth, a, b, c, d, all)
 
   -- as many messages as identifiers of both kinds can be revoked and told

@@ -1,6 +1,6 @@
 -- The actions of a train may be carried out, one after another.
 use Rattle.std.proofs.Common.{◌≡◌, ℕ, zero, suc, ◌+◌, Bool, true, false, leb, List, [], ◌∷◌, ◌++◌, map, take, sym, ap, ◌∙◌, subst, arith}
-use Rattle.std.specs.List.{fold, zip, AllByRecursion}
+use Rattle.std.specs.List.{filter_map, fold, zip, AllByRecursion}
 use Rattle.std.proofs.lemmas.Bool.{and_parts}
 use Rattle.rbc_track.specs.Plan.{Plan}
 use Rattle.rbc_maps.specs.Maps.{keys, rises_from}
@@ -14,14 +14,15 @@ use Rattle.rbc_settle.specs.declared.action.Action.{Action}
 use Rattle.rbc_settle.specs.declared.action.Action.TheVariants.{RevokeStop, TellStop, RevokeLimit, TellLimit}
 use Rattle.rbc_settle.specs.declared.action.ToldStop.{ToldStop}
 use Rattle.rbc_settle.specs.Told.{Part}
-use Rattle.rbc_settle.specs.Settling.{Stops, Limits, carried_out, kind_of, tell_stop, tell_limit, to_revoke, is_stop_gone, is_limit_gone, stops_revoked, stops_told, limits_revoked, limits_told, actions}
+use Rattle.rbc_settle.specs.Settling.{Stops, Limits, carried_out, kind_of, number_forced, revoke_stop, tell_stop, tell_limit, to_revoke, is_limit_gone, escalated, is_stop_revoked, next_to_tell, stops_revoked, stops_told, limits_revoked, limits_told, actions}
 use Rattle.rbc_settle.specs.Following.{CanFollow}
 use Rattle.rbc_settle.specs.UpToDate.{HasTables}
 use Rattle.rbc_settle.proofs.Revoking.{revoked_all, revoked_each, revoked_is, free-revoked, untold-revoked, to_revoke-rises, to_revoke-used, used_above}
 use Rattle.rbc_settle.proofs.Telling.{can_tell, free_after, untold_above}
 use Rattle.rbc_settle.proofs.Wanted.{wanted_of, wanted-rises, wanted-untold}
 use Rattle.rbc_settle.proofs.Concerned.{told_as, limit_as}
-use Rattle.rbc_settle.proofs.Parts.{after_first, after_second, after_third, to_first, limits_at_second, limits_at_third}
+use Rattle.rbc_settle.proofs.Escalating.{between, wanted_next}
+use Rattle.rbc_settle.proofs.Parts.{slots_revoked, forced_then, after_first, after_second, after_third, to_first, limits_at_second, limits_at_third}
 
 -- where some may be carried out, so may the first of them
 pub can_follow-take : (n : ℕ) (train : TrainRec) (actions : List Action) → CanFollow train actions → CanFollow train (take n actions)
@@ -35,11 +36,15 @@ follow_on train [] more can then = then
 follow_on train (action ∷ some) more can then = (can.0, follow_on (carried_out train action) some more can.1 then)
 
 -- identifiers that are used may be revoked in their order
-revoke_stops : (ids : List ℕ) (least : ℕ) (train : TrainRec) → rises_from least ids ≡ true → AllByRecursion (λ id. is_used_at train.stops id ≡ true) ids → CanFollow train (map RevokeStop ids)
-revoke_stops [] least train rises used = tt
-revoke_stops (id ∷ ids) least train rises used =
-    let parts = and_parts (leb least id) (rises_from (id + 1) ids) rises in
-    (used.0, revoke_stops ids (id + 1) (carried_out train (RevokeStop id)) parts.1 (used_above id (id + 1) (Revoking (train.stamp + 1)) train.stops ids (omega arith) parts.1 used.1))
+revoke_stops : (forced_now : List ℕ) (slots : Slots) (least : ℕ) (train : TrainRec) → rises_from least (keys slots) ≡ true → AllByRecursion (λ id. is_used_at train.stops id ≡ true) (keys slots)
+    → CanFollow train (map (revoke_stop forced_now) slots)
+revoke_stops forced_now [] least train rises used = tt
+revoke_stops forced_now ((id, slot) ∷ slots) least train rises used =
+    let parts = and_parts (leb least id) (rises_from (id + 1) (keys slots)) rises in
+    (
+      used.0,
+      revoke_stops forced_now slots (id + 1) (carried_out train (RevokeStop id (number_forced forced_now slot))) parts.1 (used_above id (id + 1) (Revoking (train.stamp + 1)) train.stops (keys slots) (omega arith) parts.1 used.1),
+    )
 
 -- so may those of restrictions
 revoke_limits : (ids : List ℕ) (least : ℕ) (train : TrainRec) → rises_from least ids ≡ true → AllByRecursion (λ id. is_used_at train.limits id ≡ true) ids → CanFollow train (map RevokeLimit ids)
@@ -90,23 +95,35 @@ module _ (gone : ℕ → Bool) (count stamp : ℕ) (slots new : Slots) (table : 
 module _ (plan : Plan) (stops : Stops) (limits : Limits) (train : TrainRec) (tables : HasTables train) (h : AreNumbered stops) (k : AreNumbered limits) where
   -- what is to be told of stops, and of restrictions
   abbrev stops_wanted : List (ℕ × ToldStop)
-  stops_wanted = wanted_of train.stops (told_as train.place train.forced) stops.active
+  stops_wanted = filter_map (next_to_tell (escalated stops train) train) stops.active
 
   abbrev limits_wanted : List (ℕ × Part)
   limits_wanted = wanted_of train.limits (limit_as plan.horizon train.place) limits.active
 
+  abbrev revoked_first : List Action
+  revoked_first = stops_revoked (escalated stops train) stops train
+
+  abbrev told_then : List Action
+  told_then = stops_told (escalated stops train) stops train
+
   -- stops may be revoked
-  first_part : CanFollow train (stops_revoked stops train)
-  first_part = revoke_stops (to_revoke (is_stop_gone stops) train.stops) 0 train (to_revoke-rises (is_stop_gone stops) 0 train.stops tables.stops.ascending) (to_revoke-used (is_stop_gone stops) train.stops)
+  first_part : CanFollow train revoked_first
+  first_part =
+      let revoked = is_stop_revoked stops (escalated stops train) in
+      revoke_stops (escalated stops train) (slots_revoked plan stops limits train) 0 train (to_revoke-rises revoked 0 train.stops tables.stops.ascending) (to_revoke-used revoked train.stops)
 
   -- then told
-  second_part : CanFollow (after_first plan stops limits train) (stops_told stops train)
+  second_part : CanFollow (after_first plan stops limits train) told_then
   second_part =
-      let is = (to_first plan stops limits train).stops in
-      let after = (after_first plan stops limits train).stops in
-      let free = free_still (is_stop_gone stops) 15 train.stamp train.stops after tables.stops is in
-      let untold = untold_still (is_stop_gone stops) 15 train.stamp train.stops after tables.stops is stops_wanted (wanted-untold train.stops (told_as train.place train.forced) stops.active) in
-      let rises = wanted-rises train.stops (told_as train.place train.forced) 0 stops.active (map_of_numbered stops h) in
+      let revoked = is_stop_revoked stops (escalated stops train) in
+      let what = told_as train.place (forced_then plan stops limits train) in
+      let is : (after_first plan stops limits train).stops ≡ between stops train tables.stops h =
+      (to_first plan stops limits train).stops ∙ revoked_is revoked train.stamp 0 train.stops tables.stops.ascending in
+      let free = ap (free_identifiers 15) is ∙ free-revoked revoked 15 train.stamp train.stops in
+      let next = wanted_next stops train tables.stops h in
+      let rises = subst (λ (wanted : List (ℕ × ToldStop)). rises_from 0 (keys wanted) ≡ true) next (wanted-rises (between stops train tables.stops h) what 0 stops.active (map_of_numbered stops h)) in
+      let untold = subst (λ (slots : Slots). AllByRecursion (λ w. is_told slots w.0 ≡ false) stops_wanted) (sym is)
+      (subst (λ (wanted : List (ℕ × ToldStop)). AllByRecursion (λ w. is_told (between stops train tables.stops h) w.0 ≡ false) wanted) next (wanted-untold (between stops train tables.stops h) what stops.active)) in
       tell_stops stops_wanted (free_identifiers 15 train.stops) 0 (after_first plan stops limits train) free rises untold
 
   -- then restrictions revoked
@@ -131,9 +148,9 @@ module _ (plan : Plan) (stops : Stops) (limits : Limits) (train : TrainRec) (tab
   -- so all may be carried out
   all_parts : CanFollow train (actions plan stops limits train)
   all_parts =
-      let two = follow_on train (stops_revoked stops train) (stops_told stops train) first_part second_part in
-      let three = follow_on train (stops_revoked stops train ++ stops_told stops train) (limits_revoked limits train) two third_part in
-      follow_on train (stops_revoked stops train ++ stops_told stops train ++ limits_revoked limits train) (limits_told plan.horizon limits train) three fourth_part
+      let two = follow_on train revoked_first told_then first_part second_part in
+      let three = follow_on train (revoked_first ++ told_then) (limits_revoked limits train) two third_part in
+      follow_on train (revoked_first ++ told_then ++ limits_revoked limits train) (limits_told plan.horizon limits train) three fourth_part
 
 -- the actions of a train may be carried out, one after another
 pub can_follow : (plan : Plan) (stops : Stops) (limits : Limits) (train : TrainRec) → HasTables train → AreNumbered stops → AreNumbered limits → CanFollow train (actions plan stops limits train)

@@ -1,5 +1,5 @@
 -- What is found in a table decides what is told and what is revoked.
-use Rattle.std.proofs.Common.{◌≡◌, ℕ, Bool, true, false, not, ◌||◌, cond, eqb, if◌then◌else◌, List, [], ◌∷◌, map, Option, Some, None, is_none, is_some, option_map, option_copied, Bor, refl, ap}
+use Rattle.std.proofs.Common.{◌≡◌, ℕ, Bool, true, false, not, ◌||◌, cond, eqb, if◌then◌else◌, List, [], ◌∷◌, map, Option, Some, None, is_none, is_some, option_map, option_copied, Bor, refl, sym, ap}
 use Rattle.std.specs.List.{find, zip}
 use Rattle.std.specs.Prelude.{slice_get}
 use Rattle.rbc_maps.specs.Maps.{has, value_of}
@@ -20,6 +20,15 @@ none_next false value rest more e = e
 pub value_is_none : {V : Type 0} (pairs : List (ℕ × V)) (key : ℕ) → is_none (value_of pairs key) ≡ not (has pairs key)
 value_is_none [] key = refl
 value_is_none (pair ∷ pairs) key = none_next (eqb pair.0 key) pair.1 (value_of pairs key) (has pairs key) (value_is_none pairs key)
+
+some_behind : {V : Type 0} (here : Bool) (value : V) (rest : Option V) (more : Bool) → is_some rest ≡ more → is_some (cond here (Some value) rest) ≡ (here || more)
+some_behind true value rest more e = refl
+some_behind false value rest more e = e
+
+-- a value is found where the map has the key
+pub value_is_some : {V : Type 0} (pairs : List (ℕ × V)) (key : ℕ) → is_some (value_of pairs key) ≡ has pairs key
+value_is_some [] key = refl
+value_is_some (pair ∷ pairs) key = some_behind (eqb pair.0 key) pair.1 (value_of pairs key) (has pairs key) (value_is_some pairs key)
 
 some_next : (here : Bool) (held : ℕ × Slot) (rest : Option (ℕ × Slot)) (more : Bool) → is_some (option_map (λ (held : ℕ × Slot). held.0) rest) ≡ more → is_some (option_map (λ (held : ℕ × Slot). held.0) (cond here (Some held) rest)) ≡ (here || more)
 some_next true held rest more e = refl
@@ -67,3 +76,8 @@ gone_where_none true None e = refl
 gone_where_none false None e = cc
 gone_where_none true (Some value) e = cc
 gone_where_none false (Some value) e = refl
+
+-- and something where something is
+pub there_where_some : {V : Type 0} (there : Bool) (found : Option (Bor V)) → is_some found ≡ there → there ≡ is_some (option_copied found)
+there_where_some there None e = sym e
+there_where_some there (Some value) e = sym e

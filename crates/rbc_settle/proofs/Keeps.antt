@@ -1,25 +1,30 @@
 -- What settling keeps of a well-formed train, an action after the other.
-use Rattle.std.proofs.Common.{◌≡◌, ℕ, suc, ◌+◌, ◌-◌, ◌≤◌, true, false, leb, List, [], ◌∷◌, ◌++◌, length, map, take, Option, Some, refl, arith}
-use Rattle.std.specs.List.{AllByRecursion, fold, zip}
-use Rattle.std.proofs.lemmas.Bool.{and_parts, leb-true}
+use Rattle.std.proofs.Common.{◌≡◌, ℕ, suc, ◌+◌, ◌-◌, ◌≤◌, true, false, leb, List, [], ◌∷◌, ◌++◌, length, map, take, Option, Some, None, option_map, cond, ◌||◌, eqb, Bool, refl, subst, arith, inl, inr}
+use Rattle.std.specs.List.{All, AllByRecursion, cons_option, filter, filter_map, fold, zip}
+use Rattle.std.proofs.lemmas.Bool.{and_parts, or_cases, leb-true, eqb-true}
 use Rattle.std.proofs.lemmas.List.{length-take}
 use Rattle.std.proofs.lemmas.List.Elements.{All-append, All-from_recursion, All-take, recursion_from_All}
 use Rattle.rbc_track.specs.Plan.{Plan}
-use Rattle.rbc_maps.specs.Maps.{keys, rises_from}
+use Rattle.rbc_maps.specs.Maps.{has, keys, rises_from}
 use Rattle.rbc_maps.specs.Numbered.{Numbered, AreNumbered}
-use Rattle.rbc_ids.specs.declared.slot.Slot.TheVariants.{Revoking}
+use Rattle.rbc_ids.specs.declared.slot.Slot.{Slot}
+use Rattle.rbc_ids.specs.declared.slot.Slot.TheVariants.{Used, Revoking}
 use Rattle.rbc_ids.specs.declared.slot.Kind.TheVariants.{Restriction}
 use Rattle.rbc_ids.specs.Table.{Slots, is_told, told_now, free_identifiers}
+use Rattle.rbc_zones.specs.declared.segment.Segment.{Segment}
 use Rattle.rbc_settle.specs.declared.train.TrainRec.{TrainRec}
 use Rattle.rbc_settle.specs.declared.action.Action.{Action}
 use Rattle.rbc_settle.specs.declared.action.Action.TheVariants.{RevokeStop, TellStop, RevokeLimit, TellLimit}
 use Rattle.rbc_settle.specs.declared.action.ToldStop.{ToldStop}
 use Rattle.rbc_settle.specs.declared.action.ToldStop.TheVariants.{AtOnce, Before}
 use Rattle.rbc_settle.specs.Told.{Part}
-use Rattle.rbc_settle.specs.Settling.{Stops, Limits, last_stamp, carried_out, kind_of, tell_stop, tell_limit, to_revoke, is_stop_gone, is_limit_gone, stops_revoked, stops_told, limits_revoked, limits_told, actions, actions_with_stamp}
+use Rattle.rbc_settle.specs.Settling.{Stops, Limits, last_stamp, carried_out, kind_of, number_forced, and_forced, revoke_stop, tell_stop, tell_limit, told_stop, concern_to, stop_to_tell, is_used_by, to_revoke, is_limit_gone, spare_identifiers, escalated, is_stop_revoked, next_to_tell, stops_revoked, stops_told, limits_revoked, limits_told, actions, actions_with_stamp}
 use Rattle.rbc_settle.specs.Following.{Allows, CanFollow}
 use Rattle.rbc_settle.specs.WellFormed.{IsGiven, IsWellFormedTrain, SettlingKeepsTrains, is_stop_kind, is_limit_kind}
-use Rattle.rbc_settle.proofs.Concerned.{told_as, limit_as}
+use Rattle.rbc_settle.specs.Numbers.{AreNumbers, has_number}
+use Rattle.rbc_settle.proofs.Forcing.{rises-and, All-and}
+use Rattle.rbc_settle.proofs.Due.{dues, due_is_told, first_of}
+use Rattle.rbc_settle.proofs.Concerned.{limit_as}
 use Rattle.rbc_settle.proofs.Wanted.{wanted_of, all_wanted}
 use Rattle.rbc_settle.proofs.Carrying.{keeps_tables}
 use Rattle.rbc_settle.proofs.Carried.{next_stamp}
@@ -27,9 +32,10 @@ use Rattle.rbc_settle.proofs.Follows.{can_follow, can_follow-take}
 use Rattle.rbc_settle.proofs.GoodSlots.{slots_revoked, slots_told}
 use Rattle.rbc_settle.proofs.Stamps.{stamps_with_stop, stamps_with_limit}
 
--- an action tells a number that was given, or none
+-- an action tells or forces a number that was given, or none
 abbrev TellsGiven : Stops → Limits → Action → Type 0
-TellsGiven stops limits (RevokeStop id) = Unit
+TellsGiven stops limits (RevokeStop id None) = Unit
+TellsGiven stops limits (RevokeStop id (Some number)) = IsGiven stops.last number
 TellsGiven stops limits (TellStop id number told) = IsGiven stops.last number
 TellsGiven stops limits (RevokeLimit id) = Unit
 TellsGiven stops limits (TellLimit id number told) = IsGiven limits.last number
@@ -39,18 +45,25 @@ stop_kind : (told : ToldStop) → is_stop_kind (kind_of told) ≡ true
 stop_kind AtOnce = refl
 stop_kind (Before edge) = refl
 
+-- the numbers that a train is told at once are good with one more that was given
+forced_given : (stops : Stops) (limits : Limits) (forced : List ℕ) (id : ℕ) (number : Option ℕ) → AreNumbers forced → All (IsGiven stops.last) forced → TellsGiven stops limits (RevokeStop id number)
+    → AreNumbers (and_forced number forced) × All (IsGiven stops.last) (and_forced number forced)
+forced_given stops limits forced id None ascend all given = (ascend, all)
+forced_given stops limits forced id (Some number) ascend all given = (rises-and number forced ascend, All-and (IsGiven stops.last) number forced given all)
+
 -- one action keeps a train well-formed, as long as a stamp is left
 keeps_one : (plan : Plan) (stops : Stops) (limits : Limits) (train : TrainRec) (action : Action) → IsWellFormedTrain plan stops limits train → Allows train action → TellsGiven stops limits action → train.stamp + 1 ≤ last_stamp
     → IsWellFormedTrain plan stops limits (carried_out train action)
-keeps_one plan stops limits train (RevokeStop id) well allowed given room =
+keeps_one plan stops limits train (RevokeStop id number) well allowed given room =
     let good = stamps_with_stop train.stamp train.stops train.limits (record { within = well.stamps_within; distinct = well.stamps_distinct }) id (Revoking (train.stamp + 1)) refl in
+    let forced = forced_given stops limits train.forced id number well.forced_ascend well.forced given in
     record {
       engine = well.engine;
       length = well.length;
       place = well.place;
-      forced_ascend = well.forced_ascend;
-      forced = well.forced;
-      tables = keeps_tables train (RevokeStop id) well.tables allowed;
+      forced_ascend = forced.0;
+      forced = forced.1;
+      tables = keeps_tables train (RevokeStop id number) well.tables allowed;
       stop_slots = slots_revoked is_stop_kind stops.last train.stops well.stop_slots id (train.stamp + 1);
       limit_slots = well.limit_slots;
       stamp = room;
@@ -132,9 +145,17 @@ wanted_given {X} {T} numbered slots what h =
     each (entry ∷ some) all = (λ untold told is. all.0, each some all.1)
 
 module _ (stops : Stops) (limits : Limits) where
-  revoke_stops_given : (ids : List ℕ) → AllByRecursion (TellsGiven stops limits) (map RevokeStop ids)
-  revoke_stops_given [] = tt
-  revoke_stops_given (id ∷ ids) = (tt, revoke_stops_given ids)
+  forces_given : (forced_now : List ℕ) → ((n : ℕ) → has_number forced_now n ≡ true → IsGiven stops.last n) → (id : ℕ) (slot : Slot) → TellsGiven stops limits (RevokeStop id (number_forced forced_now slot))
+  forces_given forced_now all id (Revoking stamp) = tt
+  forces_given forced_now all id (Used used) =
+      (elim (has_number forced_now used.number) as (λ b. has_number forced_now used.number ≡ b → TellsGiven stops limits (RevokeStop id (cond b (Some used.number) None))) [
+        | true ↦ λ there. all used.number there
+        | false ↦ λ absent. tt
+      ]) refl
+
+  revoke_stops_given : (forced_now : List ℕ) → ((n : ℕ) → has_number forced_now n ≡ true → IsGiven stops.last n) → (slots : Slots) → AllByRecursion (TellsGiven stops limits) (map (revoke_stop forced_now) slots)
+  revoke_stops_given forced_now all [] = tt
+  revoke_stops_given forced_now all ((id, slot) ∷ slots) = (forces_given forced_now all id slot, revoke_stops_given forced_now all slots)
 
   revoke_limits_given : (ids : List ℕ) → AllByRecursion (TellsGiven stops limits) (map RevokeLimit ids)
   revoke_limits_given [] = tt
@@ -150,18 +171,48 @@ module _ (stops : Stops) (limits : Limits) where
   tell_limits_given (w ∷ wanted) [] all = tt
   tell_limits_given ((number, told) ∷ wanted) (id ∷ ids) all = (all.0, tell_limits_given wanted ids all.1)
 
+-- what is escalated is active, so it was given
+escalated_given : (stops : Stops) (train : TrainRec) → AllByRecursion (λ stop. IsGiven stops.last stop.0) stops.active → (n : ℕ) → has_number (escalated stops train) n ≡ true → IsGiven stops.last n
+escalated_given stops train all n there = among stops.active all (due_is_told stops train.stops n (first_of (spare_identifiers stops train) (dues stops train.stops) n there)).1
+  where
+    among : (some : List (ℕ × List Segment)) → AllByRecursion (λ stop. IsGiven stops.last stop.0) some → has some n ≡ true → IsGiven stops.last n
+    among [] given active = absurd (let bad : false ≡ true = active in cc)
+    among (stop ∷ some) given active = elim (or_cases (eqb stop.0 n) (has some n) active) [
+      | inl here ↦ subst (IsGiven stops.last) (eqb-true stop.0 n here) given.0
+      | inr more ↦ among some given.1 more
+    ]
+
+-- so was what is told next
+next_given : (forced_now : List ℕ) (train : TrainRec) (last : ℕ) (some : List (ℕ × List Segment)) → AllByRecursion (λ stop. IsGiven last stop.0) some → AllByRecursion (λ w. IsGiven last w.0) (filter_map (next_to_tell forced_now train) some)
+next_given forced_now train last [] all = tt
+next_given forced_now train last (stop ∷ some) all =
+    let rest = next_given forced_now train last some all.1 in
+    elim (has_number forced_now stop.0) as (λ b. AllByRecursion (λ w. IsGiven last w.0) (cons_option (cond b (Some (stop.0, AtOnce)) (stop_to_tell train stop)) (filter_map (next_to_tell forced_now train) some))) [
+      | true ↦ (all.0, rest)
+      | false ↦ elim (is_told train.stops stop.0) as (λ b. AllByRecursion (λ w. IsGiven last w.0) (cons_option (cond b None (option_map (λ (told : ToldStop). (stop.0, told)) (told_stop train.place (concern_to train stop)))) (filter_map (next_to_tell forced_now train) some))) [
+        | true ↦ rest
+        | false ↦ elim (told_stop train.place (concern_to train stop)) as (λ o. AllByRecursion (λ w. IsGiven last w.0) (cons_option (option_map (λ (told : ToldStop). (stop.0, told)) o) (filter_map (next_to_tell forced_now train) some))) [
+          | None ↦ rest
+          | Some told ↦ (all.0, rest)
+        ]
+      ]
+    ]
+
 -- all actions with a stamp tell numbers that were given
 all_given : (plan : Plan) (stops : Stops) (limits : Limits) (train : TrainRec) → AreNumbered stops → AreNumbered limits → AllByRecursion (TellsGiven stops limits) (actions_with_stamp plan stops limits train)
 all_given plan stops limits train h k =
     let P = TellsGiven stops limits in
-    let first = stops_revoked stops train in
-    let second = stops_told stops train in
+    let forced_now = escalated stops train in
+    let first = stops_revoked forced_now stops train in
+    let second = stops_told forced_now stops train in
+    let active = active_given stops.last 1 stops.active (omega arith) h.ascending (recursion_from_All (λ number. number ≤ stops.last) (keys stops.active) h.within) in
     let third = limits_revoked limits train in
     let fourth = limits_told plan.horizon limits train in
-    let stops_wanted = wanted_of train.stops (told_as train.place train.forced) stops.active in
+    let stops_wanted = filter_map (next_to_tell forced_now train) stops.active in
     let limits_wanted = wanted_of train.limits (limit_as plan.horizon train.place) limits.active in
-    let a = All-from_recursion P first (revoke_stops_given stops limits (to_revoke (is_stop_gone stops) train.stops)) in
-    let b = All-from_recursion P second (tell_stops_given stops limits stops_wanted (free_identifiers 15 train.stops) (wanted_given stops train.stops (told_as train.place train.forced) h)) in
+    let a = All-from_recursion P first (revoke_stops_given stops limits forced_now (escalated_given stops train active)
+    (filter (λ held. is_used_by (is_stop_revoked stops forced_now) held.1) train.stops)) in
+    let b = All-from_recursion P second (tell_stops_given stops limits stops_wanted (free_identifiers 15 train.stops) (next_given forced_now train stops.last stops.active active)) in
     let c = All-from_recursion P third (revoke_limits_given stops limits (to_revoke (is_limit_gone limits train.place) train.limits)) in
     let d = All-from_recursion P fourth (tell_limits_given stops limits limits_wanted (free_identifiers 255 train.limits) (wanted_given limits train.limits (limit_as plan.horizon train.place) k)) in
     recursion_from_All P (actions_with_stamp plan stops limits train)

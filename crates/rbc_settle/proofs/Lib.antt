@@ -1,10 +1,16 @@
+pub mod NumberLists
+pub mod Forcing
 pub mod Revoking
 pub mod Telling
 pub mod Wanted
 pub mod Done
 pub mod Carried
 pub mod Parts
+pub mod Due
+pub mod NoneDue
+pub mod Judging
 pub mod Concerned
+pub mod Escalating
 pub mod Follows
 pub mod Achieves
 pub mod Carrying
@@ -16,9 +22,7 @@ pub mod GoodSlots
 pub mod Stamps
 pub mod Keeps
 pub mod NothingLeft
-pub mod NumberLists
 pub mod NumberCopies
 pub mod Merging
-pub mod Judging
 pub mod OneLine
 pub mod WitnessTrains

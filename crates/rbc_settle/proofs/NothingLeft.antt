@@ -9,9 +9,10 @@ use Rattle.rbc_ids.proofs.Gaps.{run, least_free-run, run_is_all}
 use Rattle.rbc_zones.specs.declared.segment.Segment.{Segment}
 use Rattle.rbc_zones.specs.declared.edge.Concern.TheVariants as concern
 use Rattle.rbc_settle.specs.declared.train.TrainRec.{TrainRec}
-use Rattle.rbc_settle.specs.Settling.{told_stop, is_used_by, is_stop_gone, is_limit_gone}
+use Rattle.rbc_settle.specs.Settling.{told_stop, is_used_by, is_stop_gone, is_limit_gone, due_number}
 use Rattle.rbc_settle.specs.UpToDate.{IsToldIfItCan, IsLimitToldIfItCan, NothingIsLeftToDo}
 use Rattle.rbc_settle.proofs.Done.{IsDone}
+use Rattle.rbc_settle.proofs.NoneDue.{none_due_from}
 use Rattle.rbc_settle.proofs.Achieves.{no_actions}
 use Rattle.rbc_settle.proofs.Concerned.{told_as, limit_as}
 
@@ -81,4 +82,8 @@ nothing_left plan stops limits train up tables = no_actions plan stops limits tr
   limits = done_from 255 (is_limit_gone limits train.place) limits.active (limit_as plan.horizon train.place) train.limits tables.limits
       (recursion_from_All (λ held. is_used_by (is_limit_gone limits train.place) held.1 ≡ false) train.limits up.no_limit_gone)
       (recursion_from_All (IsLimitToldIfItCan plan.horizon train) limits.active up.limits_told);
+  due = elim up.none_due [
+    | inl none ↦ inr (none_due_from stops train.stops (recursion_from_All (λ held. due_number stops held.1 ≡ None) train.stops none))
+    | inr full ↦ inl (none_free 15 train.stops tables.stops full)
+  ];
 })

@@ -125,7 +125,7 @@ module _ (n : ℕ) where
       ]
 
   -- and the list ascends with it
-  rises-with : (least : ℕ) (xs : List ℕ) → least ≤ n → has_number xs n ≡ false → rises_from least xs ≡ true → rises_from least (with_number n xs) ≡ true
+  pub rises-with : (least : ℕ) (xs : List ℕ) → least ≤ n → has_number xs n ≡ false → rises_from least xs ≡ true → rises_from least (with_number n xs) ≡ true
   rises-with least [] le absent rises = rises-cons least n [] le refl
   rises-with least (x ∷ xs) le absent rises =
       let parts = rising least x xs rises in

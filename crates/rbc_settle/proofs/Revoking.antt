@@ -7,7 +7,7 @@ use Rattle.rbc_maps.specs.Maps.{has, with_value, keys, rises_from}
 use Rattle.rbc_maps.proofs.MapFacts.{rises_from-lower}
 use Rattle.rbc_ids.specs.declared.slot.Slot.{Slot}
 use Rattle.rbc_ids.specs.declared.slot.Slot.TheVariants.{Used, Revoking}
-use Rattle.rbc_ids.specs.Table.{Slots, IsTable, tells, is_told, is_used, is_used_at, free_identifiers}
+use Rattle.rbc_ids.specs.Table.{Slots, IsTable, TellsOnce, tells, is_told, is_used, is_used_at, free_identifiers}
 use Rattle.rbc_settle.specs.Settling.{is_used_by, to_revoke}
 
 -- the table after that: each takes the next stamp
@@ -92,12 +92,31 @@ module _ (gone : ℕ → Bool) where
   pub free-revoked : (count stamp : ℕ) (slots : Slots) → free_identifiers count (revoked_each gone stamp slots) ≡ free_identifiers count slots
   free-revoked count stamp slots = filter_agree (λ q. not (has (revoked_each gone stamp slots) q)) (λ q. not (has slots q)) (λ q. ap not (has-revoked stamp slots q)) (range_with_len 0 count)
 
+  -- a number that was not told is told by none of them
+  pub untold-revoked : (n stamp : ℕ) (slots : Slots) → is_told slots n ≡ false → is_told (revoked_each gone stamp slots) n ≡ false
+  untold-revoked n stamp [] untold = refl
+  untold-revoked n stamp (held ∷ slots) untold =
+      let parts = or_parts (tells n held.1) (is_told slots n) untold in
+      elim (is_used_by gone held.1) as (λ b. is_told (cond b ((held.0, Revoking (stamp + 1)) ∷ revoked_each gone (stamp + 1) slots) (held ∷ revoked_each gone stamp slots)) n ≡ false) [
+        | true ↦ untold-revoked n (stamp + 1) slots parts.1
+        | false ↦ or_from (tells n held.1) (is_told (revoked_each gone stamp slots) n) parts.0 (untold-revoked n stamp slots parts.1)
+      ]
+
+  -- and each is told once
+  once-revoked : (stamp : ℕ) (slots : Slots) → TellsOnce slots → TellsOnce (revoked_each gone stamp slots)
+  once-revoked stamp [] once = tt
+  once-revoked stamp (held ∷ slots) once = elim (is_used_by gone held.1) as (λ b. TellsOnce (cond b ((held.0, Revoking (stamp + 1)) ∷ revoked_each gone (stamp + 1) slots) (held ∷ revoked_each gone stamp slots))) [
+    | true ↦ ((λ n told. absurd (let bad : false ≡ true = told in cc)), once-revoked (stamp + 1) slots once.1)
+    | false ↦ ((λ n told. untold-revoked n stamp slots (once.0 n told)), once-revoked stamp slots once.1)
+  ]
+
   -- so it stays a table
   pub table-revoked : (count stamp : ℕ) (slots : Slots) → IsTable count slots → IsTable count (revoked_each gone stamp slots)
   table-revoked count stamp slots table = record {
     small = table.small;
     ascending = subst (λ (ks : List ℕ). rises_from 0 ks ≡ true) (sym (keys-revoked stamp slots)) table.ascending;
     below = subst (λ (ks : List ℕ). All (λ id. id < count) ks) (sym (keys-revoked stamp slots)) table.below;
+    once = once-revoked stamp slots table.once;
   }
 
   -- no slot is used by a gone number
@@ -114,6 +133,11 @@ module _ (gone : ℕ → Bool) where
   tells_gone n (Used slot) used stays = ne_eqb slot.number n (λ same. both_ways (gone n) stays (subst (λ k. gone k ≡ true) same used))
   tells_gone n (Revoking stamp) used stays = refl
 
+  -- the slot of a number that is not gone tells no gone one
+  tells_other : (n : ℕ) (slot : Slot) → is_used_by gone slot ≡ false → gone n ≡ true → tells n slot ≡ false
+  tells_other n (Used slot) stays goes = ne_eqb slot.number n (λ same. both_ways (gone n) (subst (λ k. gone k ≡ false) same stays) goes)
+  tells_other n (Revoking stamp) stays goes = refl
+
   -- a number that is not gone is told as before
   pub told-revoked : (n stamp : ℕ) (slots : Slots) → gone n ≡ false → is_told (revoked_each gone stamp slots) n ≡ is_told slots n
   told-revoked n stamp [] stays = refl
@@ -123,15 +147,18 @@ module _ (gone : ℕ → Bool) where
         | false ↦ λ is. ap (λ (b : Bool). tells n held.1 || b) (told-revoked n stamp slots stays)
       ]) refl
 
-  -- and none that was not told
-  pub untold-revoked : (n stamp : ℕ) (slots : Slots) → is_told slots n ≡ false → is_told (revoked_each gone stamp slots) n ≡ false
-  untold-revoked n stamp [] untold = refl
-  untold-revoked n stamp (held ∷ slots) untold =
-      let parts = or_parts (tells n held.1) (is_told slots n) untold in
-      elim (is_used_by gone held.1) as (λ b. is_told (cond b ((held.0, Revoking (stamp + 1)) ∷ revoked_each gone (stamp + 1) slots) (held ∷ revoked_each gone stamp slots)) n ≡ false) [
-        | true ↦ untold-revoked n (stamp + 1) slots parts.1
-        | false ↦ or_from (tells n held.1) (is_told (revoked_each gone stamp slots) n) parts.0 (untold-revoked n stamp slots parts.1)
-      ]
+  -- a number that is gone is told no more
+  pub untold-gone : (n stamp : ℕ) (slots : Slots) → gone n ≡ true → is_told (revoked_each gone stamp slots) n ≡ false
+  untold-gone n stamp [] goes = refl
+  untold-gone n stamp (held ∷ slots) goes =
+      (elim (is_used_by gone held.1) as (λ b. is_used_by gone held.1 ≡ b → is_told (cond b ((held.0, Revoking (stamp + 1)) ∷ revoked_each gone (stamp + 1) slots) (held ∷ revoked_each gone stamp slots)) n ≡ false) [
+        | true ↦ λ is. untold-gone n (stamp + 1) slots goes
+        | false ↦ λ is. or_from (tells n held.1) (is_told (revoked_each gone stamp slots) n) (tells_other n held.1 is goes) (untold-gone n stamp slots goes)
+      ]) refl
+
+  pub untold_each : {T : Type 0} (stamp : ℕ) (slots : Slots) (wanted : List (ℕ × T)) → AllByRecursion (λ w. is_told slots w.0 ≡ false) wanted → AllByRecursion (λ w. is_told (revoked_each gone stamp slots) w.0 ≡ false) wanted
+  untold_each stamp slots [] all = tt
+  untold_each stamp slots (w ∷ wanted) all = (untold-revoked w.0 stamp slots all.0, untold_each stamp slots wanted all.1)
 
   -- a slot that a number uses is used
   used_by : (slot : Slot) → is_used_by gone slot ≡ true → is_used slot ≡ true
@@ -162,12 +189,26 @@ module _ (gone : ℕ → Bool) where
       let parts = or_parts (is_used_by gone held.1) (list_any (λ other. is_used_by gone other.1) slots) none in
       ap (λ (b : Bool). keys (cond b (held ∷ filter (λ other. is_used_by gone other.1) slots) (filter (λ other. is_used_by gone other.1) slots))) parts.0 ∙ none_to_revoke slots parts.1
 
+  pub none_passes : (slots : Slots) → list_any (λ held. is_used_by gone held.1) slots ≡ false → filter (λ held. is_used_by gone held.1) slots ≡ []
+  none_passes [] none = refl
+  none_passes (held ∷ slots) none =
+      let parts = or_parts (is_used_by gone held.1) (list_any (λ other. is_used_by gone other.1) slots) none in
+      ap (λ (b : Bool). cond b (held ∷ filter (λ other. is_used_by gone other.1) slots) (filter (λ other. is_used_by gone other.1) slots)) parts.0 ∙ none_passes slots parts.1
+
   -- and each slot fails the test
   pub each_not_gone : (slots : Slots) → list_any (λ held. is_used_by gone held.1) slots ≡ false → AllByRecursion (λ held. is_used_by gone held.1 ≡ false) slots
   each_not_gone [] none = tt
   each_not_gone (held ∷ slots) none =
       let parts = or_parts (is_used_by gone held.1) (list_any (λ other. is_used_by gone other.1) slots) none in
       (parts.0, each_not_gone slots parts.1)
+
+-- where no slot is used by a gone number, none is used by one of fewer
+pub none_of_fewer : (gone fewer : ℕ → Bool) → ((n : ℕ) → gone n ≡ false → fewer n ≡ false) → (slots : Slots) → list_any (λ held. is_used_by gone held.1) slots ≡ false → list_any (λ held. is_used_by fewer held.1) slots ≡ false
+none_of_fewer gone fewer less [] none = refl
+none_of_fewer gone fewer less ((id, Used used) ∷ slots) none =
+    let parts = or_parts (gone used.number) (list_any (λ held. is_used_by gone held.1) slots) none in
+    or_from (fewer used.number) (list_any (λ held. is_used_by fewer held.1) slots) (less used.number parts.0) (none_of_fewer gone fewer less slots parts.1)
+none_of_fewer gone fewer less ((id, Revoking stamp) ∷ slots) none = none_of_fewer gone fewer less slots none
 
 -- another identifier stays used
 used_other : (id q : ℕ) (slot : Slot) (slots : Slots) → (id ≡ q → ⊥) → is_used_at slots q ≡ true → is_used_at (with_value id slot slots) q ≡ true

@@ -31,7 +31,7 @@ pub record IsOnTheWay (start : TrainRec) (all : List Action) (now : TrainRec) (s
   pub fit : All (λ (one : Sent). Fits one.message) sent
 
 stamp_after : (train : TrainRec) (action : Action) → (carried_out train action).stamp ≡ train.stamp + 1
-stamp_after train (RevokeStop id) = refl
+stamp_after train (RevokeStop id number) = refl
 stamp_after train (TellStop id number told) = refl
 stamp_after train (RevokeLimit id) = refl
 stamp_after train (TellLimit id number told) = refl

@@ -6,8 +6,9 @@ use Rattle.rbc_maps.specs.Maps.{has, with_value, keys, rises_from}
 use Rattle.rbc_maps.proofs.MapFacts.{any-with_value}
 use Rattle.rbc_ids.specs.declared.slot.Slot.{Slot}
 use Rattle.rbc_ids.specs.declared.slot.Kind.{Kind}
-use Rattle.rbc_ids.specs.Table.{Slots, IsTable, tells, is_told, free_identifiers, told_now}
+use Rattle.rbc_ids.specs.Table.{Slots, IsTable, TellsApart, tells, is_told, free_identifiers, told_now}
 use Rattle.rbc_ids.proofs.Tables.{stays_with}
+use Rattle.rbc_ids.proofs.Once.{apart-told}
 use Rattle.rbc_ids.proofs.Gaps.{run, least_free-run, run_below, all_from_run}
 use Rattle.rbc_settle.specs.Settling.{is_used_by}
 use Rattle.rbc_settle.specs.Following.{CanTell}
@@ -86,8 +87,8 @@ module _ (count : ℕ) (slots : Slots) (id : ℕ) (ids : List ℕ) (free : free_
   free_after slot = free_next (has slots) (has (with_value id slot slots)) id ids (λ q. any-with_value id slot (λ pair. eqb pair.0 q) slots absent) 0 count free
 
   -- and the table is still one
-  pub table_after : (slot : Slot) → IsTable count slots → IsTable count (with_value id slot slots)
-  table_after slot table = stays_with count slots table id slot below
+  pub table_after : (slot : Slot) → TellsApart id slot slots → IsTable count slots → IsTable count (with_value id slot slots)
+  table_after slot apart table = stays_with count slots table id slot below apart
 
   -- a number told under it is told, and the others are as before
   pub told_after : (number stamp : ℕ) (kind : Kind) (n : ℕ) → is_told (with_value id (told_now number stamp kind) slots) n ≡ (eqb number n || is_told slots n)
@@ -113,14 +114,18 @@ pub record IsTelling {T : Type 0} (count : ℕ) (gone : ℕ → Bool) (wanted : 
 
 module _ {T : Type 0} (kind : T → Kind) (count : ℕ) (gone : ℕ → Bool) where
   -- telling in the order of the free identifiers leaves that
-  pub is_telling : (wanted : List (ℕ × T)) (ids : List ℕ) (stamp : ℕ) (slots : Slots) → IsTable count slots → free_identifiers count slots ≡ ids
+  pub is_telling : (wanted : List (ℕ × T)) (ids : List ℕ) (least stamp : ℕ) (slots : Slots) → IsTable count slots → free_identifiers count slots ≡ ids
+      → rises_from least (keys wanted) ≡ true → AllByRecursion (λ w. is_told slots w.0 ≡ false) wanted
       → AllByRecursion (λ w. gone w.0 ≡ false) wanted → list_any (λ held. is_used_by gone held.1) slots ≡ false
       → IsTelling count gone wanted slots (told_all kind stamp (zip wanted ids) slots)
-  is_telling [] ids stamp slots table free stay none = record { table = table; told = λ n h. h; none_gone = none; ends = inr tt }
-  is_telling (w ∷ wanted) [] stamp slots table free stay none = record { table = table; told = λ n h. h; none_gone = none; ends = inl free }
-  is_telling ((number, told) ∷ wanted) (id ∷ ids) stamp slots table free stay none =
+  is_telling [] ids least stamp slots table free rises untold stay none = record { table = table; told = λ n h. h; none_gone = none; ends = inr tt }
+  is_telling (w ∷ wanted) [] least stamp slots table free rises untold stay none = record { table = table; told = λ n h. h; none_gone = none; ends = inl free }
+  is_telling ((number, told) ∷ wanted) (id ∷ ids) least stamp slots table free rises untold stay none =
       let slot = told_now number (stamp + 1) (kind told) in
-      let rest = is_telling wanted ids (stamp + 1) (with_value id slot slots) (table_after count slots id ids free slot table) (free_after count slots id ids free slot) stay.1
+      let parts = and_parts (leb least number) (rises_from (number + 1) (keys wanted)) rises in
+      let apart = apart-told id number (stamp + 1) (kind told) slots untold.0 in
+      let rest = is_telling wanted ids (number + 1) (stamp + 1) (with_value id slot slots) (table_after count slots id ids free slot apart table) (free_after count slots id ids free slot) parts.1
+      (untold_above count slots id ids free number (stamp + 1) (number + 1) (kind told) wanted (omega arith) parts.1 untold.1) stay.1
       (any-with_value id slot (λ held. is_used_by gone held.1) slots (absent count slots id ids free) ∙ or_from (gone number) (list_any (λ held. is_used_by gone held.1) slots) stay.0 none) in
       let adds = told_after count slots id ids free number (stamp + 1) (kind told) in
       record {
@@ -132,6 +137,15 @@ module _ {T : Type 0} (kind : T → Kind) (count : ℕ) (gone : ℕ → Bool) wh
           | inr all_told ↦ inr (rest.told number (adds number ∙ or_left (eqb number number) (is_told slots number) (eq-eqb number number refl)), all_told)
         ];
       }
+
+-- where as many numbers are told as identifiers are free, none is free then
+pub none_free_then : {T : Type 0} (kind : T → Kind) (count : ℕ) (wanted : List (ℕ × T)) (ids : List ℕ) (stamp : ℕ) (slots : Slots) → length ids ≤ length wanted → free_identifiers count slots ≡ ids
+    → free_identifiers count (told_all kind stamp (zip wanted ids) slots) ≡ []
+none_free_then kind count [] [] stamp slots many free = free
+none_free_then kind count [] (id ∷ ids) stamp slots many free = absurd (omega (arith, many))
+none_free_then kind count (w ∷ wanted) [] stamp slots many free = free
+none_free_then kind count ((number, told) ∷ wanted) (id ∷ ids) stamp slots many free =
+    none_free_then kind count wanted ids (stamp + 1) (with_value id (told_now number (stamp + 1) (kind told)) slots) (omega (arith, many)) (free_after count slots id ids free (told_now number (stamp + 1) (kind told)))
 
 -- where no identifier is free all are held
 pub all_held : (count : ℕ) (slots : Slots) → IsTable count slots → free_identifiers count slots ≡ [] → length slots ≡ count

@@ -5,15 +5,17 @@ use Rattle.std.proofs.lemmas.List.Elements.{All-from_recursion, recursion_from_A
 use Rattle.rbc_track.specs.declared.group.Group.{Group}
 use Rattle.rbc_place.specs.Placing.{Place, is_up}
 use Rattle.rbc_ids.specs.declared.slot.Slot.{Slot}
+use Rattle.rbc_ids.specs.declared.slot.Slot.TheVariants.{Revoking}
 use Rattle.rbc_ids.specs.declared.slot.Kind.{Kind}
 use Rattle.rbc_ids.specs.declared.slot.Kind.TheVariants.{Conditional, Unconditional}
 use Rattle.rbc_ids.specs.Table.{told_now}
 use Rattle.rbc_zones.specs.declared.edge.Concern.TheVariants as concern
 use Rattle.rbc_settle.specs.declared.train.TrainRec.{TrainRec}
-use Rattle.rbc_settle.specs.Settling.{is_used_by, is_stop_gone, is_limit_gone}
+use Rattle.rbc_settle.specs.Settling.{is_used_by, is_stop_gone, is_limit_gone, due_number, settled}
+use Rattle.rbc_settle.proofs.GoodSlots.{no_report}
 use Rattle.rbc_settle.specs.UpToDate.{IsToldIfItCan, IsLimitToldIfItCan, IsUpToDate, StaysAsItIs}
-use Rattle.rbc_settle.specs.WellFormed.{IsGiven, has_kind, is_stop_kind, is_limit_kind, stamps, told_numbers, HasPlaceOn, IsWellFormedTrain}
-use Rattle.rbc_settle.specs.Witnesses.{track_a, stop_1, no_stop, limit_1, no_limit, train_7, told, untold, told_twice, one_stamp, stamp_ahead, told_as_limit, sixteenth, never_given, beyond_5, group_elsewhere, group_turned, placed_at, limited}
+use Rattle.rbc_settle.specs.WellFormed.{IsGiven, has_kind, has_count, is_stop_kind, is_limit_kind, stamps, told_numbers, HasPlaceOn, IsWellFormedTrain}
+use Rattle.rbc_settle.specs.Witnesses.{track_a, stop_1, no_stop, limit_1, no_limit, train_7, told, untold, told_twice, one_stamp, stamp_ahead, told_as_limit, sixteenth, never_given, beyond_5, group_elsewhere, group_turned, placed_at, limited, unanswered, counted_unconditional}
 
 -- two different truths are not one
 not_both : true ≡ false → ⊥
@@ -21,6 +23,9 @@ not_both e = cc
 
 not_both_ways : false ≡ true → ⊥
 not_both_ways e = cc
+
+some_is_not_none : (n : ℕ) → Some n ≡ None → ⊥
+some_is_not_none n e = cc
 
 -- the right train
 pub told_stays : StaysAsItIs track_a stop_1 no_limit told
@@ -32,6 +37,7 @@ told_is_up_to_date = record {
   limits_told = All-from_recursion (IsLimitToldIfItCan 100000 told) [] tt;
   no_stop_gone = All-from_recursion (λ (held : ℕ × Slot). is_used_by (is_stop_gone stop_1) held.1 ≡ false) told.stops (refl, tt);
   no_limit_gone = All-from_recursion (λ (held : ℕ × Slot). is_used_by (is_limit_gone no_limit None) held.1 ≡ false) [] tt;
+  none_due = inl (All-from_recursion (λ (held : ℕ × Slot). due_number stop_1 held.1 ≡ None) told.stops (refl, tt));
 }
 
 -- a train to which stop 1 was told is well-formed where its place is on the track
@@ -43,16 +49,18 @@ well_at place kind is on = record {
   forced_ascend = refl;
   forced = All-from_recursion (IsGiven 1) [] tt;
   tables = record {
-    stops = record { small = omega arith; ascending = refl; below = All-from_recursion (λ (id : ℕ). id < 15) (0 ∷ []) (omega arith, tt) };
-    limits = record { small = omega arith; ascending = refl; below = All-from_recursion (λ (id : ℕ). id < 255) [] tt };
+    stops = record { small = omega arith; ascending = refl; below = All-from_recursion (λ (id : ℕ). id < 15) (0 ∷ []) (omega arith, tt); once = ((λ n is_told. refl), tt) };
+    limits = record { small = omega arith; ascending = refl; below = All-from_recursion (λ (id : ℕ). id < 255) [] tt; once = tt };
   };
   stop_slots = record {
     kinds = All-from_recursion (λ (held : ℕ × Slot). has_kind is_stop_kind held.1 ≡ true) ((0, told_now 1 1 kind) ∷ []) (is, tt);
+    counts = All-from_recursion (λ (held : ℕ × Slot). has_count held.1 ≡ true) ((0, told_now 1 1 kind) ∷ []) (no_report 1 1 kind, tt);
     given = All-from_recursion (IsGiven 1) (1 ∷ []) ((omega arith, omega arith), tt);
     once = (refl, tt);
   };
   limit_slots = record {
     kinds = All-from_recursion (λ (held : ℕ × Slot). has_kind is_limit_kind held.1 ≡ true) [] tt;
+    counts = All-from_recursion (λ (held : ℕ × Slot). has_count held.1 ≡ true) [] tt;
     given = All-from_recursion (IsGiven 0) [] tt;
     once = tt;
   };
@@ -96,6 +104,36 @@ stop_not_active_is_behind up = not_both (recursion_from_All (λ (held : ℕ × S
 
 pub limit_passed_is_behind : IsUpToDate track_a no_stop limit_1 limited → ⊥
 limit_passed_is_behind up = not_both (recursion_from_All (λ (held : ℕ × Slot). is_used_by (is_limit_gone limit_1 limited.place) held.1 ≡ false) limited.limits up.no_limit_gone).0
+
+-- ---- stops that a train does not answer
+
+-- after two reports nothing happens yet
+pub two_reports_stay : StaysAsItIs track_a stop_1 no_limit (unanswered 2)
+two_reports_stay = record { same = refl; nothing = refl }
+
+-- after three the stop is revoked and told again
+pub three_reports_change : StaysAsItIs track_a stop_1 no_limit (unanswered 3) → ⊥
+three_reports_change stays = let bad : 3 ≡ 1 = ap (λ (train : TrainRec). train.stamp) stays.same in omega (arith, bad)
+
+pub three_reports_are_behind : IsUpToDate track_a stop_1 no_limit (unanswered 3) → ⊥
+three_reports_are_behind up = elim up.none_due [
+  | inl none ↦ some_is_not_none 1 (recursion_from_All (λ (held : ℕ × Slot). due_number stop_1 held.1 ≡ None) (unanswered 3).stops none).0
+  | inr full ↦ (let bad : 1 ≡ 15 = full in omega (arith, bad))
+]
+
+-- the number is told at once from then on, and under an identifier that was free
+pub is_forced : (settled track_a stop_1 no_limit (unanswered 3)).forced ≡ 1 ∷ []
+is_forced = refl
+
+pub is_told_again : (settled track_a stop_1 no_limit (unanswered 3)).stops ≡ (0, Revoking 2) ∷ (1, told_now 1 3 Unconditional) ∷ []
+is_told_again = refl
+
+-- no more than three reports are counted, and none of a stop that was told at once
+pub four_reports : IsWellFormedTrain track_a stop_1 no_limit (unanswered 4) → ⊥
+four_reports well = not_both_ways (recursion_from_All (λ (held : ℕ × Slot). has_count held.1 ≡ true) (unanswered 4).stops well.stop_slots.counts).0
+
+pub counted_at_once : IsWellFormedTrain track_a stop_1 no_limit counted_unconditional → ⊥
+counted_at_once well = not_both_ways (recursion_from_All (λ (held : ℕ × Slot). has_count held.1 ≡ true) counted_unconditional.stops well.stop_slots.counts).0
 
 -- trains that are not well-formed
 pub two_identifiers : IsWellFormedTrain track_a stop_1 no_limit told_twice → ⊥

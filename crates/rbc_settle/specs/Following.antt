@@ -16,7 +16,7 @@ pub record CanTell (count : ℕ) (slots : Slots) (id number : ℕ) : Type 0 wher
 
 -- An identifier that is used may be revoked.
 abbrev pub Allows : TrainRec → Action → Type 0
-Allows train (RevokeStop id) = IsTrue (is_used_at train.stops id)
+Allows train (RevokeStop id number) = IsTrue (is_used_at train.stops id)
 Allows train (TellStop id number told) = CanTell stop_identifiers train.stops id number
 Allows train (RevokeLimit id) = IsTrue (is_used_at train.limits id)
 Allows train (TellLimit id number told) = CanTell limit_identifiers train.limits id number

@@ -16,6 +16,10 @@ abbrev pub with_number : ℕ → List ℕ → List ℕ
 with_number n [] = n ∷ []
 with_number n (first ∷ rest) = if nat_lt n first then n ∷ first ∷ rest else first ∷ with_number n rest
 
+-- the list with a number, which it may have
+abbrev pub and_number : ℕ → List ℕ → List ℕ
+and_number n numbers = if has_number numbers n then numbers else with_number n numbers
+
 -- the list without a number
 abbrev pub without_number : ℕ → List ℕ → List ℕ
 without_number n numbers = filter (λ other. not (other == n)) numbers

@@ -1,6 +1,6 @@
 -- What settling does to one train: what is revoked and told, under which identifiers and stamps, and in which order (own
 -- rule).
-use Rattle.std.specs.Prelude.{ℕ, ◌+◌, ◌-◌, ◌/◌, Bool, true, false, not, List, ◌++◌, map, take, Option, Some, None, option_map, pos, if◌then◌else◌}
+use Rattle.std.specs.Prelude.{ℕ, ◌+◌, ◌-◌, ◌/◌, Bool, true, false, not, ◌&&◌, ◌||◌, List, ◌++◌, map, take, length, Option, Some, None, option_map, pos, if◌then◌else◌}
 use Rattle.std.specs.List.{filter, filter_map, fold, scan, zip}
 use Rattle.std.specs.Option.{option_map_or}
 use Rattle.ertms_codec.specs.declared.to_train.Head.{Head}
@@ -15,7 +15,7 @@ use Rattle.rbc_ids.specs.declared.slot.Slot.{Slot}
 use Rattle.rbc_ids.specs.declared.slot.Slot.TheVariants.{Used, Revoking}
 use Rattle.rbc_ids.specs.declared.slot.Kind.{Kind}
 use Rattle.rbc_ids.specs.declared.slot.Kind.TheVariants.{Conditional, Unconditional, Restriction}
-use Rattle.rbc_ids.specs.Table.{Slots, is_told, free_identifiers, told_now}
+use Rattle.rbc_ids.specs.Table.{Slots, is_told, is_ripe, free_identifiers, told_now}
 use Rattle.rbc_zones.specs.declared.segment.Segment.{Segment}
 use Rattle.rbc_zones.specs.declared.edge.Concern.{Concern}
 use Rattle.rbc_zones.specs.declared.edge.Concern.TheVariants as concern
@@ -29,7 +29,7 @@ use Rattle.rbc_settle.specs.declared.action.ToldStop.TheVariants.{AtOnce, Before
 use Rattle.rbc_settle.specs.declared.upkeep.Sent.{Sent}
 use Rattle.rbc_settle.specs.Told.{Edge, Part}
 use Rattle.rbc_settle.specs.Trains.{stop_identifiers, limit_identifiers}
-use Rattle.rbc_settle.specs.Numbers.{has_number}
+use Rattle.rbc_settle.specs.Numbers.{has_number, and_number}
 
 -- the active stops, each with its number and its area, and the last number that was given to a stop
 abbrev pub Stops : Type 0
@@ -125,6 +125,41 @@ is_clear_of (Some p) limit = is_clear limit p
 abbrev pub is_limit_gone : Limits → Option Place → ℕ → Bool
 is_limit_gone limits place number = option_map_or (is_clear_of place) (value_of limits.active number) true
 
+-- ---- what is escalated
+
+-- The number of a slot that is due: it tells an active stop conditionally, and was left unanswered in three reports.
+abbrev pub due_number : Stops → Slot → Option ℕ
+due_number stops (Used used) = if is_ripe (Used used) && has stops.active used.number then Some used.number else None
+due_number stops (Revoking stamp) = None
+
+-- how many free identifiers no stop needs that has to be told
+abbrev pub spare_identifiers : Stops → TrainRec → ℕ
+spare_identifiers stops train = length (free_identifiers stop_identifiers train.stops) - length (filter_map (stop_to_tell train) stops.active)
+
+-- The numbers that are escalated: those of the first slots that are due, in order of their identifiers, as many as there are
+-- identifiers to spare.
+abbrev pub escalated : Stops → TrainRec → List ℕ
+escalated stops train = take (spare_identifiers stops train) (filter_map (λ held. due_number stops held.1) train.stops)
+
+-- A stop has to be revoked if it is not active, or is escalated.
+abbrev pub is_stop_revoked : Stops → List ℕ → ℕ → Bool
+is_stop_revoked stops forced_now number = is_stop_gone stops number || has_number forced_now number
+
+-- the number that becomes forced as its slot is revoked: one that is escalated
+abbrev pub number_forced : List ℕ → Slot → Option ℕ
+number_forced forced_now (Used used) = if has_number forced_now used.number then Some used.number else None
+number_forced forced_now (Revoking stamp) = None
+
+-- an escalated stop is told again, at once, and any other one if it has to be told
+abbrev pub next_to_tell : List ℕ → TrainRec → ℕ × List Segment → Option (ℕ × ToldStop)
+next_to_tell forced_now train stop = if has_number forced_now stop.0 then Some (stop.0, AtOnce) else stop_to_tell train stop
+
+-- ---- the actions
+
+-- a stop is revoked
+abbrev pub revoke_stop : List ℕ → ℕ × Slot → Action
+revoke_stop forced_now (id, slot) = RevokeStop id (number_forced forced_now slot)
+
 -- a stop is told under an identifier
 abbrev pub tell_stop : (ℕ × ToldStop) × ℕ → Action
 tell_stop ((number, told), id) = TellStop id number told
@@ -133,13 +168,13 @@ tell_stop ((number, told), id) = TellStop id number told
 abbrev pub tell_limit : (ℕ × Part) × ℕ → Action
 tell_limit ((number, told), id) = TellLimit id number told
 
--- first, a revocation of each stop that has to be revoked
-abbrev pub stops_revoked : Stops → TrainRec → List Action
-stops_revoked stops train = map RevokeStop (to_revoke (is_stop_gone stops) train.stops)
+-- first, a revocation of each stop that has to be revoked, in ascending order of the identifiers
+abbrev pub stops_revoked : List ℕ → Stops → TrainRec → List Action
+stops_revoked forced_now stops train = map (revoke_stop forced_now) (filter (λ held. is_used_by (is_stop_revoked stops forced_now) held.1) train.stops)
 
 -- then the stops that have to be told, in pairs with the free identifiers, as long as there are both
-abbrev pub stops_told : Stops → TrainRec → List Action
-stops_told stops train = map tell_stop (zip (filter_map (stop_to_tell train) stops.active) (free_identifiers stop_identifiers train.stops))
+abbrev pub stops_told : List ℕ → Stops → TrainRec → List Action
+stops_told forced_now stops train = map tell_stop (zip (filter_map (next_to_tell forced_now train) stops.active) (free_identifiers stop_identifiers train.stops))
 
 -- then a revocation of each restriction that has to be revoked
 abbrev pub limits_revoked : Limits → TrainRec → List Action
@@ -152,7 +187,8 @@ limits_told horizon limits train = map tell_limit (zip (filter_map (limit_to_tel
 -- All actions: each is judged by the train as it was before the first one.
 abbrev pub actions : Plan → Stops → Limits → TrainRec → List Action
 actions plan stops limits train =
-    stops_revoked stops train ++ stops_told stops train ++ limits_revoked limits train ++ limits_told plan.horizon limits train
+    stops_revoked (escalated stops train) stops train ++ stops_told (escalated stops train) stops train
+    ++ limits_revoked limits train ++ limits_told plan.horizon limits train
 
 -- the actions for which stamps are left
 abbrev pub actions_with_stamp : Plan → Stops → Limits → TrainRec → List Action
@@ -163,10 +199,16 @@ abbrev pub kind_of : ToldStop → Kind
 kind_of AtOnce = Unconditional
 kind_of (Before edge) = Conditional
 
+-- the numbers that a train is told at once, with one more or none
+abbrev pub and_forced : Option ℕ → List ℕ → List ℕ
+and_forced None forced = forced
+and_forced (Some number) forced = and_number number forced
+
 -- An action takes the next stamp. A revoked identifier is held until the train has acknowledged that, and an identifier under
--- which a number is told is used from then on.
+-- which a number is told is used from then on. An escalated number is forced as it is revoked.
 abbrev pub carried_out : TrainRec → Action → TrainRec
-carried_out train (RevokeStop id) = record train { stamp = train.stamp + 1; stops = with_value id (Revoking (train.stamp + 1)) train.stops }
+carried_out train (RevokeStop id number) =
+    record train { stamp = train.stamp + 1; stops = with_value id (Revoking (train.stamp + 1)) train.stops; forced = and_forced number train.forced }
 carried_out train (TellStop id number told) = record train { stamp = train.stamp + 1; stops = with_value id (told_now number (train.stamp + 1) (kind_of told)) train.stops }
 carried_out train (RevokeLimit id) = record train { stamp = train.stamp + 1; limits = with_value id (Revoking (train.stamp + 1)) train.limits }
 carried_out train (TellLimit id number told) = record train { stamp = train.stamp + 1; limits = with_value id (told_now number (train.stamp + 1) Restriction) train.limits }
@@ -181,7 +223,7 @@ head_of train ack = record { stamp = train.stamp + 1; ack = ack; lrbg = group_of
 
 -- the message of an action: 18, 15 or 16, 24 with packet 66 (Q_DIR 2: both ways), and 24 with packet 65
 abbrev pub message_of : TrainRec → Action → ToTrain
-message_of train (RevokeStop id) = message.Revoke (head_of train true) id
+message_of train (RevokeStop id number) = message.Revoke (head_of train true) id
 message_of train (TellStop id number AtOnce) = message.Stop (head_of train false) id
 message_of train (TellStop id number (Before edge)) = message.StopAt (head_of train false) id edge.scale (pos 0) edge.dir edge.distance
 message_of train (RevokeLimit id) = message.Lift (head_of train true) 2 id

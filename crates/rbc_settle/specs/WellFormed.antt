@@ -1,5 +1,5 @@
 -- What is true of each train, and kept by settling it (own rule).
-use Rattle.std.specs.Prelude.{◌≡◌, ℕ, ◌≤◌, Bool, true, false, List, [], ◌∷◌, ◌++◌, map, Option, Some, None, if◌then◌else◌}
+use Rattle.std.specs.Prelude.{◌≡◌, ℕ, ◌≤◌, Bool, true, false, ◌==◌, nat_le, List, [], ◌∷◌, ◌++◌, map, Option, Some, None, if◌then◌else◌}
 use Rattle.std.specs.List.{All, filter_map}
 use Rattle.rbc_track.specs.Plan.{Plan, group_of}
 use Rattle.rbc_track.specs.declared.group.Way.TheVariants.{Up, Down}
@@ -9,7 +9,7 @@ use Rattle.rbc_ids.specs.declared.slot.Slot.{Slot}
 use Rattle.rbc_ids.specs.declared.slot.Slot.TheVariants.{Used, Revoking}
 use Rattle.rbc_ids.specs.declared.slot.Kind.{Kind}
 use Rattle.rbc_ids.specs.declared.slot.Kind.TheVariants.{Conditional, Unconditional, Restriction}
-use Rattle.rbc_ids.specs.Table.{Slots, stamp_of}
+use Rattle.rbc_ids.specs.Table.{Slots, stamp_of, is_conditional, most_reports}
 use Rattle.rbc_settle.specs.declared.train.TrainRec.{TrainRec}
 use Rattle.rbc_settle.specs.Trains.{max_engine, max_train_length}
 use Rattle.rbc_settle.specs.Numbers.{AreNumbers, has_number}
@@ -55,9 +55,16 @@ is_limit_kind Conditional = false
 is_limit_kind Unconditional = false
 is_limit_kind Restriction = true
 
--- All slots of a table have such a kind, and tell numbers that were given, each under one identifier.
+-- reports are counted of a stop that was told conditionally, to at most 3
+abbrev pub has_count : Slot → Bool
+has_count (Used used) = if is_conditional used.kind then nat_le used.count most_reports else used.count == 0
+has_count (Revoking stamp) = true
+
+-- All slots of a table have such a kind and a count that they can have, and tell numbers that were given, each under one
+-- identifier.
 pub record AreGoodSlots (is_kind : Kind → Bool) (last : ℕ) (slots : Slots) : Type 0 where
   pub kinds : All (λ held. has_kind is_kind held.1 ≡ true) slots
+  pub counts : All (λ held. has_count held.1 ≡ true) slots
   pub given : All (IsGiven last) (told_numbers slots)
   pub once : AreDistinct (told_numbers slots)
 

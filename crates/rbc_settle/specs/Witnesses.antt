@@ -3,7 +3,7 @@ use Rattle.std.specs.Prelude.{ℕ, true, false, [], ◌∷◌, Some}
 use Rattle.rbc_track.specs.Plan.{Plan}
 use Rattle.rbc_track.specs.declared.group.Way.TheVariants.{Up, Down}
 use Rattle.rbc_place.specs.Placing.{Place}
-use Rattle.rbc_ids.specs.declared.slot.Slot.TheVariants.{Revoking}
+use Rattle.rbc_ids.specs.declared.slot.Slot.TheVariants.{Used, Revoking}
 use Rattle.rbc_ids.specs.declared.slot.Kind.TheVariants.{Conditional, Unconditional, Restriction}
 use Rattle.rbc_ids.specs.Table.{Slots, told_now}
 use Rattle.rbc_zones.specs.declared.limit.Dirs.TheVariants as dirs
@@ -93,6 +93,14 @@ group_turned = record { line = 0; lrbg = 5; at = 10000; same = false; facing = U
 -- train 7 at a place, to which stop 1 was told under identifier 0 by the message with stamp 1
 abbrev pub placed_at : Place → TrainRec
 placed_at place = record (train_7 1 ((0, told_now 1 1 Conditional) ∷ [])) { place = Some place }
+
+-- train 7 at that place, which was told stop 1 conditionally, and has reported so often without an answer
+abbrev pub unanswered : ℕ → TrainRec
+unanswered reports = record (train_7 1 ((0, Used (record { number = 1; stamp = 1; kind = Conditional; acked = false; count = reports })) ∷ [])) { place = Some beyond_5 }
+
+-- a report is counted of a stop that was told at once
+abbrev pub counted_unconditional : TrainRec
+counted_unconditional = train_7 1 ((0, Used (record { number = 1; stamp = 1; kind = Unconditional; acked = false; count = 1 })) ∷ [])
 
 -- train 7 beyond balise group 5, to which restriction 1 was told under identifier 0 by the message with stamp 1
 abbrev pub limited : TrainRec

@@ -59,9 +59,10 @@ impl Model for ToldLimit {
 /// One change to a train's identifiers, made by one message.
 #[derive(Clone, Copy, Debug, PartialEq, Eq)]
 pub enum Action {
-    /// Revokes the stop under an identifier.
+    /// Revokes the stop under an identifier. The number of one that is escalated is told at once from then on.
     RevokeStop {
         id: u8,
+        number: Option<u32>,
     },
     /// Tells a stop under an identifier.
     TellStop {

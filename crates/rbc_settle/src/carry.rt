@@ -4,7 +4,7 @@ ghost use Rattle.std.specs.Prelude.{◌≡◌, ℕ, ◌+◌, ◌^◌, ◌<◌, �
 ghost use Rattle.ertms_codec.specs.ToTrain.{Fits};
 ghost use Rattle.rbc_settle.specs.declared.action.Action.TheVariants.{TellStop};
 ghost use Rattle.rbc_settle.specs.Trains.{stop_identifiers};
-ghost use Rattle.rbc_settle.specs.Settling.{kind_of, head_of, carried_out, message_of};
+ghost use Rattle.rbc_settle.specs.Settling.{kind_of, head_of, and_forced, carried_out, message_of};
 ghost use Rattle.rbc_settle.specs.Following.{Allows};
 ghost use Rattle.rbc_settle.specs.UpToDate.{HasTables};
 
@@ -30,7 +30,7 @@ impl TrainRec {
         ensures fits { Fits result }
     {
         match *action {
-            Action::RevokeStop { id } => ToTrain::Revoke {
+            Action::RevokeStop { id, .. } => ToTrain::Revoke {
                 head: self.head(true),
                 id,
             },
@@ -90,6 +90,18 @@ impl TrainRec {
         }
     }
 
+    /// Adds a number, if there is one, to those that the train is told at once. Fails only for lack of memory, which leaves
+    /// the train as it was.
+    fn force(&mut self, number: Option<u32>) -> Result<(), AllocError>
+        ensures ok { OnOk result (self.new ≡ record self.old { forced = and_forced number self.old.forced }) }
+        ensures err { OnErr result (self.new ≡ self.old) }
+    {
+        match number {
+            Some(number) if !self.forced.has(number) => self.forced.add(number),
+            _ => Ok(()),
+        }
+    }
+
     /// Carries out an action, under the identifier that it names. Fails only for lack of memory, which leaves the train as it
     /// was.
     pub(crate) fn carry_out(&mut self, action: &Action) -> Result<(), AllocError>
@@ -100,7 +112,10 @@ impl TrainRec {
     {
         let stamp = self.stamp + 1;
         match *action {
-            Action::RevokeStop { id } => self.stops.revoke(id, stamp),
+            Action::RevokeStop { id, number } => {
+                self.force(number)?;
+                self.stops.revoke(id, stamp)
+            }
             Action::TellStop { id, number, told } => {
                 self.stops.tell(id, number, stamp, kind_of(told))?
             }

@@ -1,11 +1,13 @@
 //! What has to be done to a train. All of it is judged before the first action.
 
-ghost use Rattle.std.specs.Prelude.{◌≡◌, ◌≤◌, ◌++◌, ℕ, IfOk, OnOk, IfSome, Some, option_copied};
+ghost use Rattle.std.specs.Prelude.{◌≡◌, ◌≤◌, [], ◌++◌, ℕ, IfOk, OnOk, IfSome, Some, option_copied};
+ghost use Rattle.std.specs.List.{filter_map};
+ghost use Rattle.rbc_maps.specs.Maps.{has};
 ghost use Rattle.rbc_maps.specs.Numbered.{AreNumbered};
 ghost use Rattle.rbc_ids.specs.Table.{IsTable};
 ghost use Rattle.rbc_zones.specs.declared.edge.Concern.TheVariants.{Before};
 ghost use Rattle.rbc_settle.specs.Trains.{stop_identifiers, limit_identifiers};
-ghost use Rattle.rbc_settle.specs.Settling.{direction_of, told_at, told_stop, told_limit, limit_told_to, stop_to_tell, limit_to_tell, is_used_by, is_stop_gone, is_limit_gone, stops_revoked, stops_told, limits_revoked, limits_told, actions_with_stamp};
+ghost use Rattle.rbc_settle.specs.Settling.{direction_of, told_at, told_stop, told_limit, limit_told_to, stop_to_tell, limit_to_tell, is_used_by, is_limit_gone, due_number, spare_identifiers, escalated, is_stop_revoked, number_forced, next_to_tell, stops_revoked, stops_told, limits_revoked, limits_told, actions_with_stamp};
 ghost use Rattle.rbc_settle.specs.OneLine.{IsJudgedOnLine};
 ghost use Rattle.rbc_settle.specs.UpToDate.{HasTables};
 
@@ -36,8 +38,9 @@ pub fn actions(
     ensures actions { IfOk result (λ found. found.items ≡ actions_with_stamp track.now stops.now limits.now train.now) }
     ensures sound { OnOk result (HasTables train.now × (AreNumbered stops.now × AreNumbered limits.now)) }
 {
-    let mut actions = stops_revoked(alloc, stops, train)?;
-    put_behind(&mut actions, stops_told(alloc, stops, train)?)?;
+    let forced_now = escalated(alloc, stops, train)?;
+    let mut actions = stops_revoked(alloc, stops, train, &forced_now)?;
+    put_behind(&mut actions, stops_told(alloc, stops, train, &forced_now)?)?;
     put_behind(&mut actions, limits_revoked(alloc, limits, train)?)?;
     put_behind(
         &mut actions,
@@ -62,9 +65,76 @@ fn put_behind(actions: &mut Vec<Action>, mut more: Vec<Action>) -> Result<(), Al
     actions.append(&mut more)
 }
 
-/// Returns a revocation of each told stop that is not active, in ascending order of the identifiers.
-fn stops_revoked(alloc: Global, stops: &Stops, train: &TrainRec) -> Result<Vec<Action>, AllocError>
-    ensures actions { IfOk result (λ found. found.items ≡ stops_revoked stops.now train.now) }
+/// Returns the numbers that are escalated (own rule): of the stops that the train was told conditionally and left unanswered
+/// in three reports those with the least identifiers, as many as there are identifiers to spare. Takes no memory where
+/// there is no such stop.
+fn escalated(alloc: Global, stops: &Stops, train: &TrainRec) -> Result<Vec<u32>, AllocError>
+    ensures { IfOk result (λ numbers. numbers.items ≡ escalated stops.now train.now) }
+{
+    let mut numbers = due_numbers(alloc, stops, train)?;
+    if !numbers.is_empty() {
+        numbers.truncate(spare_identifiers(stops, train));
+    }
+    Ok(numbers)
+}
+
+/// Returns the numbers of the slots that are due, in ascending order of the identifiers.
+fn due_numbers(alloc: Global, stops: &Stops, train: &TrainRec) -> Result<Vec<u32>, AllocError>
+    ensures { IfOk result (λ numbers. numbers.items ≡ filter_map (λ held. due_number stops.now held.1) train.now.stops) }
+{
+    let near = Cell::new(0);
+    train
+        .stops
+        .slots()
+        .iter()
+        .filter_map(|held| due_number(stops, held.1, &near))
+        .collect(alloc)
+}
+
+/// The number of a slot that is due: it tells an active stop conditionally, and was left unanswered in three reports. The stop
+/// is searched for from `near` on, which is moved.
+fn due_number(stops: &Stops, slot: Slot, near: &Cell<usize>) -> Option<u32>
+    ensures { result ≡ due_number stops.now slot }
+{
+    let Slot::Used(used) = slot else {
+        return None;
+    };
+    if slot.is_ripe() && is_active(stops, used.number, near) {
+        Some(used.number)
+    } else {
+        None
+    }
+}
+
+/// Whether a stop is active. It is searched for from `near` on, which is moved.
+fn is_active(stops: &Stops, number: u32, near: &Cell<usize>) -> bool
+    ensures { result ≡ has stops.now.active number }
+{
+    stops.get_near(number, near).is_some()
+}
+
+/// Returns how many free identifiers no stop needs that has to be told.
+fn spare_identifiers(stops: &Stops, train: &TrainRec) -> usize
+    ensures { result ≡ spare_identifiers stops.now train.now }
+{
+    let near = Cell::new(0);
+    let free = (0..15).filter(|id| train.stops.slot(*id).is_none()).count();
+    let needed = stops
+        .active()
+        .iter()
+        .filter_map(|stop| stop_to_tell(train, stop.0, &stop.1, &near))
+        .count();
+    free.saturating_sub(needed)
+}
+
+/// Returns a revocation of each told stop that is not active or is escalated, in ascending order of the identifiers.
+fn stops_revoked(
+    alloc: Global,
+    stops: &Stops,
+    train: &TrainRec,
+    forced_now: &[u32],
+) -> Result<Vec<Action>, AllocError>
+    ensures actions { IfOk result (λ found. found.items ≡ stops_revoked forced_now.now stops.now train.now) }
     ensures sound { IsTable stop_identifiers train.now.stops }
 {
     let near = Cell::new(0);
@@ -72,39 +142,68 @@ fn stops_revoked(alloc: Global, stops: &Stops, train: &TrainRec) -> Result<Vec<A
         .stops
         .slots()
         .iter()
-        .filter(|held| is_used_by_gone_stop(stops, held.1, &near))
-        .map(|held| Action::RevokeStop { id: held.0 })
+        .filter(|held| is_used_by_revoked_stop(stops, forced_now, held.1, &near))
+        .map(|held| Action::RevokeStop {
+            id: held.0,
+            number: number_forced(forced_now, held.1),
+        })
         .collect(alloc)
 }
 
-/// Whether a slot is used by a stop that is not active, and so has to be revoked. The stop is searched for from `near` on, which is
-/// moved.
-fn is_used_by_gone_stop(stops: &Stops, slot: Slot, near: &Cell<usize>) -> bool
-    ensures { result ≡ is_used_by (is_stop_gone stops.now) slot }
+/// Whether a slot is used by a stop that has to be revoked, since it is not active or is escalated. The stop is searched for from
+/// `near` on, which is moved.
+fn is_used_by_revoked_stop(stops: &Stops, forced_now: &[u32], slot: Slot, near: &Cell<usize>) -> bool
+    ensures { result ≡ is_used_by (is_stop_revoked stops.now forced_now.now) slot }
 {
     match slot {
-        Slot::Used(used) => stops.get_near(used.number, near).is_none(),
+        Slot::Used(used) => is_stop_revoked(stops, forced_now, used.number, near),
         Slot::Revoking { .. } => false,
+    }
+}
+
+/// Whether a stop has to be revoked.
+fn is_stop_revoked(stops: &Stops, forced_now: &[u32], number: u32, near: &Cell<usize>) -> bool
+    ensures { result ≡ is_stop_revoked stops.now forced_now.now number }
+{
+    !is_active(stops, number, near) || forced_now.contains(&number)
+}
+
+/// The number that becomes forced as its slot is revoked: one that is escalated.
+fn number_forced(forced_now: &[u32], slot: Slot) -> Option<u32>
+    ensures { result ≡ number_forced forced_now.now slot }
+{
+    let Slot::Used(used) = slot else {
+        return None;
+    };
+    if forced_now.contains(&used.number) {
+        Some(used.number)
+    } else {
+        None
     }
 }
 
 /// Pairs the stops that have to be told, in ascending order of the numbers, with the free identifiers, in ascending order. The
 /// pairs end with the shorter of both lists, so no stop is looked at where no identifier is free.
-fn stops_told(alloc: Global, stops: &Stops, train: &TrainRec) -> Result<Vec<Action>, AllocError>
-    ensures actions { IfOk result (λ found. found.items ≡ stops_told stops.now train.now) }
+fn stops_told(
+    alloc: Global,
+    stops: &Stops,
+    train: &TrainRec,
+    forced_now: &[u32],
+) -> Result<Vec<Action>, AllocError>
+    ensures actions { IfOk result (λ found. found.items ≡ stops_told forced_now.now stops.now train.now) }
     ensures sound { AreNumbered stops.now }
 {
     if stops.count() == 0 || train.stops.least_free().is_none() {
         return Ok(Vec::new(alloc));
     }
     match line_to_judge(train) {
-        Some(line) => stops_told_on_line(alloc, stops, line, train),
-        None => stops_told_anywhere(alloc, stops, train),
+        Some(line) if forced_now.is_empty() => stops_told_on_line(alloc, stops, line, train),
+        _ => stops_told_anywhere(alloc, stops, train, forced_now),
     }
 }
 
 /// The line by whose stops alone a train is judged: its own, if it has a place and rejected no stop. A train without a place is
-/// judged by all stops, and so is one that rejected some, as those concern it wherever they are.
+/// judged by all stops, and so is one that is told some at once, as those concern it wherever they are.
 fn line_to_judge(train: &TrainRec) -> Option<u32>
     ensures { IfSome result (IsJudgedOnLine train.now) }
 {
@@ -114,7 +213,7 @@ fn line_to_judge(train: &TrainRec) -> Option<u32>
     Some(u32::from(train.place.as_ref()?.line()))
 }
 
-/// The pairs of `stops_told`, for a train that is judged by the stops on its line.
+/// The pairs of `stops_told`, for a train that is judged by the stops on its line, where none is escalated.
 fn stops_told_on_line(
     alloc: Global,
     stops: &Stops,
@@ -122,7 +221,7 @@ fn stops_told_on_line(
     train: &TrainRec,
 ) -> Result<Vec<Action>, AllocError>
     requires { IsJudgedOnLine train.now line }
-    ensures { IfOk result (λ found. found.items ≡ stops_told stops.now train.now) }
+    ensures { IfOk result (λ found. found.items ≡ stops_told [] stops.now train.now) }
 {
     let near = Cell::new(0);
     let free = (0..15).filter(|id| train.stops.slot(*id).is_none());
@@ -139,18 +238,35 @@ fn stops_told_anywhere(
     alloc: Global,
     stops: &Stops,
     train: &TrainRec,
+    forced_now: &[u32],
 ) -> Result<Vec<Action>, AllocError>
-    ensures { IfOk result (λ found. found.items ≡ stops_told stops.now train.now) }
+    ensures { IfOk result (λ found. found.items ≡ stops_told forced_now.now stops.now train.now) }
 {
     let near = Cell::new(0);
     let free = (0..15).filter(|id| train.stops.slot(*id).is_none());
     stops
         .active()
         .iter()
-        .filter_map(|stop| stop_to_tell(train, stop.0, &stop.1, &near))
+        .filter_map(|stop| next_to_tell(forced_now, train, stop.0, &stop.1, &near))
         .zip(free)
         .map(|((number, told), id)| Action::TellStop { id, number, told })
         .collect(alloc)
+}
+
+/// Returns a stop and how it is told: one that is escalated at once, and any other as `stop_to_tell` has it.
+fn next_to_tell(
+    forced_now: &[u32],
+    train: &TrainRec,
+    number: u32,
+    area: &Area,
+    near: &Cell<usize>,
+) -> Option<(u32, ToldStop)>
+    ensures { result ≡ next_to_tell forced_now.now train.now (number, area.now) }
+{
+    if forced_now.contains(&number) {
+        return Some((number, ToldStop::AtOnce));
+    }
+    stop_to_tell(train, number, area, near)
 }
 
 /// Returns a revocation of each told restriction that is not active, or is clear of the train, in ascending order of the

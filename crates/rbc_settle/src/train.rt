@@ -19,7 +19,7 @@ pub struct TrainRec {
     pub stamp: u32,
     /// The interval in which it stands, if that is known.
     pub place: Option<Place>,
-    /// The numbers of the stops that it rejected. Each of them is told as a stop at once.
+    /// The numbers of the stops that it rejected, or did not answer. Each of them is told as a stop at once.
     pub forced: Numbers,
     /// Its stop identifiers (NID_EM), 0 to 14.
     pub stops: IdTable<15>,

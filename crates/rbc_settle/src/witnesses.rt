@@ -2,7 +2,12 @@
 
 ghost use Rattle.rbc_settle.specs.UpToDate.{StaysAsItIs, IsUpToDate};
 ghost use Rattle.rbc_settle.specs.WellFormed.{IsWellFormedTrain};
-ghost use Rattle.rbc_settle.specs.Witnesses.{track_a, stop_1, no_stop, limit_1, no_limit, told, untold, told_twice, one_stamp, stamp_ahead, told_as_limit, sixteenth, never_given, beyond_5, group_elsewhere, group_turned, placed_at, limited};
+ghost use Rattle.rbc_settle.specs.Witnesses.{track_a, stop_1, no_stop, limit_1, no_limit, told, untold, told_twice, one_stamp, stamp_ahead, told_as_limit, sixteenth, never_given, beyond_5, group_elsewhere, group_turned, placed_at, limited, unanswered, counted_unconditional};
+ghost use Rattle.std.specs.Prelude.{◌≡◌, [], ◌∷◌};
+ghost use Rattle.rbc_ids.specs.declared.slot.Slot.TheVariants.{Revoking};
+ghost use Rattle.rbc_ids.specs.declared.slot.Kind.TheVariants.{Unconditional};
+ghost use Rattle.rbc_ids.specs.Table.{told_now};
+ghost use Rattle.rbc_settle.specs.Settling.{settled};
 
 /// What `settle_law` promises holds of a right train, and does not hold of wrong ones.
 ///
@@ -34,4 +39,21 @@ pub fn settle_law_witnesses()
     ensures number_never_given { IsWellFormedTrain track_a stop_1 no_limit never_given → ⊥ }
     ensures group_at_another_position { IsWellFormedTrain track_a stop_1 no_limit (placed_at group_elsewhere) → ⊥ }
     ensures group_of_another_direction { IsWellFormedTrain track_a stop_1 no_limit (placed_at group_turned) → ⊥ }
+{}
+
+/// What escalation promises of a train that was told stop 1 conditionally, under identifier 0 with stamp 1, and does not answer.
+///
+/// Right: after two reports it stays as it is. After three the stop is revoked, told at once under identifier 1, and told so
+/// from then on.
+///
+/// Wrong: after three reports it stays as it is, or is up to date. A train is not well-formed where four reports are
+/// counted, or one of a stop that was told at once.
+pub fn escalation_witnesses()
+    ensures two_reports { StaysAsItIs track_a stop_1 no_limit (unanswered 2) }
+    ensures forced { (settled track_a stop_1 no_limit (unanswered 3)).forced ≡ 1 ∷ [] }
+    ensures told_again { (settled track_a stop_1 no_limit (unanswered 3)).stops ≡ (0, Revoking 2) ∷ (1, told_now 1 3 Unconditional) ∷ [] }
+    ensures three_reports_change { StaysAsItIs track_a stop_1 no_limit (unanswered 3) → ⊥ }
+    ensures three_reports_are_behind { IsUpToDate track_a stop_1 no_limit (unanswered 3) → ⊥ }
+    ensures four_reports { IsWellFormedTrain track_a stop_1 no_limit (unanswered 4) → ⊥ }
+    ensures counted_at_once { IsWellFormedTrain track_a stop_1 no_limit counted_unconditional → ⊥ }
 {}

@@ -7,7 +7,7 @@ use Rattle.rbc_settle.proofs.train.TrainRec.message_of.Goals as goal
 
 pub returns-in-RevokeStop-clause-fits : goal.returns-in-RevokeStop-clause-fits
 returns-in-RevokeStop-clause-fits c =
-    let allowed : Allows c.args.self.now (RevokeStop c.in-RevokeStop.id) = subst (Allows c.args.self.now) c.in-RevokeStop.is c.requires.allowed in
+    let allowed : Allows c.args.self.now (RevokeStop c.in-RevokeStop.id c.in-RevokeStop.number) = subst (Allows c.args.self.now) c.in-RevokeStop.is c.requires.allowed in
     let below = used_below 15 c.args.self.now.stops c.requires.tables.stops c.in-RevokeStop.id allowed in
     record { lrbg = c.head.ensures.group; body = omega arith }
 
