@@ -17,7 +17,7 @@ use Rattle.rbc_rule.specs.Inputs.{Fits}
 use Rattle.rbc_rule.specs.World.{World}
 use Rattle.rbc_rule.specs.Effect.{effect}
 use Rattle.rbc_rule.specs.Step as rule
-use Rattle.rbc_rule.specs.SaidFor.{SaysFor, AllSay, AllSayTo, IsSaidAfter}
+use Rattle.rbc_rule.specs.SaidFor.{SaysFor, as_told, AllSay, AllSayTo, IsSaidAfter}
 use Rattle.rbc_rule.specs.WellFormed.{IsWellFormed}
 use Rattle.rbc_rule.proofs.Says.{step_says}
 use Rattle.rbc_desk.specs.declared.outbox.Mail.{Mail}
@@ -53,11 +53,11 @@ module _ (track : Plan) where
       let there : Contains w.trains train = All-head (Contains w.trains) train trains within in
       let rest = said_to w engine trains sent (All-tail (Contains w.trains) train trains within) say.1.1 in
       let actions = actions_with_stamp track w.stops w.limits train.1 in
-      let first = each_for_some w.stops w.limits train.1 actions actions one.1 (All-contains_itself actions) say.1.0 in
+      let first = each_for_some w.stops w.limits (as_told w.stops train.1) actions actions one.1 (All-contains_itself actions) say.1.0 in
       (elim (eqb one.0 engine) as (λ b. eqb one.0 engine ≡ b → All (IsSaidTo track w engine) (cond b one.1 (value_or [] sent engine))) [
         | true ↦ λ is.
             let key : train.0 ≡ engine = sym say.0 ∙ eqb-true one.0 engine is in
-            All-weaker (IsForSome w.stops w.limits train.1 actions) (IsSaidTo track w engine)
+            All-weaker (IsForSome w.stops w.limits (as_told w.stops train.1) actions) (IsSaidTo track w engine)
             (λ message for. record { train = train.1; is_train = subst (λ e. Contains w.trains (e, train.1)) key there; action = for.0; is_action = for.1; says = for.2 }) one.1 first
         | false ↦ λ is. rest
       ]) refl

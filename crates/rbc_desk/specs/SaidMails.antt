@@ -12,7 +12,7 @@ use Rattle.rbc_rule.specs.declared.input.Input.{Input}
 use Rattle.rbc_rule.specs.Inputs.{Fits}
 use Rattle.rbc_rule.specs.World.{World}
 use Rattle.rbc_rule.specs.Effect.{effect}
-use Rattle.rbc_rule.specs.SaidFor.{SaysFor}
+use Rattle.rbc_rule.specs.SaidFor.{SaysFor, as_told}
 use Rattle.rbc_rule.specs.WellFormed.{IsWellFormed}
 use Rattle.rbc_desk.specs.declared.outbox.Mail.{Mail}
 use Rattle.rbc_desk.specs.Serial.{Desk, serial}
@@ -23,7 +23,7 @@ pub record IsSaidTo (track : Plan) (w : World) (engine : ℕ) (message : ToTrain
   pub is_train : Contains w.trains (engine, train)
   pub action : Action
   pub is_action : Contains (actions_with_stamp track w.stops w.limits train) action
-  pub says : SaysFor track w.stops w.limits train action message
+  pub says : SaysFor track w.stops w.limits (as_told w.stops train) action message
 
 -- A mail to an engine comes from one of the inputs, whose number it has, and says what the rules give its train after the effect of that
 -- input. Its message fits, and is what its bytes spell.

@@ -8,10 +8,10 @@ use Rattle.rbc_maps.specs.Maps.{has, without}
 use Rattle.rbc_maps.specs.Numbered.{Numbered}
 use Rattle.rbc_settle.specs.declared.train.TrainRec.{TrainRec}
 use Rattle.rbc_settle.specs.declared.action.Action.{Action}
-use Rattle.rbc_settle.specs.declared.action.Action.TheVariants.{RevokeStop, TellStop, RevokeLimit, TellLimit}
 use Rattle.rbc_settle.specs.Numbers.{has_number, with_number, without_number}
 use Rattle.rbc_settle.specs.Settling.{Stops, Limits, carried_out, actions_with_stamp, settled}
 use Rattle.rbc_settle.proofs.Carried.{stamp_after}
+use Rattle.rbc_settle.proofs.OneLine.{none_active}
 use Rattle.rbc_rule.specs.Effect.{forget, with_less}
 use Rattle.rbc_rule.specs.Records.{engines_record}
 use Rattle.rbc_rule.specs.Lists.{engines_in}
@@ -19,21 +19,9 @@ use Rattle.rbc_rule.specs.Gathered.{is_forced_by, is_same, settled_train}
 use Rattle.rbc_rule.specs.Touching.{HasBegun}
 use Rattle.rbc_rule.proofs.AllTrains.{forgotten_same}
 
--- ---- what settling keeps
-
--- actions leave the stops for which a train stops at once
-forced_after : (acts : List Action) (train : TrainRec) → (fold carried_out train acts).forced ≡ train.forced
-forced_after [] train = refl
-forced_after (RevokeStop id ∷ acts) train = forced_after acts (carried_out train (RevokeStop id))
-forced_after (TellStop id number told ∷ acts) train = forced_after acts (carried_out train (TellStop id number told))
-forced_after (RevokeLimit id ∷ acts) train = forced_after acts (carried_out train (RevokeLimit id))
-forced_after (TellLimit id number told ∷ acts) train = forced_after acts (carried_out train (TellLimit id number told))
+-- ---- what settling does
 
 module _ (plan : Plan) (stops : Stops) (limits : Limits) where
-  -- the stops for which it stops at once stay
-  pub settled_forced : (train : TrainRec) → (settled plan stops limits train).forced ≡ train.forced
-  settled_forced train = forced_after (actions_with_stamp plan stops limits train) train
-
   -- its stamp rises by one for each action
   pub settled_stamp : (train : TrainRec) → (settled plan stops limits train).stamp ≡ train.stamp + length (actions_with_stamp plan stops limits train)
   settled_stamp train = stamp_after train (actions_with_stamp plan stops limits train)
@@ -118,8 +106,12 @@ module _ (plan : Plan) (stops : Stops) (limits : Limits) where
       → settled_train plan stops limits released train ≡ train → ⊥
   forced_differs None train there same = both_ways false refl there
   forced_differs (Some number) train there same =
+      let before = forget number train in
+      let acts = actions_with_stamp plan stops limits before in
+      let still : train.stamp + length acts ≡ train.stamp = sym (settled_stamp plan stops limits before) ∙ ap (λ (other : TrainRec). other.stamp) same in
+      let none : acts ≡ [] = none_active acts (omega (arith, still)) in
       without_differs number train.forced there
-      (sym (settled_forced plan stops limits (forget number train)) ∙ ap (λ (other : TrainRec). other.forced) same)
+      (sym (ap (λ (some : List Action). (fold carried_out before some).forced) none) ∙ ap (λ (other : TrainRec). other.forced) same)
 
   -- a train for which there is an action has a higher stamp then
   acted_differs : (train : TrainRec) → eqb (count_of train) 0 ≡ false → settled plan stops limits train ≡ train → ⊥

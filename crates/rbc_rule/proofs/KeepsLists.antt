@@ -5,6 +5,7 @@ use Rattle.std.proofs.lemmas.Bool.{cases_lt, or_parts, or_from, and_parts, eqb-t
 use Rattle.std.proofs.lemmas.List.Elements.{All-cons, All-head, All-tail}
 use Rattle.std.proofs.lemmas.Option.{same_Some}
 use Rattle.rbc_maps.specs.Maps.{keys, rises_from, value_of, with_value}
+use Rattle.rbc_ids.proofs.Lacking.{absent_below}
 use Rattle.rbc_ids.proofs.Tables.{value_of-absent}
 use Rattle.rbc_settle.specs.Numbers.{has_number}
 use Rattle.rbc_settle.specs.WellFormed.{AreDistinct}

@@ -16,17 +16,17 @@ use Rattle.rbc_ids.specs.declared.slot.Kind.TheVariants.{Conditional, Unconditio
 use Rattle.rbc_ids.specs.declared.slot.StampAck.{StampAck}
 use Rattle.rbc_ids.specs.declared.slot.StampAck.TheVariants as stamp_ack
 use Rattle.rbc_ids.specs.declared.slot.IdAck.TheVariants as id_ack
-use Rattle.rbc_ids.specs.Table.{Slots, IsTable, stamp_of, with_stamp, acked_by_stamp, after_stamp_ack, is_acceptance, is_rejection, acked_by_id, marked, is_of_restriction}
+use Rattle.rbc_ids.specs.Table.{Slots, IsTable, stamp_of, with_stamp, acked_by_stamp, after_stamp_ack, is_acceptance, is_rejection, acked_by_id, marked, is_of_restriction, after_report}
 use Rattle.rbc_ids.proofs.Tables.{value_of-found}
 use Rattle.rbc_settle.specs.declared.train.TrainRec.{TrainRec}
-use Rattle.rbc_settle.specs.Numbers.{AreNumbers, has_number, with_number, without_number}
+use Rattle.rbc_settle.specs.Numbers.{and_number, without_number}
 use Rattle.rbc_settle.specs.Trains.{new_train}
 use Rattle.rbc_settle.specs.Settling.{Stops, Limits}
-use Rattle.rbc_settle.specs.WellFormed.{told_numbers, stamps, IsGiven, is_stop_kind, is_limit_kind, has_kind, IsWellFormedTrain}
-use Rattle.rbc_settle.proofs.NumberLists.{place, added, added_rises}
-use Rattle.rbc_rule.specs.Effect.{forget, unknown_stamp, is_too_high, raised, placed, limits_acked, stops_acked, acknowledged, forced_too, stop_acked, answered, told_by, stamp_of as stamp_told, heard}
+use Rattle.rbc_settle.specs.WellFormed.{told_numbers, stamps, IsGiven, is_stop_kind, is_limit_kind, has_kind, has_count, IsWellFormedTrain}
+use Rattle.rbc_settle.proofs.Forcing.{rises-and, All-and}
+use Rattle.rbc_rule.specs.Effect.{forget, unknown_stamp, is_too_high, raised, placed, limits_acked, stops_acked, acknowledged, stop_acked, answered, told_by, stamp_of as stamp_told, heard}
 use Rattle.rbc_rule.proofs.KeepsLists.{IsPart, part-same, part-all, part-distinct, part-before, part-behind}
-use Rattle.rbc_rule.proofs.KeepsSlots.{stamps_in, SlotsStay, stay-without, stay-put, good_slots, told-given}
+use Rattle.rbc_rule.proofs.KeepsSlots.{stamps_in, SlotsStay, stay-without, stay-marked, stay-reported, good_slots, told-given}
 use Rattle.rbc_rule.proofs.KeepsPlaces.{place_on}
 use Rattle.rbc_settle.specs.Trains.{max_engine, max_train_length}
 use Rattle.rbc_rule.specs.Bounds.{max_stamp}
@@ -44,19 +44,6 @@ rises-less n least (x ∷ xs) rises =
     elim (eqb x n) as (λ b. rises_from least (cond (not b) (x ∷ without_number n xs) (without_number n xs)) ≡ true) [
       | true ↦ rises_from-lower least (x + 1) (without_number n xs) (omega (arith, above)) rest
       | false ↦ and_from (leb least x) (rises_from (x + 1) (without_number n xs)) parts.0 rest
-    ]
-
-rises-more : (n : ℕ) (xs : List ℕ) → rises_from 0 xs ≡ true → has_number xs n ≡ false → rises_from 0 (with_number n xs) ≡ true
-rises-more n xs rises absent =
-    subst (λ (ys : List ℕ). rises_from 0 ys ≡ true) (added n (place n xs) xs xs refl rises refl absent (insert xs (place n xs) n) refl)
-    (added_rises n (place n xs) xs xs refl rises refl absent (insert xs (place n xs) n) refl)
-
-All-more : (P : ℕ → Type 0) (n : ℕ) (xs : List ℕ) → P n → All P xs → All P (with_number n xs)
-All-more P n [] here all = All-cons P n [] here all
-All-more P n (x ∷ xs) here all =
-    elim (ltb n x) as (λ b. All P (cond b (n ∷ x ∷ xs) (x ∷ with_number n xs))) [
-      | true ↦ All-cons P n (x ∷ xs) here all
-      | false ↦ All-cons P x (with_number n xs) (All-head P x xs all) (All-more P n xs here (All-tail P x xs all))
     ]
 
 -- ---- the parts of a train
@@ -83,11 +70,13 @@ well_later plan stops later_stops limits later_limits train later_s later_l well
   tables = well.tables;
   stop_slots = record {
     kinds = well.stop_slots.kinds;
+    counts = well.stop_slots.counts;
     given = All-weaker (IsGiven stops.last) (IsGiven later_stops.last) (λ n given. (given.0, (let within = given.1 in omega (arith, within, later_s)))) (told_numbers train.stops) well.stop_slots.given;
     once = well.stop_slots.once;
   };
   limit_slots = record {
     kinds = well.limit_slots.kinds;
+    counts = well.limit_slots.counts;
     given = All-weaker (IsGiven limits.last) (IsGiven later_limits.last) (λ n given. (given.0, (let within = given.1 in omega (arith, within, later_l)))) (told_numbers train.limits) well.limit_slots.given;
     once = well.limit_slots.once;
   };
@@ -106,11 +95,11 @@ module _ (plan : Plan) (stops : Stops) (limits : Limits) where
     forced_ascend = refl;
     forced = All-nil (IsGiven stops.last);
     tables = record {
-      stops = record { small = omega arith; ascending = refl; below = All-nil (λ id. id < 15) };
-      limits = record { small = omega arith; ascending = refl; below = All-nil (λ id. id < 255) };
+      stops = record { small = omega arith; ascending = refl; below = All-nil (λ id. id < 15); once = tt };
+      limits = record { small = omega arith; ascending = refl; below = All-nil (λ id. id < 255); once = tt };
     };
-    stop_slots = record { kinds = All-nil (λ held. has_kind is_stop_kind held.1 ≡ true); given = All-nil (IsGiven stops.last); once = tt };
-    limit_slots = record { kinds = All-nil (λ held. has_kind is_limit_kind held.1 ≡ true); given = All-nil (IsGiven limits.last); once = tt };
+    stop_slots = record { kinds = All-nil (λ held. has_kind is_stop_kind held.1 ≡ true); counts = All-nil (λ held. has_count held.1 ≡ true); given = All-nil (IsGiven stops.last); once = tt };
+    limit_slots = record { kinds = All-nil (λ held. has_kind is_limit_kind held.1 ≡ true); counts = All-nil (λ held. has_count held.1 ≡ true); given = All-nil (IsGiven limits.last); once = tt };
     stamp = omega arith;
     stamps_within = All-nil (λ s. s ≤ 0);
     stamps_distinct = tt;
@@ -132,13 +121,13 @@ module _ (plan : Plan) (stops : Stops) (limits : Limits) where
       stamps_distinct = well.stamps_distinct;
     }
 
-    pub well_forced : (number : ℕ) → IsGiven stops.last number → IsWellFormedTrain plan stops limits (record train { forced = forced_too number train.forced })
+    pub well_forced : (number : ℕ) → IsGiven stops.last number → IsWellFormedTrain plan stops limits (record train { forced = and_number number train.forced })
     well_forced number given = record {
       engine = well.engine;
       length = well.length;
       place = well.place;
-      forced_ascend = ascend;
-      forced = all_given;
+      forced_ascend = rises-and number train.forced well.forced_ascend;
+      forced = All-and (IsGiven stops.last) number train.forced given well.forced;
       tables = record { stops = well.tables.stops; limits = well.tables.limits };
       stop_slots = well.stop_slots;
       limit_slots = well.limit_slots;
@@ -146,18 +135,6 @@ module _ (plan : Plan) (stops : Stops) (limits : Limits) where
       stamps_within = well.stamps_within;
       stamps_distinct = well.stamps_distinct;
     }
-      where
-        ascend : AreNumbers (forced_too number train.forced)
-        ascend = (elim (has_number train.forced number) as (λ b. has_number train.forced number ≡ b → rises_from 0 (cond b train.forced (with_number number train.forced)) ≡ true) [
-          | true ↦ λ is. well.forced_ascend
-          | false ↦ λ is. rises-more number train.forced well.forced_ascend is
-        ]) refl
-
-        all_given : All (IsGiven stops.last) (forced_too number train.forced)
-        all_given = elim (has_number train.forced number) as (λ b. All (IsGiven stops.last) (cond b train.forced (with_number number train.forced))) [
-          | true ↦ well.forced
-          | false ↦ All-more (IsGiven stops.last) number train.forced given well.forced
-        ]
 
     pub well_stops : (slots : Slots) → SlotsStay 15 is_stop_kind train.stops slots → IsWellFormedTrain plan stops limits (record train { stops = slots })
     well_stops slots stay =
@@ -237,18 +214,18 @@ abbrev pub WellIfOk : Plan → Stops → Limits → ℕ → Result TrainRec ℕ 
 WellIfOk plan stops limits engine (Ok train) = (train.engine ≡ engine) × IsWellFormedTrain plan stops limits train
 WellIfOk plan stops limits engine (Err code) = Unit
 
-module _ (count : ℕ) (is_kind : Kind → Bool) (slots : Slots) (table : IsTable count slots) (kinds : All (λ held. has_kind is_kind held.1 ≡ true) slots) where
+module _ (count : ℕ) (is_kind : Kind → Bool) (slots : Slots) (table : IsTable count slots) (kinds : All (λ held. has_kind is_kind held.1 ≡ true) slots) (counts : All (λ held. has_count held.1 ≡ true) slots) where
   stay-same : SlotsStay count is_kind slots slots
-  stay-same = record { table = table; kinds = kinds; numbers = part-same (told_numbers slots); stamps = part-same (stamps_in slots) }
+  stay-same = record { table = table; kinds = kinds; counts = counts; numbers = part-same (told_numbers slots); stamps = part-same (stamps_in slots) }
 
   -- a stamp is acknowledged
   stay-acked : (stamp : ℕ) (o : Option (ℕ × Slot)) → with_stamp slots stamp ≡ o → SlotsStay count is_kind slots (acked_by_stamp slots o).1
   stay-acked stamp None e = stay-same
-  stay-acked stamp (Some (id, Revoking s)) e = stay-without count is_kind slots table kinds id
+  stay-acked stamp (Some (id, Revoking s)) e = stay-without count is_kind slots table kinds counts id
   stay-acked stamp (Some (id, Used used)) e =
       let there = value_of-found (λ held. eqb (stamp_of held.1) stamp) (id, Used used) 0 slots table.ascending e in
       elim (is_of_restriction used.kind) as (λ b. SlotsStay count is_kind slots (cond {A = StampAck × Slots} b (stamp_ack.Marked, with_value id (marked used) slots) (stamp_ack.Nothing, slots)).1) [
-        | true ↦ stay-put count is_kind slots table kinds id (Used used) (marked used) there refl refl refl
+        | true ↦ stay-marked count is_kind slots table kinds counts id used there
         | false ↦ stay-same
       ]
 
@@ -263,19 +240,19 @@ module _ (plan : Plan) (stops : Stops) (limits : Limits) (engine : ℕ) where
     well_stops_acked acked (stamp_ack.Freed, slots) stay = (same, well_stops plan stops limits train well slots stay)
     well_stops_acked acked (stamp_ack.Marked, slots) stay = (same, well_stops plan stops limits train well slots stay)
     well_stops_acked acked (stamp_ack.Nothing, slots) stay =
-        well_limits_acked (after_stamp_ack train.limits acked) (stay-acked 255 is_limit_kind train.limits well.tables.limits well.limit_slots.kinds acked (with_stamp train.limits acked) refl)
+        well_limits_acked (after_stamp_ack train.limits acked) (stay-acked 255 is_limit_kind train.limits well.tables.limits well.limit_slots.kinds well.limit_slots.counts acked (with_stamp train.limits acked) refl)
 
     well_acknowledged : (acked : ℕ) → WellIfOk plan stops limits engine (acknowledged acked train)
     well_acknowledged acked =
-        well_stops_acked acked (after_stamp_ack train.stops acked) (stay-acked 15 is_stop_kind train.stops well.tables.stops well.stop_slots.kinds acked (with_stamp train.stops acked) refl)
+        well_stops_acked acked (after_stamp_ack train.stops acked) (stay-acked 15 is_stop_kind train.stops well.tables.stops well.stop_slots.kinds well.stop_slots.counts acked (with_stamp train.stops acked) refl)
 
     well_stop_acked : (id answer : ℕ) (o : Option Slot) → value_of train.stops id ≡ o → WellIfOk plan stops limits engine (stop_acked train (acked_by_id train.stops id answer o))
     well_stop_acked id answer None e = tt
     well_stop_acked id answer (Some (Revoking stamp)) e = tt
     well_stop_acked id answer (Some (Used used)) e =
         let accepted = well_stops plan stops limits train well (with_value id (marked used) train.stops)
-        (stay-put 15 is_stop_kind train.stops well.tables.stops well.stop_slots.kinds id (Used used) (marked used) e refl refl refl) in
-        let freed_then = well_stops plan stops limits train well (without id train.stops) (stay-without 15 is_stop_kind train.stops well.tables.stops well.stop_slots.kinds id) in
+        (stay-marked 15 is_stop_kind train.stops well.tables.stops well.stop_slots.kinds well.stop_slots.counts id used e) in
+        let freed_then = well_stops plan stops limits train well (without id train.stops) (stay-without 15 is_stop_kind train.stops well.tables.stops well.stop_slots.kinds well.stop_slots.counts id) in
         let rejected = well_forced plan stops limits (record train { stops = without id train.stops }) freed_then used.number
         (told-given (IsGiven stops.last) train.stops id used well.stop_slots.given e) in
         elim (is_acceptance used.kind answer) as (λ b. WellIfOk plan stops limits engine (stop_acked train (cond b (id_ack.Marked, with_value id (marked used) train.stops)
@@ -298,7 +275,12 @@ module _ (plan : Plan) (stops : Stops) (limits : Limits) (engine : ℕ) where
 
   well_told : (message : FromTrain) (train : TrainRec) → IsPlan plan → train.engine ≡ engine → IsWellFormedTrain plan stops limits train → is_too_high (stamp_told message) ≡ false → WellIfOk plan stops limits engine (told_by plan message train)
   well_told (Report stamp by position) train track same well low =
-      (engine_raised stamp train same, well_placed plan stops limits (raised stamp train) (well_raised plan stops limits train well stamp low) position track)
+      let there = placed plan position (raised stamp train) in
+      let still = well_placed plan stops limits (raised stamp train) (well_raised plan stops limits train well stamp low) position track in
+      (
+        engine_raised stamp train same,
+        well_stops plan stops limits there still (after_report there.stops) (stay-reported 15 is_stop_kind there.stops still.tables.stops still.stop_slots.kinds still.stop_slots.counts),
+      )
   well_told (Ack stamp by acked) train track same well low =
       well_acknowledged (raised stamp train) (engine_raised stamp train same) (well_raised plan stops limits train well stamp low) acked
   well_told (StopAck stamp by id answer position) train track same well low =

@@ -83,7 +83,7 @@ ReadyIfOk plan (Err code) = Unit
 
 engine_after : (train : TrainRec) (acts : List Action) → (fold carried_out train acts).engine ≡ train.engine
 engine_after train [] = refl
-engine_after train (RevokeStop id ∷ acts) = engine_after (carried_out train (RevokeStop id)) acts
+engine_after train (RevokeStop id number ∷ acts) = engine_after (carried_out train (RevokeStop id number)) acts
 engine_after train (TellStop id number told ∷ acts) = engine_after (carried_out train (TellStop id number told)) acts
 engine_after train (RevokeLimit id ∷ acts) = engine_after (carried_out train (RevokeLimit id)) acts
 engine_after train (TellLimit id number told ∷ acts) = engine_after (carried_out train (TellLimit id number told)) acts

@@ -1,6 +1,6 @@
 -- What each action of settling says.
 use Rattle.std.proofs.Common.{◌≡◌, ℕ, ◌+◌, ◌-◌, ◌*◌, ◌^◌, ◌<◌, ◌≤◌, Bool, true, false, cond, if◌then◌else◌, List, [], ◌∷◌, ◌++◌, length, map, Option, Some, None, refl, sym, ap, ◌∙◌, subst, arith}
-use Rattle.std.specs.List.{All, AllByRecursion, cons_option, scan, zip}
+use Rattle.std.specs.List.{All, AllByRecursion, cons_option, filter, scan, zip}
 use Rattle.std.specs.Option.{option_map, option_map_or}
 use Rattle.std.proofs.lemmas.List.{length-take}
 use Rattle.std.proofs.lemmas.List.Elements.{All-nil, All-cons, All-head, All-tail, All-append, All-take, All-map, All-weaker}
@@ -12,7 +12,7 @@ use Rattle.rbc_track.specs.declared.group.Group.{Group}
 use Rattle.rbc_track.specs.declared.group.Way.TheVariants.{Up, Down}
 use Rattle.rbc_place.specs.Placing.{Place, onward}
 use Rattle.rbc_place.specs.Reach.{IsAhead}
-use Rattle.rbc_maps.specs.Maps.{value_of}
+use Rattle.rbc_maps.specs.Maps.{value_of, keys}
 use Rattle.rbc_ids.specs.Table.{Slots, is_told, free_identifiers}
 use Rattle.rbc_zones.specs.declared.segment.Segment.{Segment}
 use Rattle.rbc_zones.specs.declared.edge.Concern.{Concern}
@@ -30,15 +30,16 @@ use Rattle.rbc_settle.specs.declared.action.ToldStop.{ToldStop}
 use Rattle.rbc_settle.specs.declared.action.ToldStop.TheVariants.{AtOnce, Before}
 use Rattle.rbc_settle.specs.Told.{Part}
 use Rattle.rbc_settle.specs.Numbers.{has_number}
-use Rattle.rbc_settle.specs.Settling.{Stops, Limits, last_stamp, unknown_group, direction_of, told_edge, told_at, told_stop, told_limit, limit_told_to, tell_stop, tell_limit, to_revoke, is_stop_gone, is_limit_gone, stops_revoked, stops_told, limits_revoked, limits_told, carried_out, message_of, messages_of, actions, actions_with_stamp}
-use Rattle.rbc_settle.specs.Settling.{group_of as group_by}
+use Rattle.rbc_settle.specs.Settling.{Stops, Limits, last_stamp, unknown_group, direction_of, told_edge, told_at, told_stop, told_limit, limit_told_to, number_forced, tell_stop, tell_limit, to_revoke, is_used_by, is_limit_gone, escalated, is_stop_revoked, stops_revoked, stops_told, limits_revoked, limits_told, carried_out, message_of, messages_of, actions, actions_with_stamp}
+use Rattle.rbc_settle.specs.Settling.{group_of as group_by, revoke_stop as action_of_stop}
 use Rattle.rbc_settle.specs.UpToDate.{HasTables}
 use Rattle.rbc_settle.specs.WellFormed.{IsPlaceOn, HasPlaceOn}
 use Rattle.rbc_settle.proofs.Wanted.{wanted_of}
+use Rattle.rbc_settle.proofs.Escalating.{between, forced_then, wanted_next, forced_as_fold}
 use Rattle.rbc_settle.proofs.Concerned.{each_value, told_as, limit_as}
 use Rattle.rbc_rule.specs.WellFormed.{IsGoodStop, AreGoodStops, AreGoodLimits}
 use Rattle.rbc_rule.specs.Saying.{Said, StopsAtOnce, StopsBefore, Restricts, RevokesStop, RevokesLimit, Spot, Stretch, CountsFrom, Says}
-use Rattle.rbc_rule.specs.SaidFor.{stretch_for, IsEdgeSaid, IsConcernSaid, IsLimitSaid, IsSendable, SaysFor, AllSay}
+use Rattle.rbc_rule.specs.SaidFor.{stretch_for, IsEdgeSaid, IsConcernSaid, IsLimitSaid, IsSendable, as_told, SaysFor, AllSay}
 use Rattle.rbc_rule.proofs.Sendable.{revoked_below, free_stop_ids, free_limit_ids, group_within, direction_within, revoke_stop, stop_at_once, stop_before, revoke_limit, limit_sendable}
 use Rattle.rbc_rule.proofs.SaysPlaces.{faced, unit_is, distance_within, lies_ahead, whole_fives, sound, good_area, good_limit}
 
@@ -189,34 +190,44 @@ module _ (plan : Plan) (track : IsPlan plan) (train : TrainRec) (stands_on : Has
 
 module _ (plan : Plan) (track : IsPlan plan) (stops : Stops) (limits : Limits) (good_stops : AreGoodStops plan stops) (good_limits : AreGoodLimits plan limits) (train : TrainRec)
     (on : HasPlaceOn plan train.place) (tables : HasTables train) where
+  -- the train as its actions see it
+  abbrev pub seen : TrainRec
+  seen = as_told stops train
+
   -- an action says what it has to, whatever was done to the train before, as long as it stands where it stood and has a stamp left
   abbrev pub IsSaid : Action → Type 0
-  IsSaid action = (later : TrainRec) → StandsAs train later → SaysFor plan stops limits train action (message_of later action)
+  IsSaid action = (later : TrainRec) → StandsAs train later → SaysFor plan stops limits seen action (message_of later action)
 
   -- the balise group that is named is the train's
   group_is : (later : TrainRec) → later.place ≡ train.place → group_by later ≡ group_by train
   group_is later same = ap (λ (o : Option Place). option_map_or (λ q. q.lrbg) o unknown_group) same
 
   names_group : (later : TrainRec) (action : Action) → later.place ≡ train.place → (head_of (message_of later action)).lrbg ≡ group_by train
-  names_group later (RevokeStop id) same = group_is later same
+  names_group later (RevokeStop id number) same = group_is later same
   names_group later (TellStop id number AtOnce) same = group_is later same
   names_group later (TellStop id number (Before edge)) same = group_is later same
   names_group later (RevokeLimit id) same = group_is later same
   names_group later (TellLimit id number told) same = group_is later same
 
-  revoked_stop : (id : ℕ) → id < 15 → IsSaid (RevokeStop id)
-  revoked_stop id below later stands = record {
+  revoked_stop : (id : ℕ) (number : Option ℕ) → id < 15 → IsSaid (RevokeStop id number)
+  revoked_stop id number below later stands = record {
     said = RevokesStop id;
     says = refl;
     is_for = refl;
-    by_its_group = names_group later (RevokeStop id) stands.same;
-    sendable = revoke_stop later stands.left (group_later plan track train on later stands.same) id below;
+    by_its_group = names_group later (RevokeStop id number) stands.same;
+    sendable = revoke_stop later stands.left (group_later plan track train on later stands.same) id number below;
   }
 
-  revoked_stops : All IsSaid (stops_revoked stops train)
+  revoked_all : (forced_now : List ℕ) (slots : Slots) → All (λ id. id < 15) (keys slots) → All IsSaid (map (action_of_stop forced_now) slots)
+  revoked_all forced_now [] below = All-nil IsSaid
+  revoked_all forced_now ((id, slot) ∷ slots) below =
+      All-cons IsSaid (RevokeStop id (number_forced forced_now slot)) (map (action_of_stop forced_now) slots) (revoked_stop id (number_forced forced_now slot) (All-head (λ other. other < 15) id (keys slots) below))
+      (revoked_all forced_now slots (All-tail (λ other. other < 15) id (keys slots) below))
+
+  revoked_stops : All IsSaid (stops_revoked (escalated stops train) stops train)
   revoked_stops =
-      let ids = to_revoke (is_stop_gone stops) train.stops in
-      All-map IsSaid RevokeStop ids (All-weaker (λ id. id < 15) (λ id. IsSaid (RevokeStop id)) revoked_stop ids (revoked_below 15 (is_stop_gone stops) train.stops tables.stops.below))
+      let revoked = is_stop_revoked stops (escalated stops train) in
+      revoked_all (escalated stops train) (filter (λ held. is_used_by revoked held.1) train.stops) (revoked_below 15 revoked train.stops tables.stops.below)
 
   revoked_limit : (id : ℕ) → id < 255 → IsSaid (RevokeLimit id)
   revoked_limit id below later stands = record {
@@ -233,18 +244,25 @@ module _ (plan : Plan) (track : IsPlan plan) (stops : Stops) (limits : Limits) (
       let ids = to_revoke gone train.limits in
       All-map IsSaid RevokeLimit ids (All-weaker (λ id. id < 255) (λ id. IsSaid (RevokeLimit id)) revoked_limit ids (revoked_below 255 gone train.limits tables.limits.below))
 
-  told_stops : All IsSaid (stops_told stops train)
+  -- a stop is told to the train as the actions see it
+  told_as_seen : (stop : ℕ × List Segment) → told_as train.place (forced_then stops train tables.stops good_stops.numbered) stop ≡ told_stop seen.place (concern_of stop.1 (has_number seen.forced stop.0) seen.place)
+  told_as_seen stop = ap (λ (b : Bool). told_stop train.place (concern_of stop.1 b train.place)) (forced_as_fold stops train tables.stops good_stops.numbered stop.0)
+
+  told_stops : All IsSaid (stops_told (escalated stops train) stops train)
   told_stops =
-      each_telling train.stops (told_as train.place train.forced) tell_stop (λ id. id < 15) IsSaid stops.active (each stops.active (each_value 1 stops.active good_stops.numbered.ascending) good_stops.good)
-      (free_identifiers 15 train.stops) (free_stop_ids train.stops)
+      let what = told_as train.place (forced_then stops train tables.stops good_stops.numbered) in
+      let slots = between stops train tables.stops good_stops.numbered in
+      subst (λ (wanted : List (ℕ × ToldStop)). All IsSaid (map tell_stop (zip wanted (free_identifiers 15 train.stops)))) (wanted_next stops train tables.stops good_stops.numbered)
+      (each_telling slots what tell_stop (λ id. id < 15) IsSaid stops.active (each stops.active (each_value 1 stops.active good_stops.numbered.ascending) good_stops.good)
+      (free_identifiers 15 train.stops) (free_stop_ids train.stops))
     where
       each : (some : List (ℕ × List Segment)) → AllByRecursion (λ stop. value_of stops.active stop.0 ≡ Some stop.1) some → All (IsGoodStop plan) some
-          → AllByRecursion (HoldsOfTelling train.stops (told_as train.place train.forced) tell_stop (λ id. id < 15) IsSaid) some
+          → AllByRecursion (HoldsOfTelling (between stops train tables.stops good_stops.numbered) (told_as train.place (forced_then stops train tables.stops good_stops.numbered)) tell_stop (λ id. id < 15) IsSaid) some
       each [] values good = tt
       each (stop ∷ some) values good = (
         λ told tells id below later stands.
-            let one = concern_said plan track train on stop.1 (has_number train.forced stop.0) (good_area plan track stop.1 (All-head (IsGoodStop plan) stop some good).good) id stop.0 below later stands
-            train.place refl on told tells in
+            let one = concern_said plan track seen on stop.1 (has_number seen.forced stop.0) (good_area plan track stop.1 (All-head (IsGoodStop plan) stop some good).good) id stop.0 below later
+            (record { same = stands.same; left = stands.left }) seen.place refl on told (sym (told_as_seen stop) ∙ tells) in
             record {
               said = one.said;
               says = one.says;
@@ -268,33 +286,35 @@ module _ (plan : Plan) (track : IsPlan plan) (stops : Stops) (limits : Limits) (
       each [] values good = tt
       each (limit ∷ some) values good = (
         λ told tells id below later stands.
-            let one = limit_said plan track train on limits limit.1 limit.0 values.0 (good_limit plan track limit.1 (All-head IsGood limit some good)) train.place refl on told tells id below later stands in
+            let one = limit_said plan track seen on limits limit.1 limit.0 values.0 (good_limit plan track limit.1 (All-head IsGood limit some good)) seen.place refl on told tells id below later
+            (record { same = stands.same; left = stands.left }) in
             record { said = one.said; says = one.says; is_for = one.is; by_its_group = names_group later (TellLimit id limit.0 told) stands.same; sendable = one.sendable },
         each some values.1 (All-tail IsGood limit some good),
       )
 
   all_said : All IsSaid (actions plan stops limits train)
   all_said =
-      All-append IsSaid (stops_revoked stops train ++ stops_told stops train ++ limits_revoked limits train) (limits_told plan.horizon limits train)
-      (All-append IsSaid (stops_revoked stops train ++ stops_told stops train) (limits_revoked limits train)
-      (All-append IsSaid (stops_revoked stops train) (stops_told stops train) revoked_stops told_stops) revoked_limits) told_limits
+      let first = stops_revoked (escalated stops train) stops train in
+      let second = stops_told (escalated stops train) stops train in
+      All-append IsSaid (first ++ second ++ limits_revoked limits train) (limits_told plan.horizon limits train)
+      (All-append IsSaid (first ++ second) (limits_revoked limits train) (All-append IsSaid first second revoked_stops told_stops) revoked_limits) told_limits
 
   -- an action moves no train, and takes one stamp
   moves : (later : TrainRec) (action : Action) → later.place ≡ train.place → (carried_out later action).place ≡ train.place
-  moves later (RevokeStop id) same = same
+  moves later (RevokeStop id number) same = same
   moves later (TellStop id number told) same = same
   moves later (RevokeLimit id) same = same
   moves later (TellLimit id number told) same = same
 
   takes_stamp : (later : TrainRec) (action : Action) → (carried_out later action).stamp ≡ later.stamp + 1
-  takes_stamp later (RevokeStop id) = refl
+  takes_stamp later (RevokeStop id number) = refl
   takes_stamp later (TellStop id number told) = refl
   takes_stamp later (RevokeLimit id) = refl
   takes_stamp later (TellLimit id number told) = refl
 
   -- so each message of actions one after another says what it has to
   each_says : (acts : List Action) → All IsSaid acts → (later : TrainRec) → later.place ≡ train.place → later.stamp + length acts ≤ last_stamp
-      → AllSay plan stops limits train acts (scan carried_out message_of later acts)
+      → AllSay plan stops limits seen acts (scan carried_out message_of later acts)
   each_says [] all later same left = tt
   each_says (action ∷ acts) all later same left =
       let next = takes_stamp later action in (
@@ -302,7 +322,7 @@ module _ (plan : Plan) (track : IsPlan plan) (stops : Stops) (limits : Limits) (
         each_says acts (All-tail IsSaid action acts all) (carried_out later action) (moves later action same) (omega (arith, left, next)),
       )
 
-  pub all_say : train.stamp ≤ last_stamp → AllSay plan stops limits train (actions_with_stamp plan stops limits train) (messages_of plan stops limits train)
+  pub all_say : train.stamp ≤ last_stamp → AllSay plan stops limits seen (actions_with_stamp plan stops limits train) (messages_of plan stops limits train)
   all_say stamp =
       let count = last_stamp - train.stamp in
       let most = length-take count (actions plan stops limits train) in

@@ -72,8 +72,8 @@ front_holds true = omega arith
 front_holds false = omega arith
 
 module _ (later : TrainRec) (left : later.stamp < last_stamp) (group : group_of later ≤ 16777215) where
-  pub revoke_stop : (id : ℕ) → id < 15 → IsSendable (message_of later (RevokeStop id))
-  revoke_stop id below = record {
+  pub revoke_stop : (id : ℕ) (number : Option ℕ) → id < 15 → IsSendable (message_of later (RevokeStop id number))
+  revoke_stop id number below = record {
     fits = record { lrbg = group; body = omega (arith, below) };
     holds = (omega arith, (omega arith, (omega (arith, left), (omega arith, (omega (arith, group), (omega (arith, below), tt))))));
     reference = tt;

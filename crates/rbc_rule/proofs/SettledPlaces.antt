@@ -11,7 +11,7 @@ use Rattle.rbc_rule.specs.Gathered.{forgotten, settled_train}
 -- actions leave a train at its place
 place_after : (acts : List Action) (train : TrainRec) → (fold carried_out train acts).place ≡ train.place
 place_after [] train = refl
-place_after (RevokeStop id ∷ acts) train = place_after acts (carried_out train (RevokeStop id))
+place_after (RevokeStop id number ∷ acts) train = place_after acts (carried_out train (RevokeStop id number))
 place_after (TellStop id number told ∷ acts) train = place_after acts (carried_out train (TellStop id number told))
 place_after (RevokeLimit id ∷ acts) train = place_after acts (carried_out train (RevokeLimit id))
 place_after (TellLimit id number told ∷ acts) train = place_after acts (carried_out train (TellLimit id number told))

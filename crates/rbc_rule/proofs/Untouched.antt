@@ -12,7 +12,7 @@ use Rattle.rbc_maps.proofs.MapFacts.{each_fails}
 use Rattle.rbc_maps.proofs.MapValues.{value_of-absent}
 use Rattle.rbc_ids.specs.declared.slot.Slot.{Slot}
 use Rattle.rbc_ids.specs.declared.slot.Slot.TheVariants.{Used, Revoking}
-use Rattle.rbc_ids.specs.Table.{Slots, IsTable, is_told, free_identifiers}
+use Rattle.rbc_ids.specs.Table.{Slots, IsTable, is_told, is_ripe, free_identifiers}
 use Rattle.rbc_ids.proofs.Gaps.{run, least_free-run, run_is_all}
 use Rattle.rbc_ids.proofs.Tables.{few}
 use Rattle.rbc_zones.specs.declared.segment.Segment.{Segment}
@@ -21,14 +21,16 @@ use Rattle.rbc_zones.specs.declared.edge.Concern.TheVariants as concern
 use Rattle.rbc_zones.specs.Limits.{Limit}
 use Rattle.rbc_settle.specs.declared.train.TrainRec.{TrainRec}
 use Rattle.rbc_settle.specs.declared.action.Action.{Action}
-use Rattle.rbc_settle.specs.declared.action.Action.TheVariants.{RevokeStop, RevokeLimit}
+use Rattle.rbc_settle.specs.declared.action.Action.TheVariants.{RevokeLimit}
 use Rattle.rbc_settle.specs.Numbers.{has_number}
-use Rattle.rbc_settle.specs.Settling.{Stops, Limits, last_stamp, carried_out, message_of, told_stop, concern_to, limit_told_to, is_used_by, to_revoke, is_stop_gone, is_limit_gone, is_clear_of, tell_stop, tell_limit, stops_revoked, stops_told, limits_revoked, limits_told, actions, actions_with_stamp, messages_of, to_engine}
+use Rattle.rbc_settle.specs.Settling.{Stops, Limits, last_stamp, carried_out, message_of, told_stop, concern_to, limit_told_to, is_used_by, to_revoke, is_stop_gone, is_limit_gone, is_clear_of, stop_to_tell, due_number, spare_identifiers, escalated, is_stop_revoked, revoke_stop, tell_stop, tell_limit, stops_revoked, stops_told, limits_revoked, limits_told, actions, actions_with_stamp, messages_of, to_engine}
 use Rattle.rbc_settle.specs.UpToDate.{HasTables}
 use Rattle.rbc_settle.proofs.Wanted.{to_tell, wanted_of}
 use Rattle.rbc_settle.proofs.Done.{IsDone}
 use Rattle.rbc_settle.proofs.Concerned.{told_as, limit_as}
-use Rattle.rbc_settle.proofs.Achieves.{AreDone, no_actions}
+use Rattle.rbc_settle.proofs.Due.{dues}
+use Rattle.rbc_settle.proofs.Escalating.{IsNoneDueOrFull, escalated_by_revoked}
+use Rattle.rbc_settle.proofs.Achieves.{AreDone, revoked_as_gone, no_actions}
 use Rattle.rbc_settle.proofs.Judging.{value_is_none}
 use Rattle.rbc_rule.specs.declared.touch.Change.{Change}
 use Rattle.rbc_rule.specs.declared.touch.Change.TheVariants as change
@@ -65,6 +67,16 @@ each_gives_none {A} {B} f (x ∷ xs) e =
       | None ↦ λ is rest. (is, each_gives_none f xs rest)
       | Some y ↦ λ is rest. absurd (not_empty y (filter_map f xs) rest)
     ]) refl e
+
+-- a list in which no number is is empty
+empty_without : (ns : List ℕ) → ((n : ℕ) → has_number ns n ≡ true → ⊥) → ns ≡ []
+empty_without [] none = refl
+empty_without (n ∷ ns) none = absurd (none n (or_left (eqb n n) (has_number ns n) (eq-eqb n n refl)))
+
+-- so is one of whose numbers none is taken
+first_empty : (more : ℕ) (ns : List ℕ) → take (suc more) ns ≡ [] → ns ≡ []
+first_empty more [] e = refl
+first_empty more (n ∷ ns) e = absurd (not_empty n (take more ns) e)
 
 -- what is taken of other actions is nothing too, if they are none where the first ones are
 nothing_taken : (room : ℕ) (old new : List Action) → take room old ≡ [] → (old ≡ [] → new ≡ []) → take room new ≡ []
@@ -112,19 +124,60 @@ module _ {X T : Type 0} (count : ℕ) (gone : ℕ → Bool) (active : List (ℕ 
     ];
   }
 
+module _ (stops : Stops) (train : TrainRec) (table : IsTable 15 train.stops) (numbered : AreNumbered stops) where
+  -- where nothing is revoked nothing is escalated, since what is escalated is revoked
+  none_escalated_before : filter (λ held. is_used_by (is_stop_revoked stops (escalated stops train)) held.1) train.stops ≡ [] → escalated stops train ≡ []
+  none_escalated_before none = empty_without (escalated stops train) (λ n there.
+      let bad = ap (λ (slots : Slots). is_told slots n) (sym none) ∙ escalated_by_revoked stops train table numbered n there in
+      absurd (let no : false ≡ true = bad in cc))
+
+  -- where nothing is escalated no slot is due, unless no identifier is free
+  none_due_where : escalated stops train ≡ [] → (wanted_of train.stops (told_as train.place train.forced) stops.active ≡ []) ⊎ (free_identifiers 15 train.stops ≡ []) → IsNoneDueOrFull stops train.stops
+  none_due_where none ends = elim ends [
+    | inl none_wanted ↦ by_spare (free_identifiers 15 train.stops) refl none_wanted
+    | inr none_free ↦ inl none_free
+  ]
+    where
+      by_spare : (free : List ℕ) → free_identifiers 15 train.stops ≡ free → wanted_of train.stops (told_as train.place train.forced) stops.active ≡ [] → IsNoneDueOrFull stops train.stops
+      by_spare [] is none_wanted = inl is
+      by_spare (id ∷ ids) is none_wanted =
+          let many : length (free_identifiers 15 train.stops) ≡ suc (length ids) = ap length is in
+          let needed : length (filter_map (stop_to_tell train) stops.active) ≡ 0 = ap length none_wanted in
+          let some : spare_identifiers stops train ≡ suc (length ids) = omega (arith, many, needed) in
+          inr (first_empty (length ids) (dues stops train.stops) (sym (ap (λ (n : ℕ). take n (dues stops train.stops)) some) ∙ none))
+
+  -- where there is no action for stops nothing is left to do for them
+  stops_before : map (revoke_stop (escalated stops train)) (filter (λ held. is_used_by (is_stop_revoked stops (escalated stops train)) held.1) train.stops) ≡ [] → stops_told (escalated stops train) stops train ≡ []
+      → IsDone 15 (is_stop_gone stops) stops.active (told_as train.place train.forced) train.stops × IsNoneDueOrFull stops train.stops
+  stops_before revoked told =
+      let none = empty_mapped (revoke_stop (escalated stops train)) (filter (λ held. is_used_by (is_stop_revoked stops (escalated stops train)) held.1) train.stops) revoked in
+      let escalated_none = none_escalated_before none in
+      let kept : filter (λ held. is_used_by (is_stop_gone stops) held.1) train.stops ≡ [] =
+      sym (ap (λ (gone : ℕ → Bool). filter (λ held. is_used_by gone held.1) train.stops) (revoked_as_gone stops))
+      ∙ sym (ap (λ (forced_now : List ℕ). filter (λ held. is_used_by (is_stop_revoked stops forced_now) held.1) train.stops) escalated_none) ∙ none in
+      let paired : zip (wanted_of train.stops (told_as train.place train.forced) stops.active) (free_identifiers 15 train.stops) ≡ [] =
+      empty_mapped tell_stop (zip (wanted_of train.stops (told_as train.place train.forced) stops.active) (free_identifiers 15 train.stops))
+      (sym (ap (λ (forced_now : List ℕ). stops_told forced_now stops train) escalated_none) ∙ told) in
+      (
+        done_where_none 15 (is_stop_gone stops) stops.active (told_as train.place train.forced) train.stops table (ap (map (λ (held : ℕ × Slot). held.0)) kept) paired,
+        none_due_where escalated_none (empty_zipped (wanted_of train.stops (told_as train.place train.forced) stops.active) (free_identifiers 15 train.stops) paired),
+      )
+
 -- a train without an action
-done_before : (plan : Plan) (stops : Stops) (limits : Limits) (train : TrainRec) → HasTables train → actions plan stops limits train ≡ [] → AreDone plan.horizon stops limits train
-done_before plan stops limits train tables none =
-    let last = both_empty (stops_revoked stops train ++ stops_told stops train ++ limits_revoked limits train) (limits_told plan.horizon limits train) none in
-    let third = both_empty (stops_revoked stops train ++ stops_told stops train) (limits_revoked limits train) last.0 in
-    let first = both_empty (stops_revoked stops train) (stops_told stops train) third.0 in
+done_before : (plan : Plan) (stops : Stops) (limits : Limits) (train : TrainRec) → HasTables train → AreNumbered stops → actions plan stops limits train ≡ [] → AreDone plan.horizon stops limits train
+done_before plan stops limits train tables numbered none =
+    let revoked = stops_revoked (escalated stops train) stops train in
+    let told = stops_told (escalated stops train) stops train in
+    let last = both_empty (revoked ++ told ++ limits_revoked limits train) (limits_told plan.horizon limits train) none in
+    let third = both_empty (revoked ++ told) (limits_revoked limits train) last.0 in
+    let first = both_empty revoked told third.0 in
+    let before = stops_before stops train tables.stops numbered first.0 first.1 in
     record {
-      stops = done_where_none 15 (is_stop_gone stops) stops.active (told_as train.place train.forced) train.stops tables.stops
-          (empty_mapped RevokeStop (to_revoke (is_stop_gone stops) train.stops) first.0)
-          (empty_mapped tell_stop (zip (wanted_of train.stops (told_as train.place train.forced) stops.active) (free_identifiers 15 train.stops)) first.1);
+      stops = before.0;
       limits = done_where_none 255 (is_limit_gone limits train.place) limits.active (limit_as plan.horizon train.place) train.limits tables.limits
           (empty_mapped RevokeLimit (to_revoke (is_limit_gone limits train.place) train.limits) third.1)
           (empty_mapped tell_limit (zip (wanted_of train.limits (limit_as plan.horizon train.place) limits.active) (free_identifiers 255 train.limits)) last.1);
+      due = before.1;
     }
 
 -- ---- entries and values after a change
@@ -318,6 +371,30 @@ module _ (train : TrainRec) (tables : HasTables train) (number : ℕ) where
   limit_ended : (horizon : ℕ) (old new : Limits) → is_told train.limits number ≡ false → new ≡ with_less number old → AreLimitsDone horizon old → AreLimitsDone horizon new
   limit_ended horizon old new untold less done = subst (AreLimitsDone horizon) (sym less) (done_ended 255 judged refl (limit_as horizon train.place) train.limits number old untold done)
 
+-- the same slots are due where none is used by a stop that is not active
+dues_same : (old new : Stops) (slots : Slots) → list_any (λ held. is_used_by (is_stop_gone old) held.1) slots ≡ false → list_any (λ held. is_used_by (is_stop_gone new) held.1) slots ≡ false → dues old slots ≡ dues new slots
+dues_same old new [] before after = refl
+dues_same old new ((id, Revoking stamp) ∷ slots) before after = dues_same old new slots before after
+dues_same old new ((id, Used used) ∷ slots) before after =
+    let was = or_parts (is_stop_gone old used.number) (list_any (λ held. is_used_by (is_stop_gone old) held.1) slots) before in
+    let is = or_parts (is_stop_gone new used.number) (list_any (λ held. is_used_by (is_stop_gone new) held.1) slots) after in
+    let active : has old.active used.number ≡ has new.active used.number = both_active (has old.active used.number) (has new.active used.number) was.0 is.0 in
+    ap (λ (b : Bool). cons_option (cond (is_ripe (Used used) && b) (Some used.number) None) (dues old slots)) active
+    ∙ ap (cons_option (due_number new (Used used))) (dues_same old new slots was.1 is.1)
+  where
+    both_active : (a b : Bool) → not a ≡ false → not b ≡ false → a ≡ b
+    both_active true true before after = refl
+    both_active true false before after = absurd (let bad : true ≡ false = after in cc)
+    both_active false b before after = absurd (let bad : true ≡ false = before in cc)
+
+-- so none is due after a change, if none was
+due_after : (old new : Stops) (train : TrainRec) → IsDone 15 (is_stop_gone old) old.active (told_as train.place train.forced) train.stops → IsDone 15 (is_stop_gone new) new.active (told_as train.place train.forced) train.stops
+    → IsNoneDueOrFull old train.stops → IsNoneDueOrFull new train.stops
+due_after old new train before after due = elim due [
+  | inl none_free ↦ inl none_free
+  | inr none ↦ inr (sym (dues_same old new train.stops before.none_gone after.none_gone) ∙ none)
+]
+
 -- ---- a train that a change does not touch
 
 -- nothing is left to do to it, if nothing was before
@@ -325,21 +402,28 @@ pub done_after : (plan : Plan) (changed : Change) (w : World) (stops : Stops) (l
     → HasChanged changed w stops limits → touches plan changed train ≡ false → AreDone plan.horizon w.stops w.limits train → AreDone plan.horizon stops limits train
 done_after plan (change.Stop number None) w stops limits train h k tables has not_touched done =
     let parts = or_parts (is_told train.stops number) (has_number train.forced number) not_touched in
+    let stops_done = stop_ended train tables number w.stops stops parts.0 has.0 done.stops in
     record {
-      stops = stop_ended train tables number w.stops stops parts.0 has.0 done.stops;
+      stops = stops_done;
       limits = subst (AreLimitsDone train tables number plan.horizon) (sym has.1) done.limits;
+      due = due_after w.stops stops train done.stops stops_done done.due;
     }
-done_after plan (change.Stop number (Some area)) w stops limits train h k tables has not_touched done = record {
-  stops = stop_begun train tables number area.now w.stops stops h not_touched has.0 done.stops;
-  limits = subst (AreLimitsDone train tables number plan.horizon) (sym has.1) done.limits;
-}
+done_after plan (change.Stop number (Some area)) w stops limits train h k tables has not_touched done =
+    let stops_done = stop_begun train tables number area.now w.stops stops h not_touched has.0 done.stops in
+    record {
+      stops = stops_done;
+      limits = subst (AreLimitsDone train tables number plan.horizon) (sym has.1) done.limits;
+      due = due_after w.stops stops train done.stops stops_done done.due;
+    }
 done_after plan (change.Limit number None) w stops limits train h k tables has not_touched done = record {
   stops = subst (AreStopsDone train tables number) (sym has.0) done.stops;
   limits = limit_ended train tables number plan.horizon w.limits limits not_touched has.1 done.limits;
+  due = subst (λ (active : Stops). IsNoneDueOrFull active train.stops) (sym has.0) done.due;
 }
 done_after plan (change.Limit number (Some limit)) w stops limits train h k tables has not_touched done = record {
   stops = subst (AreStopsDone train tables number) (sym has.0) done.stops;
   limits = limit_begun train tables number plan.horizon limit.now w.limits limits k not_touched has.1 done.limits;
+  due = subst (λ (active : Stops). IsNoneDueOrFull active train.stops) (sym has.0) done.due;
 }
 
 -- it does not stop at once for a stop that ends
@@ -354,7 +438,7 @@ pub no_actions_after : (plan : Plan) (changed : Change) (w : World) (stops : Sto
     → actions_with_stamp plan w.stops w.limits train ≡ [] → HasChanged changed w stops limits → touches plan changed train ≡ false → actions_with_stamp plan stops limits train ≡ []
 no_actions_after plan changed w stops limits train h k tables settled has not_touched =
     nothing_taken (last_stamp - train.stamp) (actions plan w.stops w.limits train) (actions plan stops limits train) settled
-    (λ none. no_actions plan stops limits train (done_after plan changed w stops limits train h k tables has not_touched (done_before plan w.stops w.limits train tables none)))
+    (λ none. no_actions plan stops limits train (done_after plan changed w stops limits train h k tables has not_touched (done_before plan w.stops w.limits train tables h none)))
 
 -- so it stays as it is, and nothing is sent to it
 pub untouched : (plan : Plan) (changed : Change) (w : World) (stops : Stops) (limits : Limits) (train : TrainRec)

@@ -125,7 +125,7 @@ module _ (plan : Plan) (stops : Stops) (limits : Limits) (train : TrainRec) (hea
 
 -- what is told under an identifier, or revoked, is that of the action
 module _ (plan : Plan) (stops : Stops) (limits : Limits) (train : TrainRec) (head : Head) (id other : ℕ) where
-  pub revokes_right : SaysFor plan stops limits train (RevokeStop id) (message.Revoke head other) → other ≡ id
+  pub revokes_right : SaysFor plan stops limits train (RevokeStop id None) (message.Revoke head other) → other ≡ id
   revokes_right says = let same : RevokesStop other ≡ RevokesStop id = sym says.says ∙ says.is_for in cc
 
   pub lifts_right : (dir : ℕ) → SaysFor plan stops limits train (RevokeLimit id) (message.Lift head dir other) → other ≡ id
@@ -212,7 +212,7 @@ pub stop_now_sendable : (stamp id : ℕ) → stamp < 1000 → id < 15 → IsSend
 stop_now_sendable stamp id few below = sendable.stop_at_once (train_7 None stamp []) (omega (arith, few)) (omega arith) id 1 below
 
 pub revoke_sendable : (id : ℕ) → id < 15 → IsSendable (revoke id)
-revoke_sendable id below = sendable.revoke_stop (at_5 1001) (omega arith) (omega arith) id below
+revoke_sendable id below = sendable.revoke_stop (at_5 1001) (omega arith) (omega arith) id None below
 
 pub lift_sendable : (id : ℕ) → id < 255 → IsSendable (lift both_ways id)
 lift_sendable id below = sendable.revoke_limit (at_5 1001) (omega arith) (omega arith) id below

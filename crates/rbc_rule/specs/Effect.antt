@@ -8,7 +8,7 @@ use Rattle.rbc_track.specs.Plan.{Plan}
 use Rattle.rbc_place.specs.Placing.{place_of_report}
 use Rattle.rbc_maps.specs.Maps.{has, value_of, with_value, without}
 use Rattle.rbc_maps.specs.Numbered.{Numbered}
-use Rattle.rbc_ids.specs.Table.{Slots, after_stamp_ack, after_id_ack}
+use Rattle.rbc_ids.specs.Table.{Slots, after_stamp_ack, after_id_ack, after_report}
 use Rattle.rbc_ids.specs.declared.slot.StampAck.{StampAck}
 use Rattle.rbc_ids.specs.declared.slot.StampAck.TheVariants as stamp_ack
 use Rattle.rbc_ids.specs.declared.slot.IdAck.{IdAck}
@@ -18,7 +18,7 @@ use Rattle.rbc_zones.specs.declared.limit.Dirs.{Dirs}
 use Rattle.rbc_zones.specs.Segments.{is_good_area}
 use Rattle.rbc_zones.specs.Limits.{is_good_limit}
 use Rattle.rbc_settle.specs.declared.train.TrainRec.{TrainRec}
-use Rattle.rbc_settle.specs.Numbers.{has_number, with_number, without_number}
+use Rattle.rbc_settle.specs.Numbers.{and_number, without_number}
 use Rattle.rbc_settle.specs.Trains.{new_train}
 use Rattle.rbc_settle.specs.Settling.{Stops, Limits}
 use Rattle.rbc_rule.specs.declared.input.Input.{Input}
@@ -99,22 +99,22 @@ stops_acked acked train (stamp_ack.Nothing, slots) = limits_acked train (after_s
 abbrev pub acknowledged : ℕ → TrainRec → Result TrainRec ℕ
 acknowledged acked train = stops_acked acked train (after_stamp_ack train.stops acked)
 
--- a train stops at once for one more stop
-abbrev pub forced_too : ℕ → List ℕ → List ℕ
-forced_too number forced = if has_number forced number then forced else with_number number forced
-
 -- a stop is acknowledged by its identifier: a conditional one that is rejected stops the train at once
 abbrev pub stop_acked : TrainRec → IdAck × Slots → Result TrainRec ℕ
 stop_acked train (id_ack.Marked, slots) = Ok (record train { stops = slots })
-stop_acked train (id_ack.Rejected number, slots) = Ok (record train { stops = slots; forced = forced_too number train.forced })
+stop_acked train (id_ack.Rejected number, slots) = Ok (record train { stops = slots; forced = and_number number train.forced })
 stop_acked train (id_ack.Nothing, slots) = Err (code_of NothingToAcknowledge)
 
 abbrev pub answered : ℕ → ℕ → TrainRec → Result TrainRec ℕ
 answered id answer train = stop_acked train (after_id_ack train.stops id answer)
 
+-- a report counts for each stop that the train was told conditionally and has not acknowledged
+abbrev pub counted : TrainRec → TrainRec
+counted train = record train { stops = after_report train.stops }
+
 -- the train after its message, whatever the stamp
 abbrev pub told_by : Plan → FromTrain → TrainRec → Result TrainRec ℕ
-told_by plan (Report stamp engine position) train = Ok (placed plan position (raised stamp train))
+told_by plan (Report stamp engine position) train = Ok (counted (placed plan position (raised stamp train)))
 told_by plan (Ack stamp engine acked) train = acknowledged acked (raised stamp train)
 told_by plan (StopAck stamp engine id answer position) train = answered id answer (placed plan position (raised stamp train))
 

@@ -1,5 +1,5 @@
 -- What a message has to say to a train: what the rules give that train (own rule).
-use Rattle.std.specs.Prelude.{◌≡◌, ℕ, ◌+◌, ◌*◌, ◌^◌, List, [], ◌∷◌, Some, Result, Ok, Err}
+use Rattle.std.specs.Prelude.{◌≡◌, ℕ, fold, ◌+◌, ◌*◌, ◌^◌, List, [], ◌∷◌, Some, Result, Ok, Err}
 use Rattle.ertms_codec.specs.declared.to_train.ToTrain.{ToTrain}
 use Rattle.ertms_codec.specs.Layout.{HoldValues}
 use Rattle.ertms_codec.specs.ToTrain as codec
@@ -16,7 +16,8 @@ use Rattle.rbc_zones.specs.Limits.{Limit, told_part}
 use Rattle.rbc_settle.specs.declared.train.TrainRec.{TrainRec}
 use Rattle.rbc_settle.specs.declared.action.Action.{Action}
 use Rattle.rbc_settle.specs.declared.action.Action.TheVariants.{RevokeStop, TellStop, RevokeLimit, TellLimit}
-use Rattle.rbc_settle.specs.Settling.{Stops, Limits, concern_to, actions_with_stamp, group_of}
+use Rattle.rbc_settle.specs.Settling.{Stops, Limits, concern_to, escalated, actions_with_stamp, group_of}
+use Rattle.rbc_settle.specs.Numbers.{and_number}
 use Rattle.rbc_rule.specs.declared.input.Input.{Input}
 use Rattle.rbc_rule.specs.Inputs.{Fits}
 use Rattle.rbc_rule.specs.World.{World}
@@ -78,9 +79,13 @@ pub record IsLimitSaid (limits : Limits) (train : TrainRec) (id number : ℕ) (s
   pub placed : train.place ≡ Some p
   pub is_said : said ≡ Restricts id (stretch_for limit p) limit.front limit.speed
 
+-- A train as its actions see it: the stops that are escalated are told at once from now on.
+abbrev pub as_told : Stops → TrainRec → TrainRec
+as_told stops train = record train { forced = fold (λ forced number. and_number number forced) train.forced (escalated stops train) }
+
 -- for an action of settling a train
 abbrev pub IsSaidFor : Stops → Limits → TrainRec → Action → Said → Type 0
-IsSaidFor stops limits train (RevokeStop id) said = said ≡ RevokesStop id
+IsSaidFor stops limits train (RevokeStop id forced) said = said ≡ RevokesStop id
 IsSaidFor stops limits train (TellStop id number told) said = IsStopSaid stops train id number said
 IsSaidFor stops limits train (RevokeLimit id) said = said ≡ RevokesLimit id
 IsSaidFor stops limits train (TellLimit id number told) said = IsLimitSaid limits train id number said
@@ -132,7 +137,7 @@ AllSay plan stops limits train (action ∷ actions) [] = ⊥
 abbrev pub AllSayTo : Plan → Stops → Limits → List (ℕ × TrainRec) → List (ℕ × List ToTrain) → Type 0
 AllSayTo plan stops limits [] [] = Unit
 AllSayTo plan stops limits (train ∷ trains) (sent ∷ more) =
-    (sent.0 ≡ train.0) × (AllSay plan stops limits train.1 (actions_with_stamp plan stops limits train.1) sent.1 × AllSayTo plan stops limits trains more)
+    (sent.0 ≡ train.0) × (AllSay plan stops limits (as_told stops train.1) (actions_with_stamp plan stops limits train.1) sent.1 × AllSayTo plan stops limits trains more)
 AllSayTo plan stops limits [] (sent ∷ more) = ⊥
 AllSayTo plan stops limits (train ∷ trains) [] = ⊥
 

@@ -7,6 +7,7 @@ use Rattle.rbc_track.specs.Plan.{Plan}
 use Rattle.rbc_track.specs.declared.group.Way.TheVariants.{Up, Down}
 use Rattle.rbc_place.specs.Placing.{Place}
 use Rattle.rbc_maps.specs.Numbered.{none_numbered}
+use Rattle.rbc_ids.specs.declared.slot.Slot.TheVariants.{Used}
 use Rattle.rbc_ids.specs.declared.slot.Kind.TheVariants.{Conditional, Restriction}
 use Rattle.rbc_ids.specs.Table.{Slots, told_now}
 use Rattle.rbc_zones.specs.declared.segment.Segment.{Segment}
@@ -15,7 +16,7 @@ use Rattle.rbc_zones.specs.Limits.{Limit}
 use Rattle.rbc_settle.specs.declared.train.TrainRec.{TrainRec}
 use Rattle.rbc_settle.specs.declared.action.Action.TheVariants.{TellStop}
 use Rattle.rbc_settle.specs.declared.action.ToldStop.{ToldStop}
-use Rattle.rbc_settle.specs.declared.action.ToldStop.TheVariants.{Before}
+use Rattle.rbc_settle.specs.declared.action.ToldStop.TheVariants.{AtOnce, Before}
 use Rattle.rbc_settle.specs.Settling.{Stops, Limits}
 use Rattle.rbc_records.specs.declared.record.Key.{Key}
 use Rattle.rbc_records.specs.declared.record.Key.TheVariants as key
@@ -27,7 +28,7 @@ use Rattle.rbc_rule.specs.declared.input.Input.TheVariants.{Enrol, Stop, Restric
 use Rattle.rbc_rule.specs.World.{World}
 use Rattle.rbc_rule.specs.Effect.{effect}
 use Rattle.rbc_rule.specs.Saying.{Spot}
-use Rattle.rbc_rule.specs.SaidFor.{IsSaidAfter, SaysByPlace}
+use Rattle.rbc_rule.specs.SaidFor.{IsSaidAfter, SaysByPlace, SaysFor, as_told}
 
 -- ---- the track, and a train on it
 
@@ -168,6 +169,21 @@ world_told place stamp slots = world_of (train_7 place stamp slots) (stop_1 (on_
 -- it faces up, and was told the stop under stamp 1001, its last
 abbrev pub told_world : World
 told_world = world_told (Some facing_up) 1001 (told_as_0 1)
+
+-- train 7 as its actions see it, once it has reported so often that it was told the stop under identifier 0 and has not answered
+abbrev pub unanswered : ℕ → TrainRec
+unanswered reports =
+    let told = Used (record { number = 1; stamp = 1001; kind = Conditional; acked = false; count = reports }) in
+    as_told (stop_1 (on_line_0 20000 21000)) (train_7 (Some facing_up) 1001 ((0, told) ∷ []))
+
+-- what the law says of message 16 for the stop under identifier 1 then
+abbrev pub IsSaidAgain : ℕ → Type 0
+IsSaidAgain reports = SaysFor track_a (stop_1 (on_line_0 20000 21000)) none_numbered (unanswered reports) (TellStop 1 1 AtOnce) (message.Stop (head_at 1003 false) 1)
+
+-- and of message 15
+abbrev pub IsSaidBeforeAgain : ℕ → Type 0
+IsSaidBeforeAgain reports =
+    SaysFor track_a (stop_1 (on_line_0 20000 21000)) none_numbered (unanswered reports) (TellStop 1 1 AtOnce) (message.StopAt (head_at 1003 false) 1 0 (pos 0) 1 10000)
 
 -- it was told the stop under two identifiers
 abbrev pub told_twice : World

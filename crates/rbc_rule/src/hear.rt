@@ -115,6 +115,7 @@ pub(crate) fn heard(
     match message {
         FromTrain::Report { position, .. } => {
             place(track, &mut train, position);
+            train.stops.reported();
             Ok(train)
         }
         FromTrain::Ack { acked, .. } => acknowledged(train, *acked),

@@ -6,7 +6,7 @@
 ghost use Rattle.std.specs.Prelude.{pos, true, false, [], ◌∷◌};
 ghost use Rattle.rbc_zones.specs.declared.limit.Dirs.TheVariants as dirs;
 ghost use Rattle.rbc_rule.specs.declared.input.Input.TheVariants as input;
-ghost use Rattle.rbc_rule.specs.Witnesses.{facing_up, short_of_5, on_line_0, stop_before, stop_before_as, stop_at_once, stop_now, restrict_to, restrict_as, revoke, lift, naming, told_world, world_limited, IsSaidIn, IsSaidOfStop, IsSaidOfLimit, IsSaidAtEnrolment, SaysByPlaceOf};
+ghost use Rattle.rbc_rule.specs.Witnesses.{facing_up, short_of_5, on_line_0, stop_before, stop_before_as, stop_at_once, stop_now, restrict_to, restrict_as, revoke, lift, naming, told_world, world_limited, IsSaidIn, IsSaidOfStop, IsSaidOfLimit, IsSaidAtEnrolment, SaysByPlaceOf, IsSaidAgain, IsSaidBeforeAgain};
 
 /// Messages 15 and 16: stop 1 becomes active on 20000 to 21000, on 12100 to 13000, which meets the train, or for a train
 /// that stands short of its balise group on 10000 to 11000.
@@ -68,4 +68,15 @@ pub fn revocation_witnesses()
     ensures stop_other_group { IsSaidIn told_world (input.Release 1) ((7, naming 6 (revoke 0) ∷ []) ∷ []) → ⊥ }
     ensures as_a_restriction { IsSaidIn told_world (input.Release 1) ((7, lift 2 0 ∷ []) ∷ []) → ⊥ }
     ensures while_active { IsSaidIn told_world (input.Restrict 1 (on_line_0 0 10) dirs.Both 80 false) ((7, revoke 0 ∷ []) ∷ []) → ⊥ }
+{}
+
+/// Message 16, for a stop that train 7 was told conditionally and has not answered.
+///
+/// Right: after three reports.
+///
+/// Wrong: after two; and message 15 once more in its place.
+pub fn escalation_witnesses()
+    ensures told_again { IsSaidAgain 3 }
+    ensures too_soon { IsSaidAgain 2 → ⊥ }
+    ensures before_again { IsSaidBeforeAgain 3 → ⊥ }
 {}

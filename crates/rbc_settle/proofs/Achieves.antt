@@ -116,7 +116,7 @@ none_escalated stops train due = elim due [
 ]
 
 -- where none is escalated, a stop is revoked if it is gone
-revoked_as_gone : (stops : Stops) → is_stop_revoked stops [] ≡ is_stop_gone stops
+pub revoked_as_gone : (stops : Stops) → is_stop_revoked stops [] ≡ is_stop_gone stops
 revoked_as_gone stops = λ i n. alone (is_stop_gone stops n) i
   where
     alone : (a : Bool) → (a || false) ≡ a

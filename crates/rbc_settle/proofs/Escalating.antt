@@ -1,6 +1,6 @@
 -- The stops of a train, once those that are escalated were revoked: what is told then, and that nothing is left to do.
-use Rattle.std.proofs.Common.{◌≡◌, ℕ, ◌+◌, ◌-◌, ◌<◌, ◌≤◌, ◌⊎◌, Bool, true, false, not, cond, ◌||◌, ◌&&◌, List, [], ◌∷◌, length, take, Option, Some, None, option_map, refl, sym, ap, ◌∙◌, subst, arith, inl, inr}
-use Rattle.std.specs.List.{filter, filter_map, cons_option, list_any, zip, AllByRecursion}
+use Rattle.std.proofs.Common.{◌≡◌, ℕ, ◌+◌, ◌-◌, ◌<◌, ◌≤◌, ◌⊎◌, Bool, true, false, not, cond, ◌||◌, ◌&&◌, eqb, List, [], ◌∷◌, length, take, Option, Some, None, option_map, refl, sym, ap, ◌∙◌, subst, arith, inl, inr}
+use Rattle.std.specs.List.{filter, filter_map, cons_option, fold, list_any, zip, AllByRecursion}
 use Rattle.std.proofs.lemmas.Bool.{cases_Bool, cases_lt, or_left, or_right, or_from, or_parts, both_ways}
 use Rattle.std.proofs.lemmas.List.{take_all, length-take-le}
 use Rattle.rbc_place.specs.Placing.{Place}
@@ -13,11 +13,11 @@ use Rattle.rbc_zones.specs.Concerns.{concern_of}
 use Rattle.rbc_settle.specs.declared.train.TrainRec.{TrainRec}
 use Rattle.rbc_settle.specs.declared.action.ToldStop.{ToldStop}
 use Rattle.rbc_settle.specs.declared.action.ToldStop.TheVariants.{AtOnce}
-use Rattle.rbc_settle.specs.Numbers.{has_number}
+use Rattle.rbc_settle.specs.Numbers.{has_number, and_number}
 use Rattle.rbc_settle.specs.Settling.{Stops, kind_of, told_stop, stop_to_tell, is_used_by, to_revoke, is_stop_gone, spare_identifiers, escalated, is_stop_revoked, next_to_tell, due_number}
 use Rattle.rbc_settle.proofs.Due.{dues, due_is_told, distinct_dues, first_of, distinct-take, as_many_as, as_many_both}
 use Rattle.rbc_settle.proofs.NoneDue.{each_not_due, none_due_from, each_due, none_due_revoked, none_due_told}
-use Rattle.rbc_settle.proofs.Forcing.{forced_all, has-forced_all, told_by_revoked}
+use Rattle.rbc_settle.proofs.Forcing.{has-and, forced_all, has-forced_all, told_by_revoked}
 use Rattle.rbc_settle.proofs.Revoking.{revoked_all, revoked_each, revoked_is, free-revoked, table-revoked, none-revoked, none_of_fewer, told-revoked, untold-gone, none_to_revoke}
 use Rattle.rbc_settle.proofs.Telling.{told_all, none_free_then}
 use Rattle.rbc_settle.proofs.Wanted.{to_tell, wanted_of}
@@ -29,6 +29,23 @@ use Rattle.rbc_settle.proofs.Concerned.{told_as, each_has, stops_stay}
 forced_at_once : (place : Option Place) (area : List Segment) → told_stop place (concern_of area true place) ≡ Some AtOnce
 forced_at_once None area = refl
 forced_at_once (Some p) area = refl
+
+beside_false : (a : Bool) → (a || false) ≡ a
+beside_false true = refl
+beside_false false = refl
+
+-- with some numbers more, one after another, a list has those that it had, and these
+has-fold : (n : ℕ) (more forced : List ℕ) → has_number (fold (λ forced number. and_number number forced) forced more) n ≡ (has_number forced n || has_number more n)
+has-fold n [] forced = sym (beside_false (has_number forced n))
+has-fold n (m ∷ more) forced =
+    has-fold n more (and_number m forced)
+    ∙ ap (λ (b : Bool). b || has_number more n) (has-and m n forced)
+    ∙ turned (eqb m n) (has_number forced n) (has_number more n)
+  where
+    turned : (a b c : Bool) → ((a || b) || c) ≡ (b || (a || c))
+    turned true true c = refl
+    turned true false c = refl
+    turned false b c = refl
 
 -- no slot is due, or no identifier is free
 abbrev pub IsNoneDueOrFull : Stops → Slots → Type 0
@@ -58,10 +75,14 @@ module _ (stops : Stops) (train : TrainRec) (table : IsTable 15 train.stops) (nu
   goes : (n : ℕ) → has_number forced_now n ≡ true → revoked n ≡ true
   goes n there = or_right (is_stop_gone stops n) (has_number forced_now n) there
 
+  -- by a slot that is revoked
+  pub escalated_by_revoked : (n : ℕ) → has_number forced_now n ≡ true → is_told (filter (λ held. is_used_by revoked held.1) train.stops) n ≡ true
+  escalated_by_revoked n there = told_by_revoked revoked n train.stops (goes n there) (escalated_is_told n there).0
+
   -- and is told at once from then on
   is_forced : (n : ℕ) → has_number forced_now n ≡ true → has_number forced_then n ≡ true
   is_forced n there =
-      let told = told_by_revoked revoked n train.stops (goes n there) (escalated_is_told n there).0 in
+      let told = escalated_by_revoked n there in
       has-forced_all forced_now n (filter (λ held. is_used_by revoked held.1) train.stops) train.forced
       ∙ or_right (has_number train.forced n) (has_number forced_now n && is_told (filter (λ held. is_used_by revoked held.1) train.stops) n)
       (ap (λ (b : Bool). b && is_told (filter (λ held. is_used_by revoked held.1) train.stops) n) there ∙ told)
@@ -71,11 +92,14 @@ module _ (stops : Stops) (train : TrainRec) (table : IsTable 15 train.stops) (nu
   as_before n absent =
       has-forced_all forced_now n (filter (λ held. is_used_by revoked held.1) train.stops) train.forced
       ∙ ap (λ (b : Bool). has_number train.forced n || (b && is_told (filter (λ held. is_used_by revoked held.1) train.stops) n)) absent
-      ∙ alone (has_number train.forced n)
-    where
-      alone : (a : Bool) → (a || false) ≡ a
-      alone true = refl
-      alone false = refl
+      ∙ beside_false (has_number train.forced n)
+
+  -- so these are told at once that were, and those that are escalated
+  pub forced_as_fold : (n : ℕ) → has_number forced_then n ≡ has_number (fold (λ forced number. and_number number forced) train.forced forced_now) n
+  forced_as_fold n = (elim (cases_Bool (has_number forced_now n)) [
+    | inl there ↦ is_forced n there ∙ sym (has-fold n forced_now train.forced ∙ or_right (has_number train.forced n) (has_number forced_now n) there)
+    | inr absent ↦ as_before n absent ∙ sym (has-fold n forced_now train.forced ∙ ap (λ (b : Bool). has_number train.forced n || b) absent ∙ beside_false (has_number train.forced n))
+  ])
 
   -- so what is told next is what has to be told between
   next_is : (stop : ℕ × List Segment) → has stops.active stop.0 ≡ true → to_tell between what stop ≡ next_to_tell forced_now train stop

@@ -8,7 +8,7 @@ use Rattle.rbc_ids.specs.declared.slot.Kind.TheVariants.{Conditional}
 use Rattle.rbc_place.specs.Placing.{Place}
 use Rattle.rbc_zones.specs.Limits.{Limit, is_good_limit}
 use Rattle.rbc_settle.specs.declared.action.Action.{Action}
-use Rattle.rbc_settle.specs.WellFormed.{IsGiven, has_kind, is_stop_kind, is_limit_kind, IsPlaceOn, IsWellFormedTrain}
+use Rattle.rbc_settle.specs.WellFormed.{IsGiven, has_kind, has_count, is_stop_kind, is_limit_kind, IsPlaceOn, IsWellFormedTrain}
 use Rattle.rbc_rule.specs.WellFormed.{IsGoodStop, AreGoodStops, AreGoodLimits, IsGoodTrain}
 use Rattle.rbc_rule.specs.Witnesses.{track_a, facing_up, on_line_0, train_7, stop_1, told_as_0}
 use Rattle.rbc_rule.proofs.WitnessWorlds.{only, good_train}
@@ -46,15 +46,16 @@ well_formed_train = record {
   forced_ascend = refl;
   forced = All-nil (IsGiven 1);
   tables = record {
-    stops = record { small = omega arith; ascending = refl; below = only (λ (id : ℕ). id < 15) 0 (omega arith) };
-    limits = record { small = omega arith; ascending = refl; below = All-nil (λ (id : ℕ). id < 255) };
+    stops = record { small = omega arith; ascending = refl; below = only (λ (id : ℕ). id < 15) 0 (omega arith); once = ((λ n told. refl), tt) };
+    limits = record { small = omega arith; ascending = refl; below = All-nil (λ (id : ℕ). id < 255); once = tt };
   };
   stop_slots = record {
     kinds = only (λ (held : ℕ × Slot). has_kind is_stop_kind held.1 ≡ true) (0, told_now 1 1001 Conditional) refl;
+    counts = only (λ (held : ℕ × Slot). has_count held.1 ≡ true) (0, told_now 1 1001 Conditional) refl;
     given = only (IsGiven 1) 1 (omega arith, omega arith);
     once = (refl, tt);
   };
-  limit_slots = record { kinds = All-nil (λ (held : ℕ × Slot). has_kind is_limit_kind held.1 ≡ true); given = All-nil (IsGiven 0); once = tt };
+  limit_slots = record { kinds = All-nil (λ (held : ℕ × Slot). has_kind is_limit_kind held.1 ≡ true); counts = All-nil (λ (held : ℕ × Slot). has_count held.1 ≡ true); given = All-nil (IsGiven 0); once = tt };
   stamp = omega arith;
   stamps_within = only (λ (s : ℕ). s ≤ 1001) 1001 (omega arith);
   stamps_distinct = (refl, tt);

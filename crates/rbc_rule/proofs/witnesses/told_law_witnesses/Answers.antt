@@ -6,7 +6,7 @@ use Rattle.rbc_ids.specs.Table.{told_now}
 use Rattle.rbc_ids.specs.declared.slot.Kind.TheVariants.{Conditional}
 use Rattle.rbc_zones.specs.declared.edge.Concern.TheVariants as concern
 use Rattle.rbc_settle.specs.declared.train.TrainRec.{TrainRec}
-use Rattle.rbc_settle.specs.Settling.{Stops, Limits, last_stamp, is_stop_gone, is_limit_gone, is_used_by}
+use Rattle.rbc_settle.specs.Settling.{Stops, Limits, last_stamp, is_stop_gone, is_limit_gone, is_used_by, due_number}
 use Rattle.rbc_settle.specs.Told.{Part}
 use Rattle.rbc_settle.specs.UpToDate.{IsToldIfItCan, IsLimitToldIfItCan, IsUpToDate, IsUpToDateOrAtTheEnd}
 use Rattle.rbc_rule.specs.Witnesses.{track_a, facing_up, on_line_0, train_7, stop_1, limit_80, restriction_1, told_as_0}
@@ -27,6 +27,7 @@ returns-clause-told c =
       limits_told = All-nil (IsLimitToldIfItCan 100000 train);
       no_stop_gone = only (λ (held : ℕ × Slot). is_used_by (is_stop_gone stops) held.1 ≡ false) (0, told_now 1 1001 Conditional) refl;
       no_limit_gone = All-nil (λ (held : ℕ × Slot). is_used_by (is_limit_gone none_numbered (Some facing_up)) held.1 ≡ false);
+      none_due = inl (only (λ (held : ℕ × Slot). due_number stops held.1 ≡ None) (0, told_now 1 1001 Conditional) refl);
     } in
     only (IsNow stops none_numbered) (7, train) (inr now)
 
