@@ -1,5 +1,5 @@
 -- What follows of worked mails.
-use Rattle.std.proofs.Common.{◌≡◌, ◌⊎◌, ℕ, zero, suc, ◌+◌, List, [], ◌∷◌, take, Some, Ok, inl, inr, refl, sym, ap, ◌∙◌, subst, ⊎_elim, arith}
+use Rattle.std.proofs.Common.{◌≡◌, ◌⊎◌, ℕ, zero, suc, ◌+◌, List, [], ◌∷◌, take, Some, None, Ok, inl, inr, refl, sym, ap, ◌∙◌, subst, ⊎_elim, arith}
 use Rattle.std.specs.Prelude.{Contains, slice_get}
 use Rattle.std.proofs.lemmas.List.Elements.{All-contains}
 use Rattle.std.proofs.lemmas.Option.{same_Some}
@@ -16,7 +16,7 @@ use Rattle.rbc_rule.specs.declared.input.Input.TheVariants as input
 use Rattle.rbc_rule.specs.World.{World}
 use Rattle.rbc_rule.specs.Effect.{effect}
 use Rattle.rbc_rule.specs.Saying.{RevokesStop}
-use Rattle.rbc_rule.specs.SaidFor.{SaysFor, IsSendable}
+use Rattle.rbc_rule.specs.SaidFor.{SaysFor, as_told, IsSendable}
 use Rattle.rbc_rule.specs.Witnesses.{track_a, facing_up, on_line_0, train_7, stop_1, told_as_0, told_world, world_of, world_released, stop_before, revoke}
 use Rattle.rbc_zones.proofs.ToldStops.{told_rightly}
 use Rattle.rbc_track.specs.declared.group.Way.TheVariants.{Up}
@@ -76,15 +76,15 @@ module _ (train : TrainRec) (stops : Stops) (action : Action) (engine : ℕ) (me
   pub to_7 : engine ≡ 7
   to_7 = sym (ap (λ (one : ℕ × TrainRec). one.0) is_only)
 
-  pub says_for : SaysFor track_a stops none_numbered train action message
+  pub says_for : SaysFor track_a stops none_numbered (as_told stops train) action message
   says_for =
       let its : train ≡ said.train = ap (λ (one : ℕ × TrainRec). one.1) is_only in
       let done : Contains (action ∷ []) said.action =
       subst (λ (actions : List Action). Contains actions said.action) acts (subst (λ (t : TrainRec). Contains (actions_with_stamp track_a stops none_numbered t) said.action) (sym its) said.is_action) in
       let Q : Action → Type 0 = λ one. action ≡ one in
       let same : action ≡ said.action = All-contains Q (action ∷ []) said.action (only Q action refl) done in
-      subst (λ (a : Action). SaysFor track_a stops none_numbered train a message) (sym same)
-      (subst (λ (t : TrainRec). SaysFor track_a stops none_numbered t said.action message) (sym its) said.says)
+      subst (λ (a : Action). SaysFor track_a stops none_numbered (as_told stops train) a message) (sym same)
+      (subst (λ (t : TrainRec). SaysFor track_a stops none_numbered (as_told stops t) said.action message) (sym its) said.says)
 
 -- each mail under number 1 tells that stop, and each under number 2 revokes it
 module _ (engine : ℕ) (message : ToTrain) where
@@ -100,8 +100,8 @@ module _ (engine : ℕ) (message : ToTrain) where
   pub tells_stop : IsSaidThere engine (mail 1 message) → SaysFor track_a with_stop.stops none_numbered waiting (TellStop 0 1 told_stop) message
   tells_stop said = says_for waiting with_stop.stops (TellStop 0 1 told_stop) engine message refl (first_of (mail 1 message) refl said)
 
-  pub revokes_stop : IsSaidThere engine (mail 2 message) → SaysFor track_a world_released.stops none_numbered told_train (RevokeStop 0) message
-  revokes_stop said = says_for told_train world_released.stops (RevokeStop 0) engine message refl (second_of (mail 2 message) refl said)
+  pub revokes_stop : IsSaidThere engine (mail 2 message) → SaysFor track_a world_released.stops none_numbered told_train (RevokeStop 0 None) message
+  revokes_stop said = says_for told_train world_released.stops (RevokeStop 0 None) engine message refl (second_of (mail 2 message) refl said)
 
   pub no_third : IsSaidThere engine (mail 3 message) → ⊥
   no_third said =
@@ -154,8 +154,8 @@ stop_is_revoked = record {
   said = record {
     train = told_train;
     is_train = one_train told_train;
-    action = RevokeStop 0;
-    is_action = one_action (RevokeStop 0);
+    action = RevokeStop 0 None;
+    is_action = one_action (RevokeStop 0 None);
     says = record { said = RevokesStop 0; says = refl; is_for = refl; by_its_group = refl; sendable = revocation_sendable };
   };
   fits = revocation_sendable.fits;
