@@ -9,10 +9,10 @@ use std::cell::Cell;
 use std::process::Abort;
 use test_fixtures::issue;
 
-/// Uses an identifier for a number with stamp 40 if it is free, and returns whether it was.
+/// Uses an identifier for a number with stamp 40 if it is free and the number is not told, and returns whether it was.
 fn tell(rt: &impl Abort, table: &mut IdTable<15>, id: u8, number: u32) -> bool {
     match table.slot(id) {
-        None if id < 15 => {
+        None if id < 15 && table.of_number(number).is_none() => {
             table
                 .tell(id, number, 40, Kind::Conditional)
                 .expect(rt, "memory");
@@ -64,6 +64,7 @@ fn stop(id: u8) -> Slot {
         stamp: u32::from(id),
         kind: Kind::Unconditional,
         acked: false,
+        count: 0,
     })
 }
 
@@ -76,11 +77,17 @@ fn one(rt: &impl Abort, alloc: Global, kind: Kind) -> IdTable<15> {
 
 /// Returns the slot of `one`, acknowledged or not.
 fn told(kind: Kind, acked: bool) -> Option<Slot> {
+    reported(kind, acked, 0)
+}
+
+/// The same after so many reports that were counted.
+fn reported(kind: Kind, acked: bool, count: u8) -> Option<Slot> {
     Some(Slot::Used(UsedSlot {
         number: 1,
         stamp: 7,
         kind,
         acked,
+        count,
     }))
 }
 
@@ -137,6 +144,7 @@ fn tells_under_the_identifier_that_was_chosen(rt: HostRuntime) {
             stamp: 40,
             kind: Kind::Conditional,
             acked: false,
+            count: 0,
         });
         same(&rt, table.slot(id), Some(slot));
         assert!(rt; !tell(&rt, &mut table, id, 34));
@@ -155,6 +163,36 @@ fn acknowledges_no_restriction_by_its_identifier(rt: HostRuntime) {
     same(&rt, table.slot(0), told(Kind::Restriction, false));
     same(&rt, table.ack_stamp(7), StampAck::Marked);
     same(&rt, table.slot(0), told(Kind::Restriction, true));
+}
+
+// a conditional stop counts reports, to at most three, until it is answered; an answer keeps the count
+#[test]
+fn counts_reports_without_an_answer(rt: HostRuntime) {
+    let mut table = one(&rt, rt.alloc(), Kind::Conditional);
+    same(&rt, table.ripe(0), false);
+    for (count, is_ripe) in [(1, false), (2, false), (3, true), (3, true)] {
+        table.reported();
+        same(&rt, table.slot(0), reported(Kind::Conditional, false, count));
+        same(&rt, table.ripe(0), is_ripe);
+    }
+    same(&rt, table.ack_id(0, 1), IdAck::Marked);
+    same(&rt, table.slot(0), reported(Kind::Conditional, true, 3));
+    table.reported();
+    same(&rt, table.slot(0), reported(Kind::Conditional, true, 3));
+    same(&rt, (table.ripe(0), table.ripe(1)), (false, false));
+    same(&rt, revoke(&mut table, 0, 9), true);
+    table.reported();
+    same(&rt, table.slot(0), Some(Slot::Revoking { stamp: 9 }));
+    same(&rt, table.ripe(0), false);
+}
+
+#[test]
+fn counts_no_reports_of_other_messages(rt: HostRuntime) {
+    for kind in [Kind::Unconditional, Kind::Restriction] {
+        let mut table = one(&rt, rt.alloc(), kind);
+        table.reported();
+        same(&rt, table.slot(0), told(kind, false));
+    }
 }
 
 // numbers 0 and 2, and 1 again, after its first identifier is being revoked; each with the index behind its slot

@@ -120,6 +120,7 @@ fn issues_or_keeps_the_table(rt: HostRuntime) -> Result<(), Fail> {
             stamp: u32::from(id) + 1,
             kind: Kind::Restriction,
             acked: false,
+            count: 0,
         });
         same(&rt, table.slot(id), Some(used));
     }

@@ -1,5 +1,5 @@
 use Rattle.std.proofs.Common.{◌∙◌, sym, arith}
-use Rattle.rbc_ids.proofs.Tables.{free_where_none}
+use Rattle.rbc_ids.proofs.Tables.{free_where_none, not_told}
 use Rattle.test_trains.proofs.tests.identifiers.tell.Goals as goal
 
 pub tell-requires : goal.tell-requires
