@@ -94,7 +94,7 @@ fn bare_command<'a>(alloc: Global) -> Result<Command<'a>, AllocError>
 {
     Command::new(alloc, "dispatch")
         .no_binary_name(true)
-        .version("1.2.0, rules 1")
+        .version("2.0.0, rules 2")
         .about(
             "Emergency stops and speed restrictions, from a signaller's batch to each train's messages",
         )
