@@ -1,4 +1,5 @@
 mod Existing
+mod FirstLines
 mod LineInputs
 mod Transfers
 mod Answering

@@ -22,6 +22,7 @@ pub(crate) fn first_lines(
     most: usize,
 ) -> Result<Vec<&[u8]>, AllocError>
     ensures cut { IfOk result (λ lines. texts_of lines.items ≡ take most (lines_of text.now)) }
+    ensures whole { length text.now ≤ most → IfOk result (λ lines. texts_of lines.items ≡ lines_of text.now) }
     ensures few { IfOk result (λ lines. length lines.items ≤ length text.now) }
 {
     let mut lines = Vec::new(alloc);
