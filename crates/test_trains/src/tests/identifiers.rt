@@ -1,6 +1,7 @@
 //! Tables of a train whose identifiers are issued, revoked, acknowledged and freed.
 
-ghost use Rattle.std.specs.Prelude.{◌≤◌};
+ghost use Rattle.std.specs.Prelude.{◌≡◌, ◌≤◌, false};
+ghost use Rattle.rbc_ids.specs.Table.{is_told};
 
 use super::same;
 use rbc_ids::{IdAck, IdTable, IssueError, Kind, Slot, StampAck, UsedSlot};
@@ -11,8 +12,18 @@ use test_fixtures::issue;
 
 /// Uses an identifier for a number with stamp 40 if it is free and the number is not told, and returns whether it was.
 fn tell(rt: &impl Abort, table: &mut IdTable<15>, id: u8, number: u32) -> bool {
+    match table.of_number(number) {
+        Some(_) => false,
+        None => tell_new(rt, table, id, number),
+    }
+}
+
+/// The same for a number that is not told.
+fn tell_new(rt: &impl Abort, table: &mut IdTable<15>, id: u8, number: u32) -> bool
+    requires { is_told table.old number ≡ false }
+{
     match table.slot(id) {
-        None if id < 15 && table.of_number(number).is_none() => {
+        None if id < 15 => {
             table
                 .tell(id, number, 40, Kind::Conditional)
                 .expect(rt, "memory");

@@ -1,6 +1,6 @@
 use Rattle.std.proofs.Common.{◌∙◌, sym, arith}
-use Rattle.rbc_ids.proofs.Tables.{free_where_none, not_told}
+use Rattle.rbc_ids.proofs.Tables.{not_told}
 use Rattle.test_trains.proofs.tests.identifiers.tell.Goals as goal
 
-pub tell-requires : goal.tell-requires
-tell-requires g c = (omega arith, (omega arith, free_where_none c.args.table.now c.args.id (sym c.slot.ensures.value ∙ c.in-None.is)))
+pub tell_new-requires : goal.tell_new-requires
+tell_new-requires g c = not_told c.args.table.now c.args.number (sym c.of_number.ensures ∙ c.in-None.is)
