@@ -8,6 +8,7 @@ ghost use Rattle.rbc_ids.specs.Table.{IsTable};
 ghost use Rattle.rbc_zones.specs.declared.edge.Concern.TheVariants.{Before};
 ghost use Rattle.rbc_settle.specs.Trains.{stop_identifiers, limit_identifiers};
 ghost use Rattle.rbc_settle.specs.Settling.{direction_of, told_at, told_stop, told_limit, limit_told_to, stop_to_tell, limit_to_tell, is_used_by, is_limit_gone, due_number, spare_identifiers, escalated, is_stop_revoked, number_forced, next_to_tell, stops_revoked, stops_told, limits_revoked, limits_told, actions_with_stamp};
+ghost use Rattle.rbc_settle.specs.Numbers.{has_number};
 ghost use Rattle.rbc_settle.specs.OneLine.{IsJudgedOnLine};
 ghost use Rattle.rbc_settle.specs.UpToDate.{HasTables};
 
@@ -165,7 +166,15 @@ fn is_used_by_revoked_stop(stops: &Stops, forced_now: &[u32], slot: Slot, near: 
 fn is_stop_revoked(stops: &Stops, forced_now: &[u32], number: u32, near: &Cell<usize>) -> bool
     ensures { result ≡ is_stop_revoked stops.now forced_now.now number }
 {
-    !is_active(stops, number, near) || forced_now.contains(&number)
+    !is_active(stops, number, near) || is_escalated(forced_now, number)
+}
+
+/// Whether a number is one of those that are escalated. Mostly none is, which is seen at one look.
+#[inline(always)]
+fn is_escalated(forced_now: &[u32], number: u32) -> bool
+    ensures { result ≡ has_number forced_now.now number }
+{
+    !forced_now.is_empty() && forced_now.contains(&number)
 }
 
 /// The number that becomes forced as its slot is revoked: one that is escalated.
@@ -175,7 +184,7 @@ fn number_forced(forced_now: &[u32], slot: Slot) -> Option<u32>
     let Slot::Used(used) = slot else {
         return None;
     };
-    if forced_now.contains(&used.number) {
+    if is_escalated(forced_now, used.number) {
         Some(used.number)
     } else {
         None
@@ -263,7 +272,7 @@ fn next_to_tell(
 ) -> Option<(u32, ToldStop)>
     ensures { result ≡ next_to_tell forced_now.now train.now (number, area.now) }
 {
-    if forced_now.contains(&number) {
+    if is_escalated(forced_now, number) {
         return Some((number, ToldStop::AtOnce));
     }
     stop_to_tell(train, number, area, near)
