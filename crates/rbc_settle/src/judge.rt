@@ -83,6 +83,9 @@ fn escalated(alloc: Global, stops: &Stops, train: &TrainRec) -> Result<Vec<u32>,
 fn due_numbers(alloc: Global, stops: &Stops, train: &TrainRec) -> Result<Vec<u32>, AllocError>
     ensures { IfOk result (λ numbers. numbers.items ≡ filter_map (λ held. due_number stops.now held.1) train.now.stops) }
 {
+    if train.stops.held() == 0 {
+        return Ok(Vec::new(alloc));
+    }
     let near = Cell::new(0);
     train
         .stops
