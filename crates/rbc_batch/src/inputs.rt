@@ -16,11 +16,7 @@ use std::thread::Threads;
 const PARALLEL_FROM: usize = 10_000;
 
 /// The first lines of a text, so many at most. Fails only for lack of memory.
-pub(crate) fn first_lines(
-    alloc: Global,
-    text: &[u8],
-    most: usize,
-) -> Result<Vec<&[u8]>, AllocError>
+pub(crate) fn first_lines(alloc: Global, text: &[u8], most: usize) -> Result<Vec<&[u8]>, AllocError>
     ensures cut { IfOk result (λ lines. texts_of lines.items ≡ take most (lines_of text.now)) }
     ensures whole { length text.now ≤ most → IfOk result (λ lines. texts_of lines.items ≡ lines_of text.now) }
     ensures few { IfOk result (λ lines. length lines.items ≤ length text.now) }

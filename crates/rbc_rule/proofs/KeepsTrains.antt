@@ -276,8 +276,7 @@ module _ (plan : Plan) (stops : Stops) (limits : Limits) (engine : ℕ) where
   well_told : (message : FromTrain) (train : TrainRec) → IsPlan plan → train.engine ≡ engine → IsWellFormedTrain plan stops limits train → is_too_high (stamp_told message) ≡ false → WellIfOk plan stops limits engine (told_by plan message train)
   well_told (Report stamp by position) train track same well low =
       let there = placed plan position (raised stamp train) in
-      let still = well_placed plan stops limits (raised stamp train) (well_raised plan stops limits train well stamp low) position track in
-      (
+      let still = well_placed plan stops limits (raised stamp train) (well_raised plan stops limits train well stamp low) position track in (
         engine_raised stamp train same,
         well_stops plan stops limits there still (after_report there.stops) (stay-reported 15 is_stop_kind there.stops still.tables.stops still.stop_slots.kinds still.stop_slots.counts),
       )

@@ -157,8 +157,7 @@ module _ (stops : Stops) (train : TrainRec) (table : IsTable 15 train.stops) (nu
       ∙ sym (ap (λ (forced_now : List ℕ). filter (λ held. is_used_by (is_stop_revoked stops forced_now) held.1) train.stops) escalated_none) ∙ none in
       let paired : zip (wanted_of train.stops (told_as train.place train.forced) stops.active) (free_identifiers 15 train.stops) ≡ [] =
       empty_mapped tell_stop (zip (wanted_of train.stops (told_as train.place train.forced) stops.active) (free_identifiers 15 train.stops))
-      (sym (ap (λ (forced_now : List ℕ). stops_told forced_now stops train) escalated_none) ∙ told) in
-      (
+      (sym (ap (λ (forced_now : List ℕ). stops_told forced_now stops train) escalated_none) ∙ told) in (
         done_where_none 15 (is_stop_gone stops) stops.active (told_as train.place train.forced) train.stops table (ap (map (λ (held : ℕ × Slot). held.0)) kept) paired,
         none_due_where escalated_none (empty_zipped (wanted_of train.stops (told_as train.place train.forced) stops.active) (free_identifiers 15 train.stops) paired),
       )

@@ -126,8 +126,7 @@ revoked_as_gone stops = λ i n. alone (is_stop_gone stops n) i
 -- and the others are told that have to be
 no_stops_left : (stops : Stops) (train : TrainRec) → IsDone 15 (is_stop_gone stops) stops.active (told_as train.place train.forced) train.stops → (stops_revoked [] stops train ≡ []) × (stops_told [] stops train ≡ [])
 no_stops_left stops train done =
-    let none : filter (λ held. is_used_by (is_stop_gone stops) held.1) train.stops ≡ [] = none_passes (is_stop_gone stops) train.stops done.none_gone in
-    (
+    let none : filter (λ held. is_used_by (is_stop_gone stops) held.1) train.stops ≡ [] = none_passes (is_stop_gone stops) train.stops done.none_gone in (
       ap (λ (gone : ℕ → Bool). map (revoke_stop []) (filter (λ held. is_used_by gone held.1) train.stops)) (revoked_as_gone stops) ∙ ap (map (revoke_stop [])) none,
       ap (map tell_stop) (none_told 15 (is_stop_gone stops) stops.active (told_as train.place train.forced) train.stops done),
     )

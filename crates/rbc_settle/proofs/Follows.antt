@@ -40,8 +40,7 @@ revoke_stops : (forced_now : List ℕ) (slots : Slots) (least : ℕ) (train : Tr
     → CanFollow train (map (revoke_stop forced_now) slots)
 revoke_stops forced_now [] least train rises used = tt
 revoke_stops forced_now ((id, slot) ∷ slots) least train rises used =
-    let parts = and_parts (leb least id) (rises_from (id + 1) (keys slots)) rises in
-    (
+    let parts = and_parts (leb least id) (rises_from (id + 1) (keys slots)) rises in (
       used.0,
       revoke_stops forced_now slots (id + 1) (carried_out train (RevokeStop id (number_forced forced_now slot))) parts.1 (used_above id (id + 1) (Revoking (train.stamp + 1)) train.stops (keys slots) (omega arith) parts.1 used.1),
     )

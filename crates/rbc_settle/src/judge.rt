@@ -156,7 +156,12 @@ fn stops_revoked(
 
 /// Whether a slot is used by a stop that has to be revoked, since it is not active or is escalated. The stop is searched for from
 /// `near` on, which is moved.
-fn is_used_by_revoked_stop(stops: &Stops, forced_now: &[u32], slot: Slot, near: &Cell<usize>) -> bool
+fn is_used_by_revoked_stop(
+    stops: &Stops,
+    forced_now: &[u32],
+    slot: Slot,
+    near: &Cell<usize>,
+) -> bool
     ensures { result ≡ is_used_by (is_stop_revoked stops.now forced_now.now) slot }
 {
     match slot {

@@ -183,7 +183,11 @@ fn counts_reports_without_an_answer(rt: HostRuntime) {
     same(&rt, table.ripe(0), false);
     for (count, is_ripe) in [(1, false), (2, false), (3, true), (3, true)] {
         table.reported();
-        same(&rt, table.slot(0), reported(Kind::Conditional, false, count));
+        same(
+            &rt,
+            table.slot(0),
+            reported(Kind::Conditional, false, count),
+        );
         same(&rt, table.ripe(0), is_ripe);
     }
     same(&rt, table.ack_id(0, 1), IdAck::Marked);

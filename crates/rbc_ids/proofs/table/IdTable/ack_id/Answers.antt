@@ -14,8 +14,7 @@ pub put-requires : goal.put-requires
 put-requires g c =
     let slots = c.args.self.now in
     let table = c.slot.ensures.sound in
-    let there : value_of slots c.args.id ≡ Some (Used c.in-Some-Used.used) = sym c.slot.ensures.value ∙ c.in-Some-Used.is ∙ ap (λ (slot : Slot). Some slot) c.in-Some-Used.field-0-is in
-    (
+    let there : value_of slots c.args.id ≡ Some (Used c.in-Some-Used.used) = sym c.slot.ensures.value ∙ c.in-Some-Used.is ∙ ap (λ (slot : Slot). Some slot) c.in-Some-Used.field-0-is in (
       omega arith,
       (
         has-value c.args.id (Used c.in-Some-Used.used) slots there,

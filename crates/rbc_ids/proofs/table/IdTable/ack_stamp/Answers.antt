@@ -16,8 +16,7 @@ put-requires g c =
     let table = c.with_stamp.ensures.sound in
     let found = sym c.with_stamp.ensures.slot ∙ c.in-Some.is in
     let there : value_of slots c.in-Some.id ≡ Some (Used c.in-Used.used) =
-    value_of-found (λ held. eqb (stamp_of held.1) c.args.stamp) (c.in-Some.id, c.in-Some.slot) 0 slots table.ascending found ∙ ap (λ (slot : Slot). Some slot) c.in-Used.is in
-    (
+    value_of-found (λ held. eqb (stamp_of held.1) c.args.stamp) (c.in-Some.id, c.in-Some.slot) 0 slots table.ascending found ∙ ap (λ (slot : Slot). Some slot) c.in-Used.is in (
       omega arith,
       (
         has-found (λ held. eqb (stamp_of held.1) c.args.stamp) slots (c.in-Some.id, c.in-Some.slot) found,
