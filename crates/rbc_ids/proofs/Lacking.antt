@@ -1,5 +1,5 @@
 -- A map that lacks a key.
-use Rattle.std.proofs.Common.{◌≡◌, ℕ, ◌+◌, ◌<◌, false, true, not, cond, ◌||◌, eqb, leb, List, [], ◌∷◌, refl, ap, ◌∙◌, arith}
+use Rattle.std.proofs.Common.{◌≡◌, ℕ, ◌+◌, ◌<◌, false, true, not, cond, eqb, leb, List, [], ◌∷◌, refl, ap, ◌∙◌, arith}
 use Rattle.std.proofs.lemmas.Bool.{or_parts, or_from, and_parts, leb-true, ne_eqb}
 use Rattle.rbc_maps.specs.Maps.{has, keys, rises_from, without}
 

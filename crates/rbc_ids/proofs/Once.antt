@@ -1,7 +1,7 @@
 -- Each number is told by one slot at most, before and after each change.
-use Rattle.std.proofs.Common.{◌≡◌, ℕ, ◌+◌, ◌<◌, ◌≤◌, min, Bool, true, false, not, cond, ◌||◌, eqb, ltb, leb, List, [], ◌∷◌, map, Option, Some, None, refl, sym, ap, ◌∙◌, subst, arith, inl, inr}
+use Rattle.std.proofs.Common.{◌≡◌, ℕ, ◌+◌, ◌<◌, min, Bool, true, false, not, cond, ◌||◌, eqb, ltb, leb, List, [], ◌∷◌, Some, None, refl, sym, ap, ◌∙◌, subst, arith, inl, inr}
 use Rattle.std.specs.List.{filter}
-use Rattle.std.proofs.lemmas.Bool.{cases_lt, cases_Bool, or_parts, or_from, or_left, or_right, and_parts, leb-true, le-leb, lt-ltb, le-ltb, eqb-true, eq-eqb, ne_eqb, both_ways}
+use Rattle.std.proofs.lemmas.Bool.{cases_lt, cases_Bool, or_parts, or_from, or_left, or_right, and_parts, le-leb, lt-ltb, le-ltb, eqb-true, eq-eqb, ne_eqb, both_ways}
 use Rattle.std.proofs.lemmas.Option.{same_Some}
 use Rattle.rbc_maps.specs.Maps.{keys, rises_from, value_of, with_value, without}
 use Rattle.rbc_ids.specs.declared.slot.Slot.{Slot}

@@ -1,5 +1,5 @@
 -- The slots of a table, one after another, after a report of the train.
-use Rattle.std.proofs.Common.{◌≡◌, ℕ, zero, suc, ◌+◌, ◌<◌, ◌≤◌, List, [], ◌∷◌, ◌++◌, length, take, drop, get_or, set, refl, sym, ap, ◌∙◌, subst, arith}
+use Rattle.std.proofs.Common.{◌≡◌, ℕ, zero, suc, ◌+◌, ◌<◌, ◌≤◌, [], ◌∷◌, ◌++◌, length, take, drop, get_or, set, refl, sym, ap, ◌∙◌, subst, arith}
 use Rattle.std.proofs.lemmas.List.{take_all, drop_all, append-nil, length-map}
 use Rattle.rbc_ids.specs.declared.slot.Slot.{Slot}
 use Rattle.rbc_ids.specs.Table.{Slots, IsTable, reported_slot, after_report}

@@ -1,8 +1,8 @@
 -- Each change that an input makes to a train leaves it well-formed.
 use Rattle.std.proofs.Common.{◌≡◌, ℕ, ◌+◌, ◌<◌, ◌≤◌, max, Bool, true, false, not, cond, eqb, ltb, leb, List, [], ◌∷◌, ◌++◌, map, Option, Some, None, Result, Ok, Err, refl, sym, ap, subst, arith}
-use Rattle.std.specs.List.{All, insert}
+use Rattle.std.specs.List.{All}
 use Rattle.std.proofs.lemmas.Bool.{and_parts, and_from, leb-true, ltb-false}
-use Rattle.std.proofs.lemmas.List.Elements.{All-nil, All-cons, All-head, All-tail, All-weaker, All-filter}
+use Rattle.std.proofs.lemmas.List.Elements.{All-nil, All-weaker, All-filter}
 use Rattle.ertms_codec.specs.declared.from_train.Position.{Position}
 use Rattle.ertms_codec.specs.declared.from_train.FromTrain.{FromTrain}
 use Rattle.ertms_codec.specs.declared.from_train.FromTrain.TheVariants.{Report, Ack, StopAck}
@@ -12,7 +12,6 @@ use Rattle.rbc_maps.proofs.MapFacts.{rises_from-lower}
 use Rattle.rbc_ids.specs.declared.slot.Slot.{Slot}
 use Rattle.rbc_ids.specs.declared.slot.Slot.TheVariants.{Used, Revoking}
 use Rattle.rbc_ids.specs.declared.slot.Kind.{Kind}
-use Rattle.rbc_ids.specs.declared.slot.Kind.TheVariants.{Conditional, Unconditional, Restriction}
 use Rattle.rbc_ids.specs.declared.slot.StampAck.{StampAck}
 use Rattle.rbc_ids.specs.declared.slot.StampAck.TheVariants as stamp_ack
 use Rattle.rbc_ids.specs.declared.slot.IdAck.TheVariants as id_ack

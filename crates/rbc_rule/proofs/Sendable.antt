@@ -1,9 +1,9 @@
 -- The message of each action can be sent: its variables are in their ranges, and wide enough for their values.
-use Rattle.std.proofs.Common.{◌≡◌, ℕ, zero, suc, ◌+◌, ◌^◌, ◌<◌, ◌≤◌, Bool, true, false, not, cond, List, [], ◌∷◌, Option, Some, None, refl, subst, arith}
+use Rattle.std.proofs.Common.{◌≡◌, ℕ, zero, suc, ◌+◌, ◌<◌, ◌≤◌, Bool, true, false, not, cond, [], ◌∷◌, Option, Some, None, subst, arith}
 use Rattle.std.specs.List.{All, filter, range_with_len}
 use Rattle.std.specs.Option.{option_map_or}
 use Rattle.std.proofs.lemmas.List.Elements.{All-nil, All-cons, All-head, All-tail, All-filter}
-use Rattle.ertms_codec.specs.Layout.{Field, HoldsValue}
+use Rattle.ertms_codec.specs.Layout.{HoldsValue}
 use Rattle.ertms_codec.specs.Variables.{q_front}
 use Rattle.rbc_track.specs.Plan.{Plan, IsPlan}
 use Rattle.rbc_place.specs.Placing.{Place}

@@ -1,10 +1,10 @@
 -- The stops of a train, once those that are escalated were revoked: what is told then, and that nothing is left to do.
-use Rattle.std.proofs.Common.{◌≡◌, ℕ, ◌+◌, ◌-◌, ◌<◌, ◌≤◌, ◌⊎◌, Bool, true, false, not, cond, ◌||◌, ◌&&◌, eqb, List, [], ◌∷◌, length, take, Option, Some, None, option_map, refl, sym, ap, ◌∙◌, subst, arith, inl, inr}
+use Rattle.std.proofs.Common.{◌≡◌, ℕ, ◌+◌, ◌-◌, ◌<◌, ◌≤◌, ◌⊎◌, Bool, true, false, not, cond, ◌||◌, ◌&&◌, eqb, List, [], ◌∷◌, length, Option, Some, None, option_map, refl, sym, ap, ◌∙◌, subst, arith, inl, inr}
 use Rattle.std.specs.List.{filter, filter_map, cons_option, fold, list_any, zip, AllByRecursion}
-use Rattle.std.proofs.lemmas.Bool.{cases_Bool, cases_lt, or_left, or_right, or_from, or_parts, both_ways}
+use Rattle.std.proofs.lemmas.Bool.{cases_Bool, cases_lt, or_right, or_from, or_parts}
 use Rattle.std.proofs.lemmas.List.{take_all, length-take-le}
 use Rattle.rbc_place.specs.Placing.{Place}
-use Rattle.rbc_maps.specs.Maps.{has, keys}
+use Rattle.rbc_maps.specs.Maps.{has}
 use Rattle.rbc_maps.specs.Numbered.{AreNumbered}
 use Rattle.rbc_maps.proofs.MapValues.{map_of_numbered}
 use Rattle.rbc_ids.specs.Table.{Slots, IsTable, is_told, free_identifiers}
@@ -18,7 +18,7 @@ use Rattle.rbc_settle.specs.Settling.{Stops, kind_of, told_stop, stop_to_tell, i
 use Rattle.rbc_settle.proofs.Due.{dues, due_is_told, distinct_dues, first_of, distinct-take, as_many_as, as_many_both}
 use Rattle.rbc_settle.proofs.NoneDue.{each_not_due, none_due_from, each_due, none_due_revoked, none_due_told}
 use Rattle.rbc_settle.proofs.Forcing.{has-and, forced_all, has-forced_all, told_by_revoked}
-use Rattle.rbc_settle.proofs.Revoking.{revoked_all, revoked_each, revoked_is, free-revoked, table-revoked, none-revoked, none_of_fewer, told-revoked, untold-gone, none_to_revoke}
+use Rattle.rbc_settle.proofs.Revoking.{revoked_all, revoked_each, free-revoked, table-revoked, none-revoked, none_of_fewer, told-revoked, untold-gone, none_to_revoke}
 use Rattle.rbc_settle.proofs.Telling.{told_all, none_free_then}
 use Rattle.rbc_settle.proofs.Wanted.{to_tell, wanted_of}
 use Rattle.rbc_settle.proofs.Done.{IsDone, is_done}

@@ -1,5 +1,5 @@
 -- What settling keeps of a well-formed train, an action after the other.
-use Rattle.std.proofs.Common.{◌≡◌, ℕ, suc, ◌+◌, ◌-◌, ◌≤◌, true, false, leb, List, [], ◌∷◌, ◌++◌, length, map, take, Option, Some, None, option_map, cond, ◌||◌, eqb, Bool, refl, subst, arith, inl, inr}
+use Rattle.std.proofs.Common.{◌≡◌, ℕ, suc, ◌+◌, ◌-◌, ◌≤◌, true, false, leb, List, [], ◌∷◌, ◌++◌, length, map, take, Option, Some, None, option_map, cond, eqb, refl, subst, arith, inl, inr}
 use Rattle.std.specs.List.{All, AllByRecursion, cons_option, filter, filter_map, fold, zip}
 use Rattle.std.proofs.lemmas.Bool.{and_parts, or_cases, leb-true, eqb-true}
 use Rattle.std.proofs.lemmas.List.{length-take}

@@ -1,7 +1,6 @@
-use Rattle.std.proofs.Common.{◌≡◌, List, ℕ, subst, arith}
+use Rattle.std.proofs.Common.{List, ℕ, subst, arith}
 use Rattle.std.specs.Result.{IfOk}
-use Rattle.rbc_text.specs.BatchText.{lines_of, AreInputs}
-use Rattle.rbc_text.specs.Pieces.{texts_of}
+use Rattle.rbc_text.specs.BatchText.{AreInputs}
 use Rattle.rbc_batch.proofs.LineInputs.{as_few}
 use Rattle.rbc_batch.proofs.inputs.parse_batch.Goals as goal
 

@@ -1,4 +1,4 @@
-use Rattle.std.proofs.Common.{◌≡◌, ◌≤◌, length, ap, ◌∙◌}
+use Rattle.std.proofs.Common.{◌≡◌, ap, ◌∙◌}
 use Rattle.rbc_ids.specs.Table.{after_report}
 use Rattle.rbc_ids.proofs.Reported.{reports_next, all_reported, reported_whole, reported_stays}
 use Rattle.rbc_ids.proofs.table.IdTable.reported.Goals as goal

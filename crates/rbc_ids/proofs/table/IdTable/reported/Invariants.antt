@@ -1,4 +1,4 @@
-use Rattle.std.proofs.Common.{◌≡◌, length}
+use Rattle.std.proofs.Common.{◌≡◌}
 use Rattle.rbc_ids.proofs.Reported.{partly}
 use Rattle.rbc_ids.proofs.table.IdTable.reported.Given as goal
 

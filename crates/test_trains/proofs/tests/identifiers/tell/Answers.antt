@@ -1,4 +1,4 @@
-use Rattle.std.proofs.Common.{◌∙◌, sym, arith}
+use Rattle.std.proofs.Common.{◌∙◌, sym}
 use Rattle.rbc_ids.proofs.Tables.{not_told}
 use Rattle.test_trains.proofs.tests.identifiers.tell.Goals as goal
 
