@@ -1,4 +1,4 @@
--- The output text of a desk (own rule).
+-- The output text of a desk, and that of one input (own rule).
 use Rattle.std.specs.Prelude.{ℕ, List, ◌++◌, codes}
 use Rattle.std.specs.Fmt.{decimal}
 use Rattle.std.specs.List.{flat_map, enumerate_from}
@@ -6,6 +6,7 @@ use Rattle.hex.specs.Hex.{encode_upper}
 use Rattle.ertms_codec.specs.ToTrain.{spelling_of}
 use Rattle.rbc_rule.specs.declared.outcome.Reply.{Reply}
 use Rattle.rbc_rule.specs.declared.outcome.Reply.TheVariants.{Done, Refused}
+use Rattle.rbc_settle.specs.declared.upkeep.Sent.{Sent}
 use Rattle.rbc_desk.specs.declared.outbox.Mail.{Mail}
 
 -- `ok COUNT` or `refused CODE`
@@ -28,3 +29,11 @@ outbox_lines (engine, mails) = flat_map (mail_line engine) mails
 -- the results from 1 on, and then the outboxes by engine
 abbrev pub output_of : List Reply → List (ℕ × List Mail) → List ℕ
 output_of results outboxes = flat_map result_line (enumerate_from 1 results) ++ flat_map outbox_lines outboxes
+
+-- the line of a message that an input sent
+abbrev pub sent_line : ℕ → Sent → List ℕ
+sent_line input sent = mail_line sent.engine (record { input = input; message = sent.message })
+
+-- the answer to one input: its result, and then its messages in the order in which they are sent
+abbrev pub answer_of : ℕ → Reply → List Sent → List ℕ
+answer_of input reply messages = result_line (input, reply) ++ flat_map (sent_line input) messages

@@ -1,4 +1,4 @@
-//! Writing a desk as its output text.
+//! Writing answers and messages as output text: those of a desk, or those of one input.
 
 ghost use Rattle.std.specs.Prelude.{◌≡◌, ◌++◌, ◌*◌, ◌≤◌, ◌<◌, ◌^◌, codes, length, OnOk, IfOk, map};
 ghost use Rattle.std.specs.Fmt.{decimal};
@@ -6,16 +6,17 @@ ghost use Rattle.std.specs.List.{flat_map, enumerate_from};
 ghost use Rattle.hex.specs.Hex.{encode_upper};
 ghost use Rattle.ertms_codec.specs.ToTrain.{Fits};
 ghost use Rattle.rbc_desk.specs.Sendable.{AreSendable};
-ghost use Rattle.rbc_text.specs.OutputText.{reply_text, result_line, mail_line, outbox_lines, output_of};
+ghost use Rattle.rbc_rule.specs.Gathered as sending;
+ghost use Rattle.rbc_text.specs.OutputText.{reply_text, result_line, mail_line, sent_line, outbox_lines, output_of, answer_of};
 
-use ertms_codec::write_to_train;
+use ertms_codec::{ToTrain, write_to_train};
 use itoa::Buffer;
 use rbc_desk::{Desk, Mail};
-use rbc_rule::Reply;
+use rbc_rule::{Reply, SentList};
 use std::alloc::{AllocError, Global};
 
 /// Appends a number in decimal, without leading zeros.
-fn push_decimal(text: &mut Vec<u8>, number: u32) -> Result<(), AllocError>
+fn push_decimal(text: &mut Vec<u8>, number: u64) -> Result<(), AllocError>
     ensures { OnOk result (text.new.items ≡ text.old.items ++ decimal number) }
 {
     let mut buffer = Buffer::new();
@@ -29,11 +30,11 @@ fn push_reply(text: &mut Vec<u8>, reply: Reply) -> Result<(), AllocError>
     match reply {
         Reply::Done(sent) => {
             text.extend_from_slice(b"ok ")?;
-            push_decimal(text, sent)
+            push_decimal(text, u64::from(sent))
         }
         Reply::Refused(code) => {
             text.extend_from_slice(b"refused ")?;
-            push_decimal(text, u32::from(code))
+            push_decimal(text, u64::from(code))
         }
     }
 }
@@ -46,7 +47,7 @@ fn push_nothing_sent(text: &mut Vec<u8>) -> Result<(), AllocError>
 }
 
 /// Appends the line of one result.
-fn push_result(text: &mut Vec<u8>, input: u32, reply: Reply) -> Result<(), AllocError>
+fn push_result(text: &mut Vec<u8>, input: u64, reply: Reply) -> Result<(), AllocError>
     ensures { OnOk result (text.new.items ≡ text.old.items ++ result_line (input, reply)) }
 {
     push_decimal(text, input)?;
@@ -72,16 +73,21 @@ fn push_hex(text: &mut Vec<u8>, bytes: &[u8]) -> Result<(), AllocError>
     text.extend_from_slice(digits)
 }
 
-/// Appends the line of a message to an engine.
-fn push_mail(text: &mut Vec<u8>, engine: u32, mail: &Mail) -> Result<(), AllocError>
-    requires { Fits mail.now.message }
-    ensures { OnOk result (text.new.items ≡ text.old.items ++ mail_line engine mail.now) }
+/// Appends the line of a message to an engine, which an input sent.
+fn push_message(
+    text: &mut Vec<u8>,
+    engine: u32,
+    input: u64,
+    message: &ToTrain,
+) -> Result<(), AllocError>
+    requires { Fits message.now }
+    ensures { OnOk result (text.new.items ≡ text.old.items ++ mail_line engine (record { input = input; message = message.now })) }
 {
     let mut buffer = [0u8; 32];
-    let used = write_to_train(&mail.message, &mut buffer);
-    push_decimal(text, engine)?;
+    let used = write_to_train(message, &mut buffer);
+    push_decimal(text, u64::from(engine))?;
     text.extend_from_slice(b" ")?;
-    push_decimal(text, mail.input)?;
+    push_decimal(text, input)?;
     text.extend_from_slice(b" ")?;
     push_hex(text, &buffer[..used])?;
     text.extend_from_slice(b"\n")
@@ -93,18 +99,17 @@ fn push_outbox(text: &mut Vec<u8>, engine: u32, mails: &[Mail]) -> Result<(), Al
     ensures { OnOk result (text.new.items ≡ text.old.items ++ outbox_lines (engine, mails.now)) }
 {
     for mail in mails {
-        push_mail(text, engine, mail)?;
+        push_message(text, engine, u64::from(mail.input), &mail.message)?;
     }
     Ok(())
 }
 
 /// Appends the lines of all results, numbered from 1.
 fn push_results(text: &mut Vec<u8>, results: &[Reply]) -> Result<(), AllocError>
-    requires { length results.now < 2 ^ 32 }
     ensures { OnOk result (text.new.items ≡ text.old.items ++ flat_map result_line (enumerate_from 1 results.now)) }
 {
     for (place, reply) in results.iter().enumerate() {
-        push_result(text, place as u32 + 1, *reply)?;
+        push_result(text, place as u64 + 1, *reply)?;
     }
     Ok(())
 }
@@ -127,5 +132,34 @@ pub fn render(alloc: Global, desk: &Desk) -> Result<Vec<u8>, AllocError>
     let mut text = Vec::new(alloc);
     push_results(&mut text, desk.results())?;
     push_outboxes(&mut text, desk)?;
+    Ok(text)
+}
+
+/// Appends the lines of the messages that an input sent, in the order in which they are sent.
+fn push_messages(text: &mut Vec<u8>, input: u64, messages: &SentList) -> Result<(), AllocError>
+    requires { sending.AreSendable messages.now }
+    ensures { OnOk result (text.new.items ≡ text.old.items ++ flat_map (sent_line input) messages.now) }
+{
+    for index in 0..messages.len() {
+        let sent = messages.at(index);
+        push_message(text, sent.engine, input, &sent.message)?;
+    }
+    Ok(())
+}
+
+/// The text of the answer to one input: the line of its result, and then its messages in the order in which they are
+/// sent. Fails only for lack of memory.
+pub fn render_answer(
+    alloc: Global,
+    input: u64,
+    reply: Reply,
+    messages: &SentList,
+) -> Result<Vec<u8>, AllocError>
+    requires { sending.AreSendable messages.now }
+    ensures { IfOk result (λ text. text.items ≡ answer_of input reply messages.now) }
+{
+    let mut text = Vec::new(alloc);
+    push_result(&mut text, input, reply)?;
+    push_messages(&mut text, input, messages)?;
     Ok(text)
 }
