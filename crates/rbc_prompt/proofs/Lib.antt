@@ -1,0 +1,5 @@
+mod Pieces
+mod Writing
+mod Taking
+mod Cutting
+mod Ending

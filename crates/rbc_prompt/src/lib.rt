@@ -1,0 +1,8 @@
+//! Answers lines as they come, from a reader to a writer, and keeps what counts for later lines alone.
+#![tactic(auto)]
+
+mod line;
+mod prompt;
+mod session;
+
+pub use prompt::{PromptError, answer_lines};
