@@ -19,8 +19,8 @@ use Rattle.clap.specs.declared.builder.value_parser.ValueParser.TheVariants as v
 use Rattle.clap.proofs.OnLiterals.{clap_on_literals}
 use Rattle.clap.proofs.ValueTestLemmas.{Accepts-accepts}
 use Rattle.clap.proofs.WalkLemmas.{byte_read}
-use Rattle.rbc_command_line.specs.Forms.{AsManyAsNamed, OneByDefault, WritesByte}
-use Rattle.rbc_command_line.specs.Words.{AsksToRun, check_shape, codes_shape, decode_shape, found_after, track_rule, word_after, workers_rule}
+use Rattle.rbc_command_line.specs.Forms.{AsManyAsNamed, FromOneByDefault, OneByDefault, WritesByte}
+use Rattle.rbc_command_line.specs.Words.{AsksToRun, check_shape, codes_shape, decode_shape, found_after, live_shape, track_rule, word_after, workers_rule}
 
 no_hyphen : (c : ℕ) → c ≢ 45 → (c == 45) ≡ false
 no_hyphen c plain = ne_eqb c 45 plain
@@ -30,12 +30,17 @@ unfolding clap_on_literals
 one_by_default [] plain = absurd plain
 one_by_default (c ∷ rest) plain = let e = no_hyphen c plain in (simp e, simp e, simp e)
 
+pub from_one_by_default : FromOneByDefault
+unfolding clap_on_literals
+from_one_by_default [] plain = absurd plain
+from_one_by_default (c ∷ rest) plain = let e = no_hyphen c plain in (simp e, simp e, simp e)
+
 -- the command line, with any parser of the number of workers
 abbrev line_with : ValueParser → App
 line_with q =
     let run = (with_rule (with_rule (new_app (codes "run")) track_rule) (record workers_rule { parser = Some q })).top in
     let without_name = on_top (λ top. record top { no_binary_name = true; subcommand_required = true; has_version = true }) in
-    with_subcommand (with_subcommand (with_subcommand (with_subcommand (without_name (new_app (codes "dispatch"))) run) check_shape) decode_shape) codes_shape
+    with_subcommand (with_subcommand (with_subcommand (with_subcommand (with_subcommand (without_name (new_app (codes "dispatch"))) run) live_shape) check_shape) decode_shape) codes_shape
 
 -- words without a fault name the file, and this word as the number of workers
 abbrev Finds : ValueParser → Text → Text → List Text → Type 0

@@ -4,7 +4,7 @@ use Rattle.clap.specs.Kinds.{Kinds}
 use Rattle.clap.specs.declared.error.kind.ErrorKind.{ErrorKind}
 use Rattle.clap.specs.declared.error.kind.ErrorKind.TheVariants as kind
 use Rattle.clap.proofs.OnLiterals.{clap_on_literals}
-use Rattle.rbc_command_line.specs.Witnesses.{AskFor, AskForNone}
+use Rattle.rbc_command_line.specs.Witnesses.{AskFor, AskForNone, AskFrom, AskFromNone}
 
 pub one : AskFor 1 []
 unfolding clap_on_literals
@@ -54,3 +54,11 @@ no_number workers asked = faulty _ kind.ValueValidation refl asked.0
 pub twice : AskForNone (codes "--workers" ∷ codes "1" ∷ codes "--workers" ∷ codes "1" ∷ [])
 unfolding clap_on_literals
 twice workers asked = faulty _ kind.ArgumentConflict refl asked.0
+
+pub from_seven : AskFrom 7 (codes "--from" ∷ codes "7" ∷ [])
+unfolding clap_on_literals
+from_seven = (refl, refl, refl)
+
+pub from_zero : AskFromNone (codes "--from" ∷ codes "0" ∷ [])
+unfolding clap_on_literals
+from_zero from asked = faulty _ kind.ValueValidation refl asked.0

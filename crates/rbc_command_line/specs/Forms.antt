@@ -1,9 +1,9 @@
--- The forms of `run`, and what they ask for.
+-- The forms of `run` and `live`, and what they ask for.
 use Rattle.std.specs.Prelude.{◌≡◌, ◌≢◌, ◌<◌, ℕ, List, [], ◌∷◌, ◌++◌, codes}
 use Rattle.std.specs.List.{AllByRecursion}
 use Rattle.std.specs.Str.Parse.{IsNumeral, digits_value}
 use Rattle.clap.specs.Walk.{Text}
-use Rattle.rbc_command_line.specs.Words.{AsksToRun}
+use Rattle.rbc_command_line.specs.Words.{AsksToLive, AsksToRun}
 
 -- the word has a first byte, which is no hyphen
 abbrev pub IsPlain : Text → Type 0
@@ -25,6 +25,10 @@ forms_of file word =
 -- without a number there is one worker
 abbrev pub OneByDefault : Type 0
 OneByDefault = (file : Text) → IsPlain file → AsksToRun file 1 (codes "run" ∷ codes "--track" ∷ file ∷ [])
+
+-- without a number answers are written from the first one on
+abbrev pub FromOneByDefault : Type 0
+FromOneByDefault = (file : Text) → IsPlain file → AsksToLive file 1 (codes "live" ∷ codes "--track" ∷ file ∷ [])
 
 -- with a number there are so many workers
 abbrev pub AsManyAsNamed : Type 0

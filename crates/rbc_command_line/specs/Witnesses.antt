@@ -1,7 +1,7 @@
--- Worked cases of what words ask for: `run`, on the track in the file `t`.
+-- Worked cases of what words ask for: `run` and `live`, on the track in the file `t`.
 use Rattle.std.specs.Prelude.{ℕ, List, ◌∷◌, codes}
 use Rattle.clap.specs.Walk.{Text}
-use Rattle.rbc_command_line.specs.Words.{AsksToRun}
+use Rattle.rbc_command_line.specs.Words.{AsksToLive, AsksToRun}
 
 -- the words that name the track, and more words
 abbrev pub run_with : List Text → List Text
@@ -14,3 +14,11 @@ AskFor workers more = AsksToRun (codes "t") workers (run_with more)
 -- they ask for no run, by any number of workers
 abbrev pub AskForNone : List Text → Type 0
 AskForNone more = (workers : ℕ) → AskFor workers more → ⊥
+
+-- the same behind `live`: they ask for the answers from this number on
+abbrev pub AskFrom : ℕ → List Text → Type 0
+AskFrom from more = AsksToLive (codes "t") from (codes "live" ∷ codes "--track" ∷ codes "t" ∷ more)
+
+-- they ask for no answers, from any number on
+abbrev pub AskFromNone : List Text → Type 0
+AskFromNone more = (from : ℕ) → AskFrom from more → ⊥

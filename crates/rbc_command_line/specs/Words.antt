@@ -1,6 +1,9 @@
 -- What the words ask for.
-use Rattle.std.specs.Prelude.{◌≡◌, ℕ, List, [], ◌∷◌, Option, Some, None, Result, MatchResult, option_and_then, if◌then◌else◌, pos, true, codes}
+use Rattle.std.specs.Prelude.{◌≡◌, ℕ, List, [], ◌∷◌, Option, Some, None, Result, MatchResult, option_and_then, if◌then◌else◌, ◌&&◌, nat_lt, length, pos, true, codes}
 use Rattle.std.specs.Option.{option_map_or}
+use Rattle.std.specs.List.{list_all}
+use Rattle.std.specs.Char.{digit_value}
+use Rattle.std.specs.Str.Parse.{digits_value, without_leading_plus}
 use Rattle.std.specs.Str.{bytes_eq}
 use Rattle.clap.specs.Simple.{App, Shape, new_app, new_rule, on_top, subcommand_of, with_rule, with_subcommand}
 use Rattle.clap.specs.Walk.{Row, Rule, Text, byte_or_zero, first_of, one_of}
@@ -10,7 +13,7 @@ use Rattle.clap.specs.declared.builder.value_parser.ValueParser.TheVariants as v
 use Rattle.rbc_command_line.specs.declared.no_task.NoTask.{NoTask}
 use Rattle.rbc_command_line.specs.declared.no_task.NoTask.TheVariants.{OutOfMemory}
 use Rattle.rbc_command_line.specs.declared.words.Task.{Task}
-use Rattle.rbc_command_line.specs.declared.words.Task.TheVariants.{Run, Check, Decode, Codes}
+use Rattle.rbc_command_line.specs.declared.words.Task.TheVariants.{Run, Live, Check, Decode, Codes}
 
 -- the option that names the track file
 abbrev pub track_rule : Rule
@@ -28,6 +31,19 @@ workers_rule = record (new_rule (codes "workers")) {
 -- `run`, with both options
 abbrev pub run_shape : Shape
 run_shape = (with_rule (with_rule (new_app (codes "run")) track_rule) workers_rule).top
+
+-- the option that says from which number on answers are written: a number from 1 on, which is 1 by default
+abbrev pub from_rule : Rule
+from_rule = record (new_rule (codes "from")) {
+  long = Some (codes "from");
+  value_names = 1;
+  parser = Some (vp.Unsigned 1 18446744073709551615);
+  defaults = codes "1" ∷ [];
+}
+
+-- `live`, with both options
+abbrev pub live_shape : Shape
+live_shape = (with_rule (with_rule (new_app (codes "live")) track_rule) from_rule).top
 
 -- the option by which unknown keys are notes
 abbrev pub other_keys_rule : Rule
@@ -51,9 +67,9 @@ bare_line = on_top (λ top. record top { no_binary_name = true; subcommand_requi
 
 -- the command line with those subcommands alone that take a track
 abbrev pub track_line : App
-track_line = with_subcommand (with_subcommand bare_line run_shape) check_shape
+track_line = with_subcommand (with_subcommand (with_subcommand bare_line run_shape) live_shape) check_shape
 
--- the command line that the program takes: `run`, `check`, `decode` or `codes`
+-- the command line that the program takes: `run`, `live`, `check`, `decode` or `codes`
 abbrev pub command_line : App
 command_line = with_subcommand (with_subcommand track_line decode_shape) codes_shape
 
@@ -82,11 +98,28 @@ word_after name id found = option_and_then (first_of id) (found_after name found
 abbrev pub number_after : Text → Text → Finding → ℕ
 number_after name id found = option_map_or byte_or_zero (option_and_then (one_of id) (found_after name found)) 0
 
+-- `text.parse::<u64>().unwrap_or(1)`
+abbrev pub count_or_one : Text → ℕ
+count_or_one text =
+    let digits = without_leading_plus text in
+    if nat_lt 0 (length digits) && list_all (λ digit. nat_lt (digit_value digit) 10) digits && nat_lt (digits_value 10 digits) 18446744073709551616
+    then digits_value 10 digits else 1
+
+-- the count that an argument was given after the subcommand of this name, or 1 where it was given none
+abbrev pub count_after : Text → Text → Finding → ℕ
+count_after name id found = option_map_or count_or_one (option_and_then (one_of id) (found_after name found)) 1
+
 -- words without a fault that ask for the batch, on the track in the file of this name, with so many workers
 abbrev pub AsksToRun : Text → ℕ → List Text → Type 0
 AsksToRun file workers words = (fault_of command_line words ≡ [])
     × (word_after (codes "run") (codes "track") (finding_in words) ≡ Some file)
     × (number_after (codes "run") (codes "workers") (finding_in words) ≡ workers)
+
+-- words without a fault that ask for lines to be answered as they come, on the track in the file of this name, from this number on
+abbrev pub AsksToLive : Text → ℕ → List Text → Type 0
+AsksToLive file from words = (fault_of command_line words ≡ [])
+    × (word_after (codes "live") (codes "track") (finding_in words) ≡ Some file)
+    × (count_after (codes "live") (codes "from") (finding_in words) ≡ from)
 
 -- words without a fault that ask for the text of the message that this word stands for
 abbrev pub AsksToDecode : Text → List Text → Type 0
@@ -96,14 +129,18 @@ AsksToDecode word words = (fault_of command_line words ≡ []) × (word_after (c
 abbrev pub AsksToCheck : Text → List Text → Type 0
 AsksToCheck file words = (fault_of command_line words ≡ []) × (word_after (codes "check") (codes "track") (finding_in words) ≡ Some file)
 
--- no word was found for a run or a message
+-- no word was found for a run, for lines as they come or for a message
 abbrev pub IsNeither : Finding → Type 0
-IsNeither found = (word_after (codes "run") (codes "track") found ≡ None) × (word_after (codes "decode") (codes "HEX") found ≡ None)
+IsNeither found = (word_after (codes "run") (codes "track") found ≡ None)
+    × (word_after (codes "live") (codes "track") found ≡ None)
+    × (word_after (codes "decode") (codes "HEX") found ≡ None)
 
 -- the task is what was found
 abbrev pub IsFound : Finding → Task → Type 0
 IsFound found (Run track workers) = (word_after (codes "run") (codes "track") found ≡ Some track.now)
     × (number_after (codes "run") (codes "workers") found ≡ workers)
+IsFound found (Live track from) = (word_after (codes "live") (codes "track") found ≡ Some track.now)
+    × (count_after (codes "live") (codes "from") found ≡ from)
 IsFound found (Check track other) = IsNeither found × (word_after (codes "check") (codes "track") found ≡ Some track.now)
 IsFound found Codes = IsNeither found × (word_after (codes "check") (codes "track") found ≡ None)
 IsFound found (Decode hex) = word_after (codes "decode") (codes "HEX") found ≡ Some hex.now
@@ -115,13 +152,23 @@ IsNoTask found = IsNeither found × (word_after (codes "check") (codes "track") 
 -- the task is the batch, on the track in the file of this name, with so many workers
 abbrev pub IsRunOn : Text → ℕ → Task → Type 0
 IsRunOn file workers (Run track number) = (track.now ≡ file) × (number ≡ workers)
+IsRunOn file workers (Live track from) = ⊥
 IsRunOn file workers (Check track other) = ⊥
 IsRunOn file workers (Decode hex) = ⊥
 IsRunOn file workers Codes = ⊥
 
+-- the task is lines as they come, on the track in the file of this name, from this number on
+abbrev pub IsLiveOn : Text → ℕ → Task → Type 0
+IsLiveOn file from (Live track first) = (track.now ≡ file) × (first ≡ from)
+IsLiveOn file from (Run track number) = ⊥
+IsLiveOn file from (Check track other) = ⊥
+IsLiveOn file from (Decode hex) = ⊥
+IsLiveOn file from Codes = ⊥
+
 -- the task is the text of the message that this word stands for
 abbrev pub IsDecode : Text → Task → Type 0
 IsDecode word (Run track number) = ⊥
+IsDecode word (Live track from) = ⊥
 IsDecode word (Check track other) = ⊥
 IsDecode word Codes = ⊥
 IsDecode word (Decode hex) = hex.now ≡ word
@@ -130,6 +177,7 @@ IsDecode word (Decode hex) = hex.now ≡ word
 abbrev pub IsCheckOf : Text → Task → Type 0
 IsCheckOf file (Check track other) = track.now ≡ file
 IsCheckOf file (Run track number) = ⊥
+IsCheckOf file (Live track from) = ⊥
 IsCheckOf file (Decode hex) = ⊥
 IsCheckOf file Codes = ⊥
 

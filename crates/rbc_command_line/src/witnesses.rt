@@ -1,13 +1,15 @@
 //! Worked cases of the law of forms, right ones and wrong ones.
 
 ghost use Rattle.std.specs.Prelude.{[], ◌∷◌, codes};
-ghost use Rattle.rbc_command_line.specs.Witnesses.{AskFor, AskForNone};
+ghost use Rattle.rbc_command_line.specs.Witnesses.{AskFor, AskForNone, AskFrom, AskFromNone};
 
 /// What words behind `run --track t` ask for.
 ///
 /// - No word asks for one worker, and not for two. `--workers 16` asks for 16 workers, and `--workers=007` for 7.
 /// - `--workers 0` asks for none, which the run refuses. `--workers 2` does not ask for one.
 /// - `--workers 256`, `--workers -1`, `--workers x` and a number that is named twice ask for no run.
+///
+/// Behind `live --track t`, `--from 7` asks for the answers from number 7 on, and `--from 0` for none.
 pub fn forms_law_witnesses()
     ensures one { AskFor 1 [] }
     ensures sixteen { AskFor 16 (codes "--workers" ∷ codes "16" ∷ []) }
@@ -19,4 +21,6 @@ pub fn forms_law_witnesses()
     ensures below_zero { AskForNone (codes "--workers" ∷ codes "-1" ∷ []) }
     ensures no_number { AskForNone (codes "--workers" ∷ codes "x" ∷ []) }
     ensures twice { AskForNone (codes "--workers" ∷ codes "1" ∷ codes "--workers" ∷ codes "1" ∷ []) }
+    ensures from_seven { AskFrom 7 (codes "--from" ∷ codes "7" ∷ []) }
+    ensures from_zero { AskFromNone (codes "--from" ∷ codes "0" ∷ []) }
 {}

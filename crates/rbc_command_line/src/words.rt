@@ -4,7 +4,7 @@ ghost use Rattle.clap.specs.Simple.{App, Shape, new_rule, with_subcommand};
 ghost use Rattle.clap.specs.Words.{app_of, fault_of, rule_of, shape_of, subcommand_rows_of};
 ghost use Rattle.clap.specs.declared.builder.command.Command.TheViews.{out-Command as fields_of};
 ghost use Rattle.rbc_command_line.specs.NoTask.{status_of, status_of_kind};
-ghost use Rattle.rbc_command_line.specs.Words.{AsksToCheck, AsksToDecode, AsksToRun, IsCheckOf, IsDecode, IsFound, IsNoTask, IsRunOn, IsTakenFor, IsWantOfMemory, bare_line, check_shape, codes_shape, command_line, decode_shape, finding_in, number_after, other_keys_rule, run_shape, track_rule, word_after, workers_rule};
+ghost use Rattle.rbc_command_line.specs.Words.{AsksToCheck, AsksToDecode, AsksToLive, AsksToRun, IsCheckOf, IsDecode, IsFound, IsLiveOn, IsNoTask, IsRunOn, IsTakenFor, IsWantOfMemory, bare_line, check_shape, codes_shape, command_line, count_after, decode_shape, finding_in, from_rule, live_shape, number_after, other_keys_rule, run_shape, track_rule, word_after, workers_rule};
 
 use crate::no_task::NoTask;
 use clap::error::ErrorKind;
@@ -19,6 +19,9 @@ pub enum Task<'a> {
     /// `dispatch run --track FILE --workers N`: do the batch on standard input, on the track in the
     /// file of this name, with so many workers, or with one where the arguments name no number.
     Run { track: &'a str, workers: u8 },
+    /// `dispatch live --track FILE --from N`: answer the lines on standard input as they come, on the track in
+    /// the file of this name, and write the answers from this number on, or from 1 where the arguments name none.
+    Live { track: &'a str, from: u64 },
     /// `dispatch check --track FILE --other-keys`: report on the track in the file of this name, with
     /// or without the option.
     Check { track: &'a str, other_keys: bool },
@@ -31,6 +34,7 @@ pub enum Task<'a> {
 const AFTER_HELP: &str = "\
 First:    dispatch check --track FILE                 what the track file says
 Then:     dispatch run --track FILE < BATCH           results and messages, as bytes
+Or:       dispatch live --track FILE                  the same, an answer as each line comes
 More:     README.md, docs/GUIDE.md; `dispatch help COMMAND` for one command.";
 
 const AFTER_RUN: &str = "\
@@ -42,6 +46,18 @@ Workers are threads that work on several inputs at once. The output is the same 
 
 Exit status: 0 done; 1 a fault, one line on standard error; 2 bad arguments.
 `dispatch codes` says what each code and each fault means.";
+
+const AFTER_LIVE: &str = "\
+Reads inputs from standard input, a line each, and answers each before it waits for the next one:
+`INPUT ok COUNT` or `INPUT refused CODE`, and then one line for each message that it sends, in the
+order in which they are sent: `ENGINE INPUT HEX`. A line of more than 65,536 bytes is refused with
+code 1. Ends where standard input ends.
+
+No state is kept. Keep the lines in a log. After a crash, start the program again, give it the log
+first, and name in --from the first input whose answer you do not have.
+
+Exit status: 0 done; 1 a fault, one line on standard error; 2 bad arguments. What was written before
+a fault stands.";
 
 const AFTER_CHECK: &str = "\
 Writes the lines with their balise groups in order, then warnings and notes. Where the file is
@@ -70,7 +86,8 @@ fn command<'a>(alloc: Global) -> Result<Command<'a>, AllocError>
     ensures { IfOk result (λ command. app_of command ≡ command_line) }
 {
     let with_run = with_subcommand(bare_command(alloc), run_command(alloc));
-    let with_check = with_subcommand(with_run, check_command(alloc));
+    let with_live = with_subcommand(with_run, live_command(alloc));
+    let with_check = with_subcommand(with_live, check_command(alloc));
     let with_decode = with_subcommand(with_check, decode_command(alloc));
     with_subcommand(with_decode, Ok(codes_command(alloc)))
 }
@@ -135,6 +152,29 @@ fn workers_option<'a>(alloc: Global) -> Arg<'a>
         .value_parser(value_parser!(u8))
         .default_value("1")
         .help("How many inputs are worked on at once, 1 to 16")
+}
+
+fn live_command<'a>(alloc: Global) -> Result<Command<'a>, AllocError>
+    ensures shape { IfOk result (λ command. shape_of command ≡ live_shape) }
+    ensures local { IfOk result (λ command. (fields_of command).has_globals ≡ false) }
+{
+    Command::new(alloc, "live")
+        .about("Answer inputs one line at a time, each before the next is waited for")
+        .after_help(AFTER_LIVE)
+        .arg(track_option(alloc))?
+        .arg(from_option(alloc))
+}
+
+fn from_option<'a>(alloc: Global) -> Arg<'a>
+    ensures rule { rule_of result ≡ from_rule }
+    ensures local { result.global ≡ false }
+{
+    Arg::new(alloc, "from")
+        .long("from")
+        .value_name("N")
+        .value_parser(value_parser!(u64).range(1..))
+        .default_value("1")
+        .help("The first input whose answer is written, 1 or more")
 }
 
 fn check_command<'a>(alloc: Global) -> Result<Command<'a>, AllocError>
@@ -214,6 +254,8 @@ fn refuse(alloc: Global, kind: ErrorKind, message: &str) -> Result<NoTask, Alloc
 pub fn parse<'a>(alloc: Global, words: &'a [String]) -> Result<Task<'a>, NoTask>
     ensures run { (file : List ℕ) (workers : ℕ) → AsksToRun file workers (map string_bytes words.now)
         → IsTakenFor (IsRunOn file workers) result }
+    ensures live { (file : List ℕ) (from : ℕ) → AsksToLive file from (map string_bytes words.now)
+        → IsTakenFor (IsLiveOn file from) result }
     ensures decode { (word : List ℕ) → AsksToDecode word (map string_bytes words.now)
         → IsTakenFor (IsDecode word) result }
     ensures check { (file : List ℕ) → AsksToCheck file (map string_bytes words.now)
@@ -237,6 +279,10 @@ fn task_of<'a>(matches: &ArgMatches<'a>) -> Option<Task<'a>>
     if let Some(track) = word_after(matches, "run", "track") {
         let workers = number_after(matches, "run", "workers");
         return Some(Task::Run { track, workers });
+    }
+    if let Some(track) = word_after(matches, "live", "track") {
+        let from = count_after(matches, "live", "from");
+        return Some(Task::Live { track, from });
     }
     if let Some(hex) = word_after(matches, "decode", "HEX") {
         return Some(Task::Decode(hex));
@@ -267,6 +313,16 @@ fn number_after<'a>(matches: &ArgMatches<'a>, name: &str, id: &str) -> u8
     match matches.subcommand_matches(name) {
         Some(found) => found.get_one::<u8>(id).unwrap_or(0),
         None => 0,
+    }
+}
+
+// The count that an argument was given after the subcommand of this name, or 1 if it was given none.
+fn count_after<'a>(matches: &ArgMatches<'a>, name: &str, id: &str) -> u64
+    ensures { result ≡ count_after name.now id.now (subcommand_rows_of matches.now) }
+{
+    match matches.subcommand_matches(name) {
+        Some(found) => found.get_one::<u64>(id).unwrap_or(1),
+        None => 1,
     }
 }
 

@@ -1,4 +1,4 @@
-use Rattle.rbc_command_line.proofs.WitnessWords.{below_zero, leading_zeros, no_number, one, one_whatever_is_named, sixteen, too_great, twice, two_by_default, zero}
+use Rattle.rbc_command_line.proofs.WitnessWords.{below_zero, from_seven, from_zero, leading_zeros, no_number, one, one_whatever_is_named, sixteen, too_great, twice, two_by_default, zero}
 use Rattle.rbc_command_line.proofs.witnesses.forms_law_witnesses.Goals as goal
 
 pub returns-clause-one : goal.returns-clause-one
@@ -30,3 +30,9 @@ returns-clause-no_number c = no_number
 
 pub returns-clause-twice : goal.returns-clause-twice
 returns-clause-twice c = twice
+
+pub returns-clause-from_seven : goal.returns-clause-from_seven
+returns-clause-from_seven c = from_seven
+
+pub returns-clause-from_zero : goal.returns-clause-from_zero
+returns-clause-from_zero c = from_zero
