@@ -35,8 +35,9 @@ fault group help horizon lift line long many memory out recv refused release res
 
 KNOWN = set(" ".join([RUST, ANTT, PORTED, TOOL, FORMATS]).split())
 
-# modules of the kit that docs/MODEL.md need not name: numbers, options, lists, maps, text, and how a program ends
+# modules of the kit that docs/MODEL.md need not name: numbers, options, lists, maps, text, references, and how a program ends
 EVERYDAY = {
+    "denote.Ref",
     "Rattle.std.specs.Prelude",
     "Rattle.std.specs.List",
     "Rattle.std.specs.Option",

@@ -8,7 +8,7 @@ import subprocess
 import sys
 from pathlib import Path
 
-COMMANDS = ("run", "check", "decode", "codes")
+COMMANDS = ("run", "live", "check", "decode", "codes")
 
 
 def said(program, *words):

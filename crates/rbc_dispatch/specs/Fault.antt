@@ -9,14 +9,16 @@ use Rattle.ertms_codec.specs.declared.text.DescribeError.TheVariants as describi
 use Rattle.hex.specs.declared.error.FromHexError.{FromHexError}
 use Rattle.hex.specs.declared.error.FromHexError.TheVariants as hex
 use Rattle.rbc_batch.specs.Process.{fault_text}
+use Rattle.rbc_prompt.specs.Answers as prompt
 use Rattle.rbc_track.specs.Plan.{name_of as name_of_track}
 use Rattle.rbc_words.specs.Units.{count_text}
 use Rattle.rbc_dispatch.specs.declared.fault.Fault.{Fault}
-use Rattle.rbc_dispatch.specs.declared.fault.Fault.TheVariants.{Batch, BadHex, Decode, Write, OutOfMemory, Track, TrackUnreadable, TrackWarnings}
+use Rattle.rbc_dispatch.specs.declared.fault.Fault.TheVariants.{Batch, Live, BadHex, Decode, Write, OutOfMemory, Track, TrackUnreadable, TrackWarnings}
 
 -- the line of a fault, without its line feed
 abbrev pub line_of : Fault → List ℕ
 line_of (Batch error) = fault_text error
+line_of (Live error) = prompt.fault_text error
 line_of BadHex = codes "bad hex"
 line_of (Decode error) = codes "decode: " ++ name_of error
 line_of (Write sent) = codes "write fault after " ++ decimal sent ++ codes " bytes"

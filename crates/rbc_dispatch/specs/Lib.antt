@@ -2,4 +2,5 @@ pub mod Checking
 pub mod Decoding
 pub mod Ending
 pub mod Fault
+pub mod Living
 pub mod Running

@@ -2,6 +2,7 @@
 use ertms_codec::{DecodeError, DescribeError};
 use hex::FromHexError;
 use rbc_batch::ProcessError;
+use rbc_prompt::PromptError;
 use rbc_track::TrackError;
 use rbc_words::Count;
 use std::alloc::AllocError;
@@ -18,6 +19,8 @@ pub enum Fault {
     TrackWarnings { count: usize },
     /// The batch was not done.
     Batch(ProcessError),
+    /// Not all lines were answered. What was written before stands.
+    Live(PromptError),
     /// The word is no hexadecimal text of whole bytes.
     BadHex,
     /// The bytes are no message.
@@ -46,6 +49,7 @@ impl fmt::Display for Fault {
                 write!(f, "track: {warnings}")
             }
             Fault::Batch(error) => write!(f, "{error}"),
+            Fault::Live(error) => write!(f, "{error}"),
             Fault::BadHex => write!(f, "bad hex"),
             Fault::Decode(error) => write!(f, "decode: {error}"),
             Fault::Write { sent } => write!(f, "write fault after {sent} bytes"),
@@ -100,6 +104,17 @@ impl From<ProcessError> for Fault {
 
     fn from(error: ProcessError) -> Fault {
         Fault::Batch(error)
+    }
+}
+
+impl From<PromptError> for Fault {
+    ghost use Rattle.std.specs.Prelude.{◌≡◌};
+    ghost use Rattle.rbc_dispatch.specs.declared.fault.Fault.TheVariants.{Live};
+
+    ghost from_gives = { λ error fault. fault ≡ Live error };
+
+    fn from(error: PromptError) -> Fault {
+        Fault::Live(error)
     }
 }
 

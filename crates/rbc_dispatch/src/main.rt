@@ -1,5 +1,6 @@
 //! `dispatch`, the program. `dispatch run --track FILE --workers N` reads a batch from standard input
 //! and writes what the dispatcher answers on the track in the file to standard output.
+//! `dispatch live --track FILE` answers one line at a time, before it waits for the next one.
 //! `dispatch check --track FILE` says what a track file says, and what is wrong with it.
 //! `dispatch decode HEX` writes the text of one message, and `dispatch codes` what each code means.
 //!
@@ -15,6 +16,7 @@ mod codes;
 mod decode;
 mod ending;
 mod fault;
+mod live;
 mod program;
 
 use std::process::ExitCode;

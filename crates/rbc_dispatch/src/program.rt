@@ -5,14 +5,16 @@ ghost use Rattle.clap.specs.Words.{fault_of};
 ghost use Rattle.rbc_dispatch.specs.Checking.{Checks, IsUnreported};
 ghost use Rattle.rbc_dispatch.specs.Decoding.{Decodes, IsUntouched};
 ghost use Rattle.rbc_dispatch.specs.Ending.{AtTask, status_of};
+ghost use Rattle.rbc_dispatch.specs.Living.{Lives};
 ghost use Rattle.rbc_dispatch.specs.Running.{IsUnread, Keeps, Runs, RunsOn};
-ghost use Rattle.rbc_command_line.specs.Words.{AsksToCheck, AsksToDecode, AsksToRun, IsCheckOf, IsDecode, IsRunOn, command_line};
+ghost use Rattle.rbc_command_line.specs.Words.{AsksToCheck, AsksToDecode, AsksToLive, AsksToRun, IsCheckOf, IsDecode, IsLiveOn, IsRunOn, command_line};
 
 use crate::check::check_text;
 use crate::codes::write_codes;
 use crate::decode::decode;
 use crate::ending::Ending;
 use crate::fault::Fault;
+use crate::live::live_text;
 use rbc_batch::process;
 use rbc_command_line::Task;
 use rbc_engine::OpenGate;
@@ -72,6 +74,11 @@ where
         (O.contents output.old) (O.contents output.new)) result }
     ensures keeps { (file : List ℕ) (workers : ℕ) → AsksToRun file workers (map string_bytes words.now)
         → AtTask (λ r. Keeps r input.old input.new output.old output.new) result }
+    ensures live { (file : List ℕ) (from : ℕ) → AsksToLive file from (map string_bytes words.now)
+        → AtTask (Lives from (I.remaining input.old) (I.remaining input.new)
+        (O.contents output.old) (O.contents output.new)) result }
+    ensures not_begun { (file : List ℕ) (from : ℕ) → AsksToLive file from (map string_bytes words.now)
+        → AtTask (λ r. Keeps r input.old input.new output.old output.new) result }
     ensures decode { (word : List ℕ) → AsksToDecode word (map string_bytes words.now)
         → AtTask (Decodes word (O.contents output.old) (O.contents output.new)) result }
     ensures unread { (word : List ℕ) → AsksToDecode word (map string_bytes words.now)
@@ -97,6 +104,11 @@ where
         (O.contents output.old) (O.contents output.new) result }
     ensures keeps { (file : List ℕ) (workers : ℕ) → IsRunOn file workers task.entry
         → Keeps result input.old input.new output.old output.new }
+    ensures live { (file : List ℕ) (from : ℕ) → IsLiveOn file from task.entry
+        → Lives from (I.remaining input.old) (I.remaining input.new)
+        (O.contents output.old) (O.contents output.new) result }
+    ensures not_begun { (file : List ℕ) (from : ℕ) → IsLiveOn file from task.entry
+        → Keeps result input.old input.new output.old output.new }
     ensures decode { (word : List ℕ) → IsDecode word task.entry
         → Decodes word (O.contents output.old) (O.contents output.new) result }
     ensures unread { (word : List ℕ) → IsDecode word task.entry
@@ -105,6 +117,7 @@ where
 {
     match task {
         Task::Run { track, workers } => run_file(rt, track, workers, input, output),
+        Task::Live { track, from } => live_file(rt, track, from, input, output),
         Task::Check { track, other_keys } => check_file(rt, track, other_keys, output),
         Task::Decode(word) => decode(rt.alloc(), word, output),
         Task::Codes => write_codes(rt.alloc(), output),
@@ -141,6 +154,26 @@ where
 {
     let text = track_text(rt, file)?;
     run_on(rt, text.as_str(), workers, input, output)
+}
+
+/// Answers lines as they come, from this number on, on the track in a file. The track is known before anything is read.
+fn live_file<R, I, O>(
+    rt: &R,
+    file: &str,
+    from: u64,
+    input: &mut I,
+    output: &mut O,
+) -> Result<(), Fault>
+where
+    R: AllocGlobal + Files,
+    I: Read,
+    O: Write,
+    ensures lives { Lives from (I.remaining input.old) (I.remaining input.new)
+        (O.contents output.old) (O.contents output.new) result }
+    ensures keeps { Keeps result input.old input.new output.old output.new }
+{
+    let text = track_text(rt, file)?;
+    live_text(rt.alloc(), text.as_str(), from, input, output)
 }
 
 /// The text of a track file. The error is `OutOfMemory` or `TrackUnreadable`.

@@ -1,6 +1,7 @@
 use Rattle.std.proofs.Common.{subst, ℕ}
-use Rattle.rbc_command_line.specs.Words.{IsRunOn}
+use Rattle.rbc_command_line.specs.Words.{IsLiveOn, IsRunOn}
 use Rattle.rbc_command_line.specs.declared.words.Task.{Task}
+use Rattle.rbc_dispatch.specs.Living.{Lives}
 use Rattle.rbc_dispatch.specs.Running.{Runs}
 use Rattle.rbc_dispatch.proofs.program.carry_out.Goals as goal
 
@@ -10,3 +11,10 @@ returns-in-Run-clause-run g c = λ file workers asked.
     let taken = subst (λ (task : Task). IsRunOn file workers task) c.in-Run.is asked in
     subst (λ (n : ℕ). Runs {E = Unit {0}} n (g.I.Read.remaining c.args.input.now) (g.I.Read.remaining c.run_file.new.input)
     (g.O.Write.contents c.args.output.now) (g.O.Write.contents c.run_file.new.output) c.run_file.result) taken.1 c.run_file.ensures.runs
+
+-- answers are written from the number on that the task names
+pub returns-in-Live-clause-live : goal.returns-in-Live-clause-live
+returns-in-Live-clause-live g c = λ file from asked.
+    let taken = subst (λ (task : Task). IsLiveOn file from task) c.in-Live.is asked in
+    subst (λ (n : ℕ). Lives {E = Unit {0}} n (g.I.Read.remaining c.args.input.now) (g.I.Read.remaining c.live_file.new.input)
+    (g.O.Write.contents c.args.output.now) (g.O.Write.contents c.live_file.new.output) c.live_file.result) taken.1 c.live_file.ensures.lives

@@ -1,7 +1,9 @@
+use Rattle.std.proofs.Common.{refl}
 use Rattle.rbc_dispatch.specs.Checking.{Checks}
 use Rattle.rbc_dispatch.specs.Decoding.{Decodes, IsUntouched}
+use Rattle.rbc_dispatch.specs.Living.{Lives}
 use Rattle.rbc_dispatch.specs.Running.{Keeps, Runs}
-use Rattle.rbc_dispatch.proofs.Ends.{at_handed_on}
+use Rattle.rbc_dispatch.proofs.Ends.{at_handed_on, at_memory}
 use Rattle.rbc_dispatch.proofs.program.perform.Goals as goal
 
 -- the task that was carried out is the one that the words ask for
@@ -15,6 +17,16 @@ pub returns-in_err-carry_out-clause-keeps : goal.returns-in_err-carry_out-clause
 returns-in_err-carry_out-clause-keeps g c = λ file workers asked.
     at_handed_on _ (λ r. Keeps {E = Unit {0}} r c.args.input.now c.carry_out.new.input c.args.output.now c.carry_out.new.output) _ c.from_residual-in_err-carry_out.ensures.1
     (c.in_err-carry_out.ensures.keeps file workers (c.in_ok-task.ensures.run file workers asked))
+
+pub returns-in_err-carry_out-clause-live : goal.returns-in_err-carry_out-clause-live
+returns-in_err-carry_out-clause-live g c = λ file from asked.
+    at_handed_on _ (Lives {E = Unit {0}} from _ _ _ _) _ c.from_residual-in_err-carry_out.ensures.1
+    (c.in_err-carry_out.ensures.live file from (c.in_ok-task.ensures.live file from asked))
+
+pub returns-in_err-carry_out-clause-not_begun : goal.returns-in_err-carry_out-clause-not_begun
+returns-in_err-carry_out-clause-not_begun g c = λ file from asked.
+    at_handed_on _ (λ r. Keeps {E = Unit {0}} r c.args.input.now c.carry_out.new.input c.args.output.now c.carry_out.new.output) _ c.from_residual-in_err-carry_out.ensures.1
+    (c.in_err-carry_out.ensures.not_begun file from (c.in_ok-task.ensures.live file from asked))
 
 pub returns-in_err-carry_out-clause-decode : goal.returns-in_err-carry_out-clause-decode
 returns-in_err-carry_out-clause-decode g c = λ word asked.
@@ -34,8 +46,21 @@ returns-in_err-carry_out-clause-check g c = λ file asked.
 pub returns-clause-run : goal.returns-clause-run
 returns-clause-run g c = λ file workers asked. c.in_ok-carry_out.ensures.run file workers (c.in_ok-task.ensures.run file workers asked)
 
+pub returns-clause-live : goal.returns-clause-live
+returns-clause-live g c = λ file from asked. c.in_ok-carry_out.ensures.live file from (c.in_ok-task.ensures.live file from asked)
+
 pub returns-clause-unread : goal.returns-clause-unread
 returns-clause-unread g c = λ word asked. c.in_ok-carry_out.ensures.unread word (c.in_ok-task.ensures.decode word asked)
 
 pub returns-clause-check : goal.returns-clause-check
 returns-clause-check g c = λ file asked. c.in_ok-carry_out.ensures.check file (c.in_ok-task.ensures.check file asked)
+
+-- the words ask for a message, and memory runs out over them
+
+pub returns-in_err-task-clause-decode : goal.returns-in_err-task-clause-decode
+returns-in_err-task-clause-decode g c = λ word asked.
+    at_memory _ (Decodes {E = Unit {0}} word _ _) c.in_err-task.field-0.0 c.from_residual.ensures.1 (c.in_err-task.ensures.decode word asked) tt
+
+pub returns-in_err-task-clause-unread : goal.returns-in_err-task-clause-unread
+returns-in_err-task-clause-unread g c = λ word asked.
+    (refl, at_memory _ (λ r. IsUntouched {E = Unit {0}} r c.args.output.now c.args.output.now) c.in_err-task.field-0.0 c.from_residual.ensures.1 (c.in_err-task.ensures.decode word asked) refl)
