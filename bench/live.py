@@ -1,7 +1,7 @@
 """Measures `live`, and kills it: live.py PROGRAM RUNS TRACK BATCH LINES
 
-Four parts: (a) the process is killed at 200 random moments while lines of the batch go through a pipe, and is started again with the log
-and --from; (b) the time of 10,000 lone lines, each sent when the last one is answered; (c) the time of the whole batch by `live` and by
+Four parts: (a) the process is killed 200 times, at random moments and after random numbers of bytes, while lines of the batch go through a
+pipe, and is started again with the log and --from; (b) the time of 10,000 lone lines, each sent when the last one is answered; (c) the time of the whole batch by `live` and by
 `run --workers 1`; (d) so many LINES, with the memory of the process after each tenth. It needs /proc.
 """
 
@@ -81,45 +81,58 @@ def alone(program, track, text):
     return said
 
 
+def kill_at(live, moment, size):
+    """Kills the process at a moment, in seconds, or as soon as it has written so many bytes; returns the thread that does so."""
+
+    def wait():
+        ends = time.monotonic() + moment
+        while time.monotonic() < ends and len(live.said) < size:
+            time.sleep(0.0001)
+        live.process.kill()
+
+    killer = threading.Thread(target=wait)
+    killer.start()
+    return killer
+
+
 def crash(program, track, lines, kills, seed):
     """Kills the process, and starts it again with the log, till so many kills are done and all lines are answered. Returns how many answers
     came more than once. The log is written before the line is sent; the caller asks for some answers that it has already."""
     chance = random.Random(seed)
-    wanted = alone(program, track, b"".join(lines))
-    log, held, begun, again = [], [], b"", 0
-    done = 0
-    while done < kills or len(held) < len(lines):
-        first = max(1, len(held) + 1 - chance.randrange(20))
+    began = time.monotonic()
+    wanted, _ = answers_of(alone(program, track, b"".join(lines)), 1)
+    start = time.monotonic() - began
+    log, held, part, again = [], [], b"", 0
+    for done in range(kills + 1):
+        last = done == kills
+        first = max(1, len(held) + 1 - chance.randrange(200))
         live = Live(program, track, first)
-        killer = threading.Timer(chance.uniform(0.0, 0.05), live.process.kill)
-        if done < kills:
-            killer.start()
+        share = len(lines) * (done + 1) // (kills + 1)
+        size = chance.randrange(sum(map(len, wanted[first - 1 : share])) + 1)
+        killer = None if last else kill_at(live, chance.uniform(0.0, 4 * start), size)
         goes = live.give(b"".join(log))
-        share = len(lines) if done >= kills else min(len(lines), (done + 1) * len(lines) // kills)
         while goes and len(log) < share:
             log.append(lines[len(log)])
             half = chance.randrange(len(log[-1]) + 1)
             goes = live.give(log[-1][:half]) and live.give(log[-1][half:])
-        killer.join() if done < kills else None
+        if killer:
+            killer.join()
         said, status = live.end()
-        if done >= kills:
-            assert status == 0, f"status {status}"
+        assert not last or status == 0, f"status {status}"
         answers, rest = answers_of(said, first)
         for number, answer in enumerate(answers, first):
             if number <= len(held):
                 assert held[number - 1] == answer, f"answer {number} changed"
                 again += 1
             else:
-                assert number > len(held) + 1 or answer.startswith(begun), f"answer {number} changed"
-                held.append(answer)
-                begun = b""
-        if first + len(answers) > len(held):
-            begun = max(begun, rest, key=len) if begun.startswith(rest) or rest.startswith(begun) else None
-            assert begun is not None, "an answer that had begun changed"
-        done += 1
-    assert b"".join(held) == wanted, "the answers are not those of a process that was not killed"
+                assert answer.startswith(part), f"answer {number} changed"
+                held, part = [*held, answer], b""
+        if first + len(answers) == len(held) + 1 and len(rest) > len(part):
+            assert rest.startswith(part), "an answer that had begun changed"
+            part = rest
+    assert held == wanted, "the answers are not those of a process that was not killed"
     ran = subprocess.run([program, "run", "--track", str(track)], input=b"".join(lines), capture_output=True, check=True)
-    assert sorted(ran.stdout.split(b"\n")) == sorted(wanted.split(b"\n")), "the lines are not those of `run`"
+    assert sorted(ran.stdout.split(b"\n")) == sorted(b"".join(wanted).split(b"\n")), "the lines are not those of `run`"
     return again
 
 
@@ -188,7 +201,7 @@ def main():
     began = time.monotonic()
     again = crash(program, track, lines[:CRASHED], KILLS, 1)
     seconds = time.monotonic() - began
-    print(f"{KILLS} kills over {min(CRASHED, len(lines)):,} lines: nothing lost, {again:,} answers came again, all with the same bytes; {seconds:.0f} s")
+    print(f"{KILLS} kills over {min(CRASHED, len(lines)):,} lines: nothing lost; {again:,} answers came again, with the same bytes; {seconds:.0f} s")
     times = lone_lines(program, track, lines[:LONE])
     print(f"{len(times):,} lone lines: median {statistics.median(times):.0f} us, 99 of 100 within {sorted(times)[len(times) * 99 // 100]:.0f} us")
     for words in (["live"], ["run", "--workers", "1"]):

@@ -31,7 +31,7 @@ pub const FAULTS: &[FaultRow] = &[
     FaultRow {
         line: "read fault",
         sentence: "Standard input could not be read to its end.",
-        to_do: "Nothing was written. Run again.",
+        to_do: "Run again. Nothing was written, but what `live` wrote stands.",
     },
     FaultRow {
         line: "batch too long",
@@ -56,7 +56,7 @@ pub const FAULTS: &[FaultRow] = &[
     FaultRow {
         line: "out of memory",
         sentence: "Memory was refused.",
-        to_do: "Nothing was written. Run again with more memory.",
+        to_do: "Run again with more memory. Nothing was written, but what `live` wrote stands.",
     },
     FaultRow {
         line: "out of memory after N inputs",
