@@ -45,9 +45,9 @@ impl fmt::Display for PromptError {
 
 impl Error for PromptError {}
 
-/// Reads lines to the end of the reader, and takes each on a desk that has taken none. The answers to the lines from number
-/// `from` on are written and flushed before the reader is asked for more. The last line may lack its line feed. A line of
-/// more than 65,536 bytes is refused with code 1.
+/// Reads lines to the end of the reader, and takes each on a desk that has taken none. The answers to the lines from
+/// number `from` on are written and flushed before the reader is asked for more. The last line may lack its line feed.
+/// A line of more than 65,536 bytes is refused with code 1.
 ///
 /// # Errors
 ///
@@ -60,7 +60,8 @@ pub fn answer_lines<R: Read, W: Write>(
     from: u64,
 ) -> Result<(), PromptError>
     requires { desk.records ≡ [] }
-    ensures { Answers desk.track from (R.remaining reader.old) (R.remaining reader.new) (W.contents writer.old) (W.contents writer.new) result }
+    ensures { Answers desk.track from (R.remaining reader.old) (R.remaining reader.new)
+        (W.contents writer.old) (W.contents writer.new) result }
 {
     let mut session = Session::new(alloc, desk, from);
     let mut piece = [0u8; PIECE];

@@ -1,6 +1,6 @@
 //! Lines under way: a desk, the line that has not ended, and the answers that are not written yet.
 
-ghost use Rattle.std.specs.Prelude.{◌≡◌, ◌≤◌, ◌<◌, ◌+◌, ◌-◌, ◌^◌, ◌++◌, ◌∷◌, [], ℕ, List, Option, length, OnOk, OnErr, IfOk, IfErr, ◌==◌};
+ghost use Rattle.std.specs.Prelude.{◌≡◌, ◌≤◌, ◌<◌, ◌+◌, ◌^◌, ◌++◌, ◌∷◌, [], ℕ, List, Option, length, OnOk, OnErr};
 ghost use Rattle.std.specs.List.{slice_split};
 ghost use Rattle.rbc_track.specs.Plan.{Plan};
 ghost use Rattle.rbc_text.specs.BatchText.{is_line_feed, without_empty_end};
@@ -85,7 +85,8 @@ impl Session {
     fn write_out<W: Write>(&mut self, writer: &mut W) -> Result<(), PromptError>
         ensures written { (plan : Plan) (from : ℕ) (old : Option (List ℕ)) (ended : List (List ℕ))
             → ArePending plan from self.old.text.items self.old.sent old (W.contents writer.old) ended
-            → GoesOn plan from ended old (W.contents writer.new) result (IsDone plan from ended old (W.contents writer.new)) }
+            → GoesOn plan from ended old (W.contents writer.new) result
+                (IsDone plan from ended old (W.contents writer.new)) }
         ensures under_way { (plan : Plan) (from : ℕ) (old : Option (List ℕ)) (ended : List (List ℕ)) (rest : List ℕ)
             → IsUnderWay plan from self.old old (W.contents writer.old) ended rest
             → OnOk result (IsUnderWay plan from self.new old (W.contents writer.new) ended rest) }
@@ -175,7 +176,8 @@ impl Session {
         requires { self.old.number + length piece.now < 2 ^ 64 }
         ensures taken { (plan : Plan) (from : ℕ) (old : Option (List ℕ)) (ended : List (List ℕ)) (rest : List ℕ)
             → IsUnderWay plan from self.old old (W.contents writer.old) ended rest
-            → HasTaken plan from (ended ++ joined rest (slice_split is_line_feed piece.now)) old (W.contents writer.new) self.new result }
+            → HasTaken plan from (ended ++ joined rest (slice_split is_line_feed piece.now))
+            old (W.contents writer.new) self.new result }
         ensures waiting { OnOk result (IsWaiting self.new) }
         ensures number { OnOk result (self.new.number ≤ self.old.number + length piece.now) }
     {
