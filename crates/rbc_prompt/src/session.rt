@@ -86,7 +86,7 @@ impl Session {
         ensures written { (plan : Plan) (from : ℕ) (old : Option (List ℕ)) (ended : List (List ℕ))
             → ArePending plan from self.old.text.items self.old.sent old (W.contents writer.old) ended
             → GoesOn plan from ended old (W.contents writer.new) result
-                (IsDone plan from ended old (W.contents writer.new)) }
+            (IsDone plan from ended old (W.contents writer.new)) }
         ensures under_way { (plan : Plan) (from : ℕ) (old : Option (List ℕ)) (ended : List (List ℕ)) (rest : List ℕ)
             → IsUnderWay plan from self.old old (W.contents writer.old) ended rest
             → OnOk result (IsUnderWay plan from self.new old (W.contents writer.new) ended rest) }
