@@ -1,4 +1,5 @@
-//! Writing answers and messages as output text: those of a desk, or those of one input.
+//! Writing answers and messages as output text: those of a desk, or those of one input. What writes a line stands in line in both: it is
+//! a tenth of a batch that sends many messages.
 
 ghost use Rattle.std.specs.Prelude.{◌≡◌, ◌++◌, ◌*◌, ◌≤◌, ◌<◌, ◌^◌, codes, length, OnOk, IfOk, map};
 ghost use Rattle.std.specs.Fmt.{decimal};
@@ -16,6 +17,7 @@ use rbc_rule::{Reply, SentList};
 use std::alloc::{AllocError, Global};
 
 /// Appends a number in decimal, without leading zeros.
+#[inline(always)]
 fn push_decimal(text: &mut Vec<u8>, number: u64) -> Result<(), AllocError>
     ensures { OnOk result (text.new.items ≡ text.old.items ++ decimal number) }
 {
@@ -47,6 +49,7 @@ fn push_nothing_sent(text: &mut Vec<u8>) -> Result<(), AllocError>
 }
 
 /// Appends the line of one result.
+#[inline(always)]
 fn push_result(text: &mut Vec<u8>, input: u64, reply: Reply) -> Result<(), AllocError>
     ensures { OnOk result (text.new.items ≡ text.old.items ++ result_line (input, reply)) }
 {
@@ -62,6 +65,7 @@ fn push_result(text: &mut Vec<u8>, input: u64, reply: Reply) -> Result<(), Alloc
 }
 
 /// Appends at most 32 bytes as hexadecimal digits, in upper case.
+#[inline(always)]
 fn push_hex(text: &mut Vec<u8>, bytes: &[u8]) -> Result<(), AllocError>
     requires { length bytes.now ≤ 32 }
     ensures { OnOk result (text.new.items ≡ text.old.items ++ encode_upper bytes.now) }
@@ -74,6 +78,7 @@ fn push_hex(text: &mut Vec<u8>, bytes: &[u8]) -> Result<(), AllocError>
 }
 
 /// Appends the line of a message to an engine, which an input sent.
+#[inline(always)]
 fn push_message(
     text: &mut Vec<u8>,
     engine: u32,
