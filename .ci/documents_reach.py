@@ -201,3 +201,5 @@ class World:
             spec = self.crates[path[1]].specs.get(path[3])
             if spec and name in spec.makes:
                 yield ("definition", path[1], path[3], spec.makes[name])
+            elif spec and name in spec.scope.names:  # it is handed on by `pub use`
+                yield from self.resolve(*spec.scope.names[name])

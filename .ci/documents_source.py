@@ -52,8 +52,8 @@ class Spec:
         text = blank(ANTT_NOISE, path.read_text())
         current = None
         for line in text.split("\n"):
-            if line.startswith("use "):
-                self.scope.use(line[4:])
+            if line.startswith(("use ", "pub use ")):
+                self.scope.use(line.removeprefix("pub ")[4:])
                 current = None
             elif self.begins(line):
                 match = self.HEAD.match(line)

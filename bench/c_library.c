@@ -21,13 +21,15 @@ enum { ROOM = 1 << 16, MAILS = 1 << 20 };
 
 struct mail {
     size_t number, line;
-    rbc_message message;
+    uint32_t engine, length;
+    const uint8_t *bytes;
 };
 
 static uint8_t track[1 << 24], batch[(1 << 24) + 1];
 static rbc_message out[ROOM], before[ROOM];
 static struct mail mails[MAILS];
-static size_t count_of_mails, refusals;
+static uint8_t kept[1 << 27]; /* the bytes of all mails */
+static size_t count_of_mails, count_kept, refusals;
 static long refused_at, calls;
 
 void *__real_malloc(size_t size);
@@ -62,7 +64,26 @@ static long resident(void) {
     return pages * 4096;
 }
 
+/* A caller that was compiled with another rbc.h is refused at each call, and nothing is changed. Behind the first byte, which was 0 in
+   RBC_NONE before version 3, an older desk has padding, of any value. */
+static void try_version(uint8_t version, size_t length) {
+    rbc_desk desk;
+    memset(&desk, RBC_VERSION, sizeof desk);
+    desk.version = version;
+    desk.memory = NULL;
+    rbc_answer answer = {77, 77};
+    if (rbc_open(&desk, track, length) != RBC_VERSION_OTHER)
+        stop("a desk of another version was opened", 0, version);
+    if (rbc_feed(&desk, batch, 0, out, 0, &answer) != RBC_VERSION_OTHER || answer.refused != 77 || answer.count != 77)
+        stop("a desk of another version took a line", 0, version);
+    if (rbc_close(&desk) != RBC_VERSION_OTHER || desk.version != version || desk.open != RBC_VERSION || desk.memory)
+        stop("a desk of another version was closed", 0, version);
+}
+
 static void open_desk(rbc_desk *desk, size_t length, int refuse) {
+    try_version(0, length);
+    try_version(RBC_VERSION - 1, length);
+    try_version(RBC_VERSION + 1, length);
     rbc_answer answer = {77, 77};
     if (rbc_feed(desk, batch, 0, out, 0, &answer) != RBC_NOT_NOW || answer.count != 77)
         stop("a desk that is not open took a line", 0, 0);
@@ -129,25 +150,27 @@ static void print(size_t line, const rbc_answer *answer) {
     else
         printf("%zu ok %zu\n", line, answer->count);
     for (size_t i = 0; i < answer->count; i++, count_of_mails++) {
-        if (count_of_mails == MAILS)
+        if (count_of_mails == MAILS || out[i].length > sizeof kept - count_kept)
             stop("too many messages", line, 0);
-        mails[count_of_mails] = (struct mail){count_of_mails, line, out[i]};
+        uint8_t *bytes = memcpy(kept + count_kept, out[i].bytes, out[i].length);
+        count_kept += out[i].length;
+        mails[count_of_mails] = (struct mail){count_of_mails, line, out[i].engine, out[i].length, bytes};
     }
 }
 
 static int by_engine(const void *a, const void *b) {
     const struct mail *x = a, *y = b;
-    if (x->message.engine != y->message.engine)
-        return x->message.engine < y->message.engine ? -1 : 1;
+    if (x->engine != y->engine)
+        return x->engine < y->engine ? -1 : 1;
     return x->number < y->number ? -1 : 1;
 }
 
 static void print_mails(void) {
     qsort(mails, count_of_mails, sizeof *mails, by_engine);
     for (size_t i = 0; i < count_of_mails; i++) {
-        printf("%u %zu ", (unsigned)mails[i].message.engine, mails[i].line);
-        for (uint32_t k = 0; k < mails[i].message.length; k++)
-            printf("%02X", mails[i].message.bytes[k]);
+        printf("%u %zu ", (unsigned)mails[i].engine, mails[i].line);
+        for (uint32_t k = 0; k < mails[i].length; k++)
+            printf("%02X", mails[i].bytes[k]);
         putchar('\n');
     }
 }

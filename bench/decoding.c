@@ -7,7 +7,7 @@
 #include <stdlib.h>
 #include <string.h>
 
-enum { MOST = 128, BITS = 8 * MOST };
+enum { MOST = 1024, BITS = 8 * MOST };
 
 static uint64_t state;
 
@@ -35,12 +35,11 @@ static void put(list *bits, uint32_t value, int width) {
     }
 }
 
-static list bits_of(const uint8_t *bytes, size_t length) {
-    list bits = {.count = 0};
+static void take_bits(list *bits, const uint8_t *bytes, size_t length) {
+    bits->count = 0;
     for (size_t i = 0; i < length; i++) {
-        put(&bits, bytes[i], 8);
+        put(bits, bytes[i], 8);
     }
-    return bits;
 }
 
 static uint32_t at(const list *bits, size_t place, int width) {
@@ -65,30 +64,45 @@ static uint32_t check_length(const list *bits, const uint32_t known[4], const si
     return ERTMS_MESSAGE;
 }
 
-static uint32_t slow_packet_to_train(const list *bits, ertms_to_train *it) {
-    if (bits->count < 98) {
-        return ERTMS_PACKET;
+/* One packet at a place: the place behind it, or 0 where it is none. */
+static size_t slow_packet_to_train(const list *bits, size_t place, ertms_packet *it) {
+    if (bits->count - place < 23) {
+        return 0;
     }
-    uint32_t size = at(bits, 85, 13);
-    it->kind = at(bits, 75, 8);
-    if (!((it->kind == 65 && size == 71) || (it->kind == 66 && size == 31))) {
-        return ERTMS_PACKET;
+    uint32_t size = at(bits, place + 10, 13);
+    it->kind = at(bits, place, 8);
+    if (!((it->kind == 65 && size == 71) || (it->kind == 66 && size == 31)) || size > bits->count - place) {
+        return 0;
     }
-    if (75 + size > bits->count || bits->count - 75 - size >= 8) {
-        return ERTMS_PACKET;
-    }
-    it->dir = at(bits, 83, 2);
+    it->dir = at(bits, place + 8, 2);
     if (it->kind == 66) {
-        it->id = at(bits, 98, 8);
-        return it->dir == 3 ? ERTMS_FIELD : ERTMS_OK;
+        it->id = at(bits, place + 23, 8);
+        return place + size;
     }
-    it->scale = at(bits, 98, 2);
-    it->id = at(bits, 100, 8);
-    it->start = at(bits, 108, 15);
-    it->length = at(bits, 123, 15);
-    it->front = at(bits, 138, 1);
-    it->speed = at(bits, 139, 7);
-    return it->dir == 3 || it->scale == 3 || it->speed > 120 ? ERTMS_FIELD : ERTMS_OK;
+    it->scale = at(bits, place + 23, 2);
+    it->id = at(bits, place + 25, 8);
+    it->start = at(bits, place + 33, 15);
+    it->length = at(bits, place + 48, 15);
+    it->front = at(bits, place + 63, 1);
+    it->speed = at(bits, place + 64, 7);
+    return place + size;
+}
+
+static uint32_t slow_packets_to_train(const list *bits, ertms_to_train *it) {
+    size_t place = 75;
+    int is_spare = 0;
+    do {
+        if (it->count == 100) {
+            return ERTMS_PACKET;
+        }
+        ertms_packet *packet = &it->packets[it->count++];
+        place = slow_packet_to_train(bits, place, packet);
+        if (place == 0) {
+            return ERTMS_PACKET;
+        }
+        is_spare |= packet->dir == 3 || packet->scale == 3 || packet->speed > 120;
+    } while (bits->count - place >= 8);
+    return is_spare ? ERTMS_FIELD : ERTMS_OK;
 }
 
 static uint32_t slow_to_train(const list *bits, ertms_to_train *it) {
@@ -104,7 +118,7 @@ static uint32_t slow_to_train(const list *bits, ertms_to_train *it) {
     it->lrbg = at(bits, 51, 24);
     it->kind = at(bits, 0, 8);
     if (it->kind == 24) {
-        return slow_packet_to_train(bits, it);
+        return slow_packets_to_train(bits, it);
     }
     it->id = at(bits, 75, 4);
     if (it->kind == 15) {
@@ -188,10 +202,19 @@ static uint32_t slow_from_train(const list *bits, ertms_from_train *it) {
     return slow_position(bits, 80, it);
 }
 
+static int is_same_packet(const ertms_packet *a, const ertms_packet *b) {
+    return a->kind == b->kind && a->id == b->id && a->scale == b->scale && a->dir == b->dir && a->front == b->front && a->speed == b->speed
+        && a->start == b->start && a->length == b->length;
+}
+
 static int is_same_to(const ertms_to_train *a, const ertms_to_train *b) {
-    return a->kind == b->kind && a->ack == b->ack && a->id == b->id && a->scale == b->scale && a->dir == b->dir && a->front == b->front
-        && a->speed == b->speed && a->reference == b->reference && a->distance == b->distance && a->start == b->start
-        && a->length == b->length && a->stamp == b->stamp && a->lrbg == b->lrbg;
+    for (size_t i = 0; i < ERTMS_PACKETS; i++) {
+        if (!is_same_packet(&a->packets[i], &b->packets[i])) {
+            return 0;
+        }
+    }
+    return a->kind == b->kind && a->ack == b->ack && a->id == b->id && a->scale == b->scale && a->dir == b->dir && a->reference == b->reference
+        && a->distance == b->distance && a->stamp == b->stamp && a->lrbg == b->lrbg && a->count == b->count;
 }
 
 static int is_same_from(const ertms_from_train *a, const ertms_from_train *b) {
@@ -257,9 +280,26 @@ static void put_from_train(list *bits) {
     put_packets(bits);
 }
 
+static void put_packet_to_train(list *bits) {
+    uint32_t is_limit = below(2);
+    put(bits, below(64) ? (is_limit ? 65 : 66) : below(256), 8);
+    put(bits, below(32) ? below(3) : 3, 2);
+    put(bits, below(64) ? (is_limit ? 71 : 31) : below(8192), 13);
+    if (is_limit) {
+        put(bits, below(32) ? below(3) : 3, 2);
+        put(bits, below(256), 8);
+        put(bits, below(1 << 15), 15);
+        put(bits, below(1 << 15), 15);
+        put(bits, below(2), 1);
+        put(bits, below(32) ? below(121) : below(128), 7);
+    } else {
+        put(bits, below(256), 8);
+    }
+}
+
 static void put_to_train(list *bits) {
     static const uint32_t numbers[5] = {15, 16, 18, 24, 24};
-    uint32_t chosen = below(5), is_limit = chosen == 3;
+    uint32_t chosen = below(5);
     put(bits, numbers[chosen], 8);
     put(bits, 0, 10);
     put(bits, (uint32_t)next(), 32);
@@ -276,18 +316,8 @@ static void put_to_train(list *bits) {
     if (chosen < 3) {
         return;
     }
-    put(bits, below(16) ? (is_limit ? 65 : 66) : below(256), 8);
-    put(bits, below(8) ? below(3) : 3, 2);
-    put(bits, below(16) ? (is_limit ? 71 : 31) : below(8192), 13);
-    if (is_limit) {
-        put(bits, below(8) ? below(3) : 3, 2);
-        put(bits, below(256), 8);
-        put(bits, below(1 << 15), 15);
-        put(bits, below(1 << 15), 15);
-        put(bits, below(2), 1);
-        put(bits, below(8) ? below(121) : below(128), 7);
-    } else {
-        put(bits, below(256), 8);
+    for (uint32_t left = below(64) ? 1 + below(4) : 1 + below(104); left > 0; left--) {
+        put_packet_to_train(bits);
     }
 }
 
@@ -301,7 +331,8 @@ static void recount(uint8_t *bytes, size_t length) {
 
 /* A message, with any fill bits. */
 static size_t make_message(uint8_t *bytes) {
-    list bits = {.count = 0};
+    list bits;
+    bits.count = 0;
     if (below(2)) {
         put_from_train(&bits);
     } else {
@@ -410,7 +441,8 @@ int main(int count, char **words) {
         if (i % 4 > 1) {
             length = mutate(bytes, length);
         }
-        list bits = bits_of(bytes, length);
+        list bits;
+        take_bits(&bits, bytes, length);
         check_from_train(bytes, length, &bits);
         check_to_train(bytes, length, &bits);
     }

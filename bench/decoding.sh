@@ -16,5 +16,5 @@ if [[ ${1-} == --built ]]; then
 else
     (cd "$root/crates/ertms_c" && rt lib) > "$work/log" 2>&1 || { tail -n 20 "$work/log" >&2; exit 1; }
 fi
-cc -O2 -std=c11 -Wall -Wextra -Werror -I "$root/include" "$here/decoding.c" "$root/crates/ertms_c/out/libertms_c.a" -o "$work/decoding"
+cc -O2 -std=c11 -Wall -Wextra -Werror -I "$root/include" "$here/decoding.c" "$root/include/heap.c" "$root/crates/ertms_c/out/libertms_c.a" -o "$work/decoding"
 "$work/decoding" "${1:-10000000}" "${2:-1}"

@@ -23,9 +23,13 @@ SHOWN = 10  # so many wrong ends are printed of each call
 
 # each call with the crate and the name of its test
 TESTS = {
+    "read_to_train": ("test_messages", "refusals::reads_or_wants_memory"),
+    "ToTrain::copy": ("test_messages", "refusals::copies_or_wants_memory"),
+    "describe": ("test_messages", "refusals::describes_or_wants_memory"),
     "track_from_toml": ("test_trains", "tracks::reads_tracks_or_wants_memory"),
     "issue": ("test_trains", "refusals::issues_or_keeps_the_table"),
     "settle": ("test_trains", "refusals::settles_or_keeps_the_train"),
+    "settle, by one message": ("test_trains", "refusals::settles_by_one_message_or_keeps_the_train"),
     "Notes::add": ("test_records", "noted_numbers::notes_or_stays_as_it_was"),
     "decide": ("test_records", "refusals::decides_or_refuses"),
     "apply": ("test_records", "refusals::applies_or_hands_back"),
@@ -45,6 +49,8 @@ BESIDE = re.compile(rb'error: (AllocError|AllocFailed \{ \.\. \}|OutOfMemory( \{
 # messages, and what they say
 DESCRIBED = {
     "1804C00000FA600000A82811C0000000FA2200": b"24 stamp 1001 ack 1 lrbg 5 65 dir 1 scale 0 tsr 0 start 0 length 1000 front 1 speed 8\n",
+    "1807000000FA600000A82811C004E200FA2210502380338801F40800": b"24 stamp 1001 ack 1 lrbg 5 65 dir 1 scale 0 tsr 0 start 10000 length 1000 front 1 "
+    b"speed 8 65 dir 1 scale 0 tsr 1 start 20000 length 1000 front 0 speed 16\n",
     "8806000000FA000001C000E400000287D0500C8019000830": b"136 stamp 1000 engine 7 0 scale 0 lrbg 5 distance 2000 dir 1 side 1 over 100 under 100\n",
 }
 
@@ -154,7 +160,7 @@ def at_program(root, refuse):
     """Refuses memory to the program on each batch of examples/, and where it describes messages."""
     program, wrong = program_of(root), 0
     for message, text in DESCRIBED.items():
-        name = f"the program on message {text.split()[0].decode()}"
+        name = f"the program on message {text.split()[0].decode()}, {len(message) // 2} bytes"
         wrong += count(name, [program, "decode", message], b"", refuse, lambda ended: end_of_program(ended, text))
     for batch in sorted(glob.glob(f"{root}/examples/*.batch")):
         text, expected = read(batch), read(batch.removesuffix("batch") + "expected")

@@ -9,10 +9,11 @@
 #include <stdlib.h>
 #include <string.h>
 
-/* A message that was sent, with the number of the line that sent it. */
+/* A message that was sent, with the number of the line that sent it: as many bytes as it has. */
 struct mail {
     size_t number, line;
-    rbc_message message;
+    uint32_t engine, length;
+    uint8_t *bytes;
 };
 
 static struct mail *mails;
@@ -60,15 +61,16 @@ static void feed(rbc_desk *desk, size_t line, const uint8_t *text, size_t length
     for (size_t i = 0; i < answer.count; i++) {
         if (count_of_mails == room_for_mails)
             mails = grown(mails, (room_for_mails = 2 * room_for_mails + 64) * sizeof *mails);
-        mails[count_of_mails] = (struct mail){count_of_mails, line, out[i]};
+        uint8_t *bytes = memcpy(grown(NULL, out[i].length), out[i].bytes, out[i].length);
+        mails[count_of_mails] = (struct mail){count_of_mails, line, out[i].engine, out[i].length, bytes};
         count_of_mails++;
     }
 }
 
 static int by_engine(const void *a, const void *b) {
     const struct mail *x = a, *y = b;
-    if (x->message.engine != y->message.engine)
-        return x->message.engine < y->message.engine ? -1 : 1;
+    if (x->engine != y->engine)
+        return x->engine < y->engine ? -1 : 1;
     return x->number < y->number ? -1 : 1;
 }
 
@@ -99,10 +101,11 @@ int main(int argc, char **argv) {
     if (count_of_mails)
         qsort(mails, count_of_mails, sizeof *mails, by_engine);
     for (size_t i = 0; i < count_of_mails; i++) {
-        printf("%u %zu ", (unsigned)mails[i].message.engine, mails[i].line);
-        for (uint32_t k = 0; k < mails[i].message.length; k++)
-            printf("%02X", mails[i].message.bytes[k]);
+        printf("%u %zu ", (unsigned)mails[i].engine, mails[i].line);
+        for (uint32_t k = 0; k < mails[i].length; k++)
+            printf("%02X", mails[i].bytes[k]);
         putchar('\n');
+        free(mails[i].bytes);
     }
     free(mails);
     if (rbc_close(&desk) != RBC_DONE || rbc_close(&desk) != RBC_NOT_NOW)

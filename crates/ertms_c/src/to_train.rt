@@ -1,41 +1,121 @@
 //! The fields of a message to a train, as C has them.
 
-ghost use Rattle.std.specs.Prelude.{◌≡◌, IsTrue, ◌↔◌, IfSome, IfNone};
+ghost use Rattle.std.specs.Prelude.{◌≡◌, ◌≤◌, List, length, map, take, replicate, IsTrue, false, ◌↔◌, IfSome, IfNone};
+ghost use Rattle.std.specs.List.{All};
+ghost use Rattle.ertms_codec.specs.declared.packets.Part.{Part as Packet};
+ghost use Rattle.ertms_codec.specs.declared.to_train.ToTrain.TheVariants.{General};
+ghost use Rattle.ertms_codec.specs.PacketsToTrain.{PacketFits};
 ghost use Rattle.ertms_codec.specs.ToTrain.{Fits};
-ghost use Rattle.ertms_c.specs.ToTrainFields.{begun, fields_of, named_by, AreOfNone};
+ghost use Rattle.ertms_c.specs.ToTrainFields.{begun, fields_of, head_in, named_by, packet_fields, packets_fields, packet_named_by, no_packet, AreFieldsOf, IsFrame, AreOfNone};
 
-use ertms_codec::{Head, ToTrain};
+use ertms_codec::{Head, Packets, Part, ToTrain};
 
-/// A message to a train. A variable that its kind does not have is 0.
+/// How many packets a message has room for.
+pub const MOST_PACKETS: usize = 100;
+
+/// The fields of no packet.
+const NO_PACKET: PacketFields = PacketFields {
+    kind: 0,
+    id: 0,
+    scale: 0,
+    dir: 0,
+    front: 0,
+    speed: 0,
+    start: 0,
+    length: 0,
+};
+
+/// A packet of message 24. A variable that its kind does not have is 0.
 #[repr(C)]
 #[derive(Clone, Copy, Drop, PartialEq, Eq)]
-pub struct ToTrainFields {
-    /// NID_MESSAGE 15, 16 or 18; or of message 24 NID_PACKET 65 or 66.
+pub struct PacketFields {
+    /// NID_PACKET: 65 or 66; 0 where there is no packet.
     pub kind: u8,
-    /// M_ACK: 0 or 1.
-    pub ack: u8,
-    /// NID_EM, 0 to 15; or of a packet NID_TSR, 0 to 255.
+    /// NID_TSR: 0 to 255.
     pub id: u8,
-    /// Q_SCALE of 15 and 65: 0 is 10 cm, 1 is 1 m, 2 is 10 m.
+    /// Q_SCALE of 65: 0 is 10 cm, 1 is 1 m, 2 is 10 m.
     pub scale: u8,
-    /// Q_DIR of 15, 65 and 66: 0 reverse, 1 nominal, 2 both.
+    /// Q_DIR: 0 reverse, 1 nominal, 2 both.
     pub dir: u8,
     /// Q_FRONT of 65: 0 or 1.
     pub front: u8,
     /// V_TSR of 65: 0 to 120 in units of 5 km/h.
     pub speed: u8,
-    /// D_REF of 15, in units of `scale`.
-    pub reference: i16,
-    /// D_EMERGENCYSTOP of 15: 0 to 32767 in units of `scale`.
-    pub distance: u16,
     /// D_TSR of 65: 0 to 32767 in units of `scale`.
     pub start: u16,
     /// L_TSR of 65: 0 to 32767 in units of `scale`.
     pub length: u16,
+}
+
+/// A message to a train. A variable that its kind does not have is 0.
+#[repr(C)]
+#[derive(Clone, Copy, Drop, PartialEq, Eq)]
+pub struct ToTrainFields {
+    /// NID_MESSAGE: 15, 16, 18 or 24.
+    pub kind: u8,
+    /// M_ACK: 0 or 1.
+    pub ack: u8,
+    /// NID_EM of 15, 16 and 18: 0 to 15.
+    pub id: u8,
+    /// Q_SCALE of 15: 0 is 10 cm, 1 is 1 m, 2 is 10 m.
+    pub scale: u8,
+    /// Q_DIR of 15: 0 reverse, 1 nominal, 2 both.
+    pub dir: u8,
+    /// D_REF of 15, in units of `scale`.
+    pub reference: i16,
+    /// D_EMERGENCYSTOP of 15: 0 to 32767 in units of `scale`.
+    pub distance: u16,
     /// T_TRAIN, in units of 10 ms; 4294967295 is unknown.
     pub stamp: u32,
     /// NID_LRBG: 0 to 16777215, which is unknown.
     pub lrbg: u32,
+    /// How many packets 24 has: 1 to 100.
+    pub count: u32,
+    /// They stand at the front; behind them all is 0.
+    pub packets: [PacketFields; MOST_PACKETS],
+}
+
+/// The fields of a packet.
+fn packet_fields(part: Part) -> PacketFields
+    ensures { result ≡ packet_fields part }
+{
+    match part {
+        Part::Restrict {
+            dir,
+            scale,
+            id,
+            start,
+            length,
+            front,
+            speed,
+        } => PacketFields {
+            kind: 65,
+            id,
+            scale,
+            dir,
+            front: u8::from(front),
+            speed,
+            start,
+            length,
+        },
+        Part::Lift { dir, id } => PacketFields {
+            kind: 66,
+            id,
+            dir,
+            ..NO_PACKET
+        },
+    }
+}
+
+/// The fields of packets, with those of no packet behind them.
+fn packets_fields(packets: &Packets) -> [PacketFields; MOST_PACKETS]
+    ensures { result ≡ packets_fields packets.now }
+{
+    let mut fields = [NO_PACKET; MOST_PACKETS];
+    for index in 0..packets.count() {
+        fields[index] = packet_fields(packets.at(index));
+    }
+    fields
 }
 
 /// The fields of a kind of message and its head, with no other.
@@ -48,14 +128,12 @@ fn begun(kind: u8, head: Head) -> ToTrainFields
         id: 0,
         scale: 0,
         dir: 0,
-        front: 0,
-        speed: 0,
         reference: 0,
         distance: 0,
-        start: 0,
-        length: 0,
         stamp: head.stamp,
         lrbg: head.lrbg,
+        count: 0,
+        packets: [NO_PACKET; MOST_PACKETS],
     }
 }
 
@@ -63,7 +141,7 @@ fn begun(kind: u8, head: Head) -> ToTrainFields
 pub fn fields_of(message: &ToTrain) -> ToTrainFields
     ensures { result ≡ fields_of message.now }
 {
-    match *message {
+    match message {
         ToTrain::StopAt {
             head,
             id,
@@ -72,68 +150,52 @@ pub fn fields_of(message: &ToTrain) -> ToTrainFields
             dir,
             distance,
         } => ToTrainFields {
-            id,
-            scale,
-            reference,
-            dir,
-            distance,
-            ..begun(15, head)
+            id: *id,
+            scale: *scale,
+            reference: *reference,
+            dir: *dir,
+            distance: *distance,
+            ..begun(15, *head)
         },
         ToTrain::Stop { head, id } => ToTrainFields {
-            id,
-            ..begun(16, head)
+            id: *id,
+            ..begun(16, *head)
         },
         ToTrain::Revoke { head, id } => ToTrainFields {
-            id,
-            ..begun(18, head)
+            id: *id,
+            ..begun(18, *head)
         },
-        ToTrain::Restrict {
-            head,
-            dir,
-            scale,
-            id,
-            start,
-            length,
-            front,
-            speed,
-        } => ToTrainFields {
-            dir,
-            scale,
-            id,
-            start,
-            length,
-            front: u8::from(front),
-            speed,
-            ..begun(65, head)
-        },
-        ToTrain::Lift { head, dir, id } => ToTrainFields {
-            dir,
-            id,
-            ..begun(66, head)
+        ToTrain::General { head, packets } => ToTrainFields {
+            count: packets.count() as u32,
+            packets: packets_fields(packets),
+            ..begun(24, *head)
         },
     }
 }
 
-/// The message that fields name by their kind, whether or not it fits and has all these fields.
-fn named_by(fields: &ToTrainFields) -> Option<ToTrain>
-    ensures { result ≡ named_by fields.now }
+/// The head that fields name.
+pub fn head_in(fields: &ToTrainFields) -> Head
+    ensures { result ≡ head_in fields.now }
 {
-    let head = Head {
+    Head {
         stamp: fields.stamp,
         ack: fields.ack == 1,
         lrbg: fields.lrbg,
-    };
+    }
+}
+
+/// The message but 24 that fields name by their kind, whether or not it fits and has all these fields.
+fn named_by(fields: &ToTrainFields) -> Option<ToTrain>
+    ensures { result ≡ named_by fields.now }
+{
+    let head = head_in(fields);
     let ToTrainFields {
         kind,
         id,
         scale,
         dir,
-        front,
-        speed,
         reference,
         distance,
-        start,
-        length,
         ..
     } = *fields;
     if kind == 15 {
@@ -149,19 +211,6 @@ fn named_by(fields: &ToTrainFields) -> Option<ToTrain>
         Some(ToTrain::Stop { head, id })
     } else if kind == 18 {
         Some(ToTrain::Revoke { head, id })
-    } else if kind == 65 {
-        Some(ToTrain::Restrict {
-            head,
-            dir,
-            scale,
-            id,
-            start,
-            length,
-            front: front == 1,
-            speed,
-        })
-    } else if kind == 66 {
-        Some(ToTrain::Lift { head, dir, id })
     } else {
         None
     }
@@ -174,8 +223,9 @@ fn are_same(fields: &ToTrainFields, others: &ToTrainFields) -> bool
     fields == others
 }
 
-/// The message that has exactly these fields, if there is one and it fits.
+/// The message but 24 that has exactly these fields, if there is one and it fits.
 pub fn message_of(fields: &ToTrainFields) -> Option<ToTrain>
+    requires { ¬ (fields.now.kind ≡ 24) }
     ensures fits { IfSome result (λ m. Fits m) }
     ensures same { IfSome result (λ m. fields.now ≡ fields_of m) }
     ensures none { IfNone result (AreOfNone fields.now) }
@@ -184,4 +234,101 @@ pub fn message_of(fields: &ToTrainFields) -> Option<ToTrain>
         Some(message) if message.fits() && are_same(fields, &fields_of(&message)) => Some(message),
         _ => None,
     }
+}
+
+/// The packet that fields name by their kind, whether or not it fits and has all these fields.
+fn packet_named_by(fields: &PacketFields) -> Option<Part>
+    ensures { result ≡ packet_named_by fields.now }
+{
+    let PacketFields {
+        kind,
+        id,
+        scale,
+        dir,
+        front,
+        speed,
+        start,
+        length,
+    } = *fields;
+    if kind == 65 {
+        Some(Part::Restrict {
+            dir,
+            scale,
+            id,
+            start,
+            length,
+            front: front == 1,
+            speed,
+        })
+    } else if kind == 66 {
+        Some(Part::Lift { dir, id })
+    } else {
+        None
+    }
+}
+
+/// Whether all fields of packets are the same.
+fn are_same_packets(fields: &PacketFields, others: &PacketFields) -> bool
+    ensures { IsTrue result ↔ (fields.now ≡ others.now) }
+{
+    fields == others
+}
+
+/// The packet that has exactly these fields, if there is one and it fits.
+fn packet_of(fields: &PacketFields) -> Option<Part>
+    ensures fits { IfSome result (λ packet. PacketFits packet) }
+    ensures same { IfSome result (λ packet. fields.now ≡ packet_fields packet) }
+    ensures none { IfNone result ((packet : Packet) → PacketFits packet → fields.now ≡ packet_fields packet → ⊥) }
+{
+    match packet_named_by(fields) {
+        Some(packet) if packet.fits() && are_same_packets(fields, &packet_fields(packet)) => {
+            Some(packet)
+        }
+        _ => None,
+    }
+}
+
+/// Puts the packets that have exactly these fields to the front of others, and tells whether there are such and they fit.
+pub fn packets_of(fields: &[PacketFields], packets: &mut [Part]) -> bool
+    requires { length fields.now ≤ length packets.old }
+    ensures are { IsTrue result → AreFieldsOf (take (length fields.now) packets.new) fields.now }
+    ensures none { result ≡ false → (others : List Packet) → AreFieldsOf others fields.now → ⊥ }
+{
+    for index in 0..fields.len() {
+        match packet_of(&fields[index]) {
+            Some(packet) => packets[index] = packet,
+            None => return false,
+        }
+    }
+    true
+}
+
+/// Whether fields are those of no packet.
+fn is_none(packet: &PacketFields) -> bool
+    ensures { IsTrue result ↔ (packet.now ≡ no_packet) }
+{
+    are_same_packets(packet, &NO_PACKET)
+}
+
+/// Whether all are the fields of no packet.
+fn are_none(packets: &[PacketFields]) -> bool
+    ensures { IsTrue result ↔ All (λ packet. packet ≡ no_packet) packets.now }
+{
+    packets.iter().all(|packet| is_none(packet))
+}
+
+/// Whether all fields but those of its packets are those of a message 24 that fits.
+pub fn is_frame(fields: &ToTrainFields) -> bool
+    ensures { IsTrue result ↔ IsFrame fields.now }
+{
+    let others = ToTrainFields {
+        count: fields.count,
+        packets: fields.packets,
+        ..begun(24, head_in(fields))
+    };
+    fields.lrbg <= 16_777_215
+        && fields.count >= 1
+        && fields.count <= 100
+        && are_same(fields, &others)
+        && are_none(&fields.packets[fields.count as usize..])
 }

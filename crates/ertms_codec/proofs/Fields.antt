@@ -1,5 +1,6 @@
 -- Fields against the bits that they are laid out in.
-use Rattle.std.proofs.Common.{◌≡◌, ℕ, zero, suc, ◌+◌, ◌*◌, ◌%◌, ◌^◌, ◌<◌, ◌≤◌, ◌∙◌, List, [], ◌∷◌, ◌++◌, length, drop, cond, eqb, refl, sym, ap, arith, append_assoc, drop-drop, drop_at, length-append, length-drop, mod-eq_of_lt}
+use Rattle.std.proofs.Common.{◌≡◌, ℕ, zero, suc, ◌+◌, ◌*◌, ◌%◌, ◌^◌, ◌<◌, ◌≤◌, ◌∙◌, List, [], ◌∷◌, ◌++◌, length, drop, cond, eqb, refl, sym, ap, arith, append_assoc, drop-drop, drop_at, length-append, length-drop, mod-eq_of_lt, Bool, true, false}
+use Rattle.std.specs.Prelude.{◌==◌, if◌then◌else◌}
 use Rattle.std.proofs.lemmas.Nat.{shr_high}
 use Rattle.std.proofs.lemmas.List.Sums.{sum_by-cons}
 use Rattle.std.specs.Int.{bit_at}
@@ -77,7 +78,20 @@ at_places (f ∷ fields) place bits rest within hold same =
     }
 
 -- a flag against the one bit that it is
-pub flag_is : (value : ℕ) → value < 2 → cond (eqb value 1) 1 0 ≡ value
+flag_is : (value : ℕ) → value < 2 → cond (eqb value 1) 1 0 ≡ value
 flag_is zero small = refl
 flag_is (suc zero) small = refl
 flag_is (suc (suc value)) small = absurd (omega arith)
+
+-- a number at a place is below that power of two
+pub at_below : (place width : ℕ) (bits : List ℕ) → AreBits bits → value_at place width bits < 2 ^ width
+at_below place width bits are = number_of-below width (drop place bits) (AreBits-drop place bits are)
+
+-- a flag at a place
+pub flag_at : (place : ℕ) (bits : List ℕ) → AreBits bits → (if value_at place 1 bits == 1 then 1 else 0) ≡ value_at place 1 bits
+flag_at place bits are = flag_is (value_at place 1 bits) (at_below place 1 bits are)
+
+-- a flag from the bit that it is
+pub flag_back : (flag : Bool) (value : ℕ) → (if flag then 1 else 0) ≡ value → flag ≡ (value == 1)
+flag_back true value e = rw (← e)
+flag_back false value e = rw (← e)

@@ -1,9 +1,13 @@
+pub mod Faults
 pub mod FieldLists
 pub mod Fields
 pub mod FirstFailing
 pub mod FromTrainAgain
 pub mod FromTrainLaws
 pub mod FromTrainSteps
+pub mod GeneralPackets
+pub mod GeneralReading
+pub mod PacketFields
 pub mod PacketLists
 pub mod Places
 pub mod PositionFields

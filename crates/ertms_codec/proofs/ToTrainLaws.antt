@@ -1,29 +1,27 @@
 -- What is read of a message to a train is spelled so, and what is spelled so is read.
-use Rattle.std.proofs.Common.{◌≡◌, ℕ, ◌+◌, ◌*◌, ◌^◌, ◌<◌, ◌≤◌, ◌∙◌, List, length, drop, refl, sym, ap, subst, inl, inr, arith, length-drop, drop-drop}
-use Rattle.std.specs.Prelude.{◌==◌, if◌then◌else◌}
+use Rattle.std.proofs.Common.{◌≡◌, ℕ, ◌+◌, ◌*◌, ◌<◌, ◌≤◌, ◌∙◌, List, length, take, drop, refl, sym, ap, subst, inl, inr, arith, length-drop}
+use Rattle.std.specs.Prelude.{if◌then◌else◌}
+use Rattle.std.specs.List.{flat_map}
 use Rattle.std.specs.Int.{w16}
 use Rattle.std.proofs.lemmas.Int.{of_z-to_z}
 use Rattle.std.proofs.Math.Facts.{sfits_to_z}
-use Rattle.ertms_bits.specs.Bits.{number_of, bits_of_bytes, AreBits}
+use Rattle.ertms_bits.specs.Bits.{bits_of_bytes}
 use Rattle.ertms_bits.proofs.Bits.{length-bits_of_bytes}
-use Rattle.ertms_bits.proofs.Numbers.{AreBits-drop, AreBits-bits_of_bytes, number_of-below}
+use Rattle.ertms_bits.proofs.Numbers.{AreBits-drop, AreBits-bits_of_bytes}
 use Rattle.ertms_codec.specs.declared.to_train.Head.{Head}
 use Rattle.ertms_codec.specs.declared.to_train.ToTrain.{ToTrain}
+use Rattle.ertms_codec.specs.declared.to_train.ToTrain.TheVariants.{General}
 use Rattle.ertms_codec.specs.Layout.{width_of, value_at}
+use Rattle.ertms_codec.specs.PacketsToTrain.{fields_of_packet, most_packets}
 use Rattle.ertms_codec.specs.ToTrain.{Fits, HoldsReference, Spells, fields_of, body_of, head_of, number_of_message, length_of_message}
 use Rattle.ertms_codec.specs.Refusals.{number_in, HasItsLength}
-use Rattle.ertms_codec.specs.RefusalsToTrain.{IsToTrain, IsLongEnough, IsOnePacket, HasItsPacket}
-use Rattle.ertms_codec.specs.ToTrainAtPlaces.{head_at, stop_at, packet_at, message_at}
+use Rattle.ertms_codec.specs.RefusalsToTrain.{IsToTrain, IsLongEnough, ArePackets, HasItsPackets}
+use Rattle.ertms_codec.specs.ToTrainAtPlaces.{head_at, stop_at, packets_at, message_at}
 use Rattle.ertms_codec.specs.Reading.{IsReadToTrain}
-use Rattle.ertms_codec.proofs.Fields.{AreAt, spelled_at, hold_at, flag_is}
-
--- a number at a place is below that power of two
-at_below : (place width : ℕ) (bits : List ℕ) → AreBits bits → value_at place width bits < 2 ^ width
-at_below place width bits are = number_of-below width (drop place bits) (AreBits-drop place bits are)
-
--- a flag at a place
-flag_at : (place : ℕ) (bits : List ℕ) → AreBits bits → (if value_at place 1 bits == 1 then 1 else 0) ≡ value_at place 1 bits
-flag_at place bits are = flag_is (value_at place 1 bits) (at_below place 1 bits are)
+use Rattle.ertms_codec.proofs.FieldLists.{AreAt-drop}
+use Rattle.ertms_codec.proofs.GeneralPackets.{packets_stand}
+use Rattle.ertms_codec.proofs.PacketFields.{width_of-append}
+use Rattle.ertms_codec.proofs.Fields.{AreAt, spelled_at, hold_at, at_below, flag_at}
 
 -- a message whose variables are at their places, in as many bytes as it has
 record IsLaidOut (bytes : List ℕ) (m : ToTrain) : Type 0 where
@@ -44,36 +42,27 @@ laid_out-stop bytes m head sized number long within fill body reference =
     let total = length-bits_of_bytes bytes in
     record { are = header_at bytes m head number (sized.1 ∙ long) body; reference = reference; within = omega (arith, total); fill = omega (arith, total) }
 
--- the bits of message 24 by those of its packet
-sized_by : (bytes : List ℕ) (size width : ℕ) → IsOnePacket (drop 75 (bits_of_bytes bytes)) → value_at 10 13 (drop 75 (bits_of_bytes bytes)) ≡ size → (75 + size ≤ 8 * length bytes) × (8 * length bytes < 75 + size + 8)
-sized_by bytes size width packet e =
-    let total = length-bits_of_bytes bytes in
-    let left = length-drop 75 (bits_of_bytes bytes) in
-    let header = packet.header in
-    let within = packet.within in
-    let fill = packet.fill in
-    (omega (arith, total, left), omega (arith, total, left))
+-- the fields of a message are those of its header and of its body
+pub whole_width : (m : ToTrain) → width_of (fields_of m) ≡ 75 + width_of (body_of m)
+whole_width m =
+    let header = take 5 (fields_of m) in
+    width_of-append header (body_of m)
 
-laid_out-general : (bytes : List ℕ) → HasItsLength bytes → number_in bytes ≡ 24 → IsOnePacket (drop 75 (bits_of_bytes bytes)) → IsLaidOut bytes (packet_at (value_at 75 8 (bits_of_bytes bytes)) (bits_of_bytes bytes))
-laid_out-general bytes sized number packet =
+laid_out-general : (bytes : List ℕ) → HasItsLength bytes → number_in bytes ≡ 24 → ArePackets most_packets (drop 75 (bits_of_bytes bytes)) → IsLaidOut bytes (General (head_at (bits_of_bytes bytes)) (packets_at most_packets (drop 75 (bits_of_bytes bytes))))
+laid_out-general bytes sized number are =
     let bits = bits_of_bytes bytes in
-    let are = AreBits-bits_of_bytes bytes in
-    let size : value_at 10 13 (drop 75 bits) ≡ value_at 85 13 bits = ap (number_of 13) (drop-drop 10 75 bits) in
-    elim packet.sized [
-      | inl e ↦
-          let between = sized_by bytes 71 71 packet e.1 in
-          let kind : packet_at (value_at 75 8 bits) bits ≡ packet_at 65 bits = ap (λ n. packet_at n bits) e.0 in
-          let front = flag_at 138 bits are in
-          rw kind (laid_out-stop bytes (packet_at 65 bits) refl sized number (omega (arith, between.0, between.1)) (omega arith) (omega arith)
-          (sym e.0, (refl, (sym (sym size ∙ e.1), (refl, (refl, (refl, (refl, (front, (refl, tt))))))))) tt)
-      | inr e ↦
-          let between = sized_by bytes 31 31 packet e.1 in
-          let kind : packet_at (value_at 75 8 bits) bits ≡ packet_at 66 bits = ap (λ n. packet_at n bits) e.0 in
-          rw kind (laid_out-stop bytes (packet_at 66 bits) refl sized number (omega (arith, between.0, between.1)) (omega arith) (omega arith)
-          (sym e.0, (refl, (sym (sym size ∙ e.1), (refl, tt)))) tt)
-    ]
+    let packets = packets_at most_packets (drop 75 bits) in
+    let m = General (head_at bits) packets in
+    let total = length-bits_of_bytes bytes in
+    let left = length-drop 75 bits in
+    let stand = packets_stand most_packets (drop 75 bits) (AreBits-drop 75 bits (AreBits-bits_of_bytes bytes)) are in
+    let width = whole_width m in
+    let within = stand.within in
+    let fill = stand.fill in
+    let long : length bytes ≡ length_of_message m = omega arith in
+    laid_out-stop bytes m refl sized number long (omega arith) (omega arith) (AreAt-drop (flat_map fields_of_packet packets) 75 0 bits stand.are) tt
 
-laid_out : (bytes : List ℕ) → HasItsLength bytes → IsToTrain (number_in bytes) → IsLongEnough (number_in bytes) (length bytes) → HasItsPacket bytes → IsLaidOut bytes (message_at (bits_of_bytes bytes))
+laid_out : (bytes : List ℕ) → HasItsLength bytes → IsToTrain (number_in bytes) → IsLongEnough (number_in bytes) (length bytes) → HasItsPackets bytes → IsLaidOut bytes (message_at (bits_of_bytes bytes))
 laid_out bytes sized known enough packet =
     let bits = bits_of_bytes bytes in
     let reference = of_z-to_z w16 (value_at 81 16 bits) (at_below 81 16 bits (AreBits-bits_of_bytes bytes)) in
@@ -91,7 +80,7 @@ laid_out bytes sized known enough packet =
               let kind : message_at bits ≡ stop_at 18 bits = rw e in
               rw kind (laid_out-stop bytes (stop_at 18 bits) refl sized e (enough.revocation e) (omega arith) (omega arith) (refl, tt) tt)
           | inr e ↦
-              let kind : message_at bits ≡ packet_at (value_at 75 8 bits) bits = rw e in
+              let kind : message_at bits ≡ General (head_at bits) (packets_at most_packets (drop 75 bits)) = rw e in
               rw kind (laid_out-general bytes sized e (packet e))
         ]
       ]
@@ -115,4 +104,4 @@ spells bytes m l fits =
 -- what is read is spelled so
 pub found : (bytes : List ℕ) (m : ToTrain) → IsReadToTrain bytes m → Spells bytes m
 found bytes m r =
-    subst (Spells bytes) (sym r.is) (spells bytes (message_at (bits_of_bytes bytes)) (laid_out bytes r.sized r.known r.enough r.packet) r.spare)
+    subst (Spells bytes) (sym r.is) (spells bytes (message_at (bits_of_bytes bytes)) (laid_out bytes r.sized r.known r.enough r.packets) r.spare)

@@ -1,6 +1,7 @@
 pub mod FromTrain
 pub mod FromTrainAtPlaces
 pub mod Layout
+pub mod PacketsToTrain
 pub mod Reading
 pub mod RefusalNames
 pub mod Refusals

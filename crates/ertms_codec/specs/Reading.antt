@@ -4,9 +4,12 @@ use Rattle.ertms_bits.specs.Bits.{number_of, bits_of_bytes, AreBits}
 use Rattle.ertms_codec.specs.declared.to_train.ToTrain.{ToTrain}
 use Rattle.ertms_codec.specs.declared.error.DecodeError.{DecodeError}
 use Rattle.ertms_codec.specs.declared.error.DecodeError.TheVariants.{Packet, Field}
+use Rattle.ertms_codec.specs.declared.error.ReadError.{ReadError}
+use Rattle.ertms_codec.specs.declared.error.ReadError.TheVariants.{Decode, OutOfMemory}
 use Rattle.ertms_codec.specs.declared.from_train.FromTrain.{FromTrain}
 use Rattle.ertms_codec.specs.declared.from_train.FromTrain.TheVariants.{Report, StopAck}
 use Rattle.ertms_codec.specs.Layout.{value_at}
+use Rattle.ertms_codec.specs.PacketsToTrain.{most_packets}
 use Rattle.ertms_codec.specs.Refusals.{Unless, Never, number_in, HasItsLength}
 use Rattle.ertms_codec.specs.FromTrain.{PositionFits}
 use Rattle.ertms_codec.specs.RefusalsToTrain as to_train
@@ -33,9 +36,14 @@ pub record IsReadToTrain (bytes : List ℕ) (m : ToTrain) : Type 0 where
   pub sized : HasItsLength bytes
   pub known : to_train.IsToTrain (number_in bytes)
   pub enough : to_train.IsLongEnough (number_in bytes) (length bytes)
-  pub packet : to_train.HasItsPacket bytes
+  pub packets : to_train.HasItsPackets bytes
   pub spare : to_train_at.HasNoSpare bytes
   pub is : m ≡ to_train_at.message_at (bits_of_bytes bytes)
+
+-- the packets of message 24 are not read: the bits are none, or memory ran out
+abbrev pub IsPacketsFault : List ℕ → ReadError → Type 0
+IsPacketsFault bits (Decode e) = (¬ to_train.ArePackets most_packets bits) × (e ≡ Packet)
+IsPacketsFault bits OutOfMemory = Unit {0}
 
 -- the bits are packets to their end, and the position that they begin with has no spare value
 pub record ReadsPosition (bits : List ℕ) : Type 0 where

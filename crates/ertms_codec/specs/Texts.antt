@@ -1,12 +1,17 @@
 -- Messages as text (own rule).
-use Rattle.std.specs.Prelude.{◌≡◌, ℕ, List, ◌++◌, Option, Some, None, Bool, true, false, ◌==◌, ◌||◌, codes, slice_get}
+use Rattle.std.specs.Prelude.{◌≡◌, ℕ, List, ◌++◌, Option, Some, None, Bool, true, false, ◌==◌, ◌||◌, codes, slice_get, Result, Err}
+use Rattle.std.specs.List.{flat_map}
 use Rattle.std.specs.Fmt.{decimal, signed_decimal}
 use Rattle.ertms_codec.specs.declared.error.DecodeError.{DecodeError}
+use Rattle.ertms_codec.specs.declared.error.ReadError.{ReadError}
+use Rattle.ertms_codec.specs.declared.error.ReadError.TheVariants as reading
 use Rattle.ertms_codec.specs.declared.text.DescribeError.{DescribeError}
 use Rattle.ertms_codec.specs.declared.text.DescribeError.TheVariants.{Decode, OutOfMemory}
 use Rattle.ertms_codec.specs.declared.to_train.Head.{Head}
 use Rattle.ertms_codec.specs.declared.to_train.ToTrain.{ToTrain}
-use Rattle.ertms_codec.specs.declared.to_train.ToTrain.TheVariants.{StopAt, Stop, Revoke, Restrict, Lift}
+use Rattle.ertms_codec.specs.declared.to_train.ToTrain.TheVariants.{StopAt, Stop, Revoke, General}
+use Rattle.ertms_codec.specs.declared.packets.Part.{Part}
+use Rattle.ertms_codec.specs.declared.packets.Part.TheVariants.{Restrict, Lift}
 use Rattle.ertms_codec.specs.declared.from_train.Position.{Position}
 use Rattle.ertms_codec.specs.declared.from_train.FromTrain.{FromTrain}
 use Rattle.ertms_codec.specs.declared.from_train.FromTrain.TheVariants.{Report, Ack, StopAck}
@@ -27,17 +32,23 @@ flag_text false = decimal 0
 abbrev pub head_text : Head → List ℕ
 head_text head = codes "stamp " then decimal head.stamp then codes " ack " then flag_text head.ack then codes " lrbg " then decimal head.lrbg
 
+abbrev pub packet_text : Part → List ℕ
+packet_text (Restrict dir scale id start length front speed) =
+    codes "65 dir " then decimal dir then codes " scale " then decimal scale then codes " tsr " then decimal id
+    then codes " start " then decimal start then codes " length " then decimal length then codes " front " then flag_text front then codes " speed " then decimal speed
+packet_text (Lift dir id) = codes "66 dir " then decimal dir then codes " tsr " then decimal id
+
+-- a packet stands behind what is before it, with a space between them
+abbrev pub packet_behind : Part → List ℕ
+packet_behind part = codes " " then packet_text part
+
 abbrev pub text_to_train : ToTrain → List ℕ
 text_to_train (StopAt head id scale reference dir distance) =
     codes "15 " then head_text head then codes " em " then decimal id then codes " scale " then decimal scale
     then codes " ref " then signed_decimal reference then codes " dir " then decimal dir then codes " stop " then decimal distance
 text_to_train (Stop head id) = codes "16 " then head_text head then codes " em " then decimal id
 text_to_train (Revoke head id) = codes "18 " then head_text head then codes " em " then decimal id
-text_to_train (Restrict head dir scale id start length front speed) =
-    codes "24 " then head_text head then codes " 65 dir " then decimal dir then codes " scale " then decimal scale then codes " tsr " then decimal id
-    then codes " start " then decimal start then codes " length " then decimal length then codes " front " then flag_text front then codes " speed " then decimal speed
-text_to_train (Lift head dir id) =
-    codes "24 " then head_text head then codes " 66 dir " then decimal dir then codes " tsr " then decimal id
+text_to_train (General head packets) = codes "24 " then head_text head then flat_map packet_behind packets
 
 -- packet 1 names the balise group before the last relevant one
 abbrev pub groups_text : Option ℕ → ℕ → ℕ → List ℕ
@@ -91,3 +102,13 @@ IsFaultOf to bytes (Decode e) = IsRefusedOf to bytes e
 
 abbrev pub IsFault : List ℕ → DescribeError → Type 0
 IsFault bytes fault = IsFaultOf (is_to_train (slice_get bytes 0)) bytes fault
+
+-- why bytes are not read is why they have no text
+abbrev pub fault_of_reading : ReadError → DescribeError
+fault_of_reading (reading.Decode e) = Decode e
+fault_of_reading reading.OutOfMemory = OutOfMemory
+
+-- memory ran out for a message 24 whose packets are read
+pub record IsWantOfMemory {T : Type 0} (bytes : List ℕ) (result : Result T DescribeError) : Type 0 where
+  pub read : refusals_to_train.AreReadToPackets bytes
+  pub is : result ≡ Err OutOfMemory

@@ -1,40 +1,36 @@
 -- The messages to a train as lists of variables, and which bytes spell them (SUBSET-026, chapters 7 and 8).
 use Rattle.std.specs.Prelude.{◌≡◌, ℕ, ◌+◌, ◌<◌, ◌≤◌, List, [], ◌∷◌, ◌++◌, length}
+use Rattle.std.specs.List.{flat_map}
 use Rattle.std.specs.Int.{w16}
 use Rattle.std.specs.Int.RustNames.{FitsSigned}
 use Rattle.ertms_bits.specs.Bits.{bits_of_bytes, bytes_for}
 use Rattle.ertms_codec.specs.declared.to_train.Head.{Head}
 use Rattle.ertms_codec.specs.declared.to_train.ToTrain.{ToTrain}
-use Rattle.ertms_codec.specs.declared.to_train.ToTrain.TheVariants.{StopAt, Stop, Revoke, Restrict, Lift}
+use Rattle.ertms_codec.specs.declared.to_train.ToTrain.TheVariants.{StopAt, Stop, Revoke, General}
 use Rattle.ertms_codec.specs.Layout.{Field, width_of, bits_of_fields, bytes_of_fields, HoldValues}
-use Rattle.ertms_codec.specs.Variables.{nid_message, l_message, t_train, m_ack, nid_lrbg, nid_em, q_scale, d_ref, q_dir, d_emergencystop, nid_packet, l_packet, nid_tsr, d_tsr, l_tsr, q_front, v_tsr}
+use Rattle.ertms_codec.specs.Variables.{nid_message, l_message, t_train, m_ack, nid_lrbg, nid_em, q_scale, d_ref, q_dir, d_emergencystop}
+pub use Rattle.ertms_codec.specs.PacketsToTrain.{fields_of_packet, PacketFits, most_packets, ArePacketsThatFit}
 
 -- NID_MESSAGE
 abbrev pub number_of_message : ToTrain → ℕ
 number_of_message (StopAt head id scale reference dir distance) = 15
 number_of_message (Stop head id) = 16
 number_of_message (Revoke head id) = 18
-number_of_message (Restrict head dir scale id start length front speed) = 24
-number_of_message (Lift head dir id) = 24
+number_of_message (General head packets) = 24
 
 abbrev pub head_of : ToTrain → Head
 head_of (StopAt head id scale reference dir distance) = head
 head_of (Stop head id) = head
 head_of (Revoke head id) = head
-head_of (Restrict head dir scale id start length front speed) = head
-head_of (Lift head dir id) = head
+head_of (General head packets) = head
 
--- what stands behind the header
+-- what stands behind the header; the packets of message 24 stand one behind the other
 abbrev pub body_of : ToTrain → List Field
 body_of (StopAt head id scale reference dir distance) =
     nid_em id ∷ q_scale scale ∷ d_ref reference ∷ q_dir dir ∷ d_emergencystop distance ∷ []
 body_of (Stop head id) = nid_em id ∷ []
 body_of (Revoke head id) = nid_em id ∷ []
--- packet 65, of 71 bits
-body_of (Restrict head dir scale id start length front speed) =
-    nid_packet 65 ∷ q_dir dir ∷ l_packet 71 ∷ q_scale scale ∷ nid_tsr id ∷ d_tsr start ∷ l_tsr length ∷ q_front front ∷ v_tsr speed ∷ []
--- packet 66, of 31 bits
-body_of (Lift head dir id) = nid_packet 66 ∷ q_dir dir ∷ l_packet 31 ∷ nid_tsr id ∷ []
+body_of (General head packets) = flat_map fields_of_packet packets
 
 -- the header takes 75 bits, and L_MESSAGE counts the bytes of the whole message
 abbrev pub length_of_message : ToTrain → ℕ
@@ -54,8 +50,7 @@ abbrev pub BodyFits : ToTrain → Type 0
 BodyFits (StopAt head id scale reference dir distance) = (id ≤ 15) × (scale ≤ 2) × (dir ≤ 2) × (distance ≤ 32767)
 BodyFits (Stop head id) = id ≤ 15
 BodyFits (Revoke head id) = id ≤ 15
-BodyFits (Restrict head dir scale id start length front speed) = (dir ≤ 2) × (scale ≤ 2) × (start ≤ 32767) × (length ≤ 32767) × (speed ≤ 120)
-BodyFits (Lift head dir id) = dir ≤ 2
+BodyFits (General head packets) = ArePacketsThatFit packets
 
 -- each variable of the message is in its range, and has no spare value
 pub record Fits (m : ToTrain) : Type 0 where

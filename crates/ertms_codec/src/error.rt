@@ -1,5 +1,9 @@
-//! Why bytes are no message.
+//! Why bytes are no message, or are not read.
 
+ghost use Rattle.std.specs.Prelude.{◌≡◌};
+ghost use Rattle.ertms_codec.specs.declared.error.ReadError.TheVariants.{Decode, OutOfMemory};
+
+use std::alloc::AllocError;
 use std::error::Error;
 use std::fmt;
 
@@ -12,7 +16,8 @@ pub enum DecodeError {
     Length,
     /// NID_MESSAGE is of no message that the reader takes.
     Message,
-    /// A packet is missing, is another than the message can have, or has a wrong L_PACKET.
+    /// A packet is missing, is another than the message can have, or has a wrong L_PACKET; or there are more packets than the
+    /// message can have.
     Packet,
     /// A variable has a spare value.
     Field,
@@ -35,3 +40,30 @@ impl fmt::Display for DecodeError {
 }
 
 impl Error for DecodeError {}
+
+/// Why bytes are not read as a message to a train.
+#[derive(Clone, Copy, Debug, PartialEq, Eq, thiserror::Error)]
+pub enum ReadError {
+    /// They are no message that the reader takes.
+    #[error("{0}")]
+    Decode(DecodeError),
+    /// Memory ran out. It may come at message 24 alone, in place of the message or of a refusal.
+    #[error("out of memory")]
+    OutOfMemory,
+}
+
+impl From<DecodeError> for ReadError {
+    ghost from_gives = { λ refusal e. e ≡ Decode refusal };
+
+    fn from(refusal: DecodeError) -> ReadError {
+        ReadError::Decode(refusal)
+    }
+}
+
+impl From<AllocError> for ReadError {
+    ghost from_gives = { λ _ e. e ≡ OutOfMemory };
+
+    fn from(_: AllocError) -> ReadError {
+        ReadError::OutOfMemory
+    }
+}

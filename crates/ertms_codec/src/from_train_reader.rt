@@ -14,7 +14,7 @@ ghost use Rattle.ertms_codec.specs.Reading.{IsReadFromTrain, IsReadBehind, IsRep
 
 use crate::error::DecodeError;
 use crate::from_train::FromTrain;
-use crate::packets::position;
+use crate::position_reader::position;
 use crate::reading::{message_number, next, next_two};
 use crate::variable::{NID_EM, NID_ENGINE, Q_EMERGENCYSTOP, T_TRAIN};
 use ertms_bits::BitReader;

@@ -1,186 +1,163 @@
-//! Reading the packets of a message from a train.
+//! The packets of a general message to a train.
 
-ghost use Rattle.std.specs.Prelude.{◌≡◌, ◌+◌, ◌-◌, ◌<◌, ◌≤◌, ◌==◌, List, ℕ, IfOk, IfErr, OnOk, length, drop, if◌then◌else◌};
-ghost use Rattle.ertms_codec.specs.declared.error.DecodeError.TheVariants.{Packet as packet_refusal};
-ghost use Rattle.ertms_codec.specs.Layout.{value_at};
-ghost use Rattle.ertms_codec.specs.FromTrain.{ArePackets, has_length, has_system};
-ghost use Rattle.ertms_codec.specs.RefusalsFromTrain.{BeginWithPosition, shift_in, length_width, system_width, train_place};
-ghost use Rattle.ertms_codec.specs.FromTrainAtPlaces.{previous_at, position_at};
-ghost use Rattle.ertms_codec.specs.Reading.{BeginsWithPacket, ReadsPosition, RefusesPosition};
+ghost use Rattle.std.specs.Prelude.{IsTrue, ◌↔◌};
+ghost use Rattle.std.specs.List.{All};
+ghost use Rattle.ertms_codec.specs.PacketsToTrain.{PacketFits};
 
-use crate::error::DecodeError;
-use crate::from_train::Position;
-use crate::reading::{apart, next, next_two, pass_over};
-use crate::variable::{
-    D_LRBG, L_DOUBTOVER, L_DOUBTUNDER, L_PACKET, L_TRAININT, M_LEVEL, M_MODE, NID_LRBG, NID_NTC,
-    NID_PACKET, NID_PRVLRBG, Q_DIRLRBG, Q_DIRTRAIN, Q_DLRBG, Q_LENGTH, Q_SCALE, V_TRAIN,
-};
-use ertms_bits::BitReader;
+use std::alloc::{AllocError, Global};
+use std::marker::Model;
 
-/// How many bits packet 0 has at least.
-const POSITION_WIDTH: u64 = 114;
+/// How many packets a message has at most (own rule).
+pub const MOST_PACKETS: usize = 100;
 
-/// How many bits the variables from D_LRBG to L_DOUBTUNDER have, which are taken at once.
-const TO_UNDER_WIDTH: u32 = D_LRBG + Q_DIRLRBG + Q_DLRBG + L_DOUBTOVER + L_DOUBTUNDER;
+/// A packet of message 24 (SUBSET-026, 7.4.2).
+#[derive(Clone, Copy, Debug, PartialEq, Eq)]
+pub enum Part {
+    /// Packet 65, temporary speed restriction.
+    Restrict {
+        /// Q_DIR: the direction that the packet is valid for, seen from the balise group: 0 reverse,
+        /// 1 nominal, 2 both; 3 is spare.
+        dir: u8,
+        /// Q_SCALE: the unit of `start` and `length`: 0 is 10 cm, 1 is 1 m, 2 is 10 m; 3 is spare.
+        scale: u8,
+        /// NID_TSR: the identifier of the restriction; 255 cannot be revoked and is never issued.
+        id: u8,
+        /// D_TSR: from the balise group to the start of the restriction, 0 to 32767 units of `scale`.
+        start: u16,
+        /// L_TSR: the length of the restriction, 0 to 32767 units of `scale`.
+        length: u16,
+        /// Q_FRONT: false where the length of the train delays the end of the restriction, true where
+        /// it does not.
+        front: bool,
+        /// V_TSR: the speed, 0 to 120 in units of 5 km/h; 121 to 127 are spare.
+        speed: u8,
+    },
+    /// Packet 66, revocation of a temporary speed restriction.
+    Lift {
+        /// Q_DIR: the direction that the packet is valid for, seen from the balise group: 0 reverse,
+        /// 1 nominal, 2 both; 3 is spare.
+        dir: u8,
+        /// NID_TSR: the identifier of the restriction; 255 cannot be revoked and is never issued.
+        id: u8,
+    },
+}
 
-/// The position packet with which the bits begin. All packets behind it are skipped, whatever they are.
-///
-/// # Errors
-///
-/// `Packet` only where the bits are not packets to their end, and `Field` only where they are, and the
-/// position has a spare value.
-pub fn position(bits: &mut BitReader<'_>) -> Result<Position, DecodeError>
-    ensures read { IfOk result (λ _. ReadsPosition bits.old) }
-    ensures value { IfOk result (λ p. p ≡ position_at bits.old) }
-    ensures err { IfErr result (RefusesPosition bits.old) }
-{
-    let position = position_packet(bits)?;
-    pass_over_packets(bits)?;
-    if position.scale <= 2 && position.dir <= 2 && position.side <= 2 {
-        Ok(position)
-    } else {
-        Err(DecodeError::Field)
+impl Part {
+    /// Whether each variable is in its range, so that it fits its field and is no spare value.
+    pub fn fits(&self) -> bool
+        ensures { IsTrue result ↔ PacketFits self.now }
+    {
+        match self {
+            Part::Restrict {
+                dir,
+                scale,
+                start,
+                length,
+                speed,
+                ..
+            } => {
+                *dir <= 2 && *scale <= 2 && *start <= 32767 && *length <= 32767 && *speed <= 120
+            }
+            Part::Lift { dir, .. } => *dir <= 2,
+        }
     }
 }
 
-/// Packet 0 or 1, with all that L_PACKET counts.
-fn position_packet(bits: &mut BitReader<'_>) -> Result<Position, DecodeError>
-    ensures packet { IfOk result (λ _. BeginWithPosition bits.old) }
-    ensures value { IfOk result (λ p. p ≡ position_at bits.old) }
-    ensures rest { OnOk result (bits.new ≡ drop (value_at 8 13 bits.old) bits.old) }
-    ensures err { IfErr result (λ e. (¬ BeginWithPosition bits.old) × (e ≡ packet_refusal)) }
-{
-    let left = bits.left();
-    if left < 21 {
-        return Err(DecodeError::Packet);
-    }
-    let (number, size) = next_two(bits, NID_PACKET, L_PACKET);
-    let least = POSITION_WIDTH + previous_width(number);
-    if number > 1 || size < least || size > left as u64 {
-        return Err(DecodeError::Packet);
-    }
-    let position = variables(bits, number);
-    pass_over_train(bits, size - least)?;
-    Ok(position)
+/// The packets of a message 24, in their order. A message may have several (SUBSET-026, 8.4.4); here it has 1 to 100
+/// (own rule). One alone takes no memory.
+#[derive(Debug, Drop)]
+pub struct Packets {
+    first: Part,
+    more: Vec<Part>,
 }
 
-/// How many bits the variable takes that packet 1 has and packet 0 has not.
-fn previous_width(number: u64) -> u64
-    ensures { result ≡ (if number == 1 then 24 else 0) }
-{
-    if number == 1 {
-        u64::from(NID_PRVLRBG)
-    } else {
-        0
-    }
+impl Model for Packets {
+    ghost use Rattle.std.specs.Prelude.{List, ◌∷◌, ◌<◌, length};
+    ghost use Rattle.ertms_codec.specs.declared.packets.Part.{Part};
+    ghost use Rattle.ertms_codec.specs.PacketsToTrain.{most_packets};
+
+    ghost Value = { List Part };
+
+    ghost view = { λ p. p.first ∷ p.more.items };
+
+    ghost invariant = { λ p. length p.more.items < most_packets };
 }
 
-/// The variables from Q_SCALE to L_DOUBTUNDER of the packet of this number.
-fn variables(bits: &mut BitReader<'_>, number: u64) -> Position
-    requires { 75 + (if number == 1 then 24 else 0) ≤ length bits.old }
-    ensures value { (packet : List ℕ) → bits.old ≡ drop 21 packet → number ≡ value_at 0 8 packet
-        → (result ≡ position_at packet) × (bits.new ≡ drop (train_place packet) packet) }
-    ensures left { length bits.new + (75 + (if number == 1 then 24 else 0)) ≡ length bits.old }
-{
-    let (scale, lrbg) = next_two(bits, Q_SCALE, NID_LRBG);
-    let previous = previous_group(bits, number);
-    let (to_over, under) = apart(next(bits, TO_UNDER_WIDTH), L_DOUBTUNDER);
-    let (to_side, over) = apart(to_over, L_DOUBTOVER);
-    let (to_dir, side) = apart(to_side, Q_DLRBG);
-    let (distance, dir) = apart(to_dir, Q_DIRLRBG);
-    Position {
-        previous,
-        scale: scale as u8,
-        lrbg: lrbg as u32,
-        distance: distance as u16,
-        dir: dir as u8,
-        side: side as u8,
-        over: over as u16,
-        under: under as u16,
-    }
-}
+impl Packets {
+    ghost use Rattle.std.specs.Prelude.{◌≡◌, ◌≤◌, ◌<◌, [], ◌∷◌, ◌++◌, length, Some, slice_get, IfOk, OnOk, OnErr};
+    ghost use Rattle.ertms_codec.specs.PacketsToTrain.{most_packets, ArePacketsThatFit};
 
-/// NID_PRVLRBG, which packet 1 has and packet 0 has not.
-fn previous_group(bits: &mut BitReader<'_>, number: u64) -> Option<u32>
-    requires { (if number == 1 then 24 else 0) ≤ length bits.old }
-    ensures value { (packet : List ℕ) → bits.old ≡ drop 47 packet → number ≡ value_at 0 8 packet
-        → (result ≡ previous_at packet) × (bits.new ≡ drop (47 + shift_in packet) packet) }
-    ensures left { length bits.new + (if number == 1 then 24 else 0) ≡ length bits.old }
-{
-    if number == 1 {
-        Some(next(bits, NID_PRVLRBG) as u32)
-    } else {
-        None
+    /// One packet alone. Takes no memory.
+    pub fn of(alloc: Global, part: Part) -> Result<Packets, AllocError>
+        ensures { IfOk result (λ packets. packets ≡ part ∷ []) }
+    {
+        Ok(Packets {
+            first: part,
+            more: Vec::new(alloc),
+        })
     }
-}
 
-/// The variables from Q_LENGTH to NID_NTC, and what is behind them in the packet, which is `more` bits
-/// longer than its variables without the optional ones.
-fn pass_over_train(bits: &mut BitReader<'_>, more: u64) -> Result<(), DecodeError>
-    requires { more + 18 ≤ length bits.old }
-    ensures enough { IfOk result (λ _. length_width bits.old + system_width bits.old ≤ more) }
-    ensures rest { OnOk result (bits.new ≡ drop (18 + more) bits.old) }
-    ensures err { IfErr result (λ e. (more < length_width bits.old + system_width bits.old) × (e ≡ packet_refusal)) }
-{
-    let length = length_width(next(bits, Q_LENGTH));
-    if more < u64::from(length) {
-        return Err(DecodeError::Packet);
+    /// Puts one packet more behind the others, of which there have to be fewer than 100. Fails only for lack of memory,
+    /// and then changes nothing.
+    pub fn push(&mut self, part: Part) -> Result<(), AllocError>
+        requires { length self.old < most_packets }
+        ensures ok { OnOk result (self.new ≡ self.old ++ part ∷ []) }
+        ensures err { OnErr result (self.new ≡ self.old) }
+    {
+        self.more.push(part)?;
+        Ok(())
     }
-    pass_over(bits, (length + V_TRAIN + Q_DIRTRAIN + M_MODE) as usize);
-    let system = system_width(next(bits, M_LEVEL));
-    if more < u64::from(length + system) {
-        return Err(DecodeError::Packet);
-    }
-    pass_over(bits, (more - u64::from(length)) as usize);
-    Ok(())
-}
 
-/// How many bits L_TRAININT takes, by Q_LENGTH.
-fn length_width(integrity: u64) -> u32
-    ensures { result ≡ (if has_length integrity then 15 else 0) }
-{
-    match integrity {
-        1 | 2 => L_TRAININT,
-        _ => 0,
+    /// How many packets there are: 1 to 100. Takes no memory.
+    pub fn count(&self) -> usize
+        ensures count { result ≡ length self.now }
+        ensures some { 1 ≤ result }
+        ensures most { result ≤ most_packets }
+    {
+        1 + self.more.len()
+    }
+
+    /// The packet at an index below `count`. Takes no memory.
+    pub fn at(&self, index: usize) -> Part
+        requires { index < length self.now }
+        ensures { slice_get self.now index ≡ Some result }
+    {
+        if index == 0 {
+            self.first
+        } else {
+            self.more[index - 1]
+        }
+    }
+
+    /// The first packet, and those behind it.
+    pub(crate) fn parts(&self) -> (Part, &[Part])
+        ensures are { self.now ≡ result.0 ∷ result.1.now }
+        ensures few { length result.1.now < most_packets }
+    {
+        (self.first, &self.more)
+    }
+
+    /// Copies the packets. Takes memory only where there is more than one, and fails only for lack of it.
+    pub fn copy(&self, alloc: Global) -> Result<Packets, AllocError>
+        ensures { IfOk result (λ copy. copy ≡ self.now) }
+    {
+        Ok(Packets {
+            first: self.first,
+            more: Vec::from_slice(alloc, self.more.as_slice())?,
+        })
+    }
+
+    /// Whether each variable of each packet is in its range.
+    pub(crate) fn fit(&self) -> bool
+        ensures { IsTrue result ↔ ArePacketsThatFit self.now }
+    {
+        self.first.fits() && all_fit(&self.more)
     }
 }
 
-/// How many bits NID_NTC takes, by M_LEVEL.
-fn system_width(level: u64) -> u32
-    ensures { result ≡ (if has_system level then 8 else 0) }
+/// Whether each variable of each packet is in its range.
+fn all_fit(parts: &[Part]) -> bool
+    ensures { IsTrue result ↔ All PacketFits parts.now }
 {
-    match level {
-        1 => NID_NTC,
-        _ => 0,
-    }
-}
-
-/// Any packets, to the fill bits.
-fn pass_over_packets(bits: &mut BitReader<'_>) -> Result<(), DecodeError>
-    ensures ok { IfOk result (λ _. ArePackets bits.old) }
-    ensures err { IfErr result (λ e. (¬ ArePackets bits.old) × (e ≡ packet_refusal)) }
-{
-    while bits.left() >= 8 {
-        pass_over_packet(bits)?;
-    }
-    Ok(())
-}
-
-/// One packet, by its L_PACKET.
-fn pass_over_packet(bits: &mut BitReader<'_>) -> Result<(), DecodeError>
-    ensures ok { IfOk result (λ _. BeginsWithPacket bits.old) }
-    ensures rest { OnOk result (bits.new ≡ drop (value_at 8 13 bits.old) bits.old) }
-    ensures err { IfErr result (λ e. (¬ BeginsWithPacket bits.old) × (e ≡ packet_refusal)) }
-{
-    let left = bits.left();
-    if left < 21 {
-        return Err(DecodeError::Packet);
-    }
-    let (_, size) = next_two(bits, NID_PACKET, L_PACKET);
-    let size = size as usize;
-    if size < 21 || size > left {
-        return Err(DecodeError::Packet);
-    }
-    pass_over(bits, size - 21);
-    Ok(())
+    parts.iter().all(|part| part.fits())
 }

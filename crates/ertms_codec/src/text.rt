@@ -1,13 +1,16 @@
 //! Messages as text.
 
-ghost use Rattle.std.specs.Prelude.{◌≡◌, Some, IfOk, IfErr, true, false, slice_get, string_bytes};
+ghost use Rattle.std.specs.Prelude.{◌≡◌, ◌⊎◌, Some, IfOk, IfErr, true, false, slice_get, string_bytes};
+ghost use Rattle.std.specs.Fmt.{DisplaysOnOk};
+ghost use Rattle.std.specs.List.{flat_map};
 ghost use Rattle.ertms_codec.specs.declared.error.DecodeError.{DecodeError as Refusal};
 ghost use Rattle.ertms_codec.specs.declared.text.DescribeError.TheVariants.{Decode};
-ghost use Rattle.ertms_codec.specs.Texts.{head_text, text_to_train, position_text, text_from_train, is_to_train, HasText, HasTextOf, IsRefused, IsRefusedOf, IsFault, IsFaultOf};
+ghost use Rattle.ertms_codec.specs.Texts.{head_text, packet_text, packet_behind, text_to_train, position_text, text_from_train, is_to_train, HasText, HasTextOf, IsRefused, IsRefusedOf, IsFault, IsFaultOf, IsWantOfMemory, fault_of_reading};
 
-use crate::error::DecodeError;
+use crate::error::{DecodeError, ReadError};
 use crate::from_train::{FromTrain, Position};
 use crate::from_train_reader::read_from_train;
+use crate::packets::{Packets, Part};
 use crate::to_train::{Head, ToTrain};
 use crate::to_train_reader::read_to_train;
 use std::alloc::{AllocError, Global};
@@ -20,7 +23,7 @@ pub enum DescribeError {
     /// They are no message, by the reader that their first byte chooses.
     #[error("{0}")]
     Decode(DecodeError),
-    /// Memory ran out. It may come in place of the text, and never in place of a refusal.
+    /// Memory ran out. It may come in place of the text, and in place of a refusal of message 24 alone.
     #[error("out of memory")]
     OutOfMemory,
 }
@@ -30,6 +33,17 @@ impl From<DecodeError> for DescribeError {
 
     fn from(refusal: DecodeError) -> DescribeError {
         DescribeError::Decode(refusal)
+    }
+}
+
+impl From<ReadError> for DescribeError {
+    ghost from_gives = { λ fault e. e ≡ fault_of_reading fault };
+
+    fn from(fault: ReadError) -> DescribeError {
+        match fault {
+            ReadError::Decode(refusal) => DescribeError::Decode(refusal),
+            ReadError::OutOfMemory => DescribeError::OutOfMemory,
+        }
     }
 }
 
@@ -53,11 +67,36 @@ impl fmt::Display for Head {
     }
 }
 
+impl fmt::Display for Part {
+    ghost output = { λ part. Some (packet_text part) };
+
+    fn fmt<W: fmt::Write>(&self, f: &mut fmt::Formatter<W>) -> fmt::Result {
+        match *self {
+            Part::Restrict {
+                dir,
+                scale,
+                id,
+                start,
+                length,
+                front,
+                speed,
+            } => {
+                let front = u8::from(front);
+                write!(
+                    f,
+                    "65 dir {dir} scale {scale} tsr {id} start {start} length {length} front {front} speed {speed}"
+                )
+            }
+            Part::Lift { dir, id } => write!(f, "66 dir {dir} tsr {id}"),
+        }
+    }
+}
+
 impl fmt::Display for ToTrain {
     ghost output = { λ m. Some (text_to_train m) };
 
     fn fmt<W: fmt::Write>(&self, f: &mut fmt::Formatter<W>) -> fmt::Result {
-        match *self {
+        match self {
             ToTrain::StopAt {
                 head,
                 id,
@@ -73,25 +112,23 @@ impl fmt::Display for ToTrain {
             }
             ToTrain::Stop { head, id } => write!(f, "16 {head} em {id}"),
             ToTrain::Revoke { head, id } => write!(f, "18 {head} em {id}"),
-            ToTrain::Restrict {
-                head,
-                dir,
-                scale,
-                id,
-                start,
-                length,
-                front,
-                speed,
-            } => {
-                let front = u8::from(front);
-                write!(
-                    f,
-                    "24 {head} 65 dir {dir} scale {scale} tsr {id} start {start} length {length} front {front} speed {speed}"
-                )
+            ToTrain::General { head, packets } => {
+                write!(f, "24 {head}")?;
+                write_packets(f, packets)
             }
-            ToTrain::Lift { head, dir, id } => write!(f, "24 {head} 66 dir {dir} tsr {id}"),
         }
     }
+}
+
+/// Writes packets, each with a space before it.
+fn write_packets<W: fmt::Write>(f: &mut fmt::Formatter<W>, packets: &Packets) -> fmt::Result
+    ensures { DisplaysOnOk W.write_str_gives f.old result (Some (flat_map packet_behind packets.now)) f.new }
+{
+    for index in 0..packets.count() {
+        let part = packets.at(index);
+        write!(f, " {part}")?;
+    }
+    Ok(())
 }
 
 impl fmt::Display for Position {
@@ -155,7 +192,7 @@ impl fmt::Display for FromTrain {
 pub fn describe(alloc: Global, bytes: &[u8]) -> Result<Vec<u8>, DescribeError>
     ensures text { IfOk result (λ text. HasText bytes.now text.items) }
     ensures fault { IfErr result (λ fault. IsFault bytes.now fault) }
-    ensures refused { (e : Refusal) → IsRefused bytes.now e → result ≡ Err (Decode e) }
+    ensures refused { (e : Refusal) → IsRefused bytes.now e → (result ≡ Err (Decode e)) ⊎ IsWantOfMemory bytes.now result }
 {
     let line = if is_to_train(bytes) {
         line_to_train(alloc, bytes)?
@@ -176,9 +213,9 @@ fn is_to_train(bytes: &[u8]) -> bool
 fn line_to_train(alloc: Global, bytes: &[u8]) -> Result<String, DescribeError>
     ensures text { IfOk result (λ line. HasTextOf true bytes.now (string_bytes line)) }
     ensures fault { IfErr result (λ fault. IsFaultOf true bytes.now fault) }
-    ensures refused { (e : Refusal) → IsRefusedOf true bytes.now e → result ≡ Err (Decode e) }
+    ensures refused { (e : Refusal) → IsRefusedOf true bytes.now e → (result ≡ Err (Decode e)) ⊎ IsWantOfMemory bytes.now result }
 {
-    Ok(format!(in alloc; "{}\n", read_to_train(bytes)?)?)
+    Ok(format!(in alloc; "{}\n", read_to_train(alloc, bytes)?)?)
 }
 
 /// The line of a message from a train.

@@ -1,5 +1,8 @@
 //! Messages to a train.
 
+use crate::packets::Packets;
+use std::alloc::{AllocError, Global};
+
 /// What begins every message to a train (SUBSET-026, 8.4.4).
 #[derive(Clone, Copy, Debug, PartialEq, Eq)]
 pub struct Head {
@@ -13,7 +16,7 @@ pub struct Head {
 }
 
 /// A message to a train.
-#[derive(Clone, Copy, Debug, PartialEq, Eq)]
+#[derive(Debug, Drop)]
 pub enum ToTrain {
     /// Message 15, conditional emergency stop (SUBSET-026, 8.7; own table of variables): the train stops
     /// before a place, if it has not passed it.
@@ -45,42 +48,52 @@ pub enum ToTrain {
         /// NID_EM: the identifier of the emergency stop, 0 to 15; 15 is never issued.
         id: u8,
     },
-    /// Message 24, general message, with packet 65, temporary speed restriction (SUBSET-026, 7.4.2 and
-    /// 8.7; one packet in a message is an own choice).
-    Restrict {
+    /// Message 24, general message (SUBSET-026, 8.4.4 and 8.7): packets one behind the other, each of which restricts
+    /// the speed or revokes a restriction. L_MESSAGE is at most 897, of 100 restrictions.
+    General {
         head: Head,
-        /// Q_DIR: the direction that the packet is valid for, seen from the balise group: 0 reverse,
-        /// 1 nominal, 2 both; 3 is spare.
-        dir: u8,
-        /// Q_SCALE: the unit of `start` and `length`: 0 is 10 cm, 1 is 1 m, 2 is 10 m; 3 is spare.
-        scale: u8,
-        /// NID_TSR: the identifier of the restriction; 255 cannot be revoked and is never issued.
-        id: u8,
-        /// D_TSR: from the balise group to the start of the restriction, 0 to 32767 units of `scale`.
-        start: u16,
-        /// L_TSR: the length of the restriction, 0 to 32767 units of `scale`.
-        length: u16,
-        /// Q_FRONT: false where the length of the train delays the end of the restriction, true where
-        /// it does not.
-        front: bool,
-        /// V_TSR: the speed, 0 to 120 in units of 5 km/h; 121 to 127 are spare.
-        speed: u8,
-    },
-    /// Message 24, general message, with packet 66, revocation of a temporary speed restriction
-    /// (SUBSET-026, 7.4.2 and 8.7).
-    Lift {
-        head: Head,
-        /// Q_DIR: the direction that the packet is valid for, seen from the balise group: 0 reverse,
-        /// 1 nominal, 2 both; 3 is spare.
-        dir: u8,
-        /// NID_TSR: the identifier of the restriction; 255 cannot be revoked and is never issued.
-        id: u8,
+        packets: Packets,
     },
 }
 
 impl ToTrain {
-    ghost use Rattle.std.specs.Prelude.{◌≡◌, IsTrue, ◌↔◌};
+    ghost use Rattle.std.specs.Prelude.{◌≡◌, IsTrue, ◌↔◌, IfOk};
     ghost use Rattle.ertms_codec.specs.ToTrain.{Fits, BodyFits, head_of};
+
+    /// Copies the message. Takes memory only where it has more than one packet, and fails only for lack of it.
+    pub fn copy(&self, alloc: Global) -> Result<ToTrain, AllocError>
+        ensures { IfOk result (λ copy. copy ≡ self.now) }
+    {
+        Ok(match self {
+            ToTrain::StopAt {
+                head,
+                id,
+                scale,
+                reference,
+                dir,
+                distance,
+            } => ToTrain::StopAt {
+                head: *head,
+                id: *id,
+                scale: *scale,
+                reference: *reference,
+                dir: *dir,
+                distance: *distance,
+            },
+            ToTrain::Stop { head, id } => ToTrain::Stop {
+                head: *head,
+                id: *id,
+            },
+            ToTrain::Revoke { head, id } => ToTrain::Revoke {
+                head: *head,
+                id: *id,
+            },
+            ToTrain::General { head, packets } => ToTrain::General {
+                head: *head,
+                packets: packets.copy(alloc)?,
+            },
+        })
+    }
 
     /// Whether each variable of the message is in its range, so that it fits its field and is no spare
     /// value.
@@ -103,17 +116,7 @@ impl ToTrain {
                 ..
             } => *id <= 15 && *scale <= 2 && *dir <= 2 && *distance <= 32767,
             ToTrain::Stop { id, .. } | ToTrain::Revoke { id, .. } => *id <= 15,
-            ToTrain::Restrict {
-                dir,
-                scale,
-                start,
-                length,
-                speed,
-                ..
-            } => {
-                *dir <= 2 && *scale <= 2 && *start <= 32767 && *length <= 32767 && *speed <= 120
-            }
-            ToTrain::Lift { dir, .. } => *dir <= 2,
+            ToTrain::General { packets, .. } => packets.fit(),
         }
     }
 
@@ -125,8 +128,7 @@ impl ToTrain {
             ToTrain::StopAt { head, .. }
             | ToTrain::Stop { head, .. }
             | ToTrain::Revoke { head, .. }
-            | ToTrain::Restrict { head, .. }
-            | ToTrain::Lift { head, .. } => *head,
+            | ToTrain::General { head, .. } => *head,
         }
     }
 }

@@ -1,19 +1,23 @@
 //! Reading messages to a train.
 
-ghost use Rattle.std.specs.Prelude.{◌≡◌, ◌+◌, ◌<◌, ◌≤◌, ◌==◌, ◌↔◌, IsTrue, List, ℕ, IfOk, IfErr, length, drop};
+ghost use Rattle.std.specs.Prelude.{◌≡◌, ◌⊎◌, ◌+◌, ◌<◌, ◌≤◌, ◌==◌, List, ℕ, IfOk, IfErr, OnOk, length, drop};
 ghost use Rattle.std.specs.Int.{w16, cast_signed};
 ghost use Rattle.ertms_codec.specs.declared.error.DecodeError.{DecodeError as Refusal};
 ghost use Rattle.ertms_codec.specs.declared.error.DecodeError.TheVariants.{Message as message_refusal, Length as length_refusal, Packet as packet_refusal};
+ghost use Rattle.ertms_codec.specs.declared.error.ReadError.TheVariants.{Decode};
+ghost use Rattle.ertms_codec.specs.declared.packets.Part.TheVariants as packet;
 ghost use Rattle.ertms_codec.specs.declared.to_train.ToTrain.{ToTrain as Sent};
 ghost use Rattle.ertms_codec.specs.declared.to_train.ToTrain.TheVariants as sent;
 ghost use Rattle.ertms_codec.specs.Layout.{value_at};
+ghost use Rattle.ertms_codec.specs.PacketsToTrain.{most_packets};
 ghost use Rattle.ertms_codec.specs.ToTrain.{Spells};
 ghost use Rattle.ertms_codec.specs.Refusals.{Unless, Never};
-ghost use Rattle.ertms_codec.specs.RefusalsToTrain.{Refuses, IsToTrain, IsLongEnough, IsOnePacket};
-ghost use Rattle.ertms_codec.specs.ToTrainAtPlaces.{head_at, packet_at, message_at, RefusesAtPlaces};
-ghost use Rattle.ertms_codec.specs.Reading.{IsReadToTrain};
+ghost use Rattle.ertms_codec.specs.RefusalsToTrain.{Refuses, IsReadFault, IsWantOfMemory, IsToTrain, IsLongEnough, BeginWithPacket, ArePackets, behind_packet};
+ghost use Rattle.ertms_codec.specs.ToTrainAtPlaces.{head_at, packet_at, packets_at, message_at, IsFaultAtPlaces};
+ghost use Rattle.ertms_codec.specs.Reading.{IsReadToTrain, IsPacketsFault};
 
-use crate::error::DecodeError;
+use crate::error::{DecodeError, ReadError};
+use crate::packets::{MOST_PACKETS, Packets, Part};
 use crate::reading::{message_number, next};
 use crate::to_train::{Head, ToTrain};
 use crate::variable::{
@@ -21,40 +25,42 @@ use crate::variable::{
     Q_DIR, Q_FRONT, Q_SCALE, T_TRAIN, V_TSR,
 };
 use ertms_bits::BitReader;
+use std::alloc::Global;
 
-/// The message to a train that some bytes encode, all of them; fill bits are ignored. It takes no
-/// memory (SUBSET-026, chapters 7 and 8).
+/// The message to a train that some bytes encode, all of them; fill bits are ignored. It takes memory only
+/// for the packets of message 24 behind the first (SUBSET-026, chapters 7 and 8).
 ///
 /// # Errors
 ///
-/// The first step that fails: `Length`, `Message`, `Length` (of that message), `Packet`, `Field`.
-pub fn read_to_train(bytes: &[u8]) -> Result<ToTrain, DecodeError>
+/// The first step that fails: `Length`, `Message`, `Length` (of that message), `Packet`, `Field`. At message
+/// 24 memory may run out in place of any answer behind the first three.
+pub fn read_to_train(alloc: Global, bytes: &[u8]) -> Result<ToTrain, ReadError>
     // What is read is so encoded.
     ensures found { IfOk result (λ m. Spells bytes.now m) }
-    // What is so encoded is read; so no bytes are an encoding of two messages.
-    ensures only { (m : Sent) → Spells bytes.now m → result ≡ Ok m }
+    // What is so encoded is read, unless memory runs out; so no bytes are an encoding of two messages.
+    ensures only { (m : Sent) → Spells bytes.now m → (result ≡ Ok m) ⊎ IsWantOfMemory bytes.now result }
     // A refusal is the first step that fails.
-    ensures refused { IfErr result (λ e. Refuses bytes.now e) }
-    // The first step that fails is the refusal.
-    ensures exact { (e : Refusal) → Refuses bytes.now e → result ≡ Err e }
+    ensures refused { IfErr result (λ fault. IsReadFault bytes.now fault) }
+    // The first step that fails is the refusal, unless memory runs out.
+    ensures exact { (e : Refusal) → Refuses bytes.now e → (result ≡ Err (Decode e)) ⊎ IsWantOfMemory bytes.now result }
 {
-    read(bytes)
+    read(alloc, bytes)
 }
 
 /// What `read_to_train` does, by the places of the variables.
-fn read(bytes: &[u8]) -> Result<ToTrain, DecodeError>
+fn read(alloc: Global, bytes: &[u8]) -> Result<ToTrain, ReadError>
     ensures ok { IfOk result (λ m. IsReadToTrain bytes.now m) }
-    ensures err { IfErr result (λ e. RefusesAtPlaces bytes.now e) }
+    ensures err { IfErr result (λ fault. IsFaultAtPlaces bytes.now fault) }
 {
     let mut bits = BitReader::new(bytes);
     let number = message_number(bytes, &mut bits)?;
     check_length(number, bytes.len())?;
     let head = head(&mut bits);
-    let message = body(&mut bits, number, head)?;
+    let message = body(alloc, &mut bits, number, head)?;
     if message.fits() {
         Ok(message)
     } else {
-        Err(DecodeError::Field)
+        Err(ReadError::Decode(DecodeError::Field))
     }
 }
 
@@ -89,19 +95,24 @@ fn head(bits: &mut BitReader<'_>) -> Head
 }
 
 /// What stands behind the header of a message of this number.
-fn body(bits: &mut BitReader<'_>, number: u64, head: Head) -> Result<ToTrain, DecodeError>
+fn body(
+    alloc: Global,
+    bits: &mut BitReader<'_>,
+    number: u64,
+    head: Head,
+) -> Result<ToTrain, ReadError>
     requires known { IsToTrain number }
     requires least { 4 ≤ length bits.old }
     requires conditional { number ≡ 15 → 39 ≤ length bits.old }
-    ensures one { IfOk result (λ _. number ≡ 24 → IsOnePacket bits.old) }
+    ensures packets { IfOk result (λ _. number ≡ 24 → ArePackets most_packets bits.old) }
     ensures ok { IfOk result (λ m. (whole : List ℕ) → bits.old ≡ drop 75 whole → head ≡ head_at whole → number ≡ value_at 0 8 whole → m ≡ message_at whole) }
-    ensures err { IfErr result (λ e. (number ≡ 24) × (¬ IsOnePacket bits.old) × (e ≡ packet_refusal)) }
+    ensures err { IfErr result (λ fault. (number ≡ 24) × IsPacketsFault bits.old fault) }
 {
     match number {
         15 => Ok(stop_at(bits, head)),
         16 => Ok(stop(bits, head)),
         18 => Ok(revoke(bits, head)),
-        _ => packet(bits, head),
+        _ => general(alloc, bits, head),
     }
 }
 
@@ -143,11 +154,40 @@ fn revoke(bits: &mut BitReader<'_>, head: Head) -> ToTrain
     }
 }
 
-/// The one packet of message 24, behind its header.
-fn packet(bits: &mut BitReader<'_>, head: Head) -> Result<ToTrain, DecodeError>
-    ensures one { IfOk result (λ _. IsOnePacket bits.old) }
-    ensures ok { IfOk result (λ m. (whole : List ℕ) → bits.old ≡ drop 75 whole → head ≡ head_at whole → m ≡ packet_at (value_at 75 8 whole) whole) }
-    ensures err { IfErr result (λ e. (¬ IsOnePacket bits.old) × (e ≡ packet_refusal)) }
+/// Message 24, behind its header.
+fn general(alloc: Global, bits: &mut BitReader<'_>, head: Head) -> Result<ToTrain, ReadError>
+    ensures packets { IfOk result (λ _. ArePackets most_packets bits.old) }
+    ensures ok { IfOk result (λ m. m ≡ sent.General head (packets_at most_packets bits.old)) }
+    ensures err { IfErr result (λ fault. IsPacketsFault bits.old fault) }
+{
+    Ok(ToTrain::General {
+        head,
+        packets: packets(alloc, bits)?,
+    })
+}
+
+/// All packets, to the fill bits.
+fn packets(alloc: Global, bits: &mut BitReader<'_>) -> Result<Packets, ReadError>
+    ensures packets { IfOk result (λ _. ArePackets most_packets bits.old) }
+    ensures ok { IfOk result (λ packets. packets ≡ packets_at most_packets bits.old) }
+    ensures err { IfErr result (λ fault. IsPacketsFault bits.old fault) }
+{
+    let mut packets = Packets::of(alloc, packet(bits)?)?;
+    while bits.left() >= 8 {
+        if packets.count() == MOST_PACKETS {
+            return Err(ReadError::Decode(DecodeError::Packet));
+        }
+        packets.push(packet(bits)?)?;
+    }
+    Ok(packets)
+}
+
+/// One packet.
+fn packet(bits: &mut BitReader<'_>) -> Result<Part, DecodeError>
+    ensures begins { IfOk result (λ _. BeginWithPacket bits.old) }
+    ensures value { IfOk result (λ part. part ≡ packet_at bits.old) }
+    ensures rest { OnOk result (bits.new ≡ behind_packet bits.old) }
+    ensures err { IfErr result (λ e. (¬ BeginWithPacket bits.old) × (e ≡ packet_refusal)) }
 {
     let left = bits.left();
     if left < 23 {
@@ -157,27 +197,20 @@ fn packet(bits: &mut BitReader<'_>, head: Head) -> Result<ToTrain, DecodeError>
     let dir = next(bits, Q_DIR) as u8;
     let size = next(bits, L_PACKET);
     match number {
-        65 if size == 71 && is_filled_by(71, left) => Ok(restrict(bits, head, dir)),
-        66 if size == 31 && is_filled_by(31, left) => Ok(lift(bits, head, dir)),
+        65 if size == 71 && left >= 71 => Ok(restrict(bits, dir)),
+        66 if size == 31 && left >= 31 => Ok(lift(bits, dir)),
         _ => Err(DecodeError::Packet),
     }
 }
 
-/// Whether a packet of so many bits leaves none but fill bits.
-fn is_filled_by(size: usize, left: usize) -> bool
-    ensures { IsTrue result ↔ ((size ≤ left) × (left < size + 8)) }
-{
-    size <= left && left - size < 8
-}
-
 /// Packet 65, behind L_PACKET.
-fn restrict(bits: &mut BitReader<'_>, head: Head, dir: u8) -> ToTrain
+fn restrict(bits: &mut BitReader<'_>, dir: u8) -> Part
     requires { 48 ≤ length bits.old }
-    ensures { (whole : List ℕ) → bits.old ≡ drop 98 whole
-        → result ≡ sent.Restrict head dir (value_at 98 2 whole) (value_at 100 8 whole) (value_at 108 15 whole) (value_at 123 15 whole) (value_at 138 1 whole == 1) (value_at 139 7 whole) }
+    ensures { (whole : List ℕ) → bits.old ≡ drop 23 whole
+        → (result ≡ packet.Restrict dir (value_at 23 2 whole) (value_at 25 8 whole) (value_at 33 15 whole) (value_at 48 15 whole) (value_at 63 1 whole == 1) (value_at 64 7 whole))
+        × (bits.new ≡ drop 71 whole) }
 {
-    ToTrain::Restrict {
-        head,
+    Part::Restrict {
         dir,
         scale: next(bits, Q_SCALE) as u8,
         id: next(bits, NID_TSR) as u8,
@@ -189,12 +222,12 @@ fn restrict(bits: &mut BitReader<'_>, head: Head, dir: u8) -> ToTrain
 }
 
 /// Packet 66, behind L_PACKET.
-fn lift(bits: &mut BitReader<'_>, head: Head, dir: u8) -> ToTrain
+fn lift(bits: &mut BitReader<'_>, dir: u8) -> Part
     requires { 8 ≤ length bits.old }
-    ensures { (whole : List ℕ) → bits.old ≡ drop 98 whole → result ≡ sent.Lift head dir (value_at 98 8 whole) }
+    ensures { (whole : List ℕ) → bits.old ≡ drop 23 whole
+        → (result ≡ packet.Lift dir (value_at 23 8 whole)) × (bits.new ≡ drop 31 whole) }
 {
-    ToTrain::Lift {
-        head,
+    Part::Lift {
         dir,
         id: next(bits, NID_TSR) as u8,
     }

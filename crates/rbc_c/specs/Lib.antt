@@ -2,3 +2,4 @@ pub mod Opens
 pub mod Messages
 pub mod Feeds
 pub mod Closes
+pub mod Versions

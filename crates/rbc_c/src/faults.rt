@@ -17,6 +17,9 @@ pub const NOT_NOW: u32 = 2;
 /// There are more messages than room for them.
 pub const ROOM: u32 = 3;
 
+/// The caller was compiled with another rbc.h.
+pub const OTHER_VERSION: u32 = 4;
+
 /// The text of a track is not UTF-8.
 pub const NOT_UTF8: u32 = 5;
 

@@ -5,13 +5,14 @@ ghost use Rattle.std.specs.Prelude.{◌≡◌, None, IfOk, IfErr};
 ghost use Rattle.rbc_c.specs.Opens.{Opens, IsNew, IsWhyNot};
 ghost use Rattle.rbc_c.specs.Feeds.{Feeds};
 ghost use Rattle.rbc_c.specs.Closes.{Closes};
+ghost use Rattle.rbc_c.specs.Versions.{this_version, Versioned};
 
 mod faults;
 mod feed;
 mod handle;
 mod message;
 
-use faults::{DONE, MEMORY, NOT_NOW, NOT_UTF8, code_of};
+use faults::{DONE, MEMORY, NOT_NOW, NOT_UTF8, OTHER_VERSION, code_of};
 use feed::{Answer, feed_desk};
 use handle::Handle;
 use message::Message;
@@ -37,10 +38,24 @@ fn desk_on(alloc: Global, track: &[u8]) -> Result<Box<LiveDesk>, u32>
 }
 
 /// Opens a desk on the track that a text in TOML writes. Answers 0, and the handle has the desk; or the code of a fault, and the
-/// handle is unchanged. A handle that has a desk keeps it, and the call is refused.
+/// handle is unchanged. A handle that has a desk keeps it, and the call is refused. So is that of a caller that was compiled with
+/// another rbc.h.
 #[unsafe(no_mangle)]
 pub extern "C" fn rbc_open(handle: &mut Handle, alloc: Global, track: &[u8]) -> u32
-    ensures { Opens handle.old.memory.live track.now result handle.new.memory.live }
+    ensures { Versioned handle.old.version handle.new.version result
+        (Opens handle.old.memory.live track.now result handle.new.memory.live)
+        (handle.new ≡ handle.old) }
+{
+    if !handle.is_of_this_version() {
+        return OTHER_VERSION;
+    }
+    open_handle(handle, alloc, track)
+}
+
+/// Opens a desk, as `rbc_open` does for a caller of this version.
+fn open_handle(handle: &mut Handle, alloc: Global, track: &[u8]) -> u32
+    ensures opens { Opens handle.old.memory.live track.now result handle.new.memory.live }
+    ensures version { handle.new.version ≡ this_version }
 {
     if let Some(desk) = handle.take(alloc) {
         *handle = Handle::of(desk);
@@ -57,7 +72,7 @@ pub extern "C" fn rbc_open(handle: &mut Handle, alloc: Global, track: &[u8]) -> 
 
 /// Gives one line to the desk of a handle. Answers 0: `answer` says what it led to, and its messages stand at the front of `out`. At
 /// the code of a fault the desk and `out` are as they were; where `out` has no room `answer` says for how many messages. A handle with
-/// no desk is refused.
+/// no desk is refused, and so is that of a caller that was compiled with another rbc.h.
 #[unsafe(no_mangle)]
 pub extern "C" fn rbc_feed(
     handle: &mut Handle,
@@ -66,7 +81,26 @@ pub extern "C" fn rbc_feed(
     out: &mut [Message],
     answer: &mut Answer,
 ) -> u32
-    ensures { Feeds handle.old.memory.live line.now out.old answer.old result handle.new.memory.live out.new answer.new }
+    ensures { Versioned handle.old.version handle.new.version result
+        (Feeds handle.old.memory.live line.now out.old answer.old result handle.new.memory.live out.new answer.new)
+        ((handle.new ≡ handle.old) × (out.new ≡ out.old) × (answer.new ≡ answer.old)) }
+{
+    if !handle.is_of_this_version() {
+        return OTHER_VERSION;
+    }
+    feed_handle(handle, alloc, line, out, answer)
+}
+
+/// Gives one line, as `rbc_feed` does for a caller of this version.
+fn feed_handle(
+    handle: &mut Handle,
+    alloc: Global,
+    line: &[u8],
+    out: &mut [Message],
+    answer: &mut Answer,
+) -> u32
+    ensures feeds { Feeds handle.old.memory.live line.now out.old answer.old result handle.new.memory.live out.new answer.new }
+    ensures version { handle.new.version ≡ this_version }
 {
     let Some(mut desk) = handle.take(alloc) else {
         return NOT_NOW;
@@ -76,10 +110,24 @@ pub extern "C" fn rbc_feed(
     code
 }
 
-/// Gives back the memory of a handle's desk. A handle with no desk is refused. It has none then.
+/// Gives back the memory of a handle's desk, which has none then. A handle with no desk is refused, and so is that of a caller that
+/// was compiled with another rbc.h, which stays as it is.
 #[unsafe(no_mangle)]
 pub extern "C" fn rbc_close(handle: &mut Handle, alloc: Global) -> u32
-    ensures { Closes handle.old.memory.live result handle.new.memory.live }
+    ensures { Versioned handle.old.version handle.new.version result
+        (Closes handle.old.memory.live result handle.new.memory.live)
+        (handle.new ≡ handle.old) }
+{
+    if !handle.is_of_this_version() {
+        return OTHER_VERSION;
+    }
+    close_handle(handle, alloc)
+}
+
+/// Gives back memory, as `rbc_close` does for a caller of this version.
+fn close_handle(handle: &mut Handle, alloc: Global) -> u32
+    ensures closes { Closes handle.old.memory.live result handle.new.memory.live }
+    ensures version { handle.new.version ≡ this_version }
 {
     match handle.take(alloc) {
         Some(_) => DONE,

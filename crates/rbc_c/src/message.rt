@@ -15,8 +15,9 @@ use rbc_settle::Sent;
 pub struct Message {
     /// NID_ENGINE.
     pub engine: u32,
+    /// How many bytes the message has: 1 to 897.
     pub length: u32,
-    pub bytes: [u8; 32],
+    pub bytes: [u8; 1024],
 }
 
 /// Writes a message.

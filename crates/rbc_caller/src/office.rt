@@ -88,7 +88,7 @@ pub fn sent_line(alloc: Global, number: usize, sent: &Sent) -> Result<String, Al
     requires { FitsItsVariables sent.now.message }
     ensures { IfOk result (λ line. string_bytes line ≡ sent_line number sent.now) }
 {
-    let mut buffer = [0; 32];
+    let mut buffer = [0; 1024];
     let length = write_to_train(&sent.message, &mut buffer);
     let engine = sent.engine;
     let bytes = hex::encode_upper(alloc, &buffer[..length])?;

@@ -6,10 +6,10 @@ use Rattle.std.proofs.lemmas.Option.{same_Some}
 use Rattle.ertms_codec.specs.declared.to_train.ToTrain.{ToTrain}
 use Rattle.rbc_maps.specs.Numbered.{none_numbered}
 use Rattle.rbc_settle.specs.declared.train.TrainRec.{TrainRec}
-use Rattle.rbc_settle.specs.declared.action.Action.{Action}
-use Rattle.rbc_settle.specs.declared.action.Action.TheVariants.{RevokeStop, TellStop}
-use Rattle.rbc_settle.specs.declared.action.ToldStop.{ToldStop}
-use Rattle.rbc_settle.specs.declared.action.ToldStop.TheVariants.{Before}
+use Rattle.rbc_settle.specs.Actions.{Action, ChangesStop}
+use Rattle.rbc_settle.specs.declared.change.StopChange.TheVariants as stop_change
+use Rattle.rbc_settle.specs.declared.change.ToldStop.{ToldStop}
+use Rattle.rbc_settle.specs.declared.change.ToldStop.TheVariants.{Before}
 use Rattle.rbc_settle.specs.Settling.{Stops, actions_with_stamp}
 use Rattle.rbc_rule.specs.declared.input.Input.{Input}
 use Rattle.rbc_rule.specs.declared.input.Input.TheVariants as input
@@ -95,13 +95,13 @@ module _ (engine : ℕ) (message : ToTrain) where
   second_of sent two said = ⊎_elim (λ (first : (sent.input ≡ 1) × IsSaidTo track_a with_stop engine sent.message). absurd (differ 2 1 refl (sym two ∙ first.0))) (λ (second : (sent.input ≡ 2) × IsSaidTo track_a world_released engine sent.message). second.1) (said_of_one engine sent said)
 
   pub first_to_7 : IsSaidThere engine (mail 1 message) → engine ≡ 7
-  first_to_7 said = to_7 waiting with_stop.stops (TellStop 0 1 told_stop) engine message refl (first_of (mail 1 message) refl said)
+  first_to_7 said = to_7 waiting with_stop.stops (ChangesStop (stop_change.Tell 0 1 told_stop)) engine message refl (first_of (mail 1 message) refl said)
 
-  pub tells_stop : IsSaidThere engine (mail 1 message) → SaysFor track_a with_stop.stops none_numbered waiting (TellStop 0 1 told_stop) message
-  tells_stop said = says_for waiting with_stop.stops (TellStop 0 1 told_stop) engine message refl (first_of (mail 1 message) refl said)
+  pub tells_stop : IsSaidThere engine (mail 1 message) → SaysFor track_a with_stop.stops none_numbered waiting (ChangesStop (stop_change.Tell 0 1 told_stop)) message
+  tells_stop said = says_for waiting with_stop.stops (ChangesStop (stop_change.Tell 0 1 told_stop)) engine message refl (first_of (mail 1 message) refl said)
 
-  pub revokes_stop : IsSaidThere engine (mail 2 message) → SaysFor track_a world_released.stops none_numbered told_train (RevokeStop 0 None) message
-  revokes_stop said = says_for told_train world_released.stops (RevokeStop 0 None) engine message refl (second_of (mail 2 message) refl said)
+  pub revokes_stop : IsSaidThere engine (mail 2 message) → SaysFor track_a world_released.stops none_numbered told_train (ChangesStop (stop_change.Revoke 0 None)) message
+  revokes_stop said = says_for told_train world_released.stops (ChangesStop (stop_change.Revoke 0 None)) engine message refl (second_of (mail 2 message) refl said)
 
   pub no_third : IsSaidThere engine (mail 3 message) → ⊥
   no_third said =
@@ -134,8 +134,8 @@ stop_is_told = record {
   said = record {
     train = waiting;
     is_train = one_train waiting;
-    action = TellStop 0 1 told_stop;
-    is_action = one_action (TellStop 0 1 told_stop);
+    action = ChangesStop (stop_change.Tell 0 1 told_stop);
+    is_action = one_action (ChangesStop (stop_change.Tell 0 1 told_stop));
     says = right_stop facing_up (on_line_0 20000 21000) 1 0 10000 told_stop 20000 (from_5 Up 20000 1) refl stop_sendable refl (counted_from_5 1 0 10000 Up 20000 1 refl refl refl)
         (record { scale = 0; units = 10000; told = told_rightly 10000 (omega arith); on_line = refl; from_group = refl; faces = refl; in_units = refl; ahead = refl });
   };
@@ -154,9 +154,9 @@ stop_is_revoked = record {
   said = record {
     train = told_train;
     is_train = one_train told_train;
-    action = RevokeStop 0 None;
-    is_action = one_action (RevokeStop 0 None);
-    says = record { said = RevokesStop 0; says = refl; is_for = refl; by_its_group = refl; sendable = revocation_sendable };
+    action = ChangesStop (stop_change.Revoke 0 None);
+    is_action = one_action (ChangesStop (stop_change.Revoke 0 None));
+    says = record { said = RevokesStop 0 ∷ []; says = refl; is_for = refl; by_its_group = refl; sendable = revocation_sendable };
   };
   fits = revocation_sendable.fits;
   spelled = spells_itself (revoke 0) revocation_sendable.fits revocation_sendable.holds revocation_sendable.reference;

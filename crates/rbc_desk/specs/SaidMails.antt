@@ -6,7 +6,7 @@ use Rattle.ertms_codec.specs.ToTrain as codec
 use Rattle.rbc_track.specs.Plan.{Plan, IsPlan}
 use Rattle.rbc_maps.specs.Maps.{value_or}
 use Rattle.rbc_settle.specs.declared.train.TrainRec.{TrainRec}
-use Rattle.rbc_settle.specs.declared.action.Action.{Action}
+use Rattle.rbc_settle.specs.Actions.{Action}
 use Rattle.rbc_settle.specs.Settling.{actions_with_stamp}
 use Rattle.rbc_rule.specs.declared.input.Input.{Input}
 use Rattle.rbc_rule.specs.Inputs.{Fits}

@@ -98,6 +98,7 @@ impl Desk {
     }
 
     /// Decides an input by the records, and changes nothing. If the desk holds a valid state, this fails only for lack of memory.
+    #[inline(always)]
     pub fn decide(
         &mut self,
         alloc: Global,

@@ -1,15 +1,19 @@
 //! The messages that were sent to each engine.
 
-ghost use Rattle.std.specs.Prelude.{◌≡◌, ◌-◌, ◌≤◌, ℕ, List, [], ◌∷◌, ◌++◌, length, take, OnOk, OnErr};
+ghost use Rattle.std.specs.Prelude.{◌≡◌, ◌-◌, ◌^◌, ◌<◌, ◌≤◌, ℕ, List, [], ◌∷◌, ◌++◌, length, take, OnOk, OnErr};
+ghost use Rattle.std.specs.List.{flat_map};
+ghost use Rattle.std.specs.Int.{w16};
+ghost use Rattle.std.specs.Int.RustNames.{FitsSigned};
 ghost use Rattle.ertms_codec.specs.ToTrain.{Fits, HoldsReference, Spells, fields_of, spelling_of};
 ghost use Rattle.ertms_codec.specs.Layout.{HoldValues};
+ghost use Rattle.ertms_codec.specs.PacketsToTrain.{PacketFits, ArePacketsThatFit, fields_of_packet};
 ghost use Rattle.rbc_maps.specs.Maps.{with_value, value_or};
 ghost use Rattle.rbc_rule.specs.Gathered as gathered;
 ghost use Rattle.rbc_desk.specs.declared.outbox.Mail.{Mail};
 ghost use Rattle.rbc_desk.specs.Sendable.{AreSendable};
-ghost use Rattle.rbc_desk.specs.Held.{AreOutboxes, post_each, taken_back};
+ghost use Rattle.rbc_desk.specs.Held.{AreOutboxes, post_one, post_each, taken_back};
 
-use ertms_codec::ToTrain;
+use ertms_codec::{Head, Packets, Part, ToTrain};
 use rbc_rule::SentList;
 use rbc_settle::Sent;
 use std::alloc::{AllocError, Global};
@@ -17,7 +21,7 @@ use std::cell::Cell;
 use std::marker::Model;
 
 /// A message that was sent, and the number of the input, from 1, that caused it.
-#[derive(Clone, Copy, Debug, PartialEq, Eq)]
+#[derive(Debug, Drop)]
 pub struct Mail {
     pub input: u32,
     pub message: ToTrain,
@@ -74,7 +78,7 @@ impl Outbox {
         ensures ok { OnOk result (self.new ≡ self.old ++ mail ∷ []) }
         ensures err { OnErr result (self.new ≡ self.old) }
     {
-        spells(mail.message);
+        spells(&mail.message);
         self.mails.push(mail)?;
         Ok(())
     }
@@ -92,25 +96,60 @@ pub(crate) fn mails_of(outboxes: &[(u32, Outbox)], engine: u32) -> &[Mail]
     }
 }
 
+/// Says in its contract that the variables of each message's head have room for their values, but for NID_LRBG.
+fn head_has_room(head: Head)
+    ensures { head.stamp < 2 ^ 32 }
+{}
+
+/// Says in its contract that D_REF has room for its value.
+fn reference_has_room(reference: i16)
+    ensures { FitsSigned w16 reference }
+{}
+
+/// Says in its contract that each variable of a packet that fits has room for its value.
+fn packet_has_room(part: Part)
+    requires { PacketFits part }
+    ensures { HoldValues (fields_of_packet part) }
+{}
+
+/// Says in its contract that each variable of packets that fit has room for its value.
+fn packets_have_room(packets: &Packets)
+    requires { ArePacketsThatFit packets.now }
+    ensures { HoldValues (flat_map fields_of_packet packets.now) }
+{
+    for index in 0..packets.count() {
+        packet_has_room(packets.at(index));
+    }
+}
+
 /// Says in its contract that each variable of a message that fits has room for its value.
-fn has_room(message: ToTrain)
-    requires { Fits message }
-    ensures values { HoldValues (fields_of message) }
-    ensures reference { HoldsReference message }
+fn has_room(message: &ToTrain)
+    requires { Fits message.now }
+    ensures values { HoldValues (fields_of message.now) }
+    ensures reference { HoldsReference message.now }
 {
     match message {
-        ToTrain::StopAt { .. } => {}
-        ToTrain::Stop { .. } => {}
-        ToTrain::Revoke { .. } => {}
-        ToTrain::Restrict { .. } => {}
-        ToTrain::Lift { .. } => {}
+        ToTrain::StopAt {
+            head,
+            reference,
+            ..
+        } => {
+            head_has_room(*head);
+            reference_has_room(*reference);
+        }
+        ToTrain::Stop { head, .. } => head_has_room(*head),
+        ToTrain::Revoke { head, .. } => head_has_room(*head),
+        ToTrain::General { head, packets } => {
+            head_has_room(*head);
+            packets_have_room(packets);
+        }
     }
 }
 
 /// Says in its contract that a message that fits is what its own bytes encode.
-fn spells(message: ToTrain)
-    requires { Fits message }
-    ensures { Spells (spelling_of message) message }
+fn spells(message: &ToTrain)
+    requires { Fits message.now }
+    ensures { Spells (spelling_of message.now) message.now }
 {
     has_room(message);
 }
@@ -167,7 +206,26 @@ pub(crate) fn take_back_all(outboxes: &mut Vec<(u32, Outbox)>, messages: &SentLi
     }
 }
 
-/// Puts the messages of an input into the outboxes of their engines, one after another. Fails only for lack of memory, and
+/// Puts a copy of a message into its engine's outbox. Fails only for lack of memory, and then changes nothing.
+fn post_copy(
+    alloc: Global,
+    outboxes: &mut Vec<(u32, Outbox)>,
+    input: u32,
+    sent: &Sent,
+    near: &Cell<usize>,
+) -> Result<(), AllocError>
+    requires outboxes { AreOutboxes outboxes.old.items }
+    requires fit { Fits sent.now.message }
+    ensures posted { OnOk result (outboxes.new.items ≡ post_one input outboxes.old.items sent.now) }
+    ensures outboxes { AreOutboxes outboxes.new.items }
+    ensures err { OnErr result (outboxes.new.items ≡ outboxes.old.items) }
+{
+    let engine = sent.engine;
+    let message = sent.message.copy(alloc)?;
+    post(alloc, outboxes, engine, Mail { input, message }, near)
+}
+
+/// Puts copies of the messages of an input into the outboxes of their engines, one after another. Fails only for lack of memory, and
 /// then changes nothing.
 pub(crate) fn post_all(
     alloc: Global,
@@ -183,8 +241,7 @@ pub(crate) fn post_all(
 {
     let near = Cell::new(0);
     for index in 0..messages.len() {
-        let Sent { engine, message } = *messages.at(index);
-        if post(alloc, outboxes, engine, Mail { input, message }, &near).is_err() {
+        if post_copy(alloc, outboxes, input, messages.at(index), &near).is_err() {
             take_back_all(outboxes, messages, index);
             return Err(AllocError);
         }

@@ -3,5 +3,6 @@ pub mod Once
 pub mod Gaps
 pub mod Tables
 mod Reported
+mod Acked
 mod Near
 mod Same

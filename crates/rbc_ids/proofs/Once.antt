@@ -1,6 +1,7 @@
 -- Each number is told by one slot at most, before and after each change.
 use Rattle.std.proofs.Common.{◌≡◌, ℕ, ◌+◌, ◌<◌, min, Bool, true, false, not, cond, ◌||◌, eqb, ltb, leb, List, [], ◌∷◌, Some, None, refl, sym, ap, ◌∙◌, subst, arith, inl, inr}
-use Rattle.std.specs.List.{filter}
+use Rattle.std.specs.List.{cons_option, filter}
+use Rattle.std.specs.Option.{IfSome, option_map}
 use Rattle.std.proofs.lemmas.Bool.{cases_lt, cases_Bool, or_parts, or_from, or_left, or_right, and_parts, le-leb, lt-ltb, le-ltb, eqb-true, eq-eqb, ne_eqb, both_ways}
 use Rattle.std.proofs.lemmas.Option.{same_Some}
 use Rattle.rbc_maps.specs.Maps.{keys, rises_from, value_of, with_value, without}
@@ -8,7 +9,7 @@ use Rattle.rbc_ids.specs.declared.slot.Slot.{Slot}
 use Rattle.rbc_ids.specs.declared.slot.Slot.TheVariants.{Used, Revoking}
 use Rattle.rbc_ids.specs.declared.slot.UsedSlot.{UsedSlot}
 use Rattle.rbc_ids.specs.declared.slot.Kind.{Kind}
-use Rattle.rbc_ids.specs.Table.{Slots, tells, is_told, TellsOnce, TellsApart, told_now, marked, reported_slot, after_report, is_unanswered}
+use Rattle.rbc_ids.specs.Table.{Slots, tells, is_told, TellsOnce, TellsApart, told_now, marked, reported_slot, after_report, is_unanswered, is_marked_by, acked_slot, acked_slots}
 use Rattle.rbc_ids.proofs.Lacking.{absent_below, without_absent}
 
 -- what is not told is not told by fewer slots
@@ -160,3 +161,31 @@ once-reported (held ∷ slots) once = ((λ n told. told-reported n slots ∙ onc
 pub keys-reported : (slots : Slots) → keys (after_report slots) ≡ keys slots
 keys-reported [] = refl
 keys-reported (held ∷ slots) = ap (λ (ks : List ℕ). held.0 ∷ ks) (keys-reported slots)
+
+-- ---- after the acknowledgement of a message by its stamp
+
+-- what holds of a slot, and of a marked one as of the one before, holds of what is left of it
+pub acked_keeps : (P : Slot → Type 0) (stamp : ℕ) (slot : Slot) → ((used : UsedSlot) → P (Used used) → P (marked used)) → P slot → IfSome (acked_slot stamp slot) P
+acked_keeps P stamp (Used used) mark here = elim (is_marked_by stamp (Used used)) as (λ b. P (cond b (marked used) (Used used))) [ true ↦ mark used here | false ↦ here ]
+acked_keeps P stamp (Revoking own) mark here = elim (eqb own stamp) as (λ b. IfSome (cond b None (Some (Revoking own))) P) [ true ↦ tt | false ↦ here ]
+
+-- what is not told is not told then
+untold-acked : (stamp n : ℕ) (slots : Slots) → is_told slots n ≡ false → is_told (acked_slots stamp slots) n ≡ false
+untold-acked stamp n [] untold = refl
+untold-acked stamp n (held ∷ slots) untold =
+    let parts = or_parts (tells n held.1) (is_told slots n) untold in
+    let rest = untold-acked stamp n slots parts.1 in
+    (elim (acked_slot stamp held.1) as (λ o. IfSome o (λ slot. tells n slot ≡ false) → is_told (cons_option (option_map {U = ℕ × Slot} (λ slot. (held.0, slot)) o) (acked_slots stamp slots)) n ≡ false) [
+      | None ↦ λ kept. rest
+      | Some slot ↦ λ kept. or_from (tells n slot) (is_told (acked_slots stamp slots) n) kept rest
+    ]) (acked_keeps (λ slot. tells n slot ≡ false) stamp held.1 (λ used is. is) parts.0)
+
+-- and each number is told once
+pub once-acked : (stamp : ℕ) (slots : Slots) → TellsOnce slots → TellsOnce (acked_slots stamp slots)
+once-acked stamp [] once = tt
+once-acked stamp (held ∷ slots) once =
+    let rest = once-acked stamp slots once.1 in
+    (elim (acked_slot stamp held.1) as (λ o. IfSome o (λ slot. (n : ℕ) → tells n slot ≡ tells n held.1) → TellsOnce (cons_option (option_map {U = ℕ × Slot} (λ slot. (held.0, slot)) o) (acked_slots stamp slots))) [
+      | None ↦ λ kept. rest
+      | Some slot ↦ λ kept. ((λ n told. untold-acked stamp n slots (once.0 n (sym (kept n) ∙ told))), rest)
+    ]) (acked_keeps (λ slot. (n : ℕ) → tells n slot ≡ tells n held.1) stamp held.1 (λ used is. is) (λ n. refl))

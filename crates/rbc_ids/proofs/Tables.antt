@@ -1,6 +1,6 @@
 -- What is held at the place of an identifier, and that each change keeps a table.
-use Rattle.std.proofs.Common.{◌≡◌, ℕ, suc, ◌+◌, ◌<◌, ◌≤◌, Bool, true, false, not, cond, ◌||◌, ◌&&◌, eqb, ltb, leb, List, [], ◌∷◌, length, get_or, set, Some, None, refl, sym, ap, ◌∙◌, subst, arith, inl, inr}
-use Rattle.std.specs.List.{All, filter, find, insert, list_any, remove}
+use Rattle.std.proofs.Common.{◌≡◌, ℕ, suc, ◌+◌, ◌<◌, ◌≤◌, Bool, true, false, not, cond, ◌||◌, ◌&&◌, eqb, ltb, leb, List, [], ◌∷◌, length, get_or, set, Option, Some, None, refl, sym, ap, ◌∙◌, subst, arith, inl, inr}
+use Rattle.std.specs.List.{All, cons_option, filter, filter_map, find, insert, list_any, remove}
 use Rattle.std.specs.Option.{option_map}
 use Rattle.std.proofs.lemmas.Bool.{cases_lt, or_parts, or_left, or_right, or_cases, and_parts, and_from, leb-true, ltb-true, ltb-false, eqb-true, eq-eqb, ne_eqb, false≢true}
 use Rattle.std.proofs.lemmas.Bool.Decides.{nat_tests}
@@ -11,9 +11,9 @@ use Rattle.rbc_maps.proofs.MapPlaces.{has_is, has_here, has_past, rises-with_val
 use Rattle.rbc_maps.proofs.MapEdits.{inserted, position_or_len_le, written}
 use Rattle.rbc_maps.proofs.MapFacts.{rises_from-lower}
 use Rattle.rbc_ids.specs.declared.slot.Slot.{Slot}
-use Rattle.rbc_ids.specs.Table.{Slots, IsTable, TellsApart, tells, is_told, is_used, is_used_at, identifier_of, after_report}
+use Rattle.rbc_ids.specs.Table.{Slots, IsTable, TellsApart, tells, is_told, is_used, is_used_at, identifier_of, after_report, acked_slot, acked_slots}
 use Rattle.rbc_ids.proofs.Lacking.{absent_below, without_absent}
-use Rattle.rbc_ids.proofs.Once.{once-filter, once-with, once-reported, keys-reported}
+use Rattle.rbc_ids.proofs.Once.{once-filter, once-with, once-reported, keys-reported, once-acked}
 
 module _ {V : Type 0} where
   -- as many stand between a lower and an upper bound as the bounds leave room for
@@ -42,34 +42,6 @@ module _ {V : Type 0} where
   value_of-absent key (pair ∷ pairs) absent =
       let parts = or_parts (eqb pair.0 key) (has pairs key) absent in
       ap (λ b. cond b (Some pair.1) (value_of pairs key)) parts.0 ∙ value_of-absent key pairs parts.1
-
-  -- the pair that a search found is there
-  pub has-found : (test : ℕ × V → Bool) (pairs : List (ℕ × V)) (pair : ℕ × V) → find test pairs ≡ Some pair → has pairs pair.0 ≡ true
-  has-found test [] pair found = absurd (let bad : None ≡ Some pair = found in cc)
-  has-found test (first ∷ pairs) pair found =
-      (elim (test first) as (λ b. cond b (Some first) (find test pairs) ≡ Some pair → has (first ∷ pairs) pair.0 ≡ true) [
-        | true ↦ λ e. or_left (eqb first.0 pair.0) (has pairs pair.0) (eq-eqb first.0 pair.0 (let same : Some first ≡ Some pair = e in cc))
-        | false ↦ λ e. or_right (eqb first.0 pair.0) (has pairs pair.0) (has-found test pairs pair e)
-      ]) found
-
-  -- the pair that a search found is that of its key
-  pub value_of-found : (test : ℕ × V → Bool) (pair : ℕ × V) (least : ℕ) (pairs : List (ℕ × V)) → rises_from least (keys pairs) ≡ true → find test pairs ≡ Some pair → value_of pairs pair.0 ≡ Some pair.1
-  value_of-found test pair least [] rises found = absurd (let bad : None ≡ Some pair = found in cc)
-  value_of-found test pair least (first ∷ pairs) rises found =
-      let parts = and_parts (leb least first.0) (rises_from (first.0 + 1) (keys pairs)) rises in
-      (elim (test first) as (λ b. cond b (Some first) (find test pairs) ≡ Some pair → value_of (first ∷ pairs) pair.0 ≡ Some pair.1) [
-        | true ↦ λ e.
-            let same : first ≡ pair = same_Some first pair e in
-            ap (λ b. cond b (Some first.1) (value_of pairs pair.0)) (eq-eqb first.0 pair.0 (ap (λ (p : ℕ × V). p.0) same)) ∙ ap (λ (p : ℕ × V). Some p.1) same
-        | false ↦ λ e.
-            let there = has-found test pairs pair e in
-            let above : first.0 < pair.0 = elim (cases_lt first.0 pair.0) [
-              | inl lt ↦ lt
-              | inr ge ↦ absurd (let none = absent_below pair.0 (first.0 + 1) pairs (omega (arith, ge)) parts.1 in let bad : false ≡ true = sym none ∙ there in cc)
-            ] in
-            ap (λ b. cond b (Some first.1) (value_of pairs pair.0)) (ne_eqb first.0 pair.0 (λ equal. absurd (omega (arith, equal, above))))
-            ∙ value_of-found test pair (first.0 + 1) pairs parts.1 e
-      ]) found
 
   -- a key that is there and passes a test is there
   pub has-any : (key : ℕ) (test : ℕ × V → Bool) (pairs : List (ℕ × V)) → list_any (λ pair. eqb pair.0 key && test pair) pairs ≡ true → has pairs key ≡ true
@@ -146,6 +118,32 @@ module _ {V : Type 0} where
         | false ↦ rest
       ]
 
+  -- so do those whose value is changed, or left out
+  abbrev changed_or_left_out : (V → Option V) → List (ℕ × V) → List (ℕ × V)
+  changed_or_left_out change pairs = filter_map (λ pair. option_map (λ value. (pair.0, value)) (change pair.1)) pairs
+
+  rises-changed : (change : V → Option V) (least : ℕ) (pairs : List (ℕ × V)) → rises_from least (keys pairs) ≡ true → rises_from least (keys (changed_or_left_out change pairs)) ≡ true
+  rises-changed change least [] rises = refl
+  rises-changed change least (pair ∷ pairs) rises =
+      let parts = and_parts (leb least pair.0) (rises_from (pair.0 + 1) (keys pairs)) rises in
+      let above : least ≤ pair.0 = leb-true least pair.0 parts.0 in
+      let others = changed_or_left_out change pairs in
+      let rest = rises-changed change (pair.0 + 1) pairs parts.1 in
+      elim (change pair.1) as (λ o. rises_from least (keys (cons_option (option_map {U = ℕ × V} (λ value. (pair.0, value)) o) others)) ≡ true) [
+        | None ↦ rises_from-lower least (pair.0 + 1) (keys others) (omega arith) rest
+        | Some value ↦ and_from (leb least pair.0) (rises_from (pair.0 + 1) (keys others)) parts.0 rest
+      ]
+
+  All-keys-changed : (P : ℕ → Type 0) (change : V → Option V) (pairs : List (ℕ × V)) → All P (keys pairs) → All P (keys (changed_or_left_out change pairs))
+  All-keys-changed P change [] all = all
+  All-keys-changed P change (pair ∷ pairs) all =
+      let others = changed_or_left_out change pairs in
+      let rest = All-keys-changed P change pairs (All-tail P pair.0 (keys pairs) all) in
+      elim (change pair.1) as (λ o. All P (keys (cons_option (option_map {U = ℕ × V} (λ value. (pair.0, value)) o) others))) [
+        | None ↦ rest
+        | Some value ↦ All-cons P pair.0 (keys others) (All-head P pair.0 (keys pairs) all) rest
+      ]
+
   All-keys-with_value : (P : ℕ → Type 0) (key : ℕ) (value : V) (pairs : List (ℕ × V)) → P key → All P (keys pairs) → All P (keys (with_value key value pairs))
   All-keys-with_value P key value [] here all = All-cons P key [] here all
   All-keys-with_value P key value (pair ∷ pairs) here all =
@@ -194,6 +192,14 @@ module _ (count : ℕ) (slots : Slots) (table : IsTable count slots) where
     ascending = subst (λ (ks : List ℕ). rises_from 0 ks ≡ true) (sym (keys-reported slots)) table.ascending;
     below = subst (λ (ks : List ℕ). All (λ id. id < count) ks) (sym (keys-reported slots)) table.below;
     once = once-reported slots table.once;
+  }
+
+  pub stays_acked : (stamp : ℕ) → IsTable count (acked_slots stamp slots)
+  stays_acked stamp = record {
+    small = table.small;
+    ascending = rises-changed (acked_slot stamp) 0 slots table.ascending;
+    below = All-keys-changed (λ id. id < count) (acked_slot stamp) slots table.below;
+    once = once-acked stamp slots table.once;
   }
 
   pub held_below : (id : ℕ) → has slots id ≡ true → id < count

@@ -1,7 +1,7 @@
 -- A table of identifiers, as a map from those that are held to their slots (own rule).
-use Rattle.std.specs.Prelude.{◌≡◌, ℕ, ◌+◌, ◌<◌, ◌≤◌, min, Bool, true, false, not, ◌==◌, ◌&&◌, nat_le, List, [], ◌∷◌, map, Option, Some, None, option_map, slice_get, if◌then◌else◌}
+use Rattle.std.specs.Prelude.{◌≡◌, ℕ, ◌+◌, ◌<◌, ◌≤◌, min, Bool, true, false, not, ◌==◌, ◌&&◌, nat_le, List, [], ◌∷◌, length, map, Option, Some, None, option_map, slice_get, if◌then◌else◌}
 use Rattle.std.specs.Option.{option_map_or}
-use Rattle.std.specs.List.{filter, find, list_any, range_with_len, All}
+use Rattle.std.specs.List.{filter, filter_map, find, list_any, range_with_len, All}
 use Rattle.rbc_maps.specs.Maps.{has, value_of, with_value, without, keys, IsMap}
 use Rattle.rbc_ids.specs.declared.slot.Slot.{Slot}
 use Rattle.rbc_ids.specs.declared.slot.Slot.TheVariants.{Used, Revoking}
@@ -113,10 +113,6 @@ abbrev pub stamp_of : Slot → ℕ
 stamp_of (Used used) = used.stamp
 stamp_of (Revoking stamp) = stamp
 
--- the least identifier whose slot has a stamp, with that slot
-abbrev pub with_stamp : Slots → ℕ → Option (ℕ × Slot)
-with_stamp slots stamp = find (λ held. stamp_of held.1 == stamp) slots
-
 -- an outcome, with the table in which an identifier is free
 abbrev pub freed : {A : Type 0} → A → ℕ → Slots → A × Slots
 freed answer id slots = (answer, without id slots)
@@ -130,15 +126,38 @@ is_of_restriction Conditional = false
 is_of_restriction Unconditional = false
 is_of_restriction Restriction = true
 
--- The message of a slot is acknowledged: a revocation frees its identifier, a restriction is marked, and a stop stays as it is.
-abbrev pub acked_by_stamp : Slots → Option (ℕ × Slot) → StampAck × Slots
-acked_by_stamp slots None = (stamp_ack.Nothing, slots)
-acked_by_stamp slots (Some (id, Revoking stamp)) = freed stamp_ack.Freed id slots
-acked_by_stamp slots (Some (id, Used used)) = if is_of_restriction used.kind then put stamp_ack.Marked id (marked used) slots else (stamp_ack.Nothing, slots)
+-- the message with this stamp revoked the identifier of a slot
+abbrev pub is_freed_by : ℕ → Slot → Bool
+is_freed_by stamp (Used used) = false
+is_freed_by stamp (Revoking own) = own == stamp
+
+-- it told the restriction of a slot
+abbrev pub is_marked_by : ℕ → Slot → Bool
+is_marked_by stamp (Used used) = is_of_restriction used.kind && used.stamp == stamp
+is_marked_by stamp (Revoking own) = false
+
+-- The slot once the train has acknowledged the message with this stamp, or none where its identifier is free then: a
+-- restriction is marked, and a stop stays as it is.
+abbrev pub acked_slot : ℕ → Slot → Option Slot
+acked_slot stamp (Used used) = Some (if is_marked_by stamp (Used used) then marked used else Used used)
+acked_slot stamp (Revoking own) = if own == stamp then None else Some (Revoking own)
+
+-- the slots of the identifiers that are held then
+abbrev pub acked_slots : ℕ → Slots → Slots
+acked_slots stamp slots = filter_map (λ held. option_map (λ slot. (held.0, slot)) (acked_slot stamp held.1)) slots
+
+-- how many identifiers the message revoked, and how many restrictions it told
+abbrev pub freed_by : ℕ → Slots → ℕ
+freed_by stamp slots = length (filter (λ held. is_freed_by stamp held.1) slots)
+
+abbrev pub marked_by : ℕ → Slots → ℕ
+marked_by stamp slots = length (filter (λ held. is_marked_by stamp held.1) slots)
 
 -- what the acknowledgement of the message with this stamp does, and the table after it
 abbrev pub after_stamp_ack : Slots → ℕ → StampAck × Slots
-after_stamp_ack slots stamp = acked_by_stamp slots (with_stamp slots stamp)
+after_stamp_ack slots stamp =
+    if freed_by stamp slots == 0 && marked_by stamp slots == 0 then (stamp_ack.Nothing, slots)
+    else (stamp_ack.Answered (freed_by stamp slots) (marked_by stamp slots), acked_slots stamp slots)
 
 -- Q_EMERGENCYSTOP accepts a stop: 0 and 1 a conditional one, 2 an unconditional one
 abbrev pub is_acceptance : Kind → ℕ → Bool

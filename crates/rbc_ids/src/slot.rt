@@ -57,17 +57,7 @@ impl UsedSlot {
 
 impl Slot {
     ghost use Rattle.std.specs.Prelude.{◌≡◌};
-    ghost use Rattle.rbc_ids.specs.Table.{stamp_of, tells, is_ripe};
-
-    /// Returns the stamp of the message that told the number or revoked it.
-    pub fn stamp(&self) -> u32
-        ensures { result ≡ stamp_of self.now }
-    {
-        match self {
-            Slot::Used(used) => used.stamp,
-            Slot::Revoking { stamp } => *stamp,
-        }
-    }
+    ghost use Rattle.rbc_ids.specs.Table.{tells, is_ripe, is_freed_by, is_marked_by};
 
     /// Whether the slot is used by a stop that the train was told conditionally, and has left unanswered in three
     /// reports.
@@ -75,6 +65,20 @@ impl Slot {
         ensures { result ≡ is_ripe self.now }
     {
         matches!(self, Slot::Used(used) if used.is_unanswered() && used.count == MOST_REPORTS)
+    }
+
+    /// Whether the message with this stamp revoked its identifier.
+    pub(crate) fn is_freed_by(&self, stamp: u32) -> bool
+        ensures { result ≡ is_freed_by stamp self.now }
+    {
+        matches!(self, Slot::Revoking { stamp: own } if *own == stamp)
+    }
+
+    /// Whether the slot is used by a restriction that the message with this stamp told.
+    pub(crate) fn is_marked_by(&self, stamp: u32) -> bool
+        ensures { result ≡ is_marked_by stamp self.now }
+    {
+        matches!(self, Slot::Used(used) if used.kind == Kind::Restriction && used.stamp == stamp)
     }
 
     /// Whether the slot is used by a number. A slot that is being revoked is not.
@@ -99,10 +103,13 @@ pub enum IssueError {
 /// What the acknowledgement of the message with a stamp did.
 #[derive(Clone, Copy, Debug, PartialEq, Eq)]
 pub enum StampAck {
-    /// The identifier that the message revoked is free now.
-    Freed,
-    /// The restriction that the message told is acknowledged. It may have been acknowledged before.
-    Marked,
+    /// It answered a revocation or a restriction, or several of them. At least one of both counts is above 0.
+    Answered {
+        /// How many identifiers that the message revoked are free now.
+        freed: u8,
+        /// How many restrictions that the message told are acknowledged. They may have been acknowledged before.
+        marked: u8,
+    },
     /// There was nothing to acknowledge, and nothing changed.
     Nothing,
 }

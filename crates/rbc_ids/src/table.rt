@@ -1,11 +1,11 @@
 //! The table of a train's identifiers.
 
-ghost use Rattle.std.specs.Prelude.{◌≡◌, ◌<◌, ◌≤◌, ◌↔◌, ◌==◌, false, not, [], length, is_some, IsTrue, IfSome, IfOk, IfErr, OnOk, OnErr};
+ghost use Rattle.std.specs.Prelude.{◌≡◌, ◌<◌, ◌≤◌, ◌↔◌, ◌==◌, if◌then◌else◌, false, not, [], length, Some, None, is_some, IsTrue, IfSome, IfOk, IfErr, OnOk, OnErr};
 ghost use Rattle.std.specs.List.{position_or_len, enumerate_from};
 ghost use Rattle.rbc_maps.specs.Maps.{has, index_for, value_of, with_value, without};
 ghost use Rattle.rbc_ids.specs.declared.slot.IssueError.TheVariants.{Full};
 ghost use Rattle.rbc_ids.specs.declared.slot.Slot.TheVariants.{Revoking};
-ghost use Rattle.rbc_ids.specs.Table.{IsTable, TellsApart, is_told, is_used_at, least_free, identifier_of, told_now, marked, IsIssued, with_stamp, after_stamp_ack, after_id_ack, is_ripe_at, reported_slot, after_report};
+ghost use Rattle.rbc_ids.specs.Table.{IsTable, TellsApart, is_told, is_used_at, least_free, identifier_of, told_now, marked, IsIssued, freed_by, marked_by, acked_slot, after_stamp_ack, after_id_ack, is_ripe_at, reported_slot, after_report};
 
 use crate::slot::{IdAck, IssueError, Kind, MOST_REPORTS, Slot, StampAck, UsedSlot};
 use std::alloc::{AllocError, Global};
@@ -180,24 +180,21 @@ impl<const N: usize> IdTable<N> {
         let _ = self.held.remove(at);
     }
 
-    /// Takes the train's acknowledgement of the message with this stamp (own rule). It frees the identifier that the message
-    /// revoked, or marks the restriction that it told as acknowledged. A stop is not acknowledged by its stamp.
+    /// Takes the train's acknowledgement of the message with this stamp (own rule). It frees each identifier that the
+    /// message revoked, and marks each restriction that it told as acknowledged. A stop is not acknowledged by its stamp.
+    /// Takes no memory.
     pub fn ack_stamp(&mut self, stamp: u32) -> StampAck
         ensures { (result, self.new) ≡ after_stamp_ack self.old stamp }
     {
-        let Some((id, slot)) = self.with_stamp(stamp) else {
+        let freed = freed_by(self.slots(), stamp);
+        let marked = marked_by(self.slots(), stamp);
+        if freed == 0 && marked == 0 {
             return StampAck::Nothing;
-        };
-        match slot {
-            Slot::Revoking { .. } => {
-                self.free(id);
-                StampAck::Freed
-            }
-            Slot::Used(used) if used.kind == Kind::Restriction => {
-                self.put(id, marked(used));
-                StampAck::Marked
-            }
-            Slot::Used(_) => StampAck::Nothing,
+        }
+        self.held.retain_mut(|held| stays(&mut held.1, stamp));
+        StampAck::Answered {
+            freed: freed as u8,
+            marked: marked as u8,
         }
     }
 
@@ -250,17 +247,6 @@ impl<const N: usize> IdTable<N> {
         self.held[at].1 = slot;
     }
 
-    /// Returns the least identifier whose slot has this stamp, with that slot.
-    fn with_stamp(&self, stamp: u32) -> Option<(u8, Slot)>
-        ensures slot { result ≡ with_stamp self.now stamp }
-        ensures sound { IsTable N self.now }
-    {
-        self.held
-            .iter()
-            .find(|held| held.1.stamp() == stamp)
-            .copied()
-    }
-
     /// Returns the index at which an identifier stands in `held`, or would stand. Where no identifier below it is free, it
     /// stands at the index that is its own value, so that is tried first.
     fn index_of(&self, id: u8) -> usize
@@ -307,6 +293,36 @@ fn marked(used: UsedSlot) -> Slot
         acked: true,
         ..used
     })
+}
+
+/// Returns how many identifiers the message with this stamp revoked.
+fn freed_by(held: &[(u8, Slot)], stamp: u32) -> usize
+    ensures { result ≡ freed_by stamp held.now }
+{
+    held.iter().filter(|held| held.1.is_freed_by(stamp)).count()
+}
+
+/// Returns how many restrictions the message with this stamp told.
+fn marked_by(held: &[(u8, Slot)], stamp: u32) -> usize
+    ensures { result ≡ marked_by stamp held.now }
+{
+    held.iter()
+        .filter(|held| held.1.is_marked_by(stamp))
+        .count()
+}
+
+/// Changes a slot to what it is once the train has acknowledged the message with this stamp, and returns whether its
+/// identifier stays held.
+fn stays(slot: &mut Slot, stamp: u32) -> bool
+    ensures { acked_slot stamp slot.old ≡ if result then Some slot.new else None }
+{
+    match slot {
+        Slot::Revoking { stamp: own } => *own != stamp,
+        Slot::Used(used) => {
+            used.acked |= used.kind == Kind::Restriction && used.stamp == stamp;
+            true
+        }
+    }
 }
 
 /// The slot after one more report of the train.

@@ -111,6 +111,7 @@ fn write_one(records: &mut Table, key: Key, rec: &mut Option<Rec>)
 
 /// Does the writes, one after another, and hands back under each key what stood there just before. Fails only for lack of
 /// memory: the store is then unchanged, and the error hands the writes back.
+#[inline(always)]
 pub fn exchange(store: &mut PlainStore, mut writes: Writes) -> Result<Writes, Writes>
     ensures ok { OnOk result ((k : Key) → record_in store.new k ≡ written writes (record_in store.old) k) }
     ensures replaced { IfOk result (λ old. old ≡ replaced writes (record_in store.old)) }

@@ -7,7 +7,7 @@ use Rattle.rbc_track.specs.Plan.{Plan}
 use Rattle.rbc_maps.specs.Maps.{has, without}
 use Rattle.rbc_maps.specs.Numbered.{Numbered}
 use Rattle.rbc_settle.specs.declared.train.TrainRec.{TrainRec}
-use Rattle.rbc_settle.specs.declared.action.Action.{Action}
+use Rattle.rbc_settle.specs.Actions.{Action}
 use Rattle.rbc_settle.specs.Numbers.{has_number, with_number, without_number}
 use Rattle.rbc_settle.specs.Settling.{Stops, Limits, carried_out, actions_with_stamp, settled}
 use Rattle.rbc_settle.proofs.Carried.{stamp_after}

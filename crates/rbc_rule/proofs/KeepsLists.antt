@@ -8,7 +8,7 @@ use Rattle.rbc_maps.specs.Maps.{keys, rises_from, value_of, with_value}
 use Rattle.rbc_ids.proofs.Lacking.{absent_below}
 use Rattle.rbc_ids.proofs.Tables.{value_of-absent}
 use Rattle.rbc_settle.specs.Numbers.{has_number}
-use Rattle.rbc_settle.specs.WellFormed.{AreDistinct}
+use Rattle.rbc_settle.specs.WellFormed.{AreDistinct, AreApart}
 use Rattle.rbc_settle.proofs.Revoking.{with_value-past, with_value-here}
 
 -- a list is another one with some of its elements left out
@@ -64,6 +64,28 @@ part-distinct xs (y ∷ ys) part distinct = elim part [
   | inr kept ↦ subst AreDistinct (sym kept.1) (part-absent y kept.0 ys kept.2 distinct.0, part-distinct kept.0 ys kept.2 distinct.1)
 ]
 
+-- numbers that are apart from others stay so where some are left out
+pub part-apart : (xs ys zs : List ℕ) → IsPart xs ys → AreApart ys zs → AreApart xs zs
+part-apart xs [] zs part apart = subst (λ (ws : List ℕ). AreApart ws zs) (sym part) tt
+part-apart xs (y ∷ ys) zs part apart = elim part [
+  | inl left ↦ part-apart xs ys zs left apart.2
+  | inr kept ↦ subst (λ (ws : List ℕ). AreApart ws zs) (sym kept.1) (part-absent y kept.0 ys kept.2 apart.0, apart.1, part-apart kept.0 ys zs kept.2 apart.2)
+]
+
+-- or where some of the others are
+pub apart-part : (xs ys zs : List ℕ) → IsPart ys zs → AreApart xs zs → AreApart xs ys
+apart-part [] ys zs part apart = tt
+apart-part (x ∷ xs) ys zs part apart = (apart.0, part-absent x ys zs part apart.1, apart-part xs ys zs part apart.2)
+
+-- an option beside each of both lists, or beside the longer one
+pub part-more : (o : Option ℕ) (xs ys : List ℕ) → IsPart xs ys → IsPart (cons_option o xs) (cons_option o ys)
+part-more None xs ys part = part
+part-more (Some n) xs ys part = part-kept n xs ys part
+
+pub part-fewer : (o : Option ℕ) (xs ys : List ℕ) → IsPart xs ys → IsPart xs (cons_option o ys)
+part-fewer None xs ys part = part
+part-fewer (Some n) xs ys part = part-left n xs ys part
+
 module _ {X : Type 0} (test : X → Bool) where
   -- what a filter leaves is a part, seen through a function
   pub part-filter : (f : X → ℕ) (xs : List X) → IsPart (map f (filter test xs)) (map f xs)
@@ -72,14 +94,6 @@ module _ {X : Type 0} (test : X → Bool) where
     | true ↦ part-kept (f x) (map f (filter test xs)) (map f xs) (part-filter f xs)
     | false ↦ part-left (f x) (map f (filter test xs)) (map f xs) (part-filter f xs)
   ]
-
-  part-more : (o : Option ℕ) (xs ys : List ℕ) → IsPart xs ys → IsPart (cons_option o xs) (cons_option o ys)
-  part-more None xs ys part = part
-  part-more (Some n) xs ys part = part-kept n xs ys part
-
-  part-fewer : (o : Option ℕ) (xs ys : List ℕ) → IsPart xs ys → IsPart xs (cons_option o ys)
-  part-fewer None xs ys part = part
-  part-fewer (Some n) xs ys part = part-left n xs ys part
 
   pub part-filter_map : (f : X → Option ℕ) (xs : List X) → IsPart (filter_map f (filter test xs)) (filter_map f xs)
   part-filter_map f [] = refl

@@ -1,7 +1,8 @@
 -- What an acknowledgement leaves of a train's table: it stays a table, of the same kinds, and tells no other numbers under no other
 -- stamps.
-use Rattle.std.proofs.Common.{◌≡◌, ℕ, ◌+◌, min, Bool, true, false, not, ◌&&◌, cond, eqb, leb, List, [], ◌∷◌, map, Option, Some, None, refl, sym, ap, ◌∙◌, subst, arith}
+use Rattle.std.proofs.Common.{◌≡◌, ℕ, ◌+◌, min, Bool, true, false, not, ◌&&◌, cond, eqb, leb, List, [], ◌∷◌, Option, Some, None, refl, sym, ap, ◌∙◌, subst, arith}
 use Rattle.std.specs.List.{All, filter_map, cons_option}
+use Rattle.std.specs.Option.{IfSome, option_map}
 use Rattle.std.proofs.lemmas.List.Elements.{All-cons, All-filter, All-head, All-tail}
 use Rattle.std.proofs.lemmas.Bool.{le-leb}
 use Rattle.std.proofs.lemmas.Option.{same_Some}
@@ -10,15 +11,11 @@ use Rattle.rbc_ids.specs.declared.slot.Slot.{Slot}
 use Rattle.rbc_ids.specs.declared.slot.Slot.TheVariants.{Used, Revoking}
 use Rattle.rbc_ids.specs.declared.slot.UsedSlot.{UsedSlot}
 use Rattle.rbc_ids.specs.declared.slot.Kind.{Kind}
-use Rattle.rbc_ids.specs.Table.{Slots, IsTable, TellsApart, stamp_of, marked, is_conditional, is_unanswered, reported_slot, after_report}
-use Rattle.rbc_ids.proofs.Tables.{has-value, stays_without, stays_with, stays_reported, held_below}
-use Rattle.rbc_ids.proofs.Once.{apart-marked}
-use Rattle.rbc_settle.specs.WellFormed.{number_in, told_numbers, IsGiven, has_kind, has_count, AreGoodSlots}
-use Rattle.rbc_rule.proofs.KeepsLists.{IsPart, part-equal, part-all, part-distinct, part-filter, part-filter_map, All-with_value, All-value_of, map-replaced, filter_map-by_map}
-
--- the stamps in a table
-abbrev pub stamps_in : Slots → List ℕ
-stamps_in slots = map (λ held. stamp_of held.1) slots
+use Rattle.rbc_ids.specs.Table.{Slots, IsTable, TellsApart, stamp_of, marked, is_conditional, is_unanswered, reported_slot, after_report, acked_slot, acked_slots}
+use Rattle.rbc_ids.proofs.Tables.{has-value, stays_without, stays_with, stays_reported, stays_acked, held_below}
+use Rattle.rbc_ids.proofs.Once.{apart-marked, acked_keeps}
+use Rattle.rbc_settle.specs.WellFormed.{number_in, told_numbers, stamps_in, IsGiven, has_kind, has_count, AreGoodSlots}
+use Rattle.rbc_rule.proofs.KeepsLists.{IsPart, part-equal, part-kept, part-left, part-more, part-fewer, part-all, part-distinct, part-filter, part-filter_map, All-with_value, All-value_of, map-replaced, filter_map-by_map}
 
 pub record SlotsStay (count : ℕ) (is_kind : Kind → Bool) (old new : Slots) : Type 0 where
   pub table : IsTable count new
@@ -109,6 +106,51 @@ stay-reported count is_kind slots table kinds counts = record {
   counts = all_reported (λ slot. has_count slot ≡ true) slots reported_count counts;
   numbers = part-equal (told_numbers (after_report slots)) (told_numbers slots) (numbers_reported slots);
   stamps = part-equal (stamps_in (after_report slots)) (stamps_in slots) (stamps_reported slots);
+}
+
+-- ---- after the acknowledgement of a message by its stamp
+
+module _ (stamp : ℕ) where
+  -- what holds of each slot then holds of each that is left
+  all_acked : (P : Slot → Type 0) (slots : Slots) → ((used : UsedSlot) → P (Used used) → P (marked used)) → All (λ held. P held.1) slots → All (λ held. P held.1) (acked_slots stamp slots)
+  all_acked P [] mark all = all
+  all_acked P (held ∷ slots) mark all =
+      let rest = all_acked P slots mark (All-tail (λ (other : ℕ × Slot). P other.1) held slots all) in
+      (elim (acked_slot stamp held.1) as (λ o. IfSome o P → All (λ (other : ℕ × Slot). P other.1) (cons_option (option_map {U = ℕ × Slot} (λ slot. (held.0, slot)) o) (acked_slots stamp slots))) [
+        | None ↦ λ kept. rest
+        | Some slot ↦ λ kept. All-cons (λ (other : ℕ × Slot). P other.1) (held.0, slot) (acked_slots stamp slots) kept rest
+      ]) (acked_keeps P stamp held.1 mark (All-head (λ (other : ℕ × Slot). P other.1) held slots all))
+
+  numbers_acked : (slots : Slots) → IsPart (told_numbers (acked_slots stamp slots)) (told_numbers slots)
+  numbers_acked [] = refl
+  numbers_acked (held ∷ slots) =
+      let others = told_numbers (acked_slots stamp slots) in
+      let rest = numbers_acked slots in
+      (elim (acked_slot stamp held.1) as (λ o. IfSome o (λ slot. number_in slot ≡ number_in held.1)
+      → IsPart (told_numbers (cons_option (option_map {U = ℕ × Slot} (λ slot. (held.0, slot)) o) (acked_slots stamp slots))) (cons_option (number_in held.1) (told_numbers slots))) [
+        | None ↦ λ kept. part-fewer (number_in held.1) others (told_numbers slots) rest
+        | Some slot ↦ λ kept. subst (λ (o : Option ℕ). IsPart (cons_option o others) (cons_option (number_in held.1) (told_numbers slots))) (sym kept) (part-more (number_in held.1) others (told_numbers slots) rest)
+      ]) (acked_keeps (λ slot. number_in slot ≡ number_in held.1) stamp held.1 (λ used is. is) refl)
+
+  stamps_acked : (slots : Slots) → IsPart (stamps_in (acked_slots stamp slots)) (stamps_in slots)
+  stamps_acked [] = refl
+  stamps_acked (held ∷ slots) =
+      let others = stamps_in (acked_slots stamp slots) in
+      let rest = stamps_acked slots in
+      (elim (acked_slot stamp held.1) as (λ o. IfSome o (λ slot. stamp_of slot ≡ stamp_of held.1)
+      → IsPart (stamps_in (cons_option (option_map {U = ℕ × Slot} (λ slot. (held.0, slot)) o) (acked_slots stamp slots))) (stamp_of held.1 ∷ stamps_in slots)) [
+        | None ↦ λ kept. part-left (stamp_of held.1) others (stamps_in slots) rest
+        | Some slot ↦ λ kept. subst (λ (n : ℕ). IsPart (n ∷ others) (stamp_of held.1 ∷ stamps_in slots)) (sym kept) (part-kept (stamp_of held.1) others (stamps_in slots) rest)
+      ]) (acked_keeps (λ slot. stamp_of slot ≡ stamp_of held.1) stamp held.1 (λ used is. is) refl)
+
+-- so slots are free or marked, and the others look the same
+pub stay-acked : (count : ℕ) (is_kind : Kind → Bool) (slots : Slots) → IsTable count slots → All (λ held. has_kind is_kind held.1 ≡ true) slots → All (λ held. has_count held.1 ≡ true) slots → (stamp : ℕ) → SlotsStay count is_kind slots (acked_slots stamp slots)
+stay-acked count is_kind slots table kinds counts stamp = record {
+  table = stays_acked count slots table stamp;
+  kinds = all_acked stamp (λ slot. has_kind is_kind slot ≡ true) slots (λ used is. is) kinds;
+  counts = all_acked stamp (λ slot. has_count slot ≡ true) slots (λ used is. is) counts;
+  numbers = numbers_acked stamp slots;
+  stamps = stamps_acked stamp slots;
 }
 
 -- numbers that were given stay so

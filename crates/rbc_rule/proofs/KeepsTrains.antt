@@ -1,5 +1,5 @@
 -- Each change that an input makes to a train leaves it well-formed.
-use Rattle.std.proofs.Common.{◌≡◌, ℕ, ◌+◌, ◌<◌, ◌≤◌, max, Bool, true, false, not, cond, eqb, ltb, leb, List, [], ◌∷◌, ◌++◌, map, Option, Some, None, Result, Ok, Err, refl, sym, ap, subst, arith}
+use Rattle.std.proofs.Common.{◌≡◌, ℕ, ◌+◌, ◌<◌, ◌≤◌, max, Bool, true, false, not, ◌&&◌, cond, eqb, ltb, leb, List, [], ◌∷◌, ◌++◌, Option, Some, None, Result, Ok, Err, refl, arith}
 use Rattle.std.specs.List.{All}
 use Rattle.std.proofs.lemmas.Bool.{and_parts, and_from, leb-true, ltb-false}
 use Rattle.std.proofs.lemmas.List.Elements.{All-nil, All-weaker, All-filter}
@@ -15,17 +15,16 @@ use Rattle.rbc_ids.specs.declared.slot.Kind.{Kind}
 use Rattle.rbc_ids.specs.declared.slot.StampAck.{StampAck}
 use Rattle.rbc_ids.specs.declared.slot.StampAck.TheVariants as stamp_ack
 use Rattle.rbc_ids.specs.declared.slot.IdAck.TheVariants as id_ack
-use Rattle.rbc_ids.specs.Table.{Slots, IsTable, stamp_of, with_stamp, acked_by_stamp, after_stamp_ack, is_acceptance, is_rejection, acked_by_id, marked, is_of_restriction, after_report}
-use Rattle.rbc_ids.proofs.Tables.{value_of-found}
+use Rattle.rbc_ids.specs.Table.{Slots, IsTable, freed_by, marked_by, acked_slots, after_stamp_ack, is_acceptance, is_rejection, acked_by_id, marked, after_report}
 use Rattle.rbc_settle.specs.declared.train.TrainRec.{TrainRec}
 use Rattle.rbc_settle.specs.Numbers.{and_number, without_number}
 use Rattle.rbc_settle.specs.Trains.{new_train}
 use Rattle.rbc_settle.specs.Settling.{Stops, Limits}
-use Rattle.rbc_settle.specs.WellFormed.{told_numbers, stamps, IsGiven, is_stop_kind, is_limit_kind, has_kind, has_count, IsWellFormedTrain}
+use Rattle.rbc_settle.specs.WellFormed.{told_numbers, stamps, stamps_in, IsGiven, is_stop_kind, is_limit_kind, has_kind, has_count, IsWellFormedTrain}
 use Rattle.rbc_settle.proofs.Forcing.{rises-and, All-and}
 use Rattle.rbc_rule.specs.Effect.{forget, unknown_stamp, is_too_high, raised, placed, limits_acked, stops_acked, acknowledged, stop_acked, answered, told_by, stamp_of as stamp_told, heard}
-use Rattle.rbc_rule.proofs.KeepsLists.{IsPart, part-same, part-all, part-distinct, part-before, part-behind}
-use Rattle.rbc_rule.proofs.KeepsSlots.{stamps_in, SlotsStay, stay-without, stay-marked, stay-reported, good_slots, told-given}
+use Rattle.rbc_rule.proofs.KeepsLists.{part-same, part-all, part-apart, apart-part, part-before, part-behind}
+use Rattle.rbc_rule.proofs.KeepsSlots.{SlotsStay, stay-without, stay-marked, stay-reported, stay-acked, good_slots, told-given}
 use Rattle.rbc_rule.proofs.KeepsPlaces.{place_on}
 use Rattle.rbc_settle.specs.Trains.{max_engine, max_train_length}
 use Rattle.rbc_rule.specs.Bounds.{max_stamp}
@@ -46,16 +45,6 @@ rises-less n least (x ∷ xs) rises =
     ]
 
 -- ---- the parts of a train
-
-stamps_are : (xs ys : Slots) → map (λ held. stamp_of held.1) (xs ++ ys) ≡ stamps_in xs ++ stamps_in ys
-stamps_are [] ys = refl
-stamps_are (x ∷ xs) ys = ap (λ (ns : List ℕ). stamp_of x.1 ∷ ns) (stamps_are xs ys)
-
-stamps-part : (xs ys zs ws : Slots) → IsPart (stamps_in xs ++ stamps_in ys) (stamps_in zs ++ stamps_in ws)
-    → IsPart (map (λ held. stamp_of held.1) (xs ++ ys)) (map (λ held. stamp_of held.1) (zs ++ ws))
-stamps-part xs ys zs ws part =
-    subst (λ (ns : List ℕ). IsPart (map (λ held. stamp_of held.1) (xs ++ ys)) ns) (sym (stamps_are zs ws))
-    (subst (λ (ns : List ℕ). IsPart ns (stamps_in zs ++ stamps_in ws)) (sym (stamps_are xs ys)) part)
 
 -- a train is well-formed for any stops and restrictions of which no fewer were given
 pub well_later : (plan : Plan) (stops later_stops : Stops) (limits later_limits : Limits) (train : TrainRec) → stops.last ≤ later_stops.last → limits.last ≤ later_limits.last
@@ -81,7 +70,7 @@ well_later plan stops later_stops limits later_limits train later_s later_l well
   };
   stamp = well.stamp;
   stamps_within = well.stamps_within;
-  stamps_distinct = well.stamps_distinct;
+  stamps_apart = well.stamps_apart;
 }
 
 module _ (plan : Plan) (stops : Stops) (limits : Limits) where
@@ -101,7 +90,7 @@ module _ (plan : Plan) (stops : Stops) (limits : Limits) where
     limit_slots = record { kinds = All-nil (λ held. has_kind is_limit_kind held.1 ≡ true); counts = All-nil (λ held. has_count held.1 ≡ true); given = All-nil (IsGiven limits.last); once = tt };
     stamp = omega arith;
     stamps_within = All-nil (λ s. s ≤ 0);
-    stamps_distinct = tt;
+    stamps_apart = tt;
   }
 
   module _ (train : TrainRec) (well : IsWellFormedTrain plan stops limits train) where
@@ -117,7 +106,7 @@ module _ (plan : Plan) (stops : Stops) (limits : Limits) where
       limit_slots = well.limit_slots;
       stamp = well.stamp;
       stamps_within = well.stamps_within;
-      stamps_distinct = well.stamps_distinct;
+      stamps_apart = well.stamps_apart;
     }
 
     pub well_forced : (number : ℕ) → IsGiven stops.last number → IsWellFormedTrain plan stops limits (record train { forced = and_number number train.forced })
@@ -132,12 +121,12 @@ module _ (plan : Plan) (stops : Stops) (limits : Limits) where
       limit_slots = well.limit_slots;
       stamp = well.stamp;
       stamps_within = well.stamps_within;
-      stamps_distinct = well.stamps_distinct;
+      stamps_apart = well.stamps_apart;
     }
 
     pub well_stops : (slots : Slots) → SlotsStay 15 is_stop_kind train.stops slots → IsWellFormedTrain plan stops limits (record train { stops = slots })
     well_stops slots stay =
-        let part = stamps-part slots train.limits train.stops train.limits (part-before (stamps_in slots) (stamps_in train.stops) (stamps_in train.limits) stay.stamps) in
+        let part = part-before (stamps_in slots) (stamps_in train.stops) (stamps_in train.limits) stay.stamps in
         record {
           engine = well.engine;
           length = well.length;
@@ -148,13 +137,13 @@ module _ (plan : Plan) (stops : Stops) (limits : Limits) where
           stop_slots = good_slots 15 is_stop_kind stops.last train.stops slots stay well.stop_slots;
           limit_slots = well.limit_slots;
           stamp = well.stamp;
-          stamps_within = part-all (λ s. s ≤ train.stamp) (map (λ held. stamp_of held.1) (slots ++ train.limits)) (stamps train) part well.stamps_within;
-          stamps_distinct = part-distinct (map (λ held. stamp_of held.1) (slots ++ train.limits)) (stamps train) part well.stamps_distinct;
+          stamps_within = part-all (λ s. s ≤ train.stamp) (stamps_in slots ++ stamps_in train.limits) (stamps train) part well.stamps_within;
+          stamps_apart = part-apart (stamps_in slots) (stamps_in train.stops) (stamps_in train.limits) stay.stamps well.stamps_apart;
         }
 
     pub well_limits : (slots : Slots) → SlotsStay 255 is_limit_kind train.limits slots → IsWellFormedTrain plan stops limits (record train { limits = slots })
     well_limits slots stay =
-        let part = stamps-part train.stops slots train.stops train.limits (part-behind (stamps_in train.stops) (stamps_in slots) (stamps_in train.limits) stay.stamps) in
+        let part = part-behind (stamps_in train.stops) (stamps_in slots) (stamps_in train.limits) stay.stamps in
         record {
           engine = well.engine;
           length = well.length;
@@ -165,8 +154,8 @@ module _ (plan : Plan) (stops : Stops) (limits : Limits) where
           stop_slots = well.stop_slots;
           limit_slots = good_slots 255 is_limit_kind limits.last train.limits slots stay well.limit_slots;
           stamp = well.stamp;
-          stamps_within = part-all (λ s. s ≤ train.stamp) (map (λ held. stamp_of held.1) (train.stops ++ slots)) (stamps train) part well.stamps_within;
-          stamps_distinct = part-distinct (map (λ held. stamp_of held.1) (train.stops ++ slots)) (stamps train) part well.stamps_distinct;
+          stamps_within = part-all (λ s. s ≤ train.stamp) (stamps_in train.stops ++ stamps_in slots) (stamps train) part well.stamps_within;
+          stamps_apart = apart-part (stamps_in train.stops) (stamps_in slots) (stamps_in train.limits) stay.stamps well.stamps_apart;
         }
 
     pub well_placed : (position : Position) → IsPlan plan → IsWellFormedTrain plan stops limits (placed plan position train)
@@ -181,7 +170,7 @@ module _ (plan : Plan) (stops : Stops) (limits : Limits) where
       limit_slots = well.limit_slots;
       stamp = well.stamp;
       stamps_within = well.stamps_within;
-      stamps_distinct = well.stamps_distinct;
+      stamps_apart = well.stamps_apart;
     }
 
     well_stamp : (stamp : ℕ) → stamp ≤ max_stamp → IsWellFormedTrain plan stops limits (record train { stamp = max train.stamp stamp })
@@ -196,7 +185,7 @@ module _ (plan : Plan) (stops : Stops) (limits : Limits) where
       limit_slots = well.limit_slots;
       stamp = (let before = well.stamp in omega (arith, before, low));
       stamps_within = All-weaker (λ s. s ≤ train.stamp) (λ s. s ≤ max train.stamp stamp) (λ s le. omega (arith, le)) (stamps train) well.stamps_within;
-      stamps_distinct = well.stamps_distinct;
+      stamps_apart = well.stamps_apart;
     }
 
     pub well_raised : (stamp : ℕ) → is_too_high stamp ≡ false → IsWellFormedTrain plan stops limits (raised stamp train)
@@ -218,32 +207,28 @@ module _ (count : ℕ) (is_kind : Kind → Bool) (slots : Slots) (table : IsTabl
   stay-same = record { table = table; kinds = kinds; counts = counts; numbers = part-same (told_numbers slots); stamps = part-same (stamps_in slots) }
 
   -- a stamp is acknowledged
-  stay-acked : (stamp : ℕ) (o : Option (ℕ × Slot)) → with_stamp slots stamp ≡ o → SlotsStay count is_kind slots (acked_by_stamp slots o).1
-  stay-acked stamp None e = stay-same
-  stay-acked stamp (Some (id, Revoking s)) e = stay-without count is_kind slots table kinds counts id
-  stay-acked stamp (Some (id, Used used)) e =
-      let there = value_of-found (λ held. eqb (stamp_of held.1) stamp) (id, Used used) 0 slots table.ascending e in
-      elim (is_of_restriction used.kind) as (λ b. SlotsStay count is_kind slots (cond {A = StampAck × Slots} b (stamp_ack.Marked, with_value id (marked used) slots) (stamp_ack.Nothing, slots)).1) [
-        | true ↦ stay-marked count is_kind slots table kinds counts id used there
-        | false ↦ stay-same
+  stay-stamp_acked : (stamp : ℕ) → SlotsStay count is_kind slots (after_stamp_ack slots stamp).1
+  stay-stamp_acked stamp =
+      elim (eqb (freed_by stamp slots) 0 && eqb (marked_by stamp slots) 0)
+      as (λ b. SlotsStay count is_kind slots (cond {A = StampAck × Slots} b (stamp_ack.Nothing, slots) (stamp_ack.Answered (freed_by stamp slots) (marked_by stamp slots), acked_slots stamp slots)).1) [
+        | true ↦ stay-same
+        | false ↦ stay-acked count is_kind slots table kinds counts stamp
       ]
 
 module _ (plan : Plan) (stops : Stops) (limits : Limits) (engine : ℕ) where
   module _ (train : TrainRec) (same : train.engine ≡ engine) (well : IsWellFormedTrain plan stops limits train) where
     well_limits_acked : (r : StampAck × Slots) → SlotsStay 255 is_limit_kind train.limits r.1 → WellIfOk plan stops limits engine (limits_acked train r)
-    well_limits_acked (stamp_ack.Freed, slots) stay = (same, well_limits plan stops limits train well slots stay)
-    well_limits_acked (stamp_ack.Marked, slots) stay = (same, well_limits plan stops limits train well slots stay)
+    well_limits_acked (stamp_ack.Answered freed marked, slots) stay = (same, well_limits plan stops limits train well slots stay)
     well_limits_acked (stamp_ack.Nothing, slots) stay = tt
 
     well_stops_acked : (acked : ℕ) (r : StampAck × Slots) → SlotsStay 15 is_stop_kind train.stops r.1 → WellIfOk plan stops limits engine (stops_acked acked train r)
-    well_stops_acked acked (stamp_ack.Freed, slots) stay = (same, well_stops plan stops limits train well slots stay)
-    well_stops_acked acked (stamp_ack.Marked, slots) stay = (same, well_stops plan stops limits train well slots stay)
+    well_stops_acked acked (stamp_ack.Answered freed marked, slots) stay = (same, well_stops plan stops limits train well slots stay)
     well_stops_acked acked (stamp_ack.Nothing, slots) stay =
-        well_limits_acked (after_stamp_ack train.limits acked) (stay-acked 255 is_limit_kind train.limits well.tables.limits well.limit_slots.kinds well.limit_slots.counts acked (with_stamp train.limits acked) refl)
+        well_limits_acked (after_stamp_ack train.limits acked) (stay-stamp_acked 255 is_limit_kind train.limits well.tables.limits well.limit_slots.kinds well.limit_slots.counts acked)
 
     well_acknowledged : (acked : ℕ) → WellIfOk plan stops limits engine (acknowledged acked train)
     well_acknowledged acked =
-        well_stops_acked acked (after_stamp_ack train.stops acked) (stay-acked 15 is_stop_kind train.stops well.tables.stops well.stop_slots.kinds well.stop_slots.counts acked (with_stamp train.stops acked) refl)
+        well_stops_acked acked (after_stamp_ack train.stops acked) (stay-stamp_acked 15 is_stop_kind train.stops well.tables.stops well.stop_slots.kinds well.stop_slots.counts acked)
 
     well_stop_acked : (id answer : ℕ) (o : Option Slot) → value_of train.stops id ≡ o → WellIfOk plan stops limits engine (stop_acked train (acked_by_id train.stops id answer o))
     well_stop_acked id answer None e = tt

@@ -13,8 +13,8 @@ use Rattle.rbc_zones.specs.declared.segment.Segment.{Segment}
 use Rattle.rbc_zones.specs.Segments.{is_good_area}
 use Rattle.rbc_zones.specs.Limits.{Limit, is_good_limit}
 use Rattle.rbc_settle.specs.declared.train.TrainRec.{TrainRec}
-use Rattle.rbc_settle.specs.declared.action.Action.{Action}
-use Rattle.rbc_settle.specs.declared.action.Action.TheVariants.{RevokeStop, TellStop, RevokeLimit, TellLimit}
+use Rattle.rbc_settle.specs.Actions.{Action, ChangesStop, ChangesLimits}
+use Rattle.rbc_settle.specs.declared.change.StopChange.TheVariants as stop_change
 use Rattle.rbc_settle.specs.Trains.{new_train}
 use Rattle.rbc_settle.specs.Settling.{Stops, Limits, carried_out, message_of, actions_with_stamp, settled}
 use Rattle.rbc_settle.specs.WellFormed.{IsWellFormedTrain, SettlingKeepsTrains}
@@ -83,10 +83,9 @@ ReadyIfOk plan (Err code) = Unit
 
 engine_after : (train : TrainRec) (acts : List Action) → (fold carried_out train acts).engine ≡ train.engine
 engine_after train [] = refl
-engine_after train (RevokeStop id number ∷ acts) = engine_after (carried_out train (RevokeStop id number)) acts
-engine_after train (TellStop id number told ∷ acts) = engine_after (carried_out train (TellStop id number told)) acts
-engine_after train (RevokeLimit id ∷ acts) = engine_after (carried_out train (RevokeLimit id)) acts
-engine_after train (TellLimit id number told ∷ acts) = engine_after (carried_out train (TellLimit id number told)) acts
+engine_after train (ChangesStop (stop_change.Revoke id number) ∷ acts) = engine_after (carried_out train (ChangesStop (stop_change.Revoke id number))) acts
+engine_after train (ChangesStop (stop_change.Tell id number told) ∷ acts) = engine_after (carried_out train (ChangesStop (stop_change.Tell id number told))) acts
+engine_after train (ChangesLimits changes ∷ acts) = engine_after (carried_out train (ChangesLimits changes)) acts
 
 -- no message, no action
 none_sent : (train : TrainRec) (acts : List Action) → scan carried_out message_of train acts ≡ [] → acts ≡ []

@@ -21,6 +21,7 @@ pub mod Listed
 pub mod Moved
 pub mod OneSaid
 pub mod OneTrain
+pub mod Packets
 pub mod Quiet
 pub mod Says
 pub mod SaysPlaces

@@ -1,13 +1,15 @@
--- A message says one thing at most.
-use Rattle.std.proofs.Common.{◌≡◌, ℕ, ◌+◌, ◌*◌, sym, ap, ◌∙◌, subst, arith}
+-- A message says one list of things at most.
+use Rattle.std.proofs.Common.{◌≡◌, ℕ, ◌+◌, ◌*◌, List, [], ◌∷◌, refl, sym, ap, ap₂, ◌∙◌, subst, arith}
 use Rattle.std.proofs.lemmas.Option.{same_Some}
+use Rattle.ertms_codec.specs.declared.packets.Part.{Part}
+use Rattle.ertms_codec.specs.declared.packets.Part.TheVariants as packet
 use Rattle.ertms_codec.specs.declared.to_train.ToTrain.TheVariants as message
 use Rattle.rbc_track.specs.Plan.{Plan}
 use Rattle.rbc_track.specs.declared.group.Group.{Group}
 use Rattle.rbc_track.specs.declared.group.Way.{Way}
 use Rattle.rbc_track.specs.declared.group.Way.TheVariants.{Up, Down}
 use Rattle.rbc_place.specs.Reach.{IsAhead}
-use Rattle.rbc_rule.specs.Saying.{Spot, Stretch, StopsBefore, Restricts, way_told, CountsFrom, IsSpotTold, IsStretchTold}
+use Rattle.rbc_rule.specs.Saying.{Spot, Stretch, Said, StopsBefore, Restricts, way_told, CountsFrom, IsSpotTold, IsStretchTold, PacketSays, PacketsSay}
 use Rattle.rbc_rule.specs.SaidFor.{EachMessageSaysOneThing}
 
 -- only one place lies so far ahead
@@ -64,11 +66,25 @@ module _ (plan : Plan) (lrbg dir scale : ℕ) where
       let ends : stretch.end ≡ other.end = a.ends ∙ ap (λ (unit : ℕ). (start + length) * unit) units ∙ sym b.ends in
       λ i. record { line = lines i; origin = origins i; way = ways i; begin = begins i; end = ends i; unit = units i }
 
+-- a packet says one thing at most
+packet_says_one : (plan : Plan) (lrbg : ℕ) (part : Part) (x y : Said) → PacketSays plan lrbg part x → PacketSays plan lrbg part y → x ≡ y
+packet_says_one plan lrbg (packet.Restrict dir scale id start length front speed) x y a b =
+    a.1.1 ∙ ap (λ (stretch : Stretch). Restricts id stretch front (5 * speed)) (stretches_are_one plan lrbg dir scale start length a.0 b.0 a.1.0 b.1.0) ∙ sym b.1.1
+packet_says_one plan lrbg (packet.Lift dir id) x y a b = a.1 ∙ sym b.1
+
+-- and packets one list of things
+packets_say_one : (plan : Plan) (lrbg : ℕ) (packets : List Part) (x y : List Said) → PacketsSay plan lrbg packets x → PacketsSay plan lrbg packets y → x ≡ y
+packets_say_one plan lrbg [] [] [] a b = refl
+packets_say_one plan lrbg [] [] (y ∷ ys) a b = absurd b
+packets_say_one plan lrbg [] (x ∷ xs) ys a b = absurd a
+packets_say_one plan lrbg (part ∷ packets) [] ys a b = absurd a
+packets_say_one plan lrbg (part ∷ packets) (x ∷ xs) [] a b = absurd b
+packets_say_one plan lrbg (part ∷ packets) (x ∷ xs) (y ∷ ys) a b =
+    ap₂ (λ (one : Said) (more : List Said). one ∷ more) (packet_says_one plan lrbg part x y a.0 b.0) (packets_say_one plan lrbg packets xs ys a.1 b.1)
+
 pub says_one_thing : EachMessageSaysOneThing
 says_one_thing plan (message.StopAt head id scale reference dir distance) x y a b =
-    a.1.1.1 ∙ ap (StopsBefore id) (spots_are_one plan head.lrbg dir scale distance a.1.0 b.1.0 a.1.1.0 b.1.1.0) ∙ sym b.1.1.1
+    a.1.1.1 ∙ ap (λ (spot : Spot). StopsBefore id spot ∷ []) (spots_are_one plan head.lrbg dir scale distance a.1.0 b.1.0 a.1.1.0 b.1.1.0) ∙ sym b.1.1.1
 says_one_thing plan (message.Stop head id) x y a b = a ∙ sym b
 says_one_thing plan (message.Revoke head id) x y a b = a ∙ sym b
-says_one_thing plan (message.Restrict head dir scale id start length front speed) x y a b =
-    a.1.1 ∙ ap (λ (stretch : Stretch). Restricts id stretch front (5 * speed)) (stretches_are_one plan head.lrbg dir scale start length a.0 b.0 a.1.0 b.1.0) ∙ sym b.1.1
-says_one_thing plan (message.Lift head dir id) x y a b = a.1 ∙ sym b.1
+says_one_thing plan (message.General head packets) x y a b = packets_say_one plan head.lrbg packets x y a b

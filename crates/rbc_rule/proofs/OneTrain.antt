@@ -162,14 +162,12 @@ raised_engine stamp train = elim (eqb stamp unknown_stamp) as (λ b. (cond b tra
 
 limits_acked_engine : (train : TrainRec) (after : StampAck × Slots) → KeepsEngine train.engine (limits_acked train after)
 unfolding KeepsEngine
-limits_acked_engine train (stamp_ack.Freed, slots) = refl
-limits_acked_engine train (stamp_ack.Marked, slots) = refl
+limits_acked_engine train (stamp_ack.Answered freed marked, slots) = refl
 limits_acked_engine train (stamp_ack.Nothing, slots) = tt
 
 stops_acked_engine : (acked : ℕ) (train : TrainRec) (after : StampAck × Slots) → KeepsEngine train.engine (stops_acked acked train after)
 unfolding KeepsEngine
-stops_acked_engine acked train (stamp_ack.Freed, slots) = refl
-stops_acked_engine acked train (stamp_ack.Marked, slots) = refl
+stops_acked_engine acked train (stamp_ack.Answered freed marked, slots) = refl
 stops_acked_engine acked train (stamp_ack.Nothing, slots) = limits_acked_engine train (after_stamp_ack train.limits acked)
 
 stop_acked_engine : (train : TrainRec) (after : IdAck × Slots) → KeepsEngine train.engine (stop_acked train after)

@@ -1,23 +1,27 @@
 -- The message of each action can be sent: its variables are in their ranges, and wide enough for their values.
-use Rattle.std.proofs.Common.{◌≡◌, ℕ, zero, suc, ◌+◌, ◌<◌, ◌≤◌, Bool, true, false, not, cond, [], ◌∷◌, Option, Some, None, subst, arith}
-use Rattle.std.specs.List.{All, filter, range_with_len}
+use Rattle.std.proofs.Common.{◌≡◌, ℕ, zero, suc, ◌+◌, ◌<◌, ◌≤◌, Bool, true, false, not, cond, List, [], ◌∷◌, length, Option, Some, None, subst, arith}
+use Rattle.std.specs.List.{All, AllByRecursion, filter, range_with_len}
 use Rattle.std.specs.Option.{option_map_or}
 use Rattle.std.proofs.lemmas.List.Elements.{All-nil, All-cons, All-head, All-tail, All-filter}
-use Rattle.ertms_codec.specs.Layout.{HoldsValue}
-use Rattle.ertms_codec.specs.Variables.{q_front}
+use Rattle.ertms_codec.specs.declared.packets.Part.{Part as Packet}
+use Rattle.ertms_codec.specs.declared.packets.Part.TheVariants.{Restrict, Lift}
+use Rattle.ertms_codec.specs.declared.to_train.ToTrain.TheVariants as message
+use Rattle.ertms_codec.specs.PacketsToTrain.{most_packets}
 use Rattle.rbc_track.specs.Plan.{Plan, IsPlan}
 use Rattle.rbc_place.specs.Placing.{Place}
 use Rattle.rbc_maps.specs.Maps.{has, keys}
 use Rattle.rbc_ids.specs.declared.slot.Slot.{Slot}
 use Rattle.rbc_ids.specs.Table.{Slots, free_identifiers}
 use Rattle.rbc_settle.specs.declared.train.TrainRec.{TrainRec}
-use Rattle.rbc_settle.specs.declared.action.Action.TheVariants.{RevokeStop, TellStop, RevokeLimit, TellLimit}
-use Rattle.rbc_settle.specs.declared.action.ToldStop.TheVariants.{AtOnce, Before}
+use Rattle.rbc_settle.specs.declared.change.StopChange.TheVariants as stop_change
+use Rattle.rbc_settle.specs.Actions.{ChangesStop}
+use Rattle.rbc_settle.specs.declared.change.ToldStop.TheVariants.{AtOnce, Before}
 use Rattle.rbc_settle.specs.Told.{Edge, Part}
 use Rattle.rbc_settle.specs.InField.{IsEdgeInField, IsPartInField}
-use Rattle.rbc_settle.specs.Settling.{last_stamp, unknown_group, group_of, direction_of, message_of, is_used_by, to_revoke}
+use Rattle.rbc_settle.specs.Settling.{last_stamp, unknown_group, group_of, direction_of, head_of, message_of, is_used_by, to_revoke}
 use Rattle.rbc_settle.specs.WellFormed.{HasPlaceOn}
 use Rattle.rbc_rule.specs.SaidFor.{IsSendable}
+use Rattle.rbc_rule.proofs.Packets.{CanBePacked, restrict_packed, lift_packed, general_sendable}
 use Rattle.rbc_rule.proofs.SaysPlaces.{sound}
 
 -- ---- identifiers
@@ -67,26 +71,33 @@ direction_within p = by_test _
 
 -- ---- messages
 
-front_holds : (front : Bool) → HoldsValue (q_front front)
-front_holds true = omega arith
-front_holds false = omega arith
+-- the packet of a restriction that is told, and that of one that is revoked
+abbrev pub restriction : ℕ → Part → Packet
+restriction id part = Restrict part.dir part.scale id part.start part.length part.front part.speed
+
+pub restriction_packed : (id : ℕ) (part : Part) → id < 255 → IsPartInField part → CanBePacked (restriction id part)
+restriction_packed id part below in_field =
+    restrict_packed part.dir part.scale id part.start part.length part.speed part.front in_field.dir in_field.scale (omega (arith, below)) in_field.start in_field.length in_field.speed
+
+pub revocation_packed : (id : ℕ) → id < 255 → CanBePacked (Lift 2 id)
+revocation_packed id below = lift_packed 2 id (omega arith) (omega (arith, below))
 
 module _ (later : TrainRec) (left : later.stamp < last_stamp) (group : group_of later ≤ 16777215) where
-  pub revoke_stop : (id : ℕ) (number : Option ℕ) → id < 15 → IsSendable (message_of later (RevokeStop id number))
+  pub revoke_stop : (id : ℕ) (number : Option ℕ) → id < 15 → IsSendable (message_of later (ChangesStop (stop_change.Revoke id number)))
   revoke_stop id number below = record {
     fits = record { lrbg = group; body = omega (arith, below) };
     holds = (omega arith, (omega arith, (omega (arith, left), (omega arith, (omega (arith, group), (omega (arith, below), tt))))));
     reference = tt;
   }
 
-  pub stop_at_once : (id number : ℕ) → id < 15 → IsSendable (message_of later (TellStop id number AtOnce))
+  pub stop_at_once : (id number : ℕ) → id < 15 → IsSendable (message_of later (ChangesStop (stop_change.Tell id number AtOnce)))
   stop_at_once id number below = record {
     fits = record { lrbg = group; body = omega (arith, below) };
     holds = (omega arith, (omega arith, (omega (arith, left), (omega arith, (omega (arith, group), (omega (arith, below), tt))))));
     reference = tt;
   }
 
-  pub stop_before : (id number : ℕ) (edge : Edge) → id < 15 → IsEdgeInField edge → IsSendable (message_of later (TellStop id number (Before edge)))
+  pub stop_before : (id number : ℕ) (edge : Edge) → id < 15 → IsEdgeInField edge → IsSendable (message_of later (ChangesStop (stop_change.Tell id number (Before edge))))
   stop_before id number edge below in_field =
       let dir = in_field.dir in
       let scale = in_field.scale in
@@ -100,37 +111,6 @@ module _ (later : TrainRec) (left : later.stamp < last_stamp) (group : group_of 
         reference = omega arith;
       }
 
-  pub revoke_limit : (id : ℕ) → id < 255 → IsSendable (message_of later (RevokeLimit id))
-  revoke_limit id below = record {
-    fits = record { lrbg = group; body = omega arith };
-    holds = (omega arith, (omega arith, (omega (arith, left), (omega arith, (omega (arith, group), (omega arith, (omega arith, (omega arith, (omega (arith, below), tt)))))))));
-    reference = tt;
-  }
-
-  pub limit_sendable : (id number : ℕ) (part : Part) → id < 255 → IsPartInField part → IsSendable (message_of later (TellLimit id number part))
-  limit_sendable id number part below in_field =
-      let dir = in_field.dir in
-      let scale = in_field.scale in
-      let start = in_field.start in
-      let length = in_field.length in
-      let speed = in_field.speed in
-      record {
-        fits = record { lrbg = group; body = (dir, scale, start, length, speed) };
-        holds = (
-          omega arith,
-          (
-            omega arith,
-            (
-              omega (arith, left),
-              (
-                omega arith,
-                (
-                  omega (arith, group),
-                  (omega arith, (omega (arith, dir), (omega arith, (omega (arith, scale), (omega (arith, below), (omega (arith, start), (omega (arith, length), (front_holds part.front, (omega (arith, speed), tt))))))))),
-                ),
-              ),
-            ),
-          ),
-        );
-        reference = tt;
-      }
+  -- message 24, whatever its packets are
+  pub general : (packets : List Packet) → 1 ≤ length packets → length packets ≤ most_packets → AllByRecursion CanBePacked packets → IsSendable (message.General (head_of later true) packets)
+  general packets some most each = general_sendable (head_of later true) packets (omega (arith, left)) group some most each

@@ -3,18 +3,17 @@ use Rattle.std.proofs.Common.{◌≡◌, ℕ, List, [], ◌∷◌, Option, Some,
 use Rattle.std.specs.List.{fold}
 use Rattle.rbc_track.specs.Plan.{Plan}
 use Rattle.rbc_settle.specs.declared.train.TrainRec.{TrainRec}
-use Rattle.rbc_settle.specs.declared.action.Action.{Action}
-use Rattle.rbc_settle.specs.declared.action.Action.TheVariants.{RevokeStop, TellStop, RevokeLimit, TellLimit}
+use Rattle.rbc_settle.specs.Actions.{Action, ChangesStop, ChangesLimits}
+use Rattle.rbc_settle.specs.declared.change.StopChange.TheVariants as stop_change
 use Rattle.rbc_settle.specs.Settling.{Stops, Limits, carried_out, actions_with_stamp, settled}
 use Rattle.rbc_rule.specs.Gathered.{forgotten, settled_train}
 
 -- actions leave a train at its place
 place_after : (acts : List Action) (train : TrainRec) → (fold carried_out train acts).place ≡ train.place
 place_after [] train = refl
-place_after (RevokeStop id number ∷ acts) train = place_after acts (carried_out train (RevokeStop id number))
-place_after (TellStop id number told ∷ acts) train = place_after acts (carried_out train (TellStop id number told))
-place_after (RevokeLimit id ∷ acts) train = place_after acts (carried_out train (RevokeLimit id))
-place_after (TellLimit id number told ∷ acts) train = place_after acts (carried_out train (TellLimit id number told))
+place_after (ChangesStop (stop_change.Revoke id number) ∷ acts) train = place_after acts (carried_out train (ChangesStop (stop_change.Revoke id number)))
+place_after (ChangesStop (stop_change.Tell id number told) ∷ acts) train = place_after acts (carried_out train (ChangesStop (stop_change.Tell id number told)))
+place_after (ChangesLimits changes ∷ acts) train = place_after acts (carried_out train (ChangesLimits changes))
 
 -- forgetting a stop that is released leaves a train at its place too
 forgotten_place : (released : Option ℕ) (train : TrainRec) → (forgotten released train).place ≡ train.place

@@ -4,7 +4,7 @@ use Rattle.std.specs.List.{fold}
 use Rattle.std.proofs.lemmas.List.Elements.{All-weaker}
 use Rattle.rbc_track.specs.Plan.{Plan}
 use Rattle.rbc_settle.specs.declared.train.TrainRec.{TrainRec}
-use Rattle.rbc_settle.specs.declared.action.Action.{Action}
+use Rattle.rbc_settle.specs.Actions.{Action}
 use Rattle.rbc_settle.specs.Settling.{Stops, Limits, carried_out, actions_with_stamp, settled}
 use Rattle.rbc_settle.specs.UpToDate.{IsUpToDateOrAtTheEnd}
 use Rattle.rbc_settle.proofs.Achieves.{up_to_date}

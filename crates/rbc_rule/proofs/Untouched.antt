@@ -1,5 +1,5 @@
 -- Nothing is to be done to a train that was settled before a change that does not touch it.
-use Rattle.std.proofs.Common.{◌≡◌, ℕ, zero, suc, ◌-◌, ◌<◌, ◌≤◌, ◌⊎◌, Bool, true, false, not, cond, ◌&&◌, eqb, ltb, List, [], ◌∷◌, ◌++◌, length, map, take, Option, Some, None, is_none, is_some, All, refl, sym, ap, ◌∙◌, subst, arith, inl, inr}
+use Rattle.std.proofs.Common.{◌≡◌, ℕ, zero, suc, ◌-◌, ◌<◌, ◌≤◌, ◌⊎◌, Bool, true, false, not, cond, ◌&&◌, eqb, ltb, List, [], ◌∷◌, ◌++◌, length, map, take, drop, Option, Some, None, is_none, is_some, All, refl, sym, ap, ◌∙◌, subst, arith, inl, inr}
 use Rattle.std.specs.List.{filter, filter_map, cons_option, list_any, zip, scan, slice_get, AllByRecursion}
 use Rattle.std.specs.Option.{option_map, option_map_or}
 use Rattle.std.proofs.lemmas.Bool.{cases_eq, cases_lt, le-ltb, lt-ltb, or_from, or_left, or_right, or_parts, and_from, eq-eqb, ne_eqb, eqb-true}
@@ -20,16 +20,17 @@ use Rattle.rbc_zones.specs.declared.edge.Concern.{Concern}
 use Rattle.rbc_zones.specs.declared.edge.Concern.TheVariants as concern
 use Rattle.rbc_zones.specs.Limits.{Limit}
 use Rattle.rbc_settle.specs.declared.train.TrainRec.{TrainRec}
-use Rattle.rbc_settle.specs.declared.action.Action.{Action}
-use Rattle.rbc_settle.specs.declared.action.Action.TheVariants.{RevokeLimit}
+use Rattle.rbc_settle.specs.Actions.{Action, ChangesStop, ChangesLimits, groups}
+use Rattle.rbc_settle.specs.declared.change.LimitChange.TheVariants as limit_change
 use Rattle.rbc_settle.specs.Numbers.{has_number}
-use Rattle.rbc_settle.specs.Settling.{Stops, Limits, last_stamp, carried_out, message_of, told_stop, concern_to, limit_told_to, is_used_by, to_revoke, is_stop_gone, is_limit_gone, is_clear_of, stop_to_tell, due_number, spare_identifiers, escalated, is_stop_revoked, revoke_stop, tell_stop, tell_limit, stops_revoked, stops_told, limits_revoked, limits_told, actions, actions_with_stamp, messages_of, to_engine}
+use Rattle.rbc_settle.specs.Settling.{Stops, Limits, last_stamp, carried_out, message_of, told_stop, concern_to, limit_told_to, is_used_by, to_revoke, is_stop_gone, is_limit_gone, is_clear_of, stop_to_tell, due_number, spare_identifiers, escalated, is_stop_revoked, revoke_stop, tell_stop, tell_limit, stops_revoked, stops_told, limits_revoked, limits_told, limit_changes, actions, actions_with_stamp, messages_of, to_engine}
 use Rattle.rbc_settle.specs.UpToDate.{HasTables}
 use Rattle.rbc_settle.proofs.Wanted.{to_tell, wanted_of}
 use Rattle.rbc_settle.proofs.Done.{IsDone}
 use Rattle.rbc_settle.proofs.Concerned.{told_as, limit_as}
 use Rattle.rbc_settle.proofs.Due.{dues}
 use Rattle.rbc_settle.proofs.Escalating.{IsNoneDueOrFull, escalated_by_revoked}
+use Rattle.rbc_settle.proofs.Groups.{groups_cons}
 use Rattle.rbc_settle.proofs.Achieves.{AreDone, revoked_as_gone, no_actions}
 use Rattle.rbc_settle.proofs.Judging.{value_is_none}
 use Rattle.rbc_rule.specs.declared.touch.Change.{Change}
@@ -162,19 +163,25 @@ module _ (stops : Stops) (train : TrainRec) (table : IsTable 15 train.stops) (nu
         none_due_where escalated_none (empty_zipped (wanted_of train.stops (told_as train.place train.forced) stops.active) (free_identifiers 15 train.stops) paired),
       )
 
+-- no group, no item
+no_groups : {X : Type 0} (items : List X) → groups items ≡ [] → items ≡ []
+no_groups [] none = refl
+no_groups {X} (x ∷ xs) none = absurd (let bad : take 100 (x ∷ xs) ∷ groups (drop 100 (x ∷ xs)) ≡ [] = sym (groups_cons x xs) ∙ none in cc)
+
 -- a train without an action
 done_before : (plan : Plan) (stops : Stops) (limits : Limits) (train : TrainRec) → HasTables train → AreNumbered stops → actions plan stops limits train ≡ [] → AreDone plan.horizon stops limits train
 done_before plan stops limits train tables numbered none =
     let revoked = stops_revoked (escalated stops train) stops train in
     let told = stops_told (escalated stops train) stops train in
-    let last = both_empty (revoked ++ told ++ limits_revoked limits train) (limits_told plan.horizon limits train) none in
-    let third = both_empty (revoked ++ told) (limits_revoked limits train) last.0 in
-    let first = both_empty revoked told third.0 in
+    let both = both_empty (map ChangesStop (revoked ++ told)) (map ChangesLimits (groups (limit_changes plan.horizon limits train))) none in
+    let first = both_empty revoked told (empty_mapped ChangesStop (revoked ++ told) both.0) in
+    let last = both_empty (limits_revoked limits train) (limits_told plan.horizon limits train)
+    (no_groups (limit_changes plan.horizon limits train) (empty_mapped ChangesLimits (groups (limit_changes plan.horizon limits train)) both.1)) in
     let before = stops_before stops train tables.stops numbered first.0 first.1 in
     record {
       stops = before.0;
       limits = done_where_none 255 (is_limit_gone limits train.place) limits.active (limit_as plan.horizon train.place) train.limits tables.limits
-          (empty_mapped RevokeLimit (to_revoke (is_limit_gone limits train.place) train.limits) third.1)
+          (empty_mapped limit_change.Revoke (to_revoke (is_limit_gone limits train.place) train.limits) last.0)
           (empty_mapped tell_limit (zip (wanted_of train.limits (limit_as plan.horizon train.place) limits.active) (free_identifiers 255 train.limits)) last.1);
       due = before.1;
     }

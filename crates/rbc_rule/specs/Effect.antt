@@ -87,13 +87,11 @@ placed plan position train = record train { place = place_of_report plan positio
 
 -- A train acknowledges a message by its stamp, which is looked up among its stops first, and then among its restrictions.
 abbrev pub limits_acked : TrainRec → StampAck × Slots → Result TrainRec ℕ
-limits_acked train (stamp_ack.Freed, slots) = Ok (record train { limits = slots })
-limits_acked train (stamp_ack.Marked, slots) = Ok (record train { limits = slots })
+limits_acked train (stamp_ack.Answered freed marked, slots) = Ok (record train { limits = slots })
 limits_acked train (stamp_ack.Nothing, slots) = Err (code_of NothingToAcknowledge)
 
 abbrev pub stops_acked : ℕ → TrainRec → StampAck × Slots → Result TrainRec ℕ
-stops_acked acked train (stamp_ack.Freed, slots) = Ok (record train { stops = slots })
-stops_acked acked train (stamp_ack.Marked, slots) = Ok (record train { stops = slots })
+stops_acked acked train (stamp_ack.Answered freed marked, slots) = Ok (record train { stops = slots })
 stops_acked acked train (stamp_ack.Nothing, slots) = limits_acked train (after_stamp_ack train.limits acked)
 
 abbrev pub acknowledged : ℕ → TrainRec → Result TrainRec ℕ

@@ -1,5 +1,5 @@
 -- What a message has to say to a train: what the rules give that train (own rule).
-use Rattle.std.specs.Prelude.{◌≡◌, ℕ, fold, ◌+◌, ◌*◌, ◌^◌, List, [], ◌∷◌, Some, Result, Ok, Err}
+use Rattle.std.specs.Prelude.{◌≡◌, ℕ, fold, ◌+◌, ◌*◌, ◌^◌, List, [], ◌∷◌, map, Some, Result, Ok, Err}
 use Rattle.ertms_codec.specs.declared.to_train.ToTrain.{ToTrain}
 use Rattle.ertms_codec.specs.Layout.{HoldValues}
 use Rattle.ertms_codec.specs.ToTrain as codec
@@ -14,8 +14,10 @@ use Rattle.rbc_zones.specs.declared.edge.Concern.TheVariants as concern
 use Rattle.rbc_zones.specs.Concerns.{distance_to, IsToldFor}
 use Rattle.rbc_zones.specs.Limits.{Limit, told_part}
 use Rattle.rbc_settle.specs.declared.train.TrainRec.{TrainRec}
-use Rattle.rbc_settle.specs.declared.action.Action.{Action}
-use Rattle.rbc_settle.specs.declared.action.Action.TheVariants.{RevokeStop, TellStop, RevokeLimit, TellLimit}
+use Rattle.rbc_settle.specs.Actions.{Action, ChangesStop, ChangesLimits}
+use Rattle.rbc_settle.specs.declared.change.StopChange.TheVariants as stop_change
+use Rattle.rbc_settle.specs.declared.change.LimitChange.{LimitChange}
+use Rattle.rbc_settle.specs.declared.change.LimitChange.TheVariants as limit_change
 use Rattle.rbc_settle.specs.Settling.{Stops, Limits, concern_to, escalated, actions_with_stamp, group_of}
 use Rattle.rbc_settle.specs.Numbers.{and_number}
 use Rattle.rbc_rule.specs.declared.input.Input.{Input}
@@ -83,12 +85,29 @@ pub record IsLimitSaid (limits : Limits) (train : TrainRec) (id number : ℕ) (s
 abbrev pub as_told : Stops → TrainRec → TrainRec
 as_told stops train = record train { forced = fold (λ forced number. and_number number forced) train.forced (escalated stops train) }
 
+-- one thing alone, of which a statement holds
+pub record IsAlone (holds : Said → Type 0) (said : List Said) : Type 0 where
+  pub one : Said
+  pub is : holds one
+  pub alone : said ≡ one ∷ []
+
+-- for a change to the restrictions
+abbrev pub IsChangeSaid : Limits → TrainRec → LimitChange → Said → Type 0
+IsChangeSaid limits train (limit_change.Revoke id) said = said ≡ RevokesLimit id
+IsChangeSaid limits train (limit_change.Tell id number told) said = IsLimitSaid limits train id number said
+
+-- for changes: one thing for each, in their order
+abbrev pub AreChangesSaid : Limits → TrainRec → List LimitChange → List Said → Type 0
+AreChangesSaid limits train [] [] = Unit
+AreChangesSaid limits train (change ∷ changes) (one ∷ said) = IsChangeSaid limits train change one × AreChangesSaid limits train changes said
+AreChangesSaid limits train [] (one ∷ said) = ⊥
+AreChangesSaid limits train (change ∷ changes) [] = ⊥
+
 -- for an action of settling a train
-abbrev pub IsSaidFor : Stops → Limits → TrainRec → Action → Said → Type 0
-IsSaidFor stops limits train (RevokeStop id forced) said = said ≡ RevokesStop id
-IsSaidFor stops limits train (TellStop id number told) said = IsStopSaid stops train id number said
-IsSaidFor stops limits train (RevokeLimit id) said = said ≡ RevokesLimit id
-IsSaidFor stops limits train (TellLimit id number told) said = IsLimitSaid limits train id number said
+abbrev pub IsSaidFor : Stops → Limits → TrainRec → Action → List Said → Type 0
+IsSaidFor stops limits train (ChangesStop (stop_change.Revoke id forced)) said = said ≡ RevokesStop id ∷ []
+IsSaidFor stops limits train (ChangesStop (stop_change.Tell id number told)) said = IsAlone (IsStopSaid stops train id number) said
+IsSaidFor stops limits train (ChangesLimits changes) said = AreChangesSaid limits train changes said
 
 -- a message can be sent: each variable is in its range, and wide enough for its value
 pub record IsSendable (message : ToTrain) : Type 0 where
@@ -98,7 +117,7 @@ pub record IsSendable (message : ToTrain) : Type 0 where
 
 -- A message says what it has to say for an action, by the balise group of the train, and can be sent.
 pub record SaysFor (plan : Plan) (stops : Stops) (limits : Limits) (train : TrainRec) (action : Action) (message : ToTrain) : Type 0 where
-  pub said : Said
+  pub said : List Said
   pub says : Says plan message said
   pub is_for : IsSaidFor stops limits train action said
   pub by_its_group : (codec.head_of message).lrbg ≡ group_of train
@@ -114,11 +133,11 @@ by_place (RevokesLimit id) = RevokesLimit id
 
 -- A message says, by the place alone, what it has to say for an action, whatever balise group it names.
 pub record SaysByPlace (plan : Plan) (stops : Stops) (limits : Limits) (train : TrainRec) (action : Action) (message : ToTrain) : Type 0 where
-  pub said : Said
-  pub wanted : Said
+  pub said : List Said
+  pub wanted : List Said
   pub says : Says plan message said
   pub is_for : IsSaidFor stops limits train action wanted
-  pub same : by_place said ≡ by_place wanted
+  pub same : map by_place said ≡ map by_place wanted
 
 -- A message that says what it has to say does so by the place alone too.
 abbrev pub SayingIsByPlace : Type 0
@@ -152,6 +171,6 @@ EachStepSays =
     (plan : Plan) (w : World) (input : Input) → IsPlan plan → Fits input → IsWellFormed plan w
     → IsSaidAfter plan (effect plan input w) (step plan w input).sent
 
--- a message says one thing at most
+-- a message says one list of things at most
 abbrev pub EachMessageSaysOneThing : Type 0
-EachMessageSaysOneThing = (plan : Plan) (message : ToTrain) (a b : Said) → Says plan message a → Says plan message b → a ≡ b
+EachMessageSaysOneThing = (plan : Plan) (message : ToTrain) (a b : List Said) → Says plan message a → Says plan message b → a ≡ b

@@ -1,5 +1,7 @@
 -- What a message says to a train, from its variables back to places on the track (SUBSET-026, 7.5 and 8; own rule).
-use Rattle.std.specs.Prelude.{◌≡◌, ℕ, ◌+◌, ◌*◌, ◌^◌, Bool, ◌==◌, nat_le, if◌then◌else◌, Option, Some, None, pos}
+use Rattle.std.specs.Prelude.{◌≡◌, ℕ, ◌+◌, ◌*◌, ◌^◌, Bool, ◌==◌, nat_le, if◌then◌else◌, List, [], ◌∷◌, Option, Some, None, pos}
+use Rattle.ertms_codec.specs.declared.packets.Part.{Part}
+use Rattle.ertms_codec.specs.declared.packets.Part.TheVariants as packet
 use Rattle.ertms_codec.specs.declared.to_train.ToTrain.{ToTrain}
 use Rattle.ertms_codec.specs.declared.to_train.ToTrain.TheVariants as message
 use Rattle.rbc_track.specs.Plan.{Plan, group_of}
@@ -70,10 +72,21 @@ pub record IsStretchTold (plan : Plan) (lrbg dir scale start length : ℕ) (stre
 abbrev pub both_ways : ℕ
 both_ways = 2
 
+-- what a packet says, in a message that names a balise group
+abbrev pub PacketSays : Plan → ℕ → Part → Said → Type 0
+PacketSays plan lrbg (packet.Restrict dir scale id start length front speed) said = (stretch : Stretch) × (IsStretchTold plan lrbg dir scale start length stretch × (said ≡ Restricts id stretch front (5 * speed)))
+PacketSays plan lrbg (packet.Lift dir id) said = (dir ≡ both_ways) × (said ≡ RevokesLimit id)
+
+-- packets say one thing each, in their order
+abbrev pub PacketsSay : Plan → ℕ → List Part → List Said → Type 0
+PacketsSay plan lrbg [] [] = Unit
+PacketsSay plan lrbg (first ∷ packets) (one ∷ said) = PacketSays plan lrbg first one × PacketsSay plan lrbg packets said
+PacketsSay plan lrbg [] (one ∷ said) = ⊥
+PacketsSay plan lrbg (first ∷ packets) [] = ⊥
+
 -- What a message says. D_REF is 0: distances count from the balise group itself.
-abbrev pub Says : Plan → ToTrain → Said → Type 0
-Says plan (message.StopAt head id scale reference dir distance) said = (reference ≡ pos 0) × ((spot : Spot) × (IsSpotTold plan head.lrbg dir scale distance spot × (said ≡ StopsBefore id spot)))
-Says plan (message.Stop head id) said = said ≡ StopsAtOnce id
-Says plan (message.Revoke head id) said = said ≡ RevokesStop id
-Says plan (message.Restrict head dir scale id start length front speed) said = (stretch : Stretch) × (IsStretchTold plan head.lrbg dir scale start length stretch × (said ≡ Restricts id stretch front (5 * speed)))
-Says plan (message.Lift head dir id) said = (dir ≡ both_ways) × (said ≡ RevokesLimit id)
+abbrev pub Says : Plan → ToTrain → List Said → Type 0
+Says plan (message.StopAt head id scale reference dir distance) said = (reference ≡ pos 0) × ((spot : Spot) × (IsSpotTold plan head.lrbg dir scale distance spot × (said ≡ StopsBefore id spot ∷ [])))
+Says plan (message.Stop head id) said = said ≡ StopsAtOnce id ∷ []
+Says plan (message.Revoke head id) said = said ≡ RevokesStop id ∷ []
+Says plan (message.General head packets) said = PacketsSay plan head.lrbg packets said

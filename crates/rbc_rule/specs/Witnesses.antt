@@ -3,6 +3,8 @@ use Rattle.std.specs.Prelude.{ℕ, ℤ, Bool, true, false, List, [], ◌∷◌, 
 use Rattle.ertms_codec.specs.declared.to_train.Head.{Head}
 use Rattle.ertms_codec.specs.declared.to_train.ToTrain.{ToTrain}
 use Rattle.ertms_codec.specs.declared.to_train.ToTrain.TheVariants as message
+use Rattle.ertms_codec.specs.declared.packets.Part.{Part as Packet}
+use Rattle.ertms_codec.specs.declared.packets.Part.TheVariants as packet
 use Rattle.rbc_track.specs.Plan.{Plan}
 use Rattle.rbc_track.specs.declared.group.Way.TheVariants.{Up, Down}
 use Rattle.rbc_place.specs.Placing.{Place}
@@ -14,9 +16,13 @@ use Rattle.rbc_zones.specs.declared.segment.Segment.{Segment}
 use Rattle.rbc_zones.specs.declared.limit.Dirs.TheVariants as dirs
 use Rattle.rbc_zones.specs.Limits.{Limit}
 use Rattle.rbc_settle.specs.declared.train.TrainRec.{TrainRec}
-use Rattle.rbc_settle.specs.declared.action.Action.TheVariants.{TellStop}
-use Rattle.rbc_settle.specs.declared.action.ToldStop.{ToldStop}
-use Rattle.rbc_settle.specs.declared.action.ToldStop.TheVariants.{AtOnce, Before}
+use Rattle.rbc_settle.specs.declared.change.StopChange.TheVariants as stop_change
+use Rattle.rbc_settle.specs.declared.change.LimitChange.{LimitChange}
+use Rattle.rbc_settle.specs.declared.change.LimitChange.TheVariants as limit_change
+use Rattle.rbc_settle.specs.Actions.{ChangesStop, ChangesLimits}
+use Rattle.rbc_settle.specs.declared.change.ToldStop.{ToldStop}
+use Rattle.rbc_settle.specs.declared.change.ToldStop.TheVariants.{AtOnce, Before}
+use Rattle.rbc_settle.specs.Told.{Part as ToldPart}
 use Rattle.rbc_settle.specs.Settling.{Stops, Limits}
 use Rattle.rbc_records.specs.declared.record.Key.{Key}
 use Rattle.rbc_records.specs.declared.record.Key.TheVariants as key
@@ -27,7 +33,7 @@ use Rattle.rbc_rule.specs.declared.input.Input.{Input}
 use Rattle.rbc_rule.specs.declared.input.Input.TheVariants.{Enrol, Stop, Restrict}
 use Rattle.rbc_rule.specs.World.{World}
 use Rattle.rbc_rule.specs.Effect.{effect}
-use Rattle.rbc_rule.specs.Saying.{Spot}
+use Rattle.rbc_rule.specs.Saying.{Spot, both_ways}
 use Rattle.rbc_rule.specs.SaidFor.{IsSaidAfter, SaysByPlace, SaysFor, as_told}
 
 -- ---- the track, and a train on it
@@ -86,7 +92,7 @@ stop_before dir scale distance = message.StopAt (head_at 1001 false) 0 scale (po
 
 -- message 24 with packet 65 under identifier 0, with Q_DIR, Q_SCALE, D_TSR, L_TSR and V_TSR
 abbrev pub restrict_to : ℕ → ℕ → ℕ → ℕ → ℕ → ToTrain
-restrict_to dir scale start length speed = message.Restrict (head_at 1001 true) dir scale 0 start length false speed
+restrict_to dir scale start length speed = message.General (head_at 1001 true) (packet.Restrict dir scale 0 start length false speed ∷ [])
 
 -- message 15 by 10000 units of 10 cm, with NID_EM and D_REF
 abbrev pub stop_before_as : ℕ → ℤ → ToTrain
@@ -94,7 +100,7 @@ stop_before_as id reference = message.StopAt (head_at 1001 false) id 0 reference
 
 -- message 24 with packet 65 on a part of 1000 units that begins 1050 units ahead, to 80 km/h, with NID_TSR and Q_FRONT
 abbrev pub restrict_as : ℕ → Bool → ToTrain
-restrict_as id front = message.Restrict (head_at 1001 true) 1 0 id 1050 1000 front 16
+restrict_as id front = message.General (head_at 1001 true) (packet.Restrict 1 0 id 1050 1000 front 16 ∷ [])
 
 -- message 16 to a train without a place, and message 18
 abbrev pub stop_now : ℕ → ℕ → ToTrain
@@ -105,7 +111,7 @@ revoke id = message.Revoke (head_at 1002 true) id
 
 -- message 24 with packet 66, with Q_DIR
 abbrev pub lift : ℕ → ℕ → ToTrain
-lift dir id = message.Lift (head_at 1002 true) dir id
+lift dir id = message.General (head_at 1002 true) (packet.Lift dir id ∷ [])
 
 -- message 16 to a train at balise group 5
 abbrev pub stop_at_once : ToTrain
@@ -116,8 +122,7 @@ abbrev pub naming : ℕ → ToTrain → ToTrain
 naming lrbg (message.StopAt head id scale reference dir distance) = message.StopAt (record head { lrbg = lrbg }) id scale reference dir distance
 naming lrbg (message.Stop head id) = message.Stop (record head { lrbg = lrbg }) id
 naming lrbg (message.Revoke head id) = message.Revoke (record head { lrbg = lrbg }) id
-naming lrbg (message.Restrict head dir scale id start length front speed) = message.Restrict (record head { lrbg = lrbg }) dir scale id start length front speed
-naming lrbg (message.Lift head dir id) = message.Lift (record head { lrbg = lrbg }) dir id
+naming lrbg (message.General head packets) = message.General (record head { lrbg = lrbg }) packets
 
 -- ---- what is said
 
@@ -142,7 +147,7 @@ abbrev pub edge_from_5 : ToldStop
 edge_from_5 = Before (record { dir = 1; scale = 1; distance = 4000 })
 
 abbrev pub SaysByPlaceOf : ToTrain → Type 0
-SaysByPlaceOf sent = SaysByPlace track_a (stop_1 (on_line_0 50005 60000)) none_numbered (train_7 (Some facing_up) 1000 []) (TellStop 0 1 edge_from_5) sent
+SaysByPlaceOf sent = SaysByPlace track_a (stop_1 (on_line_0 50005 60000)) none_numbered (train_7 (Some facing_up) 1000 []) (ChangesStop (stop_change.Tell 0 1 edge_from_5)) sent
 
 -- nobody is enrolled, and two stops are active
 abbrev pub two_stops : World
@@ -178,12 +183,12 @@ unanswered reports =
 
 -- what the law says of message 16 for the stop under identifier 1 then
 abbrev pub IsSaidAgain : ℕ → Type 0
-IsSaidAgain reports = SaysFor track_a (stop_1 (on_line_0 20000 21000)) none_numbered (unanswered reports) (TellStop 1 1 AtOnce) (message.Stop (head_at 1003 false) 1)
+IsSaidAgain reports = SaysFor track_a (stop_1 (on_line_0 20000 21000)) none_numbered (unanswered reports) (ChangesStop (stop_change.Tell 1 1 AtOnce)) (message.Stop (head_at 1003 false) 1)
 
 -- and of message 15
 abbrev pub IsSaidBeforeAgain : ℕ → Type 0
 IsSaidBeforeAgain reports =
-    SaysFor track_a (stop_1 (on_line_0 20000 21000)) none_numbered (unanswered reports) (TellStop 1 1 AtOnce) (message.StopAt (head_at 1003 false) 1 0 (pos 0) 1 10000)
+    SaysFor track_a (stop_1 (on_line_0 20000 21000)) none_numbered (unanswered reports) (ChangesStop (stop_change.Tell 1 1 AtOnce)) (message.StopAt (head_at 1003 false) 1 0 (pos 0) 1 10000)
 
 -- it was told the stop under two identifiers
 abbrev pub told_twice : World
@@ -246,3 +251,27 @@ all_lists_read = Part (
 -- one key alone was read, with what was found under it
 abbrev pub read_alone : Key → Option Rec → Notes
 read_alone key found = Part ((key, found) ∷ [])
+
+-- ---- a message of two packets
+
+-- how restriction 1 of 11050 to 12050 is told
+abbrev pub told_1 : ToldPart
+told_1 = record { dir = 1; scale = 0; start = 1050; length = 1000; front = false; speed = 16 }
+
+-- the revocation of identifier 0, and that restriction under identifier 1
+abbrev pub two_changes : List LimitChange
+two_changes = limit_change.Revoke 0 ∷ limit_change.Tell 1 1 told_1 ∷ []
+
+-- the packets that say so
+abbrev pub lift_0 : Packet
+lift_0 = packet.Lift both_ways 0
+
+abbrev pub restrict_1 : Packet
+restrict_1 = packet.Restrict 1 0 1 1050 1000 false 16
+
+-- the message of some packets, and what the law says of a message for both changes
+abbrev pub of_packets : List Packet → ToTrain
+of_packets packets = message.General (head_at 1001 true) packets
+
+abbrev pub IsSaidOfTwo : ToTrain → Type 0
+IsSaidOfTwo sent = SaysFor track_a none_numbered (restriction_1 (on_line_0 11050 12050)) (train_7 (Some facing_up) 1000 []) (ChangesLimits two_changes) sent

@@ -70,9 +70,9 @@ fn acknowledged(train: TrainRec, acked: u32) -> Result<TrainRec, NotChanged>
 {
     let mut train = train;
     match train.stops.ack_stamp(acked) {
-        StampAck::Freed | StampAck::Marked => Ok(train),
+        StampAck::Answered { .. } => Ok(train),
         StampAck::Nothing => match train.limits.ack_stamp(acked) {
-            StampAck::Freed | StampAck::Marked => Ok(train),
+            StampAck::Answered { .. } => Ok(train),
             StampAck::Nothing => Err(NotChanged::Refused(Refusal::NothingToAcknowledge)),
         },
     }

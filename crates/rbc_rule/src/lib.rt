@@ -26,7 +26,9 @@ pub use law::{says_law, step_law, told_law};
 pub use outcome::{Outcome, Reply, RuleFault, SentList};
 pub use refuse::Refusal;
 pub use rule::decide;
-pub use said_witnesses::{restriction_witnesses, revocation_witnesses, stop_witnesses};
+pub use said_witnesses::{
+    packets_witnesses, restriction_witnesses, revocation_witnesses, stop_witnesses,
+};
 pub use witnesses::{
     records_witnesses, says_law_witnesses, step_law_witnesses, told_law_witnesses,
 };

@@ -62,11 +62,12 @@ impl SentList {
     }
 
     /// Adds messages at the end. Fails only for lack of memory, and then changes nothing.
-    pub(crate) fn add_all(&mut self, sent: &[Sent]) -> Result<(), AllocError>
-        ensures ok { OnOk result (self.new ≡ self.old ++ sent.now) }
+    pub(crate) fn add_all(&mut self, sent: Vec<Sent>) -> Result<(), AllocError>
+        ensures ok { OnOk result (self.new ≡ self.old ++ sent.items) }
         ensures err { OnErr result (self.new ≡ self.old) }
     {
-        self.all.extend_from_slice(sent)?;
+        let mut sent = sent;
+        self.all.append(&mut sent)?;
         Ok(())
     }
 

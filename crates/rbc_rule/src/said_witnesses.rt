@@ -6,7 +6,7 @@
 ghost use Rattle.std.specs.Prelude.{pos, true, false, [], ◌∷◌};
 ghost use Rattle.rbc_zones.specs.declared.limit.Dirs.TheVariants as dirs;
 ghost use Rattle.rbc_rule.specs.declared.input.Input.TheVariants as input;
-ghost use Rattle.rbc_rule.specs.Witnesses.{facing_up, short_of_5, on_line_0, stop_before, stop_before_as, stop_at_once, stop_now, restrict_to, restrict_as, revoke, lift, naming, told_world, world_limited, IsSaidIn, IsSaidOfStop, IsSaidOfLimit, IsSaidAtEnrolment, SaysByPlaceOf, IsSaidAgain, IsSaidBeforeAgain};
+ghost use Rattle.rbc_rule.specs.Witnesses.{facing_up, short_of_5, on_line_0, stop_before, stop_before_as, stop_at_once, stop_now, restrict_to, restrict_as, revoke, lift, naming, told_world, world_limited, IsSaidIn, IsSaidOfStop, IsSaidOfLimit, IsSaidAtEnrolment, SaysByPlaceOf, IsSaidAgain, IsSaidBeforeAgain, lift_0, restrict_1, of_packets, IsSaidOfTwo};
 
 /// Messages 15 and 16: stop 1 becomes active on 20000 to 21000, on 12100 to 13000, which meets the train, or for a train
 /// that stands short of its balise group on 10000 to 11000.
@@ -79,4 +79,18 @@ pub fn escalation_witnesses()
     ensures told_again { IsSaidAgain 3 }
     ensures too_soon { IsSaidAgain 2 → ⊥ }
     ensures before_again { IsSaidBeforeAgain 3 → ⊥ }
+{}
+
+/// Message 24 with two packets: identifier 0 is revoked, and a restriction of 11050 to 12050 to 80 km/h is told under identifier 1.
+///
+/// Right: the revocation first, and then the restriction.
+///
+/// Wrong: one of them alone; the restriction twice; the other order; and another balise group, as for another train.
+pub fn packets_witnesses()
+    ensures both { IsSaidOfTwo (of_packets (lift_0 ∷ restrict_1 ∷ [])) }
+    ensures last_dropped { IsSaidOfTwo (of_packets (lift_0 ∷ [])) → ⊥ }
+    ensures first_dropped { IsSaidOfTwo (of_packets (restrict_1 ∷ [])) → ⊥ }
+    ensures doubled { IsSaidOfTwo (of_packets (lift_0 ∷ restrict_1 ∷ restrict_1 ∷ [])) → ⊥ }
+    ensures other_order { IsSaidOfTwo (of_packets (restrict_1 ∷ lift_0 ∷ [])) → ⊥ }
+    ensures of_another_train { IsSaidOfTwo (naming 6 (of_packets (lift_0 ∷ restrict_1 ∷ []))) → ⊥ }
 {}

@@ -13,6 +13,7 @@ ghost use Rattle.rbc_rule.specs.Right.{MayBe};
 ghost use Rattle.rbc_rule.specs.Faults.{IsFaultOf};
 ghost use Rattle.rbc_rule.specs.Touching.{HasChanged, released_by};
 ghost use Rattle.rbc_rule.specs.Lists.{AreTrainsKnown};
+ghost use Rattle.rbc_settle.specs.Settling.{most_messages};
 ghost use Rattle.rbc_rule.specs.Gathered.{write_of, sent_of, write_at, sent_at, AreSendable};
 
 use crate::outcome::{RuleFault, SentList};
@@ -47,7 +48,7 @@ fn settle_one(
         ≡ gathered.old.writes ++ write_of track.now stops.now limits.now released train.now) }
     ensures messages { OnOk result (gathered.new.messages
         ≡ gathered.old.messages ++ sent_of track.now stops.now limits.now released train.now) }
-    ensures few { OnOk result (length gathered.new.messages ≤ length gathered.old.messages + 540) }
+    ensures few { OnOk result (length gathered.new.messages ≤ length gathered.old.messages + most_messages) }
     ensures fit { OnOk result (AreSendable gathered.new.messages) }
 {
     match released {
@@ -74,13 +75,13 @@ fn settle_released(
         ≡ gathered.old.writes ++ write_of track.now stops.now limits.now (Some number) train.now) }
     ensures messages { OnOk result (gathered.new.messages
         ≡ gathered.old.messages ++ sent_of track.now stops.now limits.now (Some number) train.now) }
-    ensures few { OnOk result (length gathered.new.messages ≤ length gathered.old.messages + 540) }
+    ensures few { OnOk result (length gathered.new.messages ≤ length gathered.old.messages + most_messages) }
     ensures fit { OnOk result (AreSendable gathered.new.messages) }
 {
     let mut after = train.copy(alloc)?;
     let _ = after.forced.remove(number);
     let sent = settle(alloc, track, stops, limits, &mut after)?;
-    gather(gathered, train.engine, &sent, after)
+    gather(gathered, train.engine, sent, after)
 }
 
 /// Does the same for any other train.
@@ -97,7 +98,7 @@ fn settle_as_it_is(
         ≡ gathered.old.writes ++ write_of track.now stops.now limits.now None train.now) }
     ensures messages { OnOk result (gathered.new.messages
         ≡ gathered.old.messages ++ sent_of track.now stops.now limits.now None train.now) }
-    ensures few { OnOk result (length gathered.new.messages ≤ length gathered.old.messages + 540) }
+    ensures few { OnOk result (length gathered.new.messages ≤ length gathered.old.messages + most_messages) }
     ensures fit { OnOk result (AreSendable gathered.new.messages) }
 {
     let sent = &mut gathered.messages.all;
@@ -113,14 +114,14 @@ fn settle_as_it_is(
 fn gather(
     gathered: &mut Gathered,
     engine: u32,
-    sent: &[Sent],
+    sent: Vec<Sent>,
     train: TrainRec,
 ) -> Result<(), AllocError>
     requires old { AreSendable gathered.old.messages }
-    requires new { AreSendable sent.now }
+    requires new { AreSendable sent.items }
     ensures writes { OnOk result (gathered.new.writes
         ≡ gathered.old.writes ++ (key.Train engine, Some (rec.Train train)) ∷ []) }
-    ensures messages { OnOk result (gathered.new.messages ≡ gathered.old.messages ++ sent.now) }
+    ensures messages { OnOk result (gathered.new.messages ≡ gathered.old.messages ++ sent.items) }
     ensures fit { OnOk result (AreSendable gathered.new.messages) }
 {
     gathered.messages.add_all(sent)?;
@@ -151,7 +152,7 @@ fn settle_engine<S: Reader>(
     ensures messages { OnOk result ((w : World) → MayBe track.now (S.notes store.now) w
         → gathered.new.messages ≡ gathered.old.messages ++ sent_at track.now stops.now limits.now
         (released_by change.entry) w.trains engine) }
-    ensures few { OnOk result (length gathered.new.messages ≤ length gathered.old.messages + 540) }
+    ensures few { OnOk result (length gathered.new.messages ≤ length gathered.old.messages + most_messages) }
     ensures fit { OnOk result (AreSendable gathered.new.messages) }
     ensures fault { IfErr result (λ fault. IsFaultOf track.now fault (S.notes store.now)) }
 {
@@ -192,7 +193,7 @@ pub(crate) fn settle_trains<S: Reader>(
     ensures messages { IfOk result (λ gathered. (w : World) → MayBe track.now (S.notes store.now) w
         → gathered.messages ≡ flat_map (sent_at track.now stops.now limits.now
         (released_by change.entry) w.trains) engines.now) }
-    ensures few { IfOk result (λ gathered. length gathered.messages ≤ length engines.now * 540) }
+    ensures few { IfOk result (λ gathered. length gathered.messages ≤ length engines.now * most_messages) }
     ensures fit { IfOk result (λ gathered. AreSendable gathered.messages) }
     ensures fault { IfErr result (λ fault. IsFaultOf track.now fault (S.notes store.now)) }
 {

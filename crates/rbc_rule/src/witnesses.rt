@@ -34,7 +34,7 @@ pub fn says_law_witnesses()
     ensures both_told { IsSaidAtEnrolment (stop_now 1 0 ∷ stop_now 2 1 ∷ []) }
     ensures revoked { IsSaidIn told_world (input.Release 1) ((7, revoke 0 ∷ []) ∷ []) }
     ensures refused { IsSaidIn told_world (input.Release 2) [] }
-    ensures place_read { Says track_a (stop_before 1 0 10000) (StopsBefore 0 (spot_at 20000)) }
+    ensures place_read { Says track_a (stop_before 1 0 10000) (StopsBefore 0 (spot_at 20000) ∷ []) }
     ensures spare_scale { IsSaidOfStop facing_up 20000 21000 (stop_before 1 5 0 ∷ []) → ⊥ }
     ensures too_short { IsSaidOfStop facing_up 20000 21000 (stop_before 1 0 0 ∷ []) → ⊥ }
     ensures whole_hundreds { IsSaidOfLimit facing_up 11050 12050 (restrict_to 1 0 1000 1100 16 ∷ []) → ⊥ }
@@ -50,7 +50,7 @@ pub fn says_law_witnesses()
         ((8, stop_before 1 0 10000 ∷ []) ∷ []) → ⊥ }
     ensures other_identifier { IsSaidIn told_world (input.Release 1) ((7, revoke 1 ∷ []) ∷ []) → ⊥ }
     ensures sent_though_refused { IsSaidIn told_world (input.Release 2) ((7, revoke 0 ∷ []) ∷ []) → ⊥ }
-    ensures other_place { Says track_a (stop_before 1 0 10000) (StopsBefore 0 (spot_at 20001)) → ⊥ }
+    ensures other_place { Says track_a (stop_before 1 0 10000) (StopsBefore 0 (spot_at 20001) ∷ []) → ⊥ }
 {}
 
 /// Stop 1 of 20000 to 21000 on line 0 is active, and train 7 stands 200 m beyond balise group 5 and faces it.

@@ -12,18 +12,20 @@ use Rattle.rbc_maps.proofs.MapValues.{map_of_numbered}
 use Rattle.rbc_ids.specs.Table.{Slots, free_identifiers}
 use Rattle.rbc_zones.specs.declared.segment.Segment.{Segment}
 use Rattle.rbc_settle.specs.declared.train.TrainRec.{TrainRec}
-use Rattle.rbc_settle.specs.declared.action.Action.{Action}
-use Rattle.rbc_settle.specs.declared.action.Action.TheVariants.{RevokeLimit}
-use Rattle.rbc_settle.specs.Settling.{Stops, Limits, last_stamp, carried_out, message_of, kind_of, revoke_stop, tell_stop, tell_limit, concern_to, is_used_by, is_stop_gone, is_limit_gone, due_number, spare_identifiers, escalated, is_stop_revoked, stops_revoked, stops_told, limits_revoked, limits_told, actions, actions_with_stamp, settled}
+use Rattle.rbc_settle.specs.declared.change.StopChange.{StopChange}
+use Rattle.rbc_settle.specs.declared.change.LimitChange.{LimitChange}
+use Rattle.rbc_settle.specs.declared.change.LimitChange.TheVariants as limit_change
+use Rattle.rbc_settle.specs.Actions.{Action}
+use Rattle.rbc_settle.specs.Settling.{Stops, Limits, last_stamp, carried_out, message_of, kind_of, revoke_stop, tell_stop, tell_limit, concern_to, is_used_by, is_stop_gone, is_limit_gone, due_number, spare_identifiers, escalated, is_stop_revoked, stops_revoked, stops_told, limits_revoked, limits_told, in_messages, actions, actions_with_stamp, settled}
 use Rattle.rbc_settle.specs.UpToDate.{HasTables, IsToldIfItCan, IsLimitToldIfItCan, IsUpToDate, IsUpToDateOrAtTheEnd, StaysAsItIs, SettlingTwiceIsOnce}
-use Rattle.rbc_settle.proofs.Revoking.{each_not_gone, none_passes, revoked_is}
+use Rattle.rbc_settle.proofs.Revoking.{by_one, each_not_gone, none_passes, revoked_is}
 use Rattle.rbc_settle.proofs.Telling.{told_all, all_held}
 use Rattle.rbc_settle.proofs.Due.{dues}
 use Rattle.rbc_settle.proofs.NoneDue.{each_not_due}
 use Rattle.rbc_settle.proofs.Escalating.{IsNoneDueOrFull, told_table, stops_done, none_due_after}
 use Rattle.rbc_settle.proofs.Done.{IsDone, IsToldOrFull, is_done, none_told, none_revoked, told_or_full}
 use Rattle.rbc_settle.proofs.Carried.{stamp_after}
-use Rattle.rbc_settle.proofs.Parts.{forced_then, stop_pairs, after_first, after_second, after_third, after_all, stops_at_last, limits_at_last, place_at_last, forced_at_last}
+use Rattle.rbc_settle.proofs.Parts.{forced_then, stop_pairs, after_first, after_all, clock, revoked_before, stops_at_last, limits_at_last, place_at_last, forced_at_last}
 use Rattle.rbc_settle.proofs.Concerned.{told_as, limit_as, limits_stay, nothing_told}
 
 -- nothing is left to do to a train
@@ -37,7 +39,7 @@ module _ (plan : Plan) (stops : Stops) (limits : Limits) (train : TrainRec) (tab
   told_at_last : (after_all plan stops limits train).stops ≡ told_table stops train tables.stops h (after_first plan stops limits train).stamp
   told_at_last =
       stops_at_last plan stops limits train
-      ∙ ap (told_all kind_of (after_first plan stops limits train).stamp (stop_pairs plan stops limits train)) (revoked_is (is_stop_revoked stops (escalated stops train)) train.stamp 0 train.stops tables.stops.ascending)
+      ∙ ap (told_all by_one kind_of (after_first plan stops limits train).stamp (stop_pairs plan stops limits train)) (revoked_is (is_stop_revoked stops (escalated stops train)) by_one train.stamp 0 train.stops tables.stops.ascending)
 
   -- nothing is left to do for its stops
   stops_then : IsDone 15 (is_stop_gone stops) stops.active (told_as train.place (forced_then plan stops limits train)) (after_all plan stops limits train).stops
@@ -47,7 +49,7 @@ module _ (plan : Plan) (stops : Stops) (limits : Limits) (train : TrainRec) (tab
   -- nor for its restrictions
   limits_then : IsDone 255 (is_limit_gone limits train.place) limits.active (limit_as plan.horizon train.place) (after_all plan stops limits train).limits
   limits_then = subst (λ (xs : Slots). IsDone 255 (is_limit_gone limits train.place) limits.active (limit_as plan.horizon train.place) xs) (sym (limits_at_last plan stops limits train))
-      (is_done (λ told. Restriction) 255 (is_limit_gone limits train.place) (limit_as plan.horizon train.place) limits.active train.limits tables.limits (map_of_numbered limits k) (limits_stay plan.horizon limits train.place k) (after_second plan stops limits train).stamp (after_third plan stops limits train).stamp)
+      (is_done (clock plan stops limits train) (λ told. Restriction) 255 (is_limit_gone limits train.place) (limit_as plan.horizon train.place) limits.active train.limits tables.limits (map_of_numbered limits k) (limits_stay plan.horizon limits train.place k) 0 (revoked_before plan stops limits train))
 
   -- so nothing at all
   all_done : AreDone plan.horizon stops limits (after_all plan stops limits train)
@@ -101,9 +103,9 @@ module _ (plan : Plan) (stops : Stops) (limits : Limits) (train : TrainRec) (don
     ];
   }
 
--- four parts without an action are none
-no_four : (a b c d : List Action) → a ≡ [] → b ≡ [] → c ≡ [] → d ≡ [] → a ++ b ++ c ++ d ≡ []
-no_four a b c d ea eb ec ed = ap (λ (x : List Action). x ++ b ++ c ++ d) ea ∙ ap (λ (x : List Action). x ++ c ++ d) eb ∙ ap (λ (x : List Action). x ++ d) ec ∙ ed
+-- where there is nothing to change there is no action
+none_in_messages : (first second : List StopChange) (third fourth : List LimitChange) → first ≡ [] → second ≡ [] → third ≡ [] → fourth ≡ [] → in_messages (first ++ second) (third ++ fourth) ≡ []
+none_in_messages first second third fourth a b c d = λ i. in_messages (a i ++ b i) (c i ++ d i)
 
 -- where no slot is due, or no identifier is free, none is escalated
 none_escalated : (stops : Stops) (train : TrainRec) → IsNoneDueOrFull stops train.stops → escalated stops train ≡ []
@@ -137,10 +139,10 @@ no_actions plan stops limits train done =
     let limit_gone = is_limit_gone limits train.place in
     let none = none_escalated stops train done.due in
     let stops_left = no_stops_left stops train done.stops in
-    no_four (stops_revoked (escalated stops train) stops train) (stops_told (escalated stops train) stops train) (limits_revoked limits train) (limits_told plan.horizon limits train)
+    none_in_messages (stops_revoked (escalated stops train) stops train) (stops_told (escalated stops train) stops train) (limits_revoked limits train) (limits_told plan.horizon limits train)
     (ap (λ (forced_now : List ℕ). stops_revoked forced_now stops train) none ∙ stops_left.0)
     (ap (λ (forced_now : List ℕ). stops_told forced_now stops train) none ∙ stops_left.1)
-    (ap (map RevokeLimit) (none_revoked 255 limit_gone limits.active (limit_as plan.horizon train.place) train.limits done.limits))
+    (ap (map limit_change.Revoke) (none_revoked 255 limit_gone limits.active (limit_as plan.horizon train.place) train.limits done.limits))
     (ap (map tell_limit) (none_told 255 limit_gone limits.active (limit_as plan.horizon train.place) train.limits done.limits))
 
 -- no stamp, no action

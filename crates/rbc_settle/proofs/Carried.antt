@@ -1,17 +1,17 @@
 -- What carrying out actions of one kind leaves of a train: the other table and the place stay.
 use Rattle.std.proofs.Common.{◌≡◌, ℕ, ◌+◌, List, [], ◌∷◌, length, map, refl, arith}
 use Rattle.std.specs.List.{fold}
-use Rattle.rbc_ids.specs.declared.slot.Kind.TheVariants.{Restriction}
 use Rattle.rbc_maps.specs.Maps.{keys}
 use Rattle.rbc_ids.specs.Table.{Slots}
 use Rattle.rbc_settle.specs.declared.train.TrainRec.{TrainRec}
-use Rattle.rbc_settle.specs.declared.action.Action.{Action}
-use Rattle.rbc_settle.specs.declared.action.Action.TheVariants.{RevokeStop, TellStop, RevokeLimit, TellLimit}
-use Rattle.rbc_settle.specs.declared.action.ToldStop.{ToldStop}
-use Rattle.rbc_settle.specs.Told.{Part}
-use Rattle.rbc_settle.specs.Settling.{carried_out, kind_of, number_forced, revoke_stop, tell_stop, tell_limit}
+use Rattle.rbc_settle.specs.declared.change.StopChange.TheVariants as stop_change
+use Rattle.rbc_settle.specs.declared.change.LimitChange.{LimitChange}
+use Rattle.rbc_settle.specs.Actions.{Action, ChangesStop, ChangesLimits, groups}
+use Rattle.rbc_settle.specs.declared.change.ToldStop.{ToldStop}
+use Rattle.rbc_settle.specs.Settling.{carried_out, kind_of, number_forced, revoke_stop, tell_stop}
 use Rattle.rbc_settle.proofs.Forcing.{forced_all}
-use Rattle.rbc_settle.proofs.Revoking.{revoked_all}
+use Rattle.rbc_settle.proofs.Revoking.{by_one, revoked_all}
+use Rattle.rbc_settle.proofs.Changed.{by_hundreds, changed_all, changed_by_groups}
 use Rattle.rbc_settle.proofs.Telling.{told_all}
 
 -- the train after it, with these stops that it is told at once, and these tables
@@ -23,39 +23,37 @@ pub record HasBecome (old new : TrainRec) (forced_then : List ℕ) (stops_then l
 
 -- revoking stops changes the stops, and forces those that are escalated
 pub revoking_stops : (forced_now : List ℕ) (slots : Slots) (train : TrainRec)
-    → HasBecome train (fold carried_out train (map (revoke_stop forced_now) slots)) (forced_all forced_now slots train.forced) (revoked_all train.stamp (keys slots) train.stops) train.limits
+    → HasBecome train (fold carried_out train (map ChangesStop (map (revoke_stop forced_now) slots))) (forced_all forced_now slots train.forced) (revoked_all by_one train.stamp (keys slots) train.stops) train.limits
 revoking_stops forced_now [] train = record { place = refl; forced = refl; stops = refl; limits = refl }
 revoking_stops forced_now ((id, slot) ∷ slots) train =
-    let rest = revoking_stops forced_now slots (carried_out train (RevokeStop id (number_forced forced_now slot))) in
+    let rest = revoking_stops forced_now slots (carried_out train (ChangesStop (stop_change.Revoke id (number_forced forced_now slot)))) in
     record { place = rest.place; forced = rest.forced; stops = rest.stops; limits = rest.limits }
 
 -- telling stops changes the stops alone
-pub telling_stops : (pairs : List ((ℕ × ToldStop) × ℕ)) (train : TrainRec) → HasBecome train (fold carried_out train (map tell_stop pairs)) train.forced (told_all kind_of train.stamp pairs train.stops) train.limits
+pub telling_stops : (pairs : List ((ℕ × ToldStop) × ℕ)) (train : TrainRec) → HasBecome train (fold carried_out train (map ChangesStop (map tell_stop pairs))) train.forced (told_all by_one kind_of train.stamp pairs train.stops) train.limits
 telling_stops [] train = record { place = refl; forced = refl; stops = refl; limits = refl }
 telling_stops (((number, told), id) ∷ pairs) train =
-    let rest = telling_stops pairs (carried_out train (TellStop id number told)) in
+    let rest = telling_stops pairs (carried_out train (ChangesStop (stop_change.Tell id number told))) in
     record { place = rest.place; forced = rest.forced; stops = rest.stops; limits = rest.limits }
 
--- revoking restrictions changes the restrictions alone
-pub revoking_limits : (ids : List ℕ) (train : TrainRec) → HasBecome train (fold carried_out train (map RevokeLimit ids)) train.forced train.stops (revoked_all train.stamp ids train.limits)
-revoking_limits [] train = record { place = refl; forced = refl; stops = refl; limits = refl }
-revoking_limits (id ∷ ids) train =
-    let rest = revoking_limits ids (carried_out train (RevokeLimit id)) in
-    record { place = rest.place; forced = rest.forced; stops = rest.stops; limits = rest.limits }
+-- changing restrictions changes them alone
+others_stay : (groups : List (List LimitChange)) (train : TrainRec) → HasBecome train (fold carried_out train (map ChangesLimits groups)) train.forced train.stops (fold carried_out train (map ChangesLimits groups)).limits
+others_stay [] train = record { place = refl; forced = refl; stops = refl; limits = refl }
+others_stay (changes ∷ groups) train =
+    let rest = others_stay groups (carried_out train (ChangesLimits changes)) in
+    record { place = rest.place; forced = rest.forced; stops = rest.stops; limits = refl }
 
--- so does telling them
-pub telling_limits : (pairs : List ((ℕ × Part) × ℕ)) (train : TrainRec) → HasBecome train (fold carried_out train (map tell_limit pairs)) train.forced train.stops (told_all (λ told. Restriction) train.stamp pairs train.limits)
-telling_limits [] train = record { place = refl; forced = refl; stops = refl; limits = refl }
-telling_limits (((number, told), id) ∷ pairs) train =
-    let rest = telling_limits pairs (carried_out train (TellLimit id number told)) in
-    record { place = rest.place; forced = rest.forced; stops = rest.stops; limits = rest.limits }
+pub changing_limits : (changes : List LimitChange) (train : TrainRec)
+    → HasBecome train (fold carried_out train (map ChangesLimits (groups changes))) train.forced train.stops (changed_all (by_hundreds train.stamp) 0 changes train.limits)
+changing_limits changes train =
+    let others = others_stay (groups changes) train in
+    record { place = others.place; forced = others.forced; stops = others.stops; limits = changed_by_groups changes train }
 
 -- an action takes the next stamp
 pub next_stamp : (train : TrainRec) (action : Action) → (carried_out train action).stamp ≡ train.stamp + 1
-next_stamp train (RevokeStop id number) = refl
-next_stamp train (TellStop id number told) = refl
-next_stamp train (RevokeLimit id) = refl
-next_stamp train (TellLimit id number told) = refl
+next_stamp train (ChangesStop (stop_change.Revoke id number)) = refl
+next_stamp train (ChangesStop (stop_change.Tell id number told)) = refl
+next_stamp train (ChangesLimits changes) = refl
 
 -- some take as many as they are
 pub stamp_after : (train : TrainRec) (acts : List Action) → (fold carried_out train acts).stamp ≡ train.stamp + length acts

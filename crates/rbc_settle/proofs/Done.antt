@@ -6,7 +6,7 @@ use Rattle.rbc_maps.specs.Maps.{keys, rises_from}
 use Rattle.rbc_ids.specs.declared.slot.Kind.{Kind}
 use Rattle.rbc_ids.specs.Table.{Slots, IsTable, is_told, free_identifiers}
 use Rattle.rbc_settle.specs.Settling.{is_used_by, to_revoke}
-use Rattle.rbc_settle.proofs.Revoking.{revoked_all, revoked_each, revoked_is, free-revoked, table-revoked, none-revoked, told-revoked, none_to_revoke, untold_each}
+use Rattle.rbc_settle.proofs.Revoking.{Clock, revoked_all, revoked_each, revoked_is, free-revoked, table-revoked, none-revoked, told-revoked, none_to_revoke, untold_each}
 use Rattle.rbc_settle.proofs.Telling.{told_all, IsTelling, is_telling, all_held}
 use Rattle.rbc_settle.proofs.Wanted.{wanted_of, wanted-rises, wanted-untold, all_wanted, each_wanted, none_wanted}
 
@@ -49,20 +49,20 @@ module _ {X T : Type 0} (gone : ℕ → Bool) (what : ℕ × X → Option T) (sl
     each_done active kept stay.1 now.1,
   )
 
-module _ {X T : Type 0} (kind : T → Kind) (count : ℕ) (gone : ℕ → Bool) (what : ℕ × X → Option T) (active : List (ℕ × X)) (slots : Slots) (table : IsTable count slots)
+module _ {X T : Type 0} (clock : Clock) (kind : T → Kind) (count : ℕ) (gone : ℕ → Bool) (what : ℕ × X → Option T) (active : List (ℕ × X)) (slots : Slots) (table : IsTable count slots)
     (rises : rises_from 0 (keys active) ≡ true) (stay : AllByRecursion (λ entry. (what entry ≡ None) ⊎ (gone entry.0 ≡ false)) active) (first second : ℕ) where
   -- the table between revoking and telling, and after both
   abbrev between : Slots
-  between = revoked_each gone first slots
+  between = revoked_each clock gone first slots
 
   abbrev after : Slots → Slots
-  after mid = told_all kind second (zip (wanted_of slots what active) (free_identifiers count slots)) mid
+  after mid = told_all clock kind second (zip (wanted_of slots what active) (free_identifiers count slots)) mid
 
   -- what telling does
   telling : IsTelling count gone (wanted_of slots what active) between (after between)
-  telling = is_telling kind count gone (wanted_of slots what active) (free_identifiers count slots) 0 second between (table-revoked gone count first slots table) (free-revoked gone count first slots)
-      (wanted-rises slots what 0 active rises) (untold_each gone first slots (wanted_of slots what active) (wanted-untold slots what active))
-      (all_wanted slots what (λ n. gone n ≡ false) active (stay_wanted gone what slots slots active stay)) (none-revoked gone first slots)
+  telling = is_telling clock kind count gone (wanted_of slots what active) (free_identifiers count slots) 0 second between (table-revoked gone clock count first slots table) (free-revoked gone clock count first slots)
+      (wanted-rises slots what 0 active rises) (untold_each gone clock first slots (wanted_of slots what active) (wanted-untold slots what active))
+      (all_wanted slots what (λ n. gone n ≡ false) active (stay_wanted gone what slots slots active stay)) (none-revoked gone clock first slots)
 
   -- it leaves nothing to do
   done_between : IsDone count gone active what (after between)
@@ -71,14 +71,14 @@ module _ {X T : Type 0} (kind : T → Kind) (count : ℕ) (gone : ℕ → Bool) 
     none_gone = telling.none_gone;
     none_left = elim telling.ends [
       | inl none_free ↦ inl none_free
-      | inr all_told ↦ inr (each_done gone what slots (after between) active (λ n stays told. telling.told n (told-revoked gone n first slots stays ∙ told)) stay
+      | inr all_told ↦ inr (each_done gone what slots (after between) active (λ n stays told. telling.told n (told-revoked gone clock n first slots stays ∙ told)) stay
           (each_wanted slots what (λ n. is_told (after between) n ≡ true) active all_told))
     ];
   }
 
   -- revoking what is gone and telling what is wanted leaves nothing to do
-  pub is_done : IsDone count gone active what (after (revoked_all first (to_revoke gone slots) slots))
-  is_done = subst (λ (mid : Slots). IsDone count gone active what (after mid)) (sym (revoked_is gone first 0 slots table.ascending)) done_between
+  pub is_done : IsDone count gone active what (after (revoked_all clock first (to_revoke gone slots) slots))
+  is_done = subst (λ (mid : Slots). IsDone count gone active what (after mid)) (sym (revoked_is gone clock first 0 slots table.ascending)) done_between
 
 module _ {X T : Type 0} (count : ℕ) (gone : ℕ → Bool) (active : List (ℕ × X)) (what : ℕ × X → Option T) (slots : Slots) (done : IsDone count gone active what slots) where
   -- nothing beside no identifiers

@@ -1,5 +1,5 @@
 -- The stops of a train, once those that are escalated were revoked: what is told then, and that nothing is left to do.
-use Rattle.std.proofs.Common.{◌≡◌, ℕ, ◌+◌, ◌-◌, ◌<◌, ◌≤◌, ◌⊎◌, Bool, true, false, not, cond, ◌||◌, ◌&&◌, eqb, List, [], ◌∷◌, length, Option, Some, None, option_map, refl, sym, ap, ◌∙◌, subst, arith, inl, inr}
+use Rattle.std.proofs.Common.{◌≡◌, ℕ, ◌+◌, ◌<◌, ◌≤◌, ◌⊎◌, Bool, true, false, not, cond, ◌||◌, ◌&&◌, eqb, List, [], ◌∷◌, length, Option, Some, None, option_map, refl, sym, ap, ◌∙◌, subst, arith, inl, inr}
 use Rattle.std.specs.List.{filter, filter_map, cons_option, fold, list_any, zip, AllByRecursion}
 use Rattle.std.proofs.lemmas.Bool.{cases_Bool, cases_lt, or_right, or_from, or_parts}
 use Rattle.std.proofs.lemmas.List.{take_all, length-take-le}
@@ -11,14 +11,14 @@ use Rattle.rbc_ids.specs.Table.{Slots, IsTable, is_told, free_identifiers}
 use Rattle.rbc_zones.specs.declared.segment.Segment.{Segment}
 use Rattle.rbc_zones.specs.Concerns.{concern_of}
 use Rattle.rbc_settle.specs.declared.train.TrainRec.{TrainRec}
-use Rattle.rbc_settle.specs.declared.action.ToldStop.{ToldStop}
-use Rattle.rbc_settle.specs.declared.action.ToldStop.TheVariants.{AtOnce}
+use Rattle.rbc_settle.specs.declared.change.ToldStop.{ToldStop}
+use Rattle.rbc_settle.specs.declared.change.ToldStop.TheVariants.{AtOnce}
 use Rattle.rbc_settle.specs.Numbers.{has_number, and_number}
 use Rattle.rbc_settle.specs.Settling.{Stops, kind_of, told_stop, stop_to_tell, is_used_by, to_revoke, is_stop_gone, spare_identifiers, escalated, is_stop_revoked, next_to_tell, due_number}
 use Rattle.rbc_settle.proofs.Due.{dues, due_is_told, distinct_dues, first_of, distinct-take, as_many_as, as_many_both}
 use Rattle.rbc_settle.proofs.NoneDue.{each_not_due, none_due_from, each_due, none_due_revoked, none_due_told}
 use Rattle.rbc_settle.proofs.Forcing.{has-and, forced_all, has-forced_all, told_by_revoked}
-use Rattle.rbc_settle.proofs.Revoking.{revoked_all, revoked_each, free-revoked, table-revoked, none-revoked, none_of_fewer, told-revoked, untold-gone, none_to_revoke}
+use Rattle.rbc_settle.proofs.Revoking.{by_one, revoked_all, revoked_each, free-revoked, table-revoked, none-revoked, none_of_fewer, told-revoked, untold-gone, none_to_revoke}
 use Rattle.rbc_settle.proofs.Telling.{told_all, none_free_then}
 use Rattle.rbc_settle.proofs.Wanted.{to_tell, wanted_of}
 use Rattle.rbc_settle.proofs.Done.{IsDone, is_done}
@@ -60,7 +60,7 @@ module _ (stops : Stops) (train : TrainRec) (table : IsTable 15 train.stops) (nu
   revoked = is_stop_revoked stops forced_now
 
   abbrev pub between : Slots
-  between = revoked_each revoked train.stamp train.stops
+  between = revoked_each by_one revoked train.stamp train.stops
 
   abbrev pub forced_then : List ℕ
   forced_then = forced_all forced_now (filter (λ held. is_used_by revoked held.1) train.stops) train.forced
@@ -105,14 +105,14 @@ module _ (stops : Stops) (train : TrainRec) (table : IsTable 15 train.stops) (nu
   next_is : (stop : ℕ × List Segment) → has stops.active stop.0 ≡ true → to_tell between what stop ≡ next_to_tell forced_now train stop
   next_is stop active = elim (cases_Bool (has_number forced_now stop.0)) [
     | inl there ↦
-        let untold : is_told between stop.0 ≡ false = untold-gone revoked stop.0 train.stamp train.stops (goes stop.0 there) in
+        let untold : is_told between stop.0 ≡ false = untold-gone revoked by_one stop.0 train.stamp train.stops (goes stop.0 there) in
         let at_once : what stop ≡ Some AtOnce = ap (λ (b : Bool). told_stop train.place (concern_of stop.1 b train.place)) (is_forced stop.0 there) ∙ forced_at_once train.place stop.1 in
         ap (λ (b : Bool). cond b None (option_map (λ (told : ToldStop). (stop.0, told)) (what stop))) untold
         ∙ ap (option_map (λ (told : ToldStop). (stop.0, told))) at_once
         ∙ sym (ap (λ (b : Bool). cond b (Some (stop.0, AtOnce)) (stop_to_tell train stop)) there)
     | inr absent ↦
         let stays : revoked stop.0 ≡ false = or_from (is_stop_gone stops stop.0) (has_number forced_now stop.0) (ap not active) absent in
-        ap (λ (b : Bool). cond b None (option_map (λ (told : ToldStop). (stop.0, told)) (what stop))) (told-revoked revoked stop.0 train.stamp train.stops stays)
+        ap (λ (b : Bool). cond b None (option_map (λ (told : ToldStop). (stop.0, told)) (what stop))) (told-revoked revoked by_one stop.0 train.stamp train.stops stays)
         ∙ ap (λ (b : Bool). cond (is_told train.stops stop.0) None (option_map (λ (told : ToldStop). (stop.0, told)) (told_stop train.place (concern_of stop.1 b train.place)))) (as_before stop.0 absent)
         ∙ sym (ap (λ (b : Bool). cond b (Some (stop.0, AtOnce)) (stop_to_tell train stop)) absent)
   ]
@@ -128,24 +128,24 @@ module _ (stops : Stops) (train : TrainRec) (table : IsTable 15 train.stops) (nu
 
   -- the table between is one, and no slot of it is used by a stop that is not active
   table_between : IsTable 15 between
-  table_between = table-revoked revoked 15 train.stamp train.stops table
+  table_between = table-revoked revoked by_one 15 train.stamp train.stops table
 
   none_gone_between : list_any (λ held. is_used_by (is_stop_gone stops) held.1) between ≡ false
-  none_gone_between = none_of_fewer revoked (is_stop_gone stops) (λ n stays. (or_parts (is_stop_gone stops n) (has_number forced_now n) stays).0) between (none-revoked revoked train.stamp train.stops)
+  none_gone_between = none_of_fewer revoked (is_stop_gone stops) (λ n stays. (or_parts (is_stop_gone stops n) (has_number forced_now n) stays).0) between (none-revoked revoked by_one train.stamp train.stops)
 
   abbrev pub told_table : ℕ → Slots
-  told_table stamp = told_all kind_of stamp (zip (filter_map (next_to_tell forced_now train) stops.active) (free_identifiers 15 train.stops)) between
+  told_table stamp = told_all by_one kind_of stamp (zip (filter_map (next_to_tell forced_now train) stops.active) (free_identifiers 15 train.stops)) between
 
   -- nothing is left to do after telling
   pub stops_done : (stamp : ℕ) → IsDone 15 (is_stop_gone stops) stops.active what (told_table stamp)
   stops_done stamp =
       let gone = is_stop_gone stops in
-      let ids = free-revoked revoked 15 train.stamp train.stops in
-      let unchanged : revoked_all train.stamp (to_revoke gone between) between ≡ between = ap (λ (some : List ℕ). revoked_all train.stamp some between) (none_to_revoke gone between none_gone_between) in
-      let all = is_done kind_of 15 gone what stops.active between table_between (map_of_numbered stops numbered) (stops_stay stops what) train.stamp stamp in
-      subst (λ (wanted : List (ℕ × ToldStop)). IsDone 15 gone stops.active what (told_all kind_of stamp (zip wanted (free_identifiers 15 train.stops)) between)) wanted_next
-      (subst (λ (free : List ℕ). IsDone 15 gone stops.active what (told_all kind_of stamp (zip (wanted_of between what stops.active) free) between)) ids
-      (subst (λ (slots : Slots). IsDone 15 gone stops.active what (told_all kind_of stamp (zip (wanted_of between what stops.active) (free_identifiers 15 between)) slots)) unchanged all))
+      let ids = free-revoked revoked by_one 15 train.stamp train.stops in
+      let unchanged : revoked_all by_one train.stamp (to_revoke gone between) between ≡ between = ap (λ (some : List ℕ). revoked_all by_one train.stamp some between) (none_to_revoke gone between none_gone_between) in
+      let all = is_done by_one kind_of 15 gone what stops.active between table_between (map_of_numbered stops numbered) (stops_stay stops what) train.stamp stamp in
+      subst (λ (wanted : List (ℕ × ToldStop)). IsDone 15 gone stops.active what (told_all by_one kind_of stamp (zip wanted (free_identifiers 15 train.stops)) between)) wanted_next
+      (subst (λ (free : List ℕ). IsDone 15 gone stops.active what (told_all by_one kind_of stamp (zip (wanted_of between what stops.active) free) between)) ids
+      (subst (λ (slots : Slots). IsDone 15 gone stops.active what (told_all by_one kind_of stamp (zip (wanted_of between what stops.active) (free_identifiers 15 between)) slots)) unchanged all))
 
   -- where some that are due are not escalated, each free identifier is needed
   all_needed : spare_identifiers stops train < length (dues stops train.stops) → length (free_identifiers 15 train.stops) ≤ length (filter_map (next_to_tell forced_now train) stops.active)
@@ -166,7 +166,7 @@ module _ (stops : Stops) (train : TrainRec) (table : IsTable 15 train.stops) (nu
   none_between : length (dues stops train.stops) ≤ spare_identifiers stops train → dues stops between ≡ []
   none_between enough =
       let all : forced_now ≡ dues stops train.stops = take_all (spare_identifiers stops train) (dues stops train.stops) enough in
-      none_due_revoked stops revoked train.stamp train.stops (each_goes all train.stops (each_due stops train.stops))
+      none_due_revoked stops by_one revoked train.stamp train.stops (each_goes all train.stops (each_due stops train.stops))
     where
       each_goes : forced_now ≡ dues stops train.stops → (some : Slots) → AllByRecursion (λ held. (n : ℕ) → due_number stops held.1 ≡ Some n → has_number (dues stops train.stops) n ≡ true) some
           → AllByRecursion (λ held. (n : ℕ) → due_number stops held.1 ≡ Some n → revoked n ≡ true) some
@@ -176,7 +176,7 @@ module _ (stops : Stops) (train : TrainRec) (table : IsTable 15 train.stops) (nu
   -- so none is due after telling, or no identifier is free
   pub none_due_after : (stamp : ℕ) → IsNoneDueOrFull stops (told_table stamp)
   none_due_after stamp = elim (cases_lt (spare_identifiers stops train) (length (dues stops train.stops))) [
-    | inl fewer ↦ inl (none_free_then kind_of 15 (filter_map (next_to_tell forced_now train) stops.active) (free_identifiers 15 train.stops) stamp between (all_needed fewer) (free-revoked revoked 15 train.stamp train.stops))
-    | inr enough ↦ inr (none_due_from stops (told_table stamp) (none_due_told stops kind_of stamp (zip (filter_map (next_to_tell forced_now train) stops.active) (free_identifiers 15 train.stops)) between
+    | inl fewer ↦ inl (none_free_then by_one kind_of 15 (filter_map (next_to_tell forced_now train) stops.active) (free_identifiers 15 train.stops) stamp between (all_needed fewer) (free-revoked revoked by_one 15 train.stamp train.stops))
+    | inr enough ↦ inr (none_due_from stops (told_table stamp) (none_due_told stops by_one kind_of stamp (zip (filter_map (next_to_tell forced_now train) stops.active) (free_identifiers 15 train.stops)) between
         (each_not_due stops between (none_between enough))))
   ]

@@ -1,5 +1,5 @@
 -- How many messages one settling sends at most.
-use Rattle.std.proofs.Common.{◌≡◌, ℕ, ◌+◌, ◌-◌, ◌≤◌, Bool, true, false, not, cond, List, [], ◌∷◌, ◌++◌, length, refl, arith}
+use Rattle.std.proofs.Common.{◌≡◌, ℕ, ◌-◌, ◌≤◌, Bool, true, false, not, cond, List, [], ◌∷◌, length, map, refl, arith}
 use Rattle.std.specs.List.{filter, filter_map, range_with_len, scan, zip}
 use Rattle.std.proofs.lemmas.List.{length-append, length-map, length-take}
 use Rattle.std.proofs.lemmas.List.FromFn.{length-range_with_len}
@@ -9,10 +9,11 @@ use Rattle.rbc_maps.specs.Maps.{has}
 use Rattle.rbc_ids.specs.Table.{Slots, IsTable, free_identifiers}
 use Rattle.rbc_ids.proofs.Tables.{few}
 use Rattle.rbc_settle.specs.declared.train.TrainRec.{TrainRec}
-use Rattle.rbc_settle.specs.declared.action.Action.{Action}
-use Rattle.rbc_settle.specs.declared.action.Action.TheVariants.{RevokeLimit}
-use Rattle.rbc_settle.specs.Settling.{Stops, Limits, last_stamp, carried_out, message_of, revoke_stop, tell_stop, tell_limit, limit_to_tell, is_used_by, to_revoke, is_limit_gone, escalated, is_stop_revoked, next_to_tell, stops_revoked, stops_told, limits_revoked, limits_told, actions, actions_with_stamp, messages_of}
+use Rattle.rbc_settle.specs.declared.change.LimitChange.TheVariants as limit_change
+use Rattle.rbc_settle.specs.Actions.{ChangesStop, ChangesLimits, groups}
+use Rattle.rbc_settle.specs.Settling.{Stops, Limits, last_stamp, carried_out, message_of, revoke_stop, tell_stop, tell_limit, limit_to_tell, is_used_by, to_revoke, is_limit_gone, escalated, is_stop_revoked, next_to_tell, stops_revoked, stops_told, limits_revoked, limits_told, stop_changes, limit_changes, actions, actions_with_stamp, messages_of}
 use Rattle.rbc_settle.specs.UpToDate.{HasTables}
+use Rattle.rbc_settle.proofs.Groups.{length-groups}
 
 -- what passes a test is no longer than all
 shorter : {X : Type 0} (test : X → Bool) (xs : List X) → length (filter test xs) ≤ length xs
@@ -49,15 +50,8 @@ few_told count slots wanted =
     let all = length-range_with_len 0 count in
     omega (arith, both, free, all)
 
-length-four : (a b c d : List Action) → length (a ++ b ++ c ++ d) ≡ length a + length b + length c + length d
-length-four a b c d =
-    let three = length-append (a ++ b ++ c) d in
-    let two = length-append (a ++ b) c in
-    let one = length-append a b in
-    omega (arith, one, two, three)
-
 module _ (plan : Plan) (stops : Stops) (limits : Limits) (train : TrainRec) (tables : HasTables train) where
-  few_actions : length (actions plan stops limits train) ≤ 540
+  few_actions : length (actions plan stops limits train) ≤ 36
   few_actions =
       let forced_now = escalated stops train in
       let stop_slots = filter (λ held. is_used_by (is_stop_revoked stops forced_now) held.1) train.stops in
@@ -70,13 +64,18 @@ module _ (plan : Plan) (stops : Stops) (limits : Limits) (train : TrainRec) (tab
       let fourth = few_told 255 train.limits (filter_map (limit_to_tell plan.horizon train) limits.active) in
       let a = length-map stop_slots (revoke_stop forced_now) in
       let b = length-map stop_pairs tell_stop in
-      let c = length-map limit_ids RevokeLimit in
+      let c = length-map limit_ids limit_change.Revoke in
       let d = length-map limit_pairs tell_limit in
-      let all = length-four (stops_revoked forced_now stops train) (stops_told forced_now stops train) (limits_revoked limits train) (limits_told plan.horizon limits train) in
-      omega (arith, first, second, third, fourth, a, b, c, d, all)
+      let by_stop = length-append (stops_revoked forced_now stops train) (stops_told forced_now stops train) in
+      let by_limit = length-append (limits_revoked limits train) (limits_told plan.horizon limits train) in
+      let one_each = length-map (stop_changes stops train) ChangesStop in
+      let grouped = length-groups (limit_changes plan.horizon limits train) in
+      let one_a_group = length-map (groups (limit_changes plan.horizon limits train)) ChangesLimits in
+      let all = length-append (map ChangesStop (stop_changes stops train)) (map ChangesLimits (groups (limit_changes plan.horizon limits train))) in
+      omega (arith, first, second, third, fourth, a, b, c, d, by_stop, by_limit, one_each, grouped, one_a_group, all)
 
-  -- as many messages as identifiers of both kinds can be revoked and told
-  pub few_messages : length (messages_of plan stops limits train) ≤ 540
+  -- a message for each stop identifier that is revoked, and each that is told, and six for 510 changes of restrictions
+  pub few_messages : length (messages_of plan stops limits train) ≤ 36
   few_messages =
       let room = last_stamp - train.stamp in
       let each = length-scan carried_out message_of train (actions_with_stamp plan stops limits train) in

@@ -8,7 +8,7 @@ use Rattle.rbc_ids.specs.declared.slot.Slot.{Slot}
 use Rattle.rbc_zones.specs.declared.segment.Segment.{Segment}
 use Rattle.rbc_zones.specs.Limits.{Limit}
 use Rattle.rbc_settle.specs.declared.train.TrainRec.{TrainRec}
-use Rattle.rbc_settle.specs.declared.action.ToldStop.{ToldStop}
+use Rattle.rbc_settle.specs.declared.change.ToldStop.{ToldStop}
 use Rattle.rbc_settle.specs.Told.{Part}
 use Rattle.rbc_settle.specs.Settling.{told_stop, concern_to, stop_to_tell, limit_told_to, limit_to_tell}
 

@@ -22,17 +22,7 @@ all_from P [] each = All-nil P
 all_from P (n ∷ ns) each =
     All-cons P n ns (each n (or_left (eqb n n) (has_number ns n) (eq-eqb n n refl))) (all_from P ns (λ m h. each m (or_right (eqb n m) (has_number ns m) h)))
 
--- a number of two lists is one of the first or of the second
-pub in_both : (first second : List ℕ) (m : ℕ) → has_number (first ++ second) m ≡ true → (has_number first m ≡ true) ⊎ (has_number second m ≡ true)
-in_both [] second m h = inr h
-in_both (n ∷ first) second m h = elim (or_cases (eqb n m) (has_number (first ++ second) m) h) [
-  | inl here ↦ inl (or_left (eqb n m) (has_number first m) here)
-  | inr there ↦ elim (in_both first second m there) [
-    | inl one ↦ inl (or_right (eqb n m) (has_number first m) one)
-    | inr other ↦ inr other
-  ]
-]
-
+-- a number of one of two lists is one of both
 pub in_first : (first second : List ℕ) (m : ℕ) → has_number first m ≡ true → has_number (first ++ second) m ≡ true
 in_first [] second m h = absurd (let bad : false ≡ true = h in cc)
 in_first (n ∷ first) second m h = elim (or_cases (eqb n m) (has_number first m) h) [
@@ -43,34 +33,6 @@ in_first (n ∷ first) second m h = elim (or_cases (eqb n m) (has_number first m
 pub in_second : (first second : List ℕ) (m : ℕ) → has_number second m ≡ true → has_number (first ++ second) m ≡ true
 in_second [] second m h = h
 in_second (n ∷ first) second m h = or_right (eqb n m) (has_number (first ++ second) m) (in_second first second m h)
-
--- two lists of distinct numbers without a common one are one such list
-pub distinct_both : (first second : List ℕ) → AreDistinct first → AreDistinct second → ((m : ℕ) → has_number first m ≡ true → has_number second m ≡ false) → AreDistinct (first ++ second)
-distinct_both [] second d e apart = e
-distinct_both (n ∷ first) second d e apart = (
-  false_from_ne_true (has_number (first ++ second) n) (λ h. elim (in_both first second n h) [
-    | inl one ↦ both_ways (has_number first n) d.0 one
-    | inr other ↦ both_ways (has_number second n) (apart n (or_left (eqb n n) (has_number first n) (eq-eqb n n refl))) other
-  ]),
-  distinct_both first second d.1 e (λ m h. apart m (or_right (eqb n m) (has_number first m) h)),
-)
-
--- and the other way round
-pub distinct_first : (first second : List ℕ) → AreDistinct (first ++ second) → AreDistinct first
-distinct_first [] second d = tt
-distinct_first (n ∷ first) second d =
-    (false_from_ne_true (has_number first n) (λ h. both_ways (has_number (first ++ second) n) d.0 (in_first first second n h)), distinct_first first second d.1)
-
-pub distinct_second : (first second : List ℕ) → AreDistinct (first ++ second) → AreDistinct second
-distinct_second [] second d = d
-distinct_second (n ∷ first) second d = distinct_second first second d.1
-
-pub distinct_apart : (first second : List ℕ) → AreDistinct (first ++ second) → (m : ℕ) → has_number first m ≡ true → has_number second m ≡ false
-distinct_apart [] second d m h = absurd (let bad : false ≡ true = h in cc)
-distinct_apart (n ∷ first) second d m h = elim (or_cases (eqb n m) (has_number first m) h) [
-  | inl here ↦ subst (λ q. has_number second q ≡ false) (eqb-true n m here) (false_from_ne_true (has_number second n) (λ other. both_ways (has_number (first ++ second) n) d.0 (in_second first second n other)))
-  | inr there ↦ distinct_apart first second d.1 m there
-]
 
 -- one number or none, before others
 one_or_rest : (l : Option ℕ) (ns : List ℕ) (m : ℕ) → has_number (cons_option l ns) m ≡ true → (l ≡ Some m) ⊎ (has_number ns m ≡ true)

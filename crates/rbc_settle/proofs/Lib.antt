@@ -4,6 +4,8 @@ pub mod Revoking
 pub mod Telling
 pub mod Wanted
 pub mod Done
+pub mod Groups
+pub mod Changed
 pub mod Carried
 pub mod Parts
 pub mod Due
@@ -16,6 +18,7 @@ pub mod Achieves
 pub mod Carrying
 pub mod Few
 pub mod Addressed
+pub mod Stamped
 pub mod SettleLoop
 pub mod Labels
 pub mod GoodSlots

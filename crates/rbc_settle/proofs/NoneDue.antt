@@ -10,7 +10,7 @@ use Rattle.rbc_ids.specs.declared.slot.Kind.TheVariants.{Conditional, Unconditio
 use Rattle.rbc_ids.specs.Table.{Slots, is_ripe, told_now}
 use Rattle.rbc_settle.specs.Numbers.{has_number}
 use Rattle.rbc_settle.specs.Settling.{Stops, due_number, is_used_by}
-use Rattle.rbc_settle.proofs.Revoking.{revoked_each}
+use Rattle.rbc_settle.proofs.Revoking.{Clock, revoked_each}
 use Rattle.rbc_settle.proofs.Telling.{told_all}
 use Rattle.rbc_settle.proofs.Due.{dues}
 
@@ -56,12 +56,12 @@ module _ (stops : Stops) where
       ]) refl
 
   -- once each that is due is revoked, none is due
-  pub none_due_revoked : (gone : ℕ → Bool) (stamp : ℕ) (slots : Slots) → AllByRecursion (λ held. (n : ℕ) → due_number stops held.1 ≡ Some n → gone n ≡ true) slots → dues stops (revoked_each gone stamp slots) ≡ []
-  none_due_revoked gone stamp [] all = refl
-  none_due_revoked gone stamp (held ∷ slots) all =
-      (elim (is_used_by gone held.1) as (λ b. is_used_by gone held.1 ≡ b → dues stops (cond b ((held.0, Revoking (stamp + 1)) ∷ revoked_each gone (stamp + 1) slots) (held ∷ revoked_each gone stamp slots)) ≡ []) [
-        | true ↦ λ is. none_due_revoked gone (stamp + 1) slots all.1
-        | false ↦ λ is. ap (λ (o : Option ℕ). cons_option o (dues stops (revoked_each gone stamp slots))) (used_by_due gone held.1 is all.0) ∙ none_due_revoked gone stamp slots all.1
+  pub none_due_revoked : (clock : Clock) (gone : ℕ → Bool) (at : ℕ) (slots : Slots) → AllByRecursion (λ held. (n : ℕ) → due_number stops held.1 ≡ Some n → gone n ≡ true) slots → dues stops (revoked_each clock gone at slots) ≡ []
+  none_due_revoked clock gone at [] all = refl
+  none_due_revoked clock gone at (held ∷ slots) all =
+      (elim (is_used_by gone held.1) as (λ b. is_used_by gone held.1 ≡ b → dues stops (cond b ((held.0, Revoking (clock at)) ∷ revoked_each clock gone (at + 1) slots) (held ∷ revoked_each clock gone at slots)) ≡ []) [
+        | true ↦ λ is. none_due_revoked clock gone (at + 1) slots all.1
+        | false ↦ λ is. ap (λ (o : Option ℕ). cons_option o (dues stops (revoked_each clock gone at slots))) (used_by_due gone held.1 is all.0) ∙ none_due_revoked clock gone at slots all.1
       ]) refl
 
   -- nor is one that is told now
@@ -81,9 +81,9 @@ module _ (stops : Stops) where
         ]
       ]
 
-  pub none_due_told : {T : Type 0} (kind : T → Kind) (stamp : ℕ) (pairs : List ((ℕ × T) × ℕ)) (slots : Slots) → AllByRecursion (λ held. due_number stops held.1 ≡ None) slots
-      → AllByRecursion (λ held. due_number stops held.1 ≡ None) (told_all kind stamp pairs slots)
-  none_due_told kind stamp [] slots all = all
-  none_due_told kind stamp (((number, told), id) ∷ pairs) slots all =
-      none_due_told kind (stamp + 1) pairs (with_value id (told_now number (stamp + 1) (kind told)) slots)
-      (none_due_with id (told_now number (stamp + 1) (kind told)) slots (told_now_not_due number (stamp + 1) (kind told)) all)
+  pub none_due_told : {T : Type 0} (clock : Clock) (kind : T → Kind) (at : ℕ) (pairs : List ((ℕ × T) × ℕ)) (slots : Slots) → AllByRecursion (λ held. due_number stops held.1 ≡ None) slots
+      → AllByRecursion (λ held. due_number stops held.1 ≡ None) (told_all clock kind at pairs slots)
+  none_due_told clock kind at [] slots all = all
+  none_due_told clock kind at (((number, told), id) ∷ pairs) slots all =
+      none_due_told clock kind (at + 1) pairs (with_value id (told_now number (clock at) (kind told)) slots)
+      (none_due_with id (told_now number (clock at) (kind told)) slots (told_now_not_due number (clock at) (kind told)) all)

@@ -10,16 +10,24 @@ use Rattle.rbc_ids.specs.declared.slot.Slot.TheVariants.{Used, Revoking}
 use Rattle.rbc_ids.specs.Table.{Slots, IsTable, TellsOnce, tells, is_told, is_used, is_used_at, free_identifiers}
 use Rattle.rbc_settle.specs.Settling.{is_used_by, to_revoke}
 
--- the table after that: each takes the next stamp
-abbrev pub revoked_all : ℕ → List ℕ → Slots → Slots
-revoked_all stamp [] slots = slots
-revoked_all stamp (id ∷ ids) slots = revoked_all (stamp + 1) ids (with_value id (Revoking (stamp + 1)) slots)
+-- the stamp of a change, by how many changes were made before it
+abbrev pub Clock : Type 0
+Clock = ℕ → ℕ
+
+-- a message for each change: each takes the next stamp
+abbrev pub by_one : Clock
+by_one stamp = stamp + 1
+
+-- the table after that
+abbrev pub revoked_all : Clock → ℕ → List ℕ → Slots → Slots
+revoked_all clock at [] slots = slots
+revoked_all clock at (id ∷ ids) slots = revoked_all clock (at + 1) ids (with_value id (Revoking (clock at)) slots)
 
 -- each slot that such a number uses is being revoked, and the others stay
-abbrev pub revoked_each : (ℕ → Bool) → ℕ → Slots → Slots
-revoked_each gone stamp [] = []
-revoked_each gone stamp (held ∷ slots) =
-    cond (is_used_by gone held.1) ((held.0, Revoking (stamp + 1)) ∷ revoked_each gone (stamp + 1) slots) (held ∷ revoked_each gone stamp slots)
+abbrev pub revoked_each : Clock → (ℕ → Bool) → ℕ → Slots → Slots
+revoked_each clock gone at [] = []
+revoked_each clock gone at (held ∷ slots) =
+    cond (is_used_by gone held.1) ((held.0, Revoking (clock at)) ∷ revoked_each clock gone (at + 1) slots) (held ∷ revoked_each clock gone at slots)
 
 module _ {V : Type 0} where
   -- a key goes behind those below it
@@ -40,13 +48,13 @@ module _ {V : Type 0} where
   has-keys (pair ∷ pairs) q = ap (λ (b : Bool). eqb pair.0 q || b) (has-keys pairs q)
 
 -- a slot below all that is revoked stays
-revoked_past : (stamp : ℕ) (ids : List ℕ) (held : ℕ × Slot) (slots : Slots) → rises_from (held.0 + 1) ids ≡ true → revoked_all stamp ids (held ∷ slots) ≡ held ∷ revoked_all stamp ids slots
-revoked_past stamp [] held slots rises = refl
-revoked_past stamp (id ∷ ids) held slots rises =
+revoked_past : (clock : Clock) (at : ℕ) (ids : List ℕ) (held : ℕ × Slot) (slots : Slots) → rises_from (held.0 + 1) ids ≡ true → revoked_all clock at ids (held ∷ slots) ≡ held ∷ revoked_all clock at ids slots
+revoked_past clock at [] held slots rises = refl
+revoked_past clock at (id ∷ ids) held slots rises =
     let parts = and_parts (leb (held.0 + 1) id) (rises_from (id + 1) ids) rises in
     let above : held.0 + 1 ≤ id = leb-true (held.0 + 1) id parts.0 in
-    ap (revoked_all (stamp + 1) ids) (with_value-past id (Revoking (stamp + 1)) held slots (omega (arith, above)))
-    ∙ revoked_past (stamp + 1) ids held (with_value id (Revoking (stamp + 1)) slots) (rises_from-lower (held.0 + 1) (id + 1) ids (omega (arith, above)) parts.1)
+    ap (revoked_all clock (at + 1) ids) (with_value-past id (Revoking (clock at)) held slots (omega (arith, above)))
+    ∙ revoked_past clock (at + 1) ids held (with_value id (Revoking (clock at)) slots) (rises_from-lower (held.0 + 1) (id + 1) ids (omega (arith, above)) parts.1)
 
 module _ (gone : ℕ → Bool) where
   -- what is to be revoked ascends
@@ -61,104 +69,105 @@ module _ (gone : ℕ → Bool) where
         | false ↦ rises_from-lower least (held.0 + 1) (to_revoke gone slots) (omega (arith, above)) rest
       ]
 
-  -- one after another they are each revoked
-  pub revoked_is : (stamp least : ℕ) (slots : Slots) → rises_from least (keys slots) ≡ true → revoked_all stamp (to_revoke gone slots) slots ≡ revoked_each gone stamp slots
-  revoked_is stamp least [] rises = refl
-  revoked_is stamp least (held ∷ slots) rises =
-      let parts = and_parts (leb least held.0) (rises_from (held.0 + 1) (keys slots)) rises in
-      let rest = to_revoke-rises (held.0 + 1) slots parts.1 in
-      elim (is_used_by gone held.1) as (λ b. revoked_all stamp (keys (cond b (held ∷ filter (λ other. is_used_by gone other.1) slots) (filter (λ other. is_used_by gone other.1) slots))) (held ∷ slots) ≡ cond b ((held.0, Revoking (stamp + 1)) ∷ revoked_each gone (stamp + 1) slots) (held ∷ revoked_each gone stamp slots)) [
-        | true ↦
-            ap (revoked_all (stamp + 1) (to_revoke gone slots)) (with_value-here held.0 (Revoking (stamp + 1)) held slots refl)
-            ∙ revoked_past (stamp + 1) (to_revoke gone slots) (held.0, Revoking (stamp + 1)) slots rest
-            ∙ ap (λ (xs : Slots). (held.0, Revoking (stamp + 1)) ∷ xs) (revoked_is (stamp + 1) (held.0 + 1) slots parts.1)
-        | false ↦ revoked_past stamp (to_revoke gone slots) held slots rest ∙ ap (λ (xs : Slots). held ∷ xs) (revoked_is stamp (held.0 + 1) slots parts.1)
-      ]
+  module _ (clock : Clock) where
+    -- one after another they are each revoked
+    pub revoked_is : (at least : ℕ) (slots : Slots) → rises_from least (keys slots) ≡ true → revoked_all clock at (to_revoke gone slots) slots ≡ revoked_each clock gone at slots
+    revoked_is at least [] rises = refl
+    revoked_is at least (held ∷ slots) rises =
+        let parts = and_parts (leb least held.0) (rises_from (held.0 + 1) (keys slots)) rises in
+        let rest = to_revoke-rises (held.0 + 1) slots parts.1 in
+        elim (is_used_by gone held.1) as (λ b. revoked_all clock at (keys (cond b (held ∷ filter (λ other. is_used_by gone other.1) slots) (filter (λ other. is_used_by gone other.1) slots))) (held ∷ slots) ≡ cond b ((held.0, Revoking (clock at)) ∷ revoked_each clock gone (at + 1) slots) (held ∷ revoked_each clock gone at slots)) [
+          | true ↦
+              ap (revoked_all clock (at + 1) (to_revoke gone slots)) (with_value-here held.0 (Revoking (clock at)) held slots refl)
+              ∙ revoked_past clock (at + 1) (to_revoke gone slots) (held.0, Revoking (clock at)) slots rest
+              ∙ ap (λ (xs : Slots). (held.0, Revoking (clock at)) ∷ xs) (revoked_is (at + 1) (held.0 + 1) slots parts.1)
+          | false ↦ revoked_past clock at (to_revoke gone slots) held slots rest ∙ ap (λ (xs : Slots). held ∷ xs) (revoked_is at (held.0 + 1) slots parts.1)
+        ]
 
-  -- the same identifiers are held
-  pub keys-revoked : (stamp : ℕ) (slots : Slots) → keys (revoked_each gone stamp slots) ≡ keys slots
-  keys-revoked stamp [] = refl
-  keys-revoked stamp (held ∷ slots) = elim (is_used_by gone held.1) as (λ b. keys (cond b ((held.0, Revoking (stamp + 1)) ∷ revoked_each gone (stamp + 1) slots) (held ∷ revoked_each gone stamp slots)) ≡ held.0 ∷ keys slots) [
-    | true ↦ ap (λ (ks : List ℕ). held.0 ∷ ks) (keys-revoked (stamp + 1) slots)
-    | false ↦ ap (λ (ks : List ℕ). held.0 ∷ ks) (keys-revoked stamp slots)
-  ]
+    -- the same identifiers are held
+    pub keys-revoked : (at : ℕ) (slots : Slots) → keys (revoked_each clock gone at slots) ≡ keys slots
+    keys-revoked at [] = refl
+    keys-revoked at (held ∷ slots) = elim (is_used_by gone held.1) as (λ b. keys (cond b ((held.0, Revoking (clock at)) ∷ revoked_each clock gone (at + 1) slots) (held ∷ revoked_each clock gone at slots)) ≡ held.0 ∷ keys slots) [
+      | true ↦ ap (λ (ks : List ℕ). held.0 ∷ ks) (keys-revoked (at + 1) slots)
+      | false ↦ ap (λ (ks : List ℕ). held.0 ∷ ks) (keys-revoked at slots)
+    ]
 
-  -- so each one is held or not, as before
-  has-revoked : (stamp : ℕ) (slots : Slots) (q : ℕ) → has (revoked_each gone stamp slots) q ≡ has slots q
-  has-revoked stamp slots q =
-      has-keys (revoked_each gone stamp slots) q ∙ ap (list_any (λ k. eqb k q)) (keys-revoked stamp slots) ∙ sym (has-keys slots q)
+    -- so each one is held or not, as before
+    has-revoked : (at : ℕ) (slots : Slots) (q : ℕ) → has (revoked_each clock gone at slots) q ≡ has slots q
+    has-revoked at slots q =
+        has-keys (revoked_each clock gone at slots) q ∙ ap (list_any (λ k. eqb k q)) (keys-revoked at slots) ∙ sym (has-keys slots q)
 
-  -- and the same are free
-  pub free-revoked : (count stamp : ℕ) (slots : Slots) → free_identifiers count (revoked_each gone stamp slots) ≡ free_identifiers count slots
-  free-revoked count stamp slots = filter_agree (λ q. not (has (revoked_each gone stamp slots) q)) (λ q. not (has slots q)) (λ q. ap not (has-revoked stamp slots q)) (range_with_len 0 count)
+    -- and the same are free
+    pub free-revoked : (count at : ℕ) (slots : Slots) → free_identifiers count (revoked_each clock gone at slots) ≡ free_identifiers count slots
+    free-revoked count at slots = filter_agree (λ q. not (has (revoked_each clock gone at slots) q)) (λ q. not (has slots q)) (λ q. ap not (has-revoked at slots q)) (range_with_len 0 count)
 
-  -- a number that was not told is told by none of them
-  pub untold-revoked : (n stamp : ℕ) (slots : Slots) → is_told slots n ≡ false → is_told (revoked_each gone stamp slots) n ≡ false
-  untold-revoked n stamp [] untold = refl
-  untold-revoked n stamp (held ∷ slots) untold =
-      let parts = or_parts (tells n held.1) (is_told slots n) untold in
-      elim (is_used_by gone held.1) as (λ b. is_told (cond b ((held.0, Revoking (stamp + 1)) ∷ revoked_each gone (stamp + 1) slots) (held ∷ revoked_each gone stamp slots)) n ≡ false) [
-        | true ↦ untold-revoked n (stamp + 1) slots parts.1
-        | false ↦ or_from (tells n held.1) (is_told (revoked_each gone stamp slots) n) parts.0 (untold-revoked n stamp slots parts.1)
-      ]
+    -- a number that was not told is told by none of them
+    pub untold-revoked : (n at : ℕ) (slots : Slots) → is_told slots n ≡ false → is_told (revoked_each clock gone at slots) n ≡ false
+    untold-revoked n at [] untold = refl
+    untold-revoked n at (held ∷ slots) untold =
+        let parts = or_parts (tells n held.1) (is_told slots n) untold in
+        elim (is_used_by gone held.1) as (λ b. is_told (cond b ((held.0, Revoking (clock at)) ∷ revoked_each clock gone (at + 1) slots) (held ∷ revoked_each clock gone at slots)) n ≡ false) [
+          | true ↦ untold-revoked n (at + 1) slots parts.1
+          | false ↦ or_from (tells n held.1) (is_told (revoked_each clock gone at slots) n) parts.0 (untold-revoked n at slots parts.1)
+        ]
 
-  -- and each is told once
-  once-revoked : (stamp : ℕ) (slots : Slots) → TellsOnce slots → TellsOnce (revoked_each gone stamp slots)
-  once-revoked stamp [] once = tt
-  once-revoked stamp (held ∷ slots) once = elim (is_used_by gone held.1) as (λ b. TellsOnce (cond b ((held.0, Revoking (stamp + 1)) ∷ revoked_each gone (stamp + 1) slots) (held ∷ revoked_each gone stamp slots))) [
-    | true ↦ ((λ n told. absurd (let bad : false ≡ true = told in cc)), once-revoked (stamp + 1) slots once.1)
-    | false ↦ ((λ n told. untold-revoked n stamp slots (once.0 n told)), once-revoked stamp slots once.1)
-  ]
+    -- and each is told once
+    once-revoked : (at : ℕ) (slots : Slots) → TellsOnce slots → TellsOnce (revoked_each clock gone at slots)
+    once-revoked at [] once = tt
+    once-revoked at (held ∷ slots) once = elim (is_used_by gone held.1) as (λ b. TellsOnce (cond b ((held.0, Revoking (clock at)) ∷ revoked_each clock gone (at + 1) slots) (held ∷ revoked_each clock gone at slots))) [
+      | true ↦ ((λ n told. absurd (let bad : false ≡ true = told in cc)), once-revoked (at + 1) slots once.1)
+      | false ↦ ((λ n told. untold-revoked n at slots (once.0 n told)), once-revoked at slots once.1)
+    ]
 
-  -- so it stays a table
-  pub table-revoked : (count stamp : ℕ) (slots : Slots) → IsTable count slots → IsTable count (revoked_each gone stamp slots)
-  table-revoked count stamp slots table = record {
-    small = table.small;
-    ascending = subst (λ (ks : List ℕ). rises_from 0 ks ≡ true) (sym (keys-revoked stamp slots)) table.ascending;
-    below = subst (λ (ks : List ℕ). All (λ id. id < count) ks) (sym (keys-revoked stamp slots)) table.below;
-    once = once-revoked stamp slots table.once;
-  }
+    -- so it stays a table
+    pub table-revoked : (count at : ℕ) (slots : Slots) → IsTable count slots → IsTable count (revoked_each clock gone at slots)
+    table-revoked count at slots table = record {
+      small = table.small;
+      ascending = subst (λ (ks : List ℕ). rises_from 0 ks ≡ true) (sym (keys-revoked at slots)) table.ascending;
+      below = subst (λ (ks : List ℕ). All (λ id. id < count) ks) (sym (keys-revoked at slots)) table.below;
+      once = once-revoked at slots table.once;
+    }
 
-  -- no slot is used by a gone number
-  pub none-revoked : (stamp : ℕ) (slots : Slots) → list_any (λ held. is_used_by gone held.1) (revoked_each gone stamp slots) ≡ false
-  none-revoked stamp [] = refl
-  none-revoked stamp (held ∷ slots) =
-      (elim (is_used_by gone held.1) as (λ b. is_used_by gone held.1 ≡ b → list_any (λ other. is_used_by gone other.1) (cond b ((held.0, Revoking (stamp + 1)) ∷ revoked_each gone (stamp + 1) slots) (held ∷ revoked_each gone stamp slots)) ≡ false) [
-        | true ↦ λ is. none-revoked (stamp + 1) slots
-        | false ↦ λ is. or_from (is_used_by gone held.1) (list_any (λ other. is_used_by gone other.1) (revoked_each gone stamp slots)) is (none-revoked stamp slots)
-      ]) refl
+    -- no slot is used by a gone number
+    pub none-revoked : (at : ℕ) (slots : Slots) → list_any (λ held. is_used_by gone held.1) (revoked_each clock gone at slots) ≡ false
+    none-revoked at [] = refl
+    none-revoked at (held ∷ slots) =
+        (elim (is_used_by gone held.1) as (λ b. is_used_by gone held.1 ≡ b → list_any (λ other. is_used_by gone other.1) (cond b ((held.0, Revoking (clock at)) ∷ revoked_each clock gone (at + 1) slots) (held ∷ revoked_each clock gone at slots)) ≡ false) [
+          | true ↦ λ is. none-revoked (at + 1) slots
+          | false ↦ λ is. or_from (is_used_by gone held.1) (list_any (λ other. is_used_by gone other.1) (revoked_each clock gone at slots)) is (none-revoked at slots)
+        ]) refl
 
-  -- the slot of a gone number tells no other one
-  tells_gone : (n : ℕ) (slot : Slot) → is_used_by gone slot ≡ true → gone n ≡ false → tells n slot ≡ false
-  tells_gone n (Used slot) used stays = ne_eqb slot.number n (λ same. both_ways (gone n) stays (subst (λ k. gone k ≡ true) same used))
-  tells_gone n (Revoking stamp) used stays = refl
+    -- the slot of a gone number tells no other one
+    tells_gone : (n : ℕ) (slot : Slot) → is_used_by gone slot ≡ true → gone n ≡ false → tells n slot ≡ false
+    tells_gone n (Used slot) used stays = ne_eqb slot.number n (λ same. both_ways (gone n) stays (subst (λ k. gone k ≡ true) same used))
+    tells_gone n (Revoking stamp) used stays = refl
 
-  -- the slot of a number that is not gone tells no gone one
-  tells_other : (n : ℕ) (slot : Slot) → is_used_by gone slot ≡ false → gone n ≡ true → tells n slot ≡ false
-  tells_other n (Used slot) stays goes = ne_eqb slot.number n (λ same. both_ways (gone n) (subst (λ k. gone k ≡ false) same stays) goes)
-  tells_other n (Revoking stamp) stays goes = refl
+    -- the slot of a number that is not gone tells no gone one
+    tells_other : (n : ℕ) (slot : Slot) → is_used_by gone slot ≡ false → gone n ≡ true → tells n slot ≡ false
+    tells_other n (Used slot) stays goes = ne_eqb slot.number n (λ same. both_ways (gone n) (subst (λ k. gone k ≡ false) same stays) goes)
+    tells_other n (Revoking stamp) stays goes = refl
 
-  -- a number that is not gone is told as before
-  pub told-revoked : (n stamp : ℕ) (slots : Slots) → gone n ≡ false → is_told (revoked_each gone stamp slots) n ≡ is_told slots n
-  told-revoked n stamp [] stays = refl
-  told-revoked n stamp (held ∷ slots) stays =
-      (elim (is_used_by gone held.1) as (λ b. is_used_by gone held.1 ≡ b → is_told (cond b ((held.0, Revoking (stamp + 1)) ∷ revoked_each gone (stamp + 1) slots) (held ∷ revoked_each gone stamp slots)) n ≡ (tells n held.1 || is_told slots n)) [
-        | true ↦ λ is. told-revoked n (stamp + 1) slots stays ∙ sym (ap (λ (b : Bool). b || is_told slots n) (tells_gone n held.1 is stays))
-        | false ↦ λ is. ap (λ (b : Bool). tells n held.1 || b) (told-revoked n stamp slots stays)
-      ]) refl
+    -- a number that is not gone is told as before
+    pub told-revoked : (n at : ℕ) (slots : Slots) → gone n ≡ false → is_told (revoked_each clock gone at slots) n ≡ is_told slots n
+    told-revoked n at [] stays = refl
+    told-revoked n at (held ∷ slots) stays =
+        (elim (is_used_by gone held.1) as (λ b. is_used_by gone held.1 ≡ b → is_told (cond b ((held.0, Revoking (clock at)) ∷ revoked_each clock gone (at + 1) slots) (held ∷ revoked_each clock gone at slots)) n ≡ (tells n held.1 || is_told slots n)) [
+          | true ↦ λ is. told-revoked n (at + 1) slots stays ∙ sym (ap (λ (b : Bool). b || is_told slots n) (tells_gone n held.1 is stays))
+          | false ↦ λ is. ap (λ (b : Bool). tells n held.1 || b) (told-revoked n at slots stays)
+        ]) refl
 
-  -- a number that is gone is told no more
-  pub untold-gone : (n stamp : ℕ) (slots : Slots) → gone n ≡ true → is_told (revoked_each gone stamp slots) n ≡ false
-  untold-gone n stamp [] goes = refl
-  untold-gone n stamp (held ∷ slots) goes =
-      (elim (is_used_by gone held.1) as (λ b. is_used_by gone held.1 ≡ b → is_told (cond b ((held.0, Revoking (stamp + 1)) ∷ revoked_each gone (stamp + 1) slots) (held ∷ revoked_each gone stamp slots)) n ≡ false) [
-        | true ↦ λ is. untold-gone n (stamp + 1) slots goes
-        | false ↦ λ is. or_from (tells n held.1) (is_told (revoked_each gone stamp slots) n) (tells_other n held.1 is goes) (untold-gone n stamp slots goes)
-      ]) refl
+    -- a number that is gone is told no more
+    pub untold-gone : (n at : ℕ) (slots : Slots) → gone n ≡ true → is_told (revoked_each clock gone at slots) n ≡ false
+    untold-gone n at [] goes = refl
+    untold-gone n at (held ∷ slots) goes =
+        (elim (is_used_by gone held.1) as (λ b. is_used_by gone held.1 ≡ b → is_told (cond b ((held.0, Revoking (clock at)) ∷ revoked_each clock gone (at + 1) slots) (held ∷ revoked_each clock gone at slots)) n ≡ false) [
+          | true ↦ λ is. untold-gone n (at + 1) slots goes
+          | false ↦ λ is. or_from (tells n held.1) (is_told (revoked_each clock gone at slots) n) (tells_other n held.1 is goes) (untold-gone n at slots goes)
+        ]) refl
 
-  pub untold_each : {T : Type 0} (stamp : ℕ) (slots : Slots) (wanted : List (ℕ × T)) → AllByRecursion (λ w. is_told slots w.0 ≡ false) wanted → AllByRecursion (λ w. is_told (revoked_each gone stamp slots) w.0 ≡ false) wanted
-  untold_each stamp slots [] all = tt
-  untold_each stamp slots (w ∷ wanted) all = (untold-revoked w.0 stamp slots all.0, untold_each stamp slots wanted all.1)
+    pub untold_each : {T : Type 0} (at : ℕ) (slots : Slots) (wanted : List (ℕ × T)) → AllByRecursion (λ w. is_told slots w.0 ≡ false) wanted → AllByRecursion (λ w. is_told (revoked_each clock gone at slots) w.0 ≡ false) wanted
+    untold_each at slots [] all = tt
+    untold_each at slots (w ∷ wanted) all = (untold-revoked w.0 at slots all.0, untold_each at slots wanted all.1)
 
   -- a slot that a number uses is used
   used_by : (slot : Slot) → is_used_by gone slot ≡ true → is_used slot ≡ true

@@ -12,11 +12,12 @@ use Rattle.rbc_ids.proofs.Once.{apart-told}
 use Rattle.rbc_ids.proofs.Gaps.{run, least_free-run, run_below, all_from_run}
 use Rattle.rbc_settle.specs.Settling.{is_used_by}
 use Rattle.rbc_settle.specs.Following.{CanTell}
+use Rattle.rbc_settle.proofs.Revoking.{Clock}
 
--- the table after that: each takes the next stamp
-abbrev pub told_all : {T : Type 0} → (T → Kind) → ℕ → List ((ℕ × T) × ℕ) → Slots → Slots
-told_all kind stamp [] slots = slots
-told_all kind stamp (((number, told), id) ∷ pairs) slots = told_all kind (stamp + 1) pairs (with_value id (told_now number (stamp + 1) (kind told)) slots)
+-- the table after that
+abbrev pub told_all : {T : Type 0} → Clock → (T → Kind) → ℕ → List ((ℕ × T) × ℕ) → Slots → Slots
+told_all clock kind at [] slots = slots
+told_all clock kind at (((number, told), id) ∷ pairs) slots = told_all clock kind (at + 1) pairs (with_value id (told_now number (clock at) (kind told)) slots)
 
 -- the first that is not held is not held
 first_free : (held : ℕ → Bool) (xs : List ℕ) (id : ℕ) (ids : List ℕ) → filter (λ q. not (held q)) xs ≡ id ∷ ids → held id ≡ false
@@ -112,22 +113,22 @@ pub record IsTelling {T : Type 0} (count : ℕ) (gone : ℕ → Bool) (wanted : 
   pub none_gone : list_any (λ held. is_used_by gone held.1) new ≡ false
   pub ends : (free_identifiers count new ≡ []) ⊎ AllByRecursion (λ w. is_told new w.0 ≡ true) wanted
 
-module _ {T : Type 0} (kind : T → Kind) (count : ℕ) (gone : ℕ → Bool) where
+module _ {T : Type 0} (clock : Clock) (kind : T → Kind) (count : ℕ) (gone : ℕ → Bool) where
   -- telling in the order of the free identifiers leaves that
-  pub is_telling : (wanted : List (ℕ × T)) (ids : List ℕ) (least stamp : ℕ) (slots : Slots) → IsTable count slots → free_identifiers count slots ≡ ids
+  pub is_telling : (wanted : List (ℕ × T)) (ids : List ℕ) (least at : ℕ) (slots : Slots) → IsTable count slots → free_identifiers count slots ≡ ids
       → rises_from least (keys wanted) ≡ true → AllByRecursion (λ w. is_told slots w.0 ≡ false) wanted
       → AllByRecursion (λ w. gone w.0 ≡ false) wanted → list_any (λ held. is_used_by gone held.1) slots ≡ false
-      → IsTelling count gone wanted slots (told_all kind stamp (zip wanted ids) slots)
-  is_telling [] ids least stamp slots table free rises untold stay none = record { table = table; told = λ n h. h; none_gone = none; ends = inr tt }
-  is_telling (w ∷ wanted) [] least stamp slots table free rises untold stay none = record { table = table; told = λ n h. h; none_gone = none; ends = inl free }
-  is_telling ((number, told) ∷ wanted) (id ∷ ids) least stamp slots table free rises untold stay none =
-      let slot = told_now number (stamp + 1) (kind told) in
+      → IsTelling count gone wanted slots (told_all clock kind at (zip wanted ids) slots)
+  is_telling [] ids least at slots table free rises untold stay none = record { table = table; told = λ n h. h; none_gone = none; ends = inr tt }
+  is_telling (w ∷ wanted) [] least at slots table free rises untold stay none = record { table = table; told = λ n h. h; none_gone = none; ends = inl free }
+  is_telling ((number, told) ∷ wanted) (id ∷ ids) least at slots table free rises untold stay none =
+      let slot = told_now number (clock at) (kind told) in
       let parts = and_parts (leb least number) (rises_from (number + 1) (keys wanted)) rises in
-      let apart = apart-told id number (stamp + 1) (kind told) slots untold.0 in
-      let rest = is_telling wanted ids (number + 1) (stamp + 1) (with_value id slot slots) (table_after count slots id ids free slot apart table) (free_after count slots id ids free slot) parts.1
-      (untold_above count slots id ids free number (stamp + 1) (number + 1) (kind told) wanted (omega arith) parts.1 untold.1) stay.1
+      let apart = apart-told id number (clock at) (kind told) slots untold.0 in
+      let rest = is_telling wanted ids (number + 1) (at + 1) (with_value id slot slots) (table_after count slots id ids free slot apart table) (free_after count slots id ids free slot) parts.1
+      (untold_above count slots id ids free number (clock at) (number + 1) (kind told) wanted (omega arith) parts.1 untold.1) stay.1
       (any-with_value id slot (λ held. is_used_by gone held.1) slots (absent count slots id ids free) ∙ or_from (gone number) (list_any (λ held. is_used_by gone held.1) slots) stay.0 none) in
-      let adds = told_after count slots id ids free number (stamp + 1) (kind told) in
+      let adds = told_after count slots id ids free number (clock at) (kind told) in
       record {
         table = rest.table;
         told = λ n h. rest.told n (adds n ∙ or_right (eqb number n) (is_told slots n) h);
@@ -139,13 +140,13 @@ module _ {T : Type 0} (kind : T → Kind) (count : ℕ) (gone : ℕ → Bool) wh
       }
 
 -- where as many numbers are told as identifiers are free, none is free then
-pub none_free_then : {T : Type 0} (kind : T → Kind) (count : ℕ) (wanted : List (ℕ × T)) (ids : List ℕ) (stamp : ℕ) (slots : Slots) → length ids ≤ length wanted → free_identifiers count slots ≡ ids
-    → free_identifiers count (told_all kind stamp (zip wanted ids) slots) ≡ []
-none_free_then kind count [] [] stamp slots many free = free
-none_free_then kind count [] (id ∷ ids) stamp slots many free = absurd (omega (arith, many))
-none_free_then kind count (w ∷ wanted) [] stamp slots many free = free
-none_free_then kind count ((number, told) ∷ wanted) (id ∷ ids) stamp slots many free =
-    none_free_then kind count wanted ids (stamp + 1) (with_value id (told_now number (stamp + 1) (kind told)) slots) (omega (arith, many)) (free_after count slots id ids free (told_now number (stamp + 1) (kind told)))
+pub none_free_then : {T : Type 0} (clock : Clock) (kind : T → Kind) (count : ℕ) (wanted : List (ℕ × T)) (ids : List ℕ) (at : ℕ) (slots : Slots) → length ids ≤ length wanted → free_identifiers count slots ≡ ids
+    → free_identifiers count (told_all clock kind at (zip wanted ids) slots) ≡ []
+none_free_then clock kind count [] [] at slots many free = free
+none_free_then clock kind count [] (id ∷ ids) at slots many free = absurd (omega (arith, many))
+none_free_then clock kind count (w ∷ wanted) [] at slots many free = free
+none_free_then clock kind count ((number, told) ∷ wanted) (id ∷ ids) at slots many free =
+    none_free_then clock kind count wanted ids (at + 1) (with_value id (told_now number (clock at) (kind told)) slots) (omega (arith, many)) (free_after count slots id ids free (told_now number (clock at) (kind told)))
 
 -- where no identifier is free all are held
 pub all_held : (count : ℕ) (slots : Slots) → IsTable count slots → free_identifiers count slots ≡ [] → length slots ≡ count

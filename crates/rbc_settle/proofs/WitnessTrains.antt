@@ -15,7 +15,7 @@ use Rattle.rbc_settle.specs.Settling.{is_used_by, is_stop_gone, is_limit_gone, d
 use Rattle.rbc_settle.proofs.GoodSlots.{no_report}
 use Rattle.rbc_settle.specs.UpToDate.{IsToldIfItCan, IsLimitToldIfItCan, IsUpToDate, StaysAsItIs}
 use Rattle.rbc_settle.specs.WellFormed.{IsGiven, has_kind, has_count, is_stop_kind, is_limit_kind, stamps, told_numbers, HasPlaceOn, IsWellFormedTrain}
-use Rattle.rbc_settle.specs.Witnesses.{track_a, stop_1, no_stop, limit_1, no_limit, train_7, told, untold, told_twice, one_stamp, stamp_ahead, told_as_limit, sixteenth, never_given, beyond_5, group_elsewhere, group_turned, placed_at, limited, unanswered, counted_unconditional}
+use Rattle.rbc_settle.specs.Witnesses.{track_a, stop_1, no_stop, limit_1, no_limit, train_7, told, untold, told_twice, one_stamp, one_message, shared_stamp, stamp_ahead, told_as_limit, sixteenth, never_given, beyond_5, group_elsewhere, group_turned, placed_at, limited, unanswered, counted_unconditional}
 
 -- two different truths are not one
 not_both : true ≡ false → ⊥
@@ -66,7 +66,7 @@ well_at place kind is on = record {
   };
   stamp = omega arith;
   stamps_within = All-from_recursion (λ (s : ℕ). s ≤ 1) (1 ∷ []) (omega arith, tt);
-  stamps_distinct = (refl, tt);
+  stamps_apart = (refl, refl, tt);
 }
 
 pub told_is_well_formed : IsWellFormedTrain track_a stop_1 no_limit told
@@ -77,6 +77,35 @@ placed_is_well_formed = well_at (Some beyond_5) Conditional refl (record {
   group = refl;
   on_line = record { length = 300000; line = refl; at = omega arith; ordered = omega arith; within = omega arith };
 })
+
+-- restrictions may share a stamp
+pub one_message_is_well_formed : IsWellFormedTrain track_a no_stop limit_1 one_message
+one_message_is_well_formed = record {
+  engine = omega arith;
+  length = (omega arith, omega arith);
+  place = tt;
+  forced_ascend = refl;
+  forced = All-from_recursion (IsGiven 1) [] tt;
+  tables = record {
+    stops = record { small = omega arith; ascending = refl; below = All-from_recursion (λ (id : ℕ). id < 15) [] tt; once = tt };
+    limits = record { small = omega arith; ascending = refl; below = All-from_recursion (λ (id : ℕ). id < 255) (0 ∷ 1 ∷ []) (omega arith, (omega arith, tt)); once = ((λ n is_told. refl), ((λ n is_told. refl), tt)) };
+  };
+  stop_slots = record {
+    kinds = All-from_recursion (λ (held : ℕ × Slot). has_kind is_stop_kind held.1 ≡ true) [] tt;
+    counts = All-from_recursion (λ (held : ℕ × Slot). has_count held.1 ≡ true) [] tt;
+    given = All-from_recursion (IsGiven 1) [] tt;
+    once = tt;
+  };
+  limit_slots = record {
+    kinds = All-from_recursion (λ (held : ℕ × Slot). has_kind is_limit_kind held.1 ≡ true) one_message.limits (refl, (refl, tt));
+    counts = All-from_recursion (λ (held : ℕ × Slot). has_count held.1 ≡ true) one_message.limits (refl, (refl, tt));
+    given = All-from_recursion (IsGiven 1) (1 ∷ []) ((omega arith, omega arith), tt);
+    once = (refl, tt);
+  };
+  stamp = omega arith;
+  stamps_within = All-from_recursion (λ (s : ℕ). s ≤ 1) (1 ∷ 1 ∷ []) (omega arith, (omega arith, tt));
+  stamps_apart = tt;
+}
 
 -- settling takes a stamp, so the train changes
 pub untold_changes : StaysAsItIs track_a stop_1 no_limit untold → ⊥
@@ -143,7 +172,10 @@ pub identifier_15 : IsWellFormedTrain track_a stop_1 no_limit sixteenth → ⊥
 identifier_15 well = let bad : 15 < 15 = (recursion_from_All (λ (id : ℕ). id < 15) (15 ∷ []) well.tables.stops.below).0 in omega (arith, bad)
 
 pub one_stamp_twice : IsWellFormedTrain track_a stop_1 no_limit one_stamp → ⊥
-one_stamp_twice well = not_both well.stamps_distinct.0
+one_stamp_twice well = not_both well.stamps_apart.0
+
+pub stamp_of_a_restriction : IsWellFormedTrain track_a stop_1 limit_1 shared_stamp → ⊥
+stamp_of_a_restriction well = not_both well.stamps_apart.1
 
 pub stamp_above_the_trains : IsWellFormedTrain track_a stop_1 no_limit stamp_ahead → ⊥
 stamp_above_the_trains well = let bad : 2 ≤ 1 = (recursion_from_All (λ (s : ℕ). s ≤ 1) (stamps stamp_ahead) well.stamps_within).0 in omega (arith, bad)

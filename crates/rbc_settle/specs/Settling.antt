@@ -3,6 +3,8 @@
 use Rattle.std.specs.Prelude.{ℕ, ◌+◌, ◌-◌, ◌/◌, Bool, true, false, not, ◌&&◌, ◌||◌, List, ◌++◌, map, take, length, Option, Some, None, option_map, pos, if◌then◌else◌}
 use Rattle.std.specs.List.{filter, filter_map, fold, scan, zip}
 use Rattle.std.specs.Option.{option_map_or}
+use Rattle.ertms_codec.specs.declared.packets.Part.{Part as Packet}
+use Rattle.ertms_codec.specs.declared.packets.Part.TheVariants as packet
 use Rattle.ertms_codec.specs.declared.to_train.Head.{Head}
 use Rattle.ertms_codec.specs.declared.to_train.ToTrain.{ToTrain}
 use Rattle.ertms_codec.specs.declared.to_train.ToTrain.TheVariants as message
@@ -22,10 +24,13 @@ use Rattle.rbc_zones.specs.declared.edge.Concern.TheVariants as concern
 use Rattle.rbc_zones.specs.Concerns.{concern_of, told_distance, distance_to}
 use Rattle.rbc_zones.specs.Limits.{Limit, is_clear, concerns, told_part}
 use Rattle.rbc_settle.specs.declared.train.TrainRec.{TrainRec}
-use Rattle.rbc_settle.specs.declared.action.Action.{Action}
-use Rattle.rbc_settle.specs.declared.action.Action.TheVariants.{RevokeStop, TellStop, RevokeLimit, TellLimit}
-use Rattle.rbc_settle.specs.declared.action.ToldStop.{ToldStop}
-use Rattle.rbc_settle.specs.declared.action.ToldStop.TheVariants.{AtOnce, Before}
+use Rattle.rbc_settle.specs.declared.change.StopChange.{StopChange}
+use Rattle.rbc_settle.specs.declared.change.StopChange.TheVariants as stop_change
+use Rattle.rbc_settle.specs.declared.change.LimitChange.{LimitChange}
+use Rattle.rbc_settle.specs.declared.change.LimitChange.TheVariants as limit_change
+use Rattle.rbc_settle.specs.declared.change.ToldStop.{ToldStop}
+use Rattle.rbc_settle.specs.declared.change.ToldStop.TheVariants.{AtOnce, Before}
+use Rattle.rbc_settle.specs.Actions.{Action, ChangesStop, ChangesLimits, groups}
 use Rattle.rbc_settle.specs.declared.upkeep.Sent.{Sent}
 use Rattle.rbc_settle.specs.Told.{Edge, Part}
 use Rattle.rbc_settle.specs.Trains.{stop_identifiers, limit_identifiers}
@@ -42,6 +47,11 @@ Limits = Numbered Limit
 -- the last stamp that a message may have: the number after it means that the time is unknown
 abbrev pub last_stamp : ℕ
 last_stamp = 4294967294
+
+-- How many messages a train is sent at most where it is settled: 15 identifiers of stops are revoked and as many are told, and 255
+-- of restrictions, which makes six groups.
+abbrev pub most_messages : ℕ
+most_messages = 36
 
 -- NID_LRBG of a train without a place
 abbrev pub unknown_group : ℕ
@@ -154,41 +164,52 @@ number_forced forced_now (Revoking stamp) = None
 abbrev pub next_to_tell : List ℕ → TrainRec → ℕ × List Segment → Option (ℕ × ToldStop)
 next_to_tell forced_now train stop = if has_number forced_now stop.0 then Some (stop.0, AtOnce) else stop_to_tell train stop
 
--- ---- the actions
+-- ---- the changes
 
 -- a stop is revoked
-abbrev pub revoke_stop : List ℕ → ℕ × Slot → Action
-revoke_stop forced_now (id, slot) = RevokeStop id (number_forced forced_now slot)
+abbrev pub revoke_stop : List ℕ → ℕ × Slot → StopChange
+revoke_stop forced_now (id, slot) = stop_change.Revoke id (number_forced forced_now slot)
 
 -- a stop is told under an identifier
-abbrev pub tell_stop : (ℕ × ToldStop) × ℕ → Action
-tell_stop ((number, told), id) = TellStop id number told
+abbrev pub tell_stop : (ℕ × ToldStop) × ℕ → StopChange
+tell_stop ((number, told), id) = stop_change.Tell id number told
 
 -- a restriction is told under an identifier
-abbrev pub tell_limit : (ℕ × Part) × ℕ → Action
-tell_limit ((number, told), id) = TellLimit id number told
+abbrev pub tell_limit : (ℕ × Part) × ℕ → LimitChange
+tell_limit ((number, told), id) = limit_change.Tell id number told
 
--- first, a revocation of each stop that has to be revoked, in ascending order of the identifiers
-abbrev pub stops_revoked : List ℕ → Stops → TrainRec → List Action
+-- a revocation of each stop that has to be revoked, in ascending order of the identifiers
+abbrev pub stops_revoked : List ℕ → Stops → TrainRec → List StopChange
 stops_revoked forced_now stops train = map (revoke_stop forced_now) (filter (λ held. is_used_by (is_stop_revoked stops forced_now) held.1) train.stops)
 
--- then the stops that have to be told, in pairs with the free identifiers, as long as there are both
-abbrev pub stops_told : List ℕ → Stops → TrainRec → List Action
+-- the stops that have to be told, in pairs with the free identifiers, as long as there are both
+abbrev pub stops_told : List ℕ → Stops → TrainRec → List StopChange
 stops_told forced_now stops train = map tell_stop (zip (filter_map (next_to_tell forced_now train) stops.active) (free_identifiers stop_identifiers train.stops))
 
--- then a revocation of each restriction that has to be revoked
-abbrev pub limits_revoked : Limits → TrainRec → List Action
-limits_revoked limits train = map RevokeLimit (to_revoke (is_limit_gone limits train.place) train.limits)
+-- a revocation of each restriction that has to be revoked
+abbrev pub limits_revoked : Limits → TrainRec → List LimitChange
+limits_revoked limits train = map limit_change.Revoke (to_revoke (is_limit_gone limits train.place) train.limits)
 
--- then the restrictions that have to be told, in pairs with the free identifiers
-abbrev pub limits_told : ℕ → Limits → TrainRec → List Action
+-- the restrictions that have to be told, in pairs with the free identifiers
+abbrev pub limits_told : ℕ → Limits → TrainRec → List LimitChange
 limits_told horizon limits train = map tell_limit (zip (filter_map (limit_to_tell horizon train) limits.active) (free_identifiers limit_identifiers train.limits))
+
+-- revocations stand before what is told
+abbrev pub stop_changes : Stops → TrainRec → List StopChange
+stop_changes stops train = stops_revoked (escalated stops train) stops train ++ stops_told (escalated stops train) stops train
+
+abbrev pub limit_changes : ℕ → Limits → TrainRec → List LimitChange
+limit_changes horizon limits train = limits_revoked limits train ++ limits_told horizon limits train
+
+-- ---- the actions
+
+-- a message for each stop, and then one for each group of restrictions
+abbrev pub in_messages : List StopChange → List LimitChange → List Action
+in_messages stops limits = map ChangesStop stops ++ map ChangesLimits (groups limits)
 
 -- All actions: each is judged by the train as it was before the first one.
 abbrev pub actions : Plan → Stops → Limits → TrainRec → List Action
-actions plan stops limits train =
-    stops_revoked (escalated stops train) stops train ++ stops_told (escalated stops train) stops train
-    ++ limits_revoked limits train ++ limits_told plan.horizon limits train
+actions plan stops limits train = in_messages (stop_changes stops train) (limit_changes plan.horizon limits train)
 
 -- the actions for which stamps are left
 abbrev pub actions_with_stamp : Plan → Stops → Limits → TrainRec → List Action
@@ -204,14 +225,19 @@ abbrev pub and_forced : Option ℕ → List ℕ → List ℕ
 and_forced None forced = forced
 and_forced (Some number) forced = and_number number forced
 
--- An action takes the next stamp. A revoked identifier is held until the train has acknowledged that, and an identifier under
--- which a number is told is used from then on. An escalated number is forced as it is revoked.
+-- The restrictions after a change that the message with a stamp makes. A revoked identifier is held until the train has acknowledged
+-- that, and an identifier under which a number is told is used from then on.
+abbrev pub limit_changed : ℕ → Slots → LimitChange → Slots
+limit_changed stamp slots (limit_change.Revoke id) = with_value id (Revoking stamp) slots
+limit_changed stamp slots (limit_change.Tell id number told) = with_value id (told_now number stamp Restriction) slots
+
+-- An action takes the next stamp. Stops are changed as restrictions are, and an escalated number is forced as it is revoked.
 abbrev pub carried_out : TrainRec → Action → TrainRec
-carried_out train (RevokeStop id number) =
+carried_out train (ChangesStop (stop_change.Revoke id number)) =
     record train { stamp = train.stamp + 1; stops = with_value id (Revoking (train.stamp + 1)) train.stops; forced = and_forced number train.forced }
-carried_out train (TellStop id number told) = record train { stamp = train.stamp + 1; stops = with_value id (told_now number (train.stamp + 1) (kind_of told)) train.stops }
-carried_out train (RevokeLimit id) = record train { stamp = train.stamp + 1; limits = with_value id (Revoking (train.stamp + 1)) train.limits }
-carried_out train (TellLimit id number told) = record train { stamp = train.stamp + 1; limits = with_value id (told_now number (train.stamp + 1) Restriction) train.limits }
+carried_out train (ChangesStop (stop_change.Tell id number told)) =
+    record train { stamp = train.stamp + 1; stops = with_value id (told_now number (train.stamp + 1) (kind_of told)) train.stops }
+carried_out train (ChangesLimits changes) = record train { stamp = train.stamp + 1; limits = fold (limit_changed (train.stamp + 1)) train.limits changes }
 
 -- NID_LRBG: the balise group that the train's report counts from
 abbrev pub group_of : TrainRec → ℕ
@@ -221,13 +247,17 @@ group_of train = option_map_or (λ p. p.lrbg) train.place unknown_group
 abbrev pub head_of : TrainRec → Bool → Head
 head_of train ack = record { stamp = train.stamp + 1; ack = ack; lrbg = group_of train }
 
--- the message of an action: 18, 15 or 16, 24 with packet 66 (Q_DIR 2: both ways), and 24 with packet 65
+-- the packet of a change: 66 (Q_DIR 2: both ways), or 65
+abbrev pub packet_of : LimitChange → Packet
+packet_of (limit_change.Revoke id) = packet.Lift 2 id
+packet_of (limit_change.Tell id number told) = packet.Restrict told.dir told.scale id told.start told.length told.front told.speed
+
+-- the message of an action: 18, 15 or 16, and 24 with a packet for each change
 abbrev pub message_of : TrainRec → Action → ToTrain
-message_of train (RevokeStop id number) = message.Revoke (head_of train true) id
-message_of train (TellStop id number AtOnce) = message.Stop (head_of train false) id
-message_of train (TellStop id number (Before edge)) = message.StopAt (head_of train false) id edge.scale (pos 0) edge.dir edge.distance
-message_of train (RevokeLimit id) = message.Lift (head_of train true) 2 id
-message_of train (TellLimit id number told) = message.Restrict (head_of train true) told.dir told.scale id told.start told.length told.front told.speed
+message_of train (ChangesStop (stop_change.Revoke id number)) = message.Revoke (head_of train true) id
+message_of train (ChangesStop (stop_change.Tell id number AtOnce)) = message.Stop (head_of train false) id
+message_of train (ChangesStop (stop_change.Tell id number (Before edge))) = message.StopAt (head_of train false) id edge.scale (pos 0) edge.dir edge.distance
+message_of train (ChangesLimits changes) = message.General (head_of train true) (map packet_of changes)
 
 -- the train after its actions, which are carried out one after another
 abbrev pub settled : Plan → Stops → Limits → TrainRec → TrainRec

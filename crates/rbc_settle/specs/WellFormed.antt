@@ -34,9 +34,18 @@ number_in (Revoking stamp) = None
 abbrev pub told_numbers : Slots → List ℕ
 told_numbers slots = filter_map (λ held. number_in held.1) slots
 
+-- the stamps of the slots of a table
+abbrev pub stamps_in : Slots → List ℕ
+stamps_in slots = map (λ held. stamp_of held.1) slots
+
 -- the stamps of all slots of a train, those of its stops first
 abbrev pub stamps : TrainRec → List ℕ
-stamps train = map (λ held. stamp_of held.1) (train.stops ++ train.limits)
+stamps train = stamps_in train.stops ++ stamps_in train.limits
+
+-- The stamp of a stop is no other slot's: neither that of a later stop nor that of a restriction. Restrictions may share one.
+abbrev pub AreApart : List ℕ → List ℕ → Type 0
+AreApart [] limits = Unit
+AreApart (stamp ∷ stops) limits = (has_number stops stamp ≡ false) × (has_number limits stamp ≡ false) × AreApart stops limits
 
 -- a slot has such a kind, if it is used
 abbrev pub has_kind : (Kind → Bool) → Slot → Bool
@@ -80,8 +89,8 @@ HasPlaceOn plan None = Unit
 HasPlaceOn plan (Some p) = IsPlaceOn plan p
 
 -- A train that can be on a track where these stops and restrictions are active: NID_ENGINE has 24 bits, and its length is 1 to
--- 40,000 units; it stands on the track; what it rejected and what it is told was given a number; and its stamps are
--- distinct, and not above the last one.
+-- 40,000 units; it stands on the track; what it rejected and what it is told was given a number; and no slot's stamp is above
+-- the last one, and that of a stop is no other slot's.
 pub record IsWellFormedTrain (plan : Plan) (stops : Stops) (limits : Limits) (train : TrainRec) : Type 0 where
   pub engine : train.engine ≤ max_engine
   pub length : (1 ≤ train.length) × (train.length ≤ max_train_length)
@@ -93,7 +102,7 @@ pub record IsWellFormedTrain (plan : Plan) (stops : Stops) (limits : Limits) (tr
   pub limit_slots : AreGoodSlots is_limit_kind limits.last train.limits
   pub stamp : train.stamp ≤ last_stamp
   pub stamps_within : All (λ s. s ≤ train.stamp) (stamps train)
-  pub stamps_distinct : AreDistinct (stamps train)
+  pub stamps_apart : AreApart (stamps_in train.stops) (stamps_in train.limits)
 
 -- A well-formed train is well-formed after it was settled.
 abbrev pub SettlingKeepsTrains : Type 0

@@ -62,6 +62,14 @@ told_twice = train_7 2 ((0, told_now 1 1 Unconditional) ∷ (1, told_now 1 2 Unc
 abbrev pub one_stamp : TrainRec
 one_stamp = train_7 1 ((0, told_now 1 1 Unconditional) ∷ (1, Revoking 1) ∷ [])
 
+-- restriction 1 was told under identifier 0, and the one under identifier 1 was revoked, by one message with stamp 1
+abbrev pub one_message : TrainRec
+one_message = record (train_7 1 []) { limits = (0, told_now 1 1 Restriction) ∷ (1, Revoking 1) ∷ [] }
+
+-- stop 1 and restriction 1 were told with one and the same stamp
+abbrev pub shared_stamp : TrainRec
+shared_stamp = record told { limits = (0, told_now 1 1 Restriction) ∷ [] }
+
 -- stop 1 was told with stamp 2, which train 7 has not reached
 abbrev pub stamp_ahead : TrainRec
 stamp_ahead = train_7 1 ((0, told_now 1 2 Unconditional) ∷ [])

@@ -7,13 +7,14 @@ ghost use Rattle.rbc_maps.specs.Numbered.{AreNumbered};
 ghost use Rattle.rbc_ids.specs.Table.{IsTable};
 ghost use Rattle.rbc_zones.specs.declared.edge.Concern.TheVariants.{Before};
 ghost use Rattle.rbc_settle.specs.Trains.{stop_identifiers, limit_identifiers};
-ghost use Rattle.rbc_settle.specs.Settling.{direction_of, told_at, told_stop, told_limit, limit_told_to, stop_to_tell, limit_to_tell, is_used_by, is_limit_gone, due_number, spare_identifiers, escalated, is_stop_revoked, number_forced, next_to_tell, stops_revoked, stops_told, limits_revoked, limits_told, actions_with_stamp};
+ghost use Rattle.rbc_settle.specs.Settling.{direction_of, told_at, told_stop, told_limit, limit_told_to, stop_to_tell, limit_to_tell, is_used_by, is_limit_gone, due_number, spare_identifiers, escalated, is_stop_revoked, number_forced, next_to_tell, stops_revoked, stops_told, limits_revoked, limits_told, in_messages, actions_with_stamp};
 ghost use Rattle.rbc_settle.specs.Numbers.{has_number};
 ghost use Rattle.rbc_settle.specs.OneLine.{IsJudgedOnLine};
 ghost use Rattle.rbc_settle.specs.UpToDate.{HasTables};
 
-use crate::action::{Action, ToldEdge, ToldLimit, ToldStop};
+use crate::change::{Changes, LimitChange, StopChange, ToldEdge, ToldLimit, ToldStop};
 use crate::train::TrainRec;
+use ertms_codec::MOST_PACKETS;
 use rbc_ids::Slot;
 use rbc_place::Place;
 use rbc_track::{Track, Way};
@@ -27,43 +28,48 @@ use std::cell::Cell;
 /// The last stamp that a message may have. The number after it means that the time is unknown.
 const LAST_STAMP: u32 = 4_294_967_294;
 
-/// Returns the actions for which stamps are left, in their order (own rule). Takes memory only if there is something to revoke
+/// Returns the changes for which stamps are left, in their order (own rule). Takes memory only if there is something to revoke
 /// or to tell. Fails only for lack of memory.
-pub fn actions(
+pub fn changes(
     alloc: Global,
     track: &Track,
     stops: &Stops,
     limits: &Limits,
     train: &TrainRec,
-) -> Result<Vec<Action>, AllocError>
-    ensures actions { IfOk result (λ found. found.items ≡ actions_with_stamp track.now stops.now limits.now train.now) }
+) -> Result<Changes, AllocError>
+    ensures actions { IfOk result (λ found. in_messages found.stops.items found.limits.items ≡ actions_with_stamp track.now stops.now limits.now train.now) }
     ensures sound { OnOk result (HasTables train.now × (AreNumbered stops.now × AreNumbered limits.now)) }
 {
     let forced_now = escalated(alloc, stops, train)?;
-    let mut actions = stops_revoked(alloc, stops, train, &forced_now)?;
-    put_behind(&mut actions, stops_told(alloc, stops, train, &forced_now)?)?;
-    put_behind(&mut actions, limits_revoked(alloc, limits, train)?)?;
+    let mut of_stops = stops_revoked(alloc, stops, train, &forced_now)?;
+    put_behind(&mut of_stops, stops_told(alloc, stops, train, &forced_now)?)?;
+    let mut of_limits = limits_revoked(alloc, limits, train)?;
     put_behind(
-        &mut actions,
+        &mut of_limits,
         limits_told(alloc, track.horizon(), limits, train)?,
     )?;
-    actions.truncate(LAST_STAMP.saturating_sub(train.stamp) as usize);
-    Ok(actions)
+    let room = LAST_STAMP.saturating_sub(train.stamp) as usize;
+    of_stops.truncate(room);
+    of_limits.truncate((room - of_stops.len()) * MOST_PACKETS);
+    Ok(Changes {
+        stops: of_stops,
+        limits: of_limits,
+    })
 }
 
-/// Puts actions behind others. Takes no memory where there are no others, or none to be put. Fails only for lack of memory.
+/// Puts changes behind others. Takes no memory where there are no others, or none to be put. Fails only for lack of memory.
 #[inline(always)]
-fn put_behind(actions: &mut Vec<Action>, mut more: Vec<Action>) -> Result<(), AllocError>
-    ensures { OnOk result (actions.new.items ≡ actions.old.items ++ more.items) }
+fn put_behind<T: Drop>(changes: &mut Vec<T>, mut more: Vec<T>) -> Result<(), AllocError>
+    ensures { OnOk result (changes.new.items ≡ changes.old.items ++ more.items) }
 {
     if more.is_empty() {
         return Ok(());
     }
-    if actions.is_empty() {
-        *actions = more;
+    if changes.is_empty() {
+        *changes = more;
         return Ok(());
     }
-    actions.append(&mut more)
+    changes.append(&mut more)
 }
 
 /// Returns the numbers that are escalated (own rule): of the stops that the train was told conditionally and left unanswered
@@ -137,7 +143,7 @@ fn stops_revoked(
     stops: &Stops,
     train: &TrainRec,
     forced_now: &[u32],
-) -> Result<Vec<Action>, AllocError>
+) -> Result<Vec<StopChange>, AllocError>
     ensures actions { IfOk result (λ found. found.items ≡ stops_revoked forced_now.now stops.now train.now) }
     ensures sound { IsTable stop_identifiers train.now.stops }
 {
@@ -147,7 +153,7 @@ fn stops_revoked(
         .slots()
         .iter()
         .filter(|held| is_used_by_revoked_stop(stops, forced_now, held.1, &near))
-        .map(|held| Action::RevokeStop {
+        .map(|held| StopChange::Revoke {
             id: held.0,
             number: number_forced(forced_now, held.1),
         })
@@ -206,7 +212,7 @@ fn stops_told(
     stops: &Stops,
     train: &TrainRec,
     forced_now: &[u32],
-) -> Result<Vec<Action>, AllocError>
+) -> Result<Vec<StopChange>, AllocError>
     ensures actions { IfOk result (λ found. found.items ≡ stops_told forced_now.now stops.now train.now) }
     ensures sound { AreNumbered stops.now }
 {
@@ -236,7 +242,7 @@ fn stops_told_on_line(
     stops: &Stops,
     line: u32,
     train: &TrainRec,
-) -> Result<Vec<Action>, AllocError>
+) -> Result<Vec<StopChange>, AllocError>
     requires { IsJudgedOnLine train.now line }
     ensures { IfOk result (λ found. found.items ≡ stops_told [] stops.now train.now) }
 {
@@ -246,7 +252,7 @@ fn stops_told_on_line(
         .on_line(line)
         .filter_map(|stop| stop_to_tell(train, stop.0, &stop.1, &near))
         .zip(free)
-        .map(|((number, told), id)| Action::TellStop { id, number, told })
+        .map(|((number, told), id)| StopChange::Tell { id, number, told })
         .collect(alloc)
 }
 
@@ -256,7 +262,7 @@ fn stops_told_anywhere(
     stops: &Stops,
     train: &TrainRec,
     forced_now: &[u32],
-) -> Result<Vec<Action>, AllocError>
+) -> Result<Vec<StopChange>, AllocError>
     ensures { IfOk result (λ found. found.items ≡ stops_told forced_now.now stops.now train.now) }
 {
     let near = Cell::new(0);
@@ -266,7 +272,7 @@ fn stops_told_anywhere(
         .iter()
         .filter_map(|stop| next_to_tell(forced_now, train, stop.0, &stop.1, &near))
         .zip(free)
-        .map(|((number, told), id)| Action::TellStop { id, number, told })
+        .map(|((number, told), id)| StopChange::Tell { id, number, told })
         .collect(alloc)
 }
 
@@ -292,7 +298,7 @@ fn limits_revoked(
     alloc: Global,
     limits: &Limits,
     train: &TrainRec,
-) -> Result<Vec<Action>, AllocError>
+) -> Result<Vec<LimitChange>, AllocError>
     ensures actions { IfOk result (λ found. found.items ≡ limits_revoked limits.now train.now) }
     ensures sound { IsTable limit_identifiers train.now.limits }
 {
@@ -302,7 +308,7 @@ fn limits_revoked(
         .slots()
         .iter()
         .filter(|held| is_used_by_gone_limit(limits, train.place.as_ref(), held.1, &near))
-        .map(|held| Action::RevokeLimit { id: held.0 })
+        .map(|held| LimitChange::Revoke { id: held.0 })
         .collect(alloc)
 }
 
@@ -328,7 +334,7 @@ fn limits_told(
     horizon: u32,
     limits: &Limits,
     train: &TrainRec,
-) -> Result<Vec<Action>, AllocError>
+) -> Result<Vec<LimitChange>, AllocError>
     ensures actions { IfOk result (λ found. found.items ≡ limits_told horizon limits.now train.now) }
     ensures sound { AreNumbered limits.now }
 {
@@ -344,7 +350,7 @@ fn limits_told(
         .on_line(u32::from(place.line()))
         .filter_map(|limit| limit_to_tell(horizon, train, limit.0, &limit.1, &near))
         .zip(free)
-        .map(|((number, told), id)| Action::TellLimit { id, number, told })
+        .map(|((number, told), id)| LimitChange::Tell { id, number, told })
         .collect(alloc)
 }
 

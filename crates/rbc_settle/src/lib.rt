@@ -1,8 +1,8 @@
 //! Settling one train: what is revoked and what is told, under which identifiers and stamps, and in which order.
 #![tactic(auto)]
 
-mod action;
 mod carry;
+mod change;
 mod judge;
 mod law;
 mod numbers;

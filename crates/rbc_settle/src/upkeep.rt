@@ -1,13 +1,14 @@
 //! Settling one train.
 
-ghost use Rattle.std.specs.Prelude.{◌≡◌, ◌+◌, ◌*◌, ◌≤◌, [], ◌++◌, map, length, IfOk, OnOk, OnErr, IfSome, IfNone};
+ghost use Rattle.std.specs.Prelude.{◌≡◌, ◌+◌, ◌≤◌, [], ◌++◌, map, length, IfOk, OnOk, OnErr, IfSome, IfNone, IsTrue, false};
 ghost use Rattle.std.specs.List.{All};
 ghost use Rattle.ertms_codec.specs.ToTrain.{Fits};
-ghost use Rattle.rbc_settle.specs.Trains.{stop_identifiers, limit_identifiers};
-ghost use Rattle.rbc_settle.specs.Settling.{actions_with_stamp, settled, messages_of, to_engine};
+ghost use Rattle.rbc_settle.specs.Settling.{most_messages, in_messages, actions_with_stamp, settled, messages_of, to_engine};
+ghost use Rattle.rbc_settle.specs.Sending.{CanTake, HasTaken, AreBehind};
 ghost use Rattle.rbc_settle.specs.UpToDate.{IsUpToDateOrAtTheEnd};
 
-use crate::judge::actions;
+use crate::change::Changes;
+use crate::judge::changes;
 use crate::train::TrainRec;
 use ertms_codec::ToTrain;
 use rbc_track::Track;
@@ -15,7 +16,7 @@ use rbc_zones::{Limits, Stops};
 use std::alloc::{AllocError, Global};
 
 /// A message that is sent to a train.
-#[derive(Clone, Copy, Debug, PartialEq, Eq)]
+#[derive(Debug, Drop)]
 pub struct Sent {
     /// NID_ENGINE of the train.
     pub engine: u32,
@@ -23,11 +24,11 @@ pub struct Sent {
     pub message: ToTrain,
 }
 
-/// Brings a copy of a train up to date (own rule). Stops that are not active any more are revoked, and stops that concern the
-/// train are told; then the same is done with restrictions. All of it is judged before the first action, and each action takes
-/// the next stamp, as long as stamps are left.
+/// Brings a copy of a train up to date (own rule). Stops that are not active any more, or are escalated, are revoked, and stops that
+/// concern the train are told, each by a message; then the same is done with restrictions, a hundred to a message. All of it is judged
+/// before the first change, and each message takes the next stamp, as long as stamps are left.
 ///
-/// Returns the copy, and puts its 1 to 540 messages behind those of `sent`, in their order. Returns `None` and leaves `sent` as it
+/// Returns the copy, and puts its 1 to 36 messages behind those of `sent`, in their order. Returns `None` and leaves `sent` as it
 /// is if there is nothing to do or no stamp is left; that takes no memory if there is nothing to do. Fails only for lack of memory,
 /// which leaves `sent` as it is.
 pub fn settled(
@@ -44,26 +45,43 @@ pub fn settled(
     ensures messages { OnOk result (sent.new.items ≡ sent.old.items ++ to_engine train.now.engine (messages_of track.now stops.now limits.now train.now)) }
     ensures err { OnErr result (sent.new.items ≡ sent.old.items) }
     ensures fit { All (λ one. Fits one.message) sent.old.items → OnOk result (All (λ one. Fits one.message) sent.new.items) }
-    ensures few { OnOk result (length sent.new.items ≤ length sent.old.items + (2 * stop_identifiers + 2 * limit_identifiers)) }
+    ensures few { OnOk result (length sent.new.items ≤ length sent.old.items + most_messages) }
     ensures up_to_date { OnOk result (IsUpToDateOrAtTheEnd track.now stops.now limits.now (settled track.now stops.now limits.now train.now)) }
 {
-    let actions = actions(alloc, track, stops, limits, train)?;
-    if actions.is_empty() {
+    let changes = changes(alloc, track, stops, limits, train)?;
+    if are_none(&changes) {
         return Ok(None);
     }
     let mut after = train.copy(alloc)?;
     let before = sent.len();
-    for action in &actions {
-        let one = Sent {
-            engine: train.engine,
-            message: after.message_of(action),
-        };
-        if after.carry_out(action).is_err() || sent.push(one).is_err() {
-            sent.truncate(before);
-            return Err(AllocError);
-        }
+    if change(alloc, &mut after, &changes, sent).is_err() {
+        sent.truncate(before);
+        return Err(AllocError);
     }
     Ok(Some(after))
+}
+
+/// Whether there is nothing to change.
+fn are_none(changes: &Changes) -> bool
+    ensures none { IsTrue result → in_messages changes.now.stops.items changes.now.limits.items ≡ [] }
+    ensures some { result ≡ false → 1 ≤ length (in_messages changes.now.stops.items changes.now.limits.items) }
+{
+    changes.stops.is_empty() && changes.limits.is_empty()
+}
+
+/// Makes all changes to a train, and puts their messages behind those of `sent`. Fails only for lack of memory.
+fn change(
+    alloc: Global,
+    train: &mut TrainRec,
+    changes: &Changes,
+    sent: &mut Vec<Sent>,
+) -> Result<(), AllocError>
+    requires { CanTake train.old (in_messages changes.now.stops.items changes.now.limits.items) }
+    ensures taken { OnOk result (HasTaken train.old (in_messages changes.now.stops.items changes.now.limits.items) sent.old.items train.new sent.new.items) }
+    ensures behind { AreBehind sent.old.items sent.new.items }
+{
+    train.change_stops(&changes.stops, sent)?;
+    train.change_limits(alloc, &changes.limits, sent)
 }
 
 /// Brings a train up to date as `settled` does, and returns the messages that do it, in their order. Takes memory only if there
@@ -79,7 +97,7 @@ pub fn settle(
     ensures messages { IfOk result (λ sent. map (λ one. one.message) sent.items ≡ messages_of track.now stops.now limits.now train.old) }
     ensures engine { IfOk result (λ sent. All (λ one. one.engine ≡ train.old.engine) sent.items) }
     ensures fit { IfOk result (λ sent. All (λ one. Fits one.message) sent.items) }
-    ensures few { IfOk result (λ sent. length sent.items ≤ 2 * stop_identifiers + 2 * limit_identifiers) }
+    ensures few { IfOk result (λ sent. length sent.items ≤ most_messages) }
     ensures up_to_date { OnOk result (IsUpToDateOrAtTheEnd track.now stops.now limits.now train.new) }
     ensures err { OnErr result (train.new ≡ train.old) }
 {

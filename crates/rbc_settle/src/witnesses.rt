@@ -2,7 +2,7 @@
 
 ghost use Rattle.rbc_settle.specs.UpToDate.{StaysAsItIs, IsUpToDate};
 ghost use Rattle.rbc_settle.specs.WellFormed.{IsWellFormedTrain};
-ghost use Rattle.rbc_settle.specs.Witnesses.{track_a, stop_1, no_stop, limit_1, no_limit, told, untold, told_twice, one_stamp, stamp_ahead, told_as_limit, sixteenth, never_given, beyond_5, group_elsewhere, group_turned, placed_at, limited, unanswered, counted_unconditional};
+ghost use Rattle.rbc_settle.specs.Witnesses.{track_a, stop_1, no_stop, limit_1, no_limit, told, untold, told_twice, one_stamp, one_message, shared_stamp, stamp_ahead, told_as_limit, sixteenth, never_given, beyond_5, group_elsewhere, group_turned, placed_at, limited, unanswered, counted_unconditional};
 ghost use Rattle.std.specs.Prelude.{◌≡◌, [], ◌∷◌};
 ghost use Rattle.rbc_ids.specs.declared.slot.Slot.TheVariants.{Revoking};
 ghost use Rattle.rbc_ids.specs.declared.slot.Kind.TheVariants.{Unconditional};
@@ -12,19 +12,22 @@ ghost use Rattle.rbc_settle.specs.Settling.{settled};
 /// What `settle_law` promises holds of a right train, and does not hold of wrong ones.
 ///
 /// Right: stop 1 is active, and train 7, whose place is not known, was told it under identifier 0 with stamp 1. The train stays
-/// as it is, is up to date and is well-formed; it is also well-formed at a place 200 m beyond balise group 5.
+/// as it is, is up to date and is well-formed; it is also well-formed at a place 200 m beyond balise group 5. So is a train to
+/// which one message told a restriction and revoked another one, both with its stamp.
 ///
 /// A train does not stay as it is, and is not up to date, where an active stop that concerns it was not told, where a slot is
 /// used by a stop that is not active any more, or where a restriction that was told lies wholly behind it.
 ///
-/// A train is not well-formed where a stop was told under two identifiers or under identifier 15, where two slots have one
-/// stamp, where the stamp of a slot is above the train's, where a stop's slot is that of a restriction, where a stop was told
-/// that was never given, or where the position or the direction of its balise group is not the one on the track.
+/// A train is not well-formed where a stop was told under two identifiers or under identifier 15, where the stamp of a stop is
+/// that of another stop or of a restriction, where the stamp of a slot is above the train's, where a stop's slot is that of a
+/// restriction, where a stop was told that was never given, or where the position or the direction of its balise group is not
+/// the one on the track.
 pub fn settle_law_witnesses()
     ensures told_stays { StaysAsItIs track_a stop_1 no_limit told }
     ensures told_is_up_to_date { IsUpToDate track_a stop_1 no_limit told }
     ensures told_is_well_formed { IsWellFormedTrain track_a stop_1 no_limit told }
     ensures placed_is_well_formed { IsWellFormedTrain track_a stop_1 no_limit (placed_at beyond_5) }
+    ensures one_message_is_well_formed { IsWellFormedTrain track_a no_stop limit_1 one_message }
     ensures untold_changes { StaysAsItIs track_a stop_1 no_limit untold → ⊥ }
     ensures untold_is_behind { IsUpToDate track_a stop_1 no_limit untold → ⊥ }
     ensures stop_not_active_changes { StaysAsItIs track_a no_stop no_limit told → ⊥ }
@@ -34,6 +37,7 @@ pub fn settle_law_witnesses()
     ensures two_identifiers { IsWellFormedTrain track_a stop_1 no_limit told_twice → ⊥ }
     ensures identifier_15 { IsWellFormedTrain track_a stop_1 no_limit sixteenth → ⊥ }
     ensures one_stamp_twice { IsWellFormedTrain track_a stop_1 no_limit one_stamp → ⊥ }
+    ensures stamp_of_a_restriction { IsWellFormedTrain track_a stop_1 limit_1 shared_stamp → ⊥ }
     ensures stamp_above_the_trains { IsWellFormedTrain track_a stop_1 no_limit stamp_ahead → ⊥ }
     ensures restriction_among_stops { IsWellFormedTrain track_a stop_1 no_limit told_as_limit → ⊥ }
     ensures number_never_given { IsWellFormedTrain track_a stop_1 no_limit never_given → ⊥ }

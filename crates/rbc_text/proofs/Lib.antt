@@ -4,4 +4,5 @@ mod LineWords
 mod Texts
 pub mod FirstPlaces
 pub mod ResultLines
+pub mod HexDigits
 pub mod HexWords

@@ -64,23 +64,41 @@ fn push_result(text: &mut Vec<u8>, input: u64, reply: Reply) -> Result<(), Alloc
     }
 }
 
+/// How many bytes are made digits at once: a message that has no more takes one step.
+const AT_ONCE: usize = 32;
+
 /// Appends at most 32 bytes as hexadecimal digits, in upper case.
 #[inline(always)]
-fn push_hex(text: &mut Vec<u8>, bytes: &[u8]) -> Result<(), AllocError>
-    requires { length bytes.now ≤ 32 }
+fn push_digits(text: &mut Vec<u8>, bytes: &[u8]) -> Result<(), AllocError>
+    requires { length bytes.now ≤ AT_ONCE }
     ensures { OnOk result (text.new.items ≡ text.old.items ++ encode_upper bytes.now) }
 {
-    let mut buffer = [0u8; 64];
+    let mut buffer = [0u8; 2 * AT_ONCE];
     let digits = &mut buffer[..2 * bytes.len()];
     hex::encode_to_slice(bytes, digits).unwrap();
     digits.make_ascii_uppercase();
     text.extend_from_slice(digits)
 }
 
-/// Appends the line of a message to an engine, which an input sent.
+/// Appends bytes as hexadecimal digits, in upper case.
+#[inline(always)]
+fn push_hex(text: &mut Vec<u8>, bytes: &[u8]) -> Result<(), AllocError>
+    ensures { OnOk result (text.new.items ≡ text.old.items ++ encode_upper bytes.now) }
+{
+    let mut rest = bytes;
+    while rest.len() > AT_ONCE {
+        let (first, behind) = rest.split_at(AT_ONCE);
+        push_digits(text, first)?;
+        rest = behind;
+    }
+    push_digits(text, rest)
+}
+
+/// Appends the line of a message to an engine, which an input sent. The message is written into a buffer first.
 #[inline(always)]
 fn push_message(
     text: &mut Vec<u8>,
+    buffer: &mut [u8; 1024],
     engine: u32,
     input: u64,
     message: &ToTrain,
@@ -88,8 +106,7 @@ fn push_message(
     requires { Fits message.now }
     ensures { OnOk result (text.new.items ≡ text.old.items ++ mail_line engine (record { input = input; message = message.now })) }
 {
-    let mut buffer = [0u8; 32];
-    let used = write_to_train(message, &mut buffer);
+    let used = write_to_train(message, buffer);
     push_decimal(text, u64::from(engine))?;
     text.extend_from_slice(b" ")?;
     push_decimal(text, input)?;
@@ -99,12 +116,17 @@ fn push_message(
 }
 
 /// Appends the lines of an engine's outbox.
-fn push_outbox(text: &mut Vec<u8>, engine: u32, mails: &[Mail]) -> Result<(), AllocError>
+fn push_outbox(
+    text: &mut Vec<u8>,
+    buffer: &mut [u8; 1024],
+    engine: u32,
+    mails: &[Mail],
+) -> Result<(), AllocError>
     requires { AreSendable mails.now }
     ensures { OnOk result (text.new.items ≡ text.old.items ++ outbox_lines (engine, mails.now)) }
 {
     for mail in mails {
-        push_message(text, engine, u64::from(mail.input), &mail.message)?;
+        push_message(text, buffer, engine, u64::from(mail.input), &mail.message)?;
     }
     Ok(())
 }
@@ -123,9 +145,10 @@ fn push_results(text: &mut Vec<u8>, results: &[Reply]) -> Result<(), AllocError>
 fn push_outboxes(text: &mut Vec<u8>, desk: &Desk) -> Result<(), AllocError>
     ensures { OnOk result (text.new.items ≡ text.old.items ++ flat_map outbox_lines desk.now.outboxes) }
 {
+    let mut buffer = [0u8; 1024];
     for index in 0..desk.outboxes() {
         let (engine, mails) = desk.outbox_at(index);
-        push_outbox(text, engine, mails)?;
+        push_outbox(text, &mut buffer, engine, mails)?;
     }
     Ok(())
 }
@@ -145,9 +168,10 @@ fn push_messages(text: &mut Vec<u8>, input: u64, messages: &SentList) -> Result<
     requires { sending.AreSendable messages.now }
     ensures { OnOk result (text.new.items ≡ text.old.items ++ flat_map (sent_line input) messages.now) }
 {
+    let mut buffer = [0u8; 1024];
     for index in 0..messages.len() {
         let sent = messages.at(index);
-        push_message(text, sent.engine, input, &sent.message)?;
+        push_message(text, &mut buffer, sent.engine, input, &sent.message)?;
     }
     Ok(())
 }

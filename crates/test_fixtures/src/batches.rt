@@ -56,6 +56,25 @@ lift 1
 ",
 };
 
+/// One report brings two restrictions into sight, which one message tells. Its acknowledgement comes twice.
+pub const SEVERAL: Worked = Worked {
+    batch: "enrol 7 2000
+restrict 1 0:20000-21000 up 40 1
+restrict 2 0:30000-31000 up 80 0
+recv 8806000000FA000001C000E400000287D0500C8019000830
+recv 9203800000FA000001C00000FA40
+recv 9203800000FA000001C00000FA40
+",
+    output: "1 ok 0
+2 ok 0
+3 ok 0
+4 ok 1
+5 ok 0
+6 ok 0
+7 4 1807000000FA600000A82811C004E200FA2210502380338801F40800
+",
+};
+
 /// Stops take all 15 identifiers of the train; one more waits until it acknowledges that the first one is revoked.
 pub const FULL: Worked = Worked {
     batch: "enrol 7 2000
@@ -182,7 +201,7 @@ recv 8806000000FA000001C000E580000287D0500C8019000830
 };
 
 /// Those in which the train is told something, and more than one thing happens.
-pub const WORKED_BATCHES: [Worked; 4] = [REJECTED, RESTRICTED, FULL, TWICE];
+pub const WORKED_BATCHES: [Worked; 5] = [REJECTED, RESTRICTED, SEVERAL, FULL, TWICE];
 
 /// So many lines of a batch, behind the first ones.
 ///

@@ -1,7 +1,10 @@
 //! Messages given from outside: their bytes in hexadecimal, and what messages say. The train is engine 7.
 
+ghost use Rattle.std.specs.Prelude.{◌≤◌};
+
 use crate::setting::UP;
-use ertms_codec::{FromTrain, Head, Position, ToTrain};
+use ertms_codec::{FromTrain, Head, Packets, Part, Position, ToTrain, write_to_train};
+use std::alloc::{AllocError, Global};
 
 pub const REPORT: &str = "8806000000FA000001C000E400000287D0500C8019000830";
 
@@ -92,9 +95,12 @@ pub fn stop_at(head: Head, id: u8, scale: u8, dir: u8, distance: u16) -> ToTrain
 }
 
 /// A restriction to 40 km/h of 100 m, which begins so far from the balise group.
-pub fn restricted(head: Head, id: u8, start: u16) -> ToTrain {
-    ToTrain::Restrict {
-        head,
+///
+/// # Errors
+///
+/// None, as one packet alone takes no memory.
+pub fn restricted(alloc: Global, head: Head, id: u8, start: u16) -> Result<ToTrain, AllocError> {
+    let part = Part::Restrict {
         dir: 1,
         scale: 0,
         id,
@@ -102,14 +108,34 @@ pub fn restricted(head: Head, id: u8, start: u16) -> ToTrain {
         length: 1_000,
         front: true,
         speed: 8,
-    }
+    };
+    let packets = Packets::of(alloc, part)?;
+    Ok(ToTrain::General { head, packets })
 }
 
 /// The end of the restriction that has identifier 0.
-pub fn lifted(head: Head) -> ToTrain {
-    ToTrain::Lift {
-        head,
-        dir: 2,
-        id: 0,
+///
+/// # Errors
+///
+/// None, as one packet alone takes no memory.
+pub fn lifted(alloc: Global, head: Head) -> Result<ToTrain, AllocError> {
+    let packets = Packets::of(alloc, Part::Lift { dir: 2, id: 0 })?;
+    Ok(ToTrain::General { head, packets })
+}
+
+/// The bytes of a message, with zeros behind them, and their number: 0 where a variable is out of its range.
+pub fn written(message: &ToTrain) -> ([u8; 1024], usize)
+    ensures { result.1 ≤ 897 }
+{
+    let mut buffer = [0; 1024];
+    let mut used = 0;
+    if message.fits() {
+        used = write_to_train(message, &mut buffer);
     }
+    (buffer, used)
+}
+
+/// Whether two messages are written as the same bytes.
+pub fn is_same_message(left: &ToTrain, right: &ToTrain) -> bool {
+    left.fits() && written(left) == written(right)
 }

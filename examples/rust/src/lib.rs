@@ -6,6 +6,7 @@ use std::ptr;
 
 #[repr(C)]
 struct RawDesk {
+    version: u8,
     open: u8,
     memory: *mut c_void,
 }
@@ -24,11 +25,11 @@ pub struct Message {
     /// NID_ENGINE, 0 to 16777215.
     pub engine: u32,
     length: u32,
-    bytes: [u8; 32],
+    bytes: [u8; 1024],
 }
 
 impl Message {
-    const EMPTY: Message = Message { engine: 0, length: 0, bytes: [0; 32] };
+    const EMPTY: Message = Message { engine: 0, length: 0, bytes: [0; 1024] };
 
     /// The bytes as they are sent.
     pub fn bytes(&self) -> &[u8] {
@@ -48,6 +49,9 @@ extern "C" {
     ) -> u32;
     fn rbc_close(desk: *mut RawDesk) -> u32;
 }
+
+/// `RBC_VERSION` of the `include/rbc.h` that the structs above repeat.
+const VERSION: u8 = 3;
 
 const DONE: u32 = 0;
 const ROOM: u32 = 3;
@@ -84,7 +88,7 @@ unsafe impl Send for Desk {}
 impl Desk {
     /// Opens a desk on the text of a track.
     pub fn open(track: &str) -> Result<Desk, Fault> {
-        let mut raw = RawDesk { open: 0, memory: ptr::null_mut() };
+        let mut raw = RawDesk { version: VERSION, open: 0, memory: ptr::null_mut() };
         // SAFETY: the handle is none yet, and the text is as long as it says.
         match unsafe { rbc_open(&mut raw, track.as_ptr(), track.len()) } {
             DONE => Ok(Desk { raw, out: Vec::new() }),

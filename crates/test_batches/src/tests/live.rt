@@ -20,7 +20,7 @@ fn write_messages<R: Abort + AllocGlobal>(
 {
     for index in 0..messages.len() {
         let sent = messages.at(index);
-        let mut bytes = [0; 32];
+        let mut bytes = [0; 1024];
         let used = write_to_train(&sent.message, &mut bytes);
         write!(mails, "{} {number} ", sent.engine).expect(rt, "memory");
         for byte in &bytes[..used] {

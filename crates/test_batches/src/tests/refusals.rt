@@ -16,8 +16,8 @@ use std::sync::Wait;
 use std::test::Fail;
 use std::thread::Threads;
 use test_fixtures::{
-    FULL, REJECTED, RESTRICTED, UP, WORKED_BATCHES, Worked, acked, ending, rejected, reported,
-    track,
+    FULL, REJECTED, RESTRICTED, SEVERAL, UP, WORKED_BATCHES, Worked, acked, ending, rejected,
+    reported, track,
 };
 
 /// No output text of these has more bytes.
@@ -130,6 +130,18 @@ fn restricted_lines() -> [Line; 5] {
     ]
 }
 
+/// The inputs of the batch in which one message tells two restrictions.
+fn several_lines() -> [Line; 6] {
+    [
+        ENROL,
+        Line::Restrict(1, segment(20_000, 21_000), Dirs::Up, 40, true),
+        Line::Restrict(2, segment(30_000, 31_000), Dirs::Up, 80, false),
+        Line::Received(reported(1_000, UP)),
+        Line::Received(acked(1_001)),
+        Line::Received(acked(1_001)),
+    ]
+}
+
 /// The inputs of the batch in which a stop waits for an identifier.
 fn full_lines(alloc: Global) -> Result<Vec<Line>, Fail> {
     let mut lines = Vec::new(alloc);
@@ -178,6 +190,7 @@ fn parses_or_gives_no_inputs(rt: HostRuntime) -> Result<(), Fail> {
     let full = full_lines(rt.alloc())?;
     let rejected = parse_twice(&rt, REJECTED.batch, rejected_lines().as_slice());
     let restricted = parse_twice(&rt, RESTRICTED.batch, restricted_lines().as_slice());
+    let several = parse_twice(&rt, SEVERAL.batch, several_lines().as_slice());
     let waited = parse_twice(&rt, FULL.batch, &full);
-    ending(rejected || restricted || waited)
+    ending(rejected || restricted || several || waited)
 }

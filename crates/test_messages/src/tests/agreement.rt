@@ -1,5 +1,6 @@
 //! That the readers answer as the slow decoder does, whatever the bytes are.
 
+use super::several::{LIFT_AND_RESTRICT, RESTRICT_TWICE};
 use super::{assert_agreement, bytes_of};
 use std::process::Abort;
 use test_fixtures::{
@@ -9,7 +10,7 @@ use test_fixtures::{
     STOP_AT_7000_IN_REVERSE, STOP_AT_10000,
 };
 
-const MESSAGES: [&str; 19] = [
+const MESSAGES: [&str; 21] = [
     REPORT,
     REPORT_IN_REVERSE,
     REPORT_AND_PACKET_5,
@@ -29,6 +30,8 @@ const MESSAGES: [&str; 19] = [
     STOP_AT_7000_IN_REVERSE,
     RESTRICT,
     LIFT,
+    RESTRICT_TWICE,
+    LIFT_AND_RESTRICT,
 ];
 
 /// Some bytes, of which the one at a place is another.
@@ -41,7 +44,7 @@ fn replaced<R: Abort + AllocGlobal>(rt: &R, bytes: &[u8], place: usize, byte: u8
 }
 
 /// The bytes with their number as L_MESSAGE.
-fn counted<R: Abort + AllocGlobal>(rt: &R, bytes: &[u8]) -> Vec<u8> {
+pub(super) fn counted<R: Abort + AllocGlobal>(rt: &R, bytes: &[u8]) -> Vec<u8> {
     let high = bytes.len() / 4 % 256;
     let low = bytes.len() % 4 * 64;
     let third = bytes.get(2).copied().unwrap_or(0);

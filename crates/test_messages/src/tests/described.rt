@@ -1,5 +1,6 @@
 //! Messages as text.
 
+use super::several::RESTRICT_TWICE;
 use super::{bytes_of, same};
 use ertms_codec::describe;
 use test_fixtures::{REPORT, RESTRICT, STOP};
@@ -11,6 +12,10 @@ fn describes_messages(rt: HostRuntime) {
         (
             RESTRICT,
             "24 stamp 1001 ack 1 lrbg 5 65 dir 1 scale 0 tsr 0 start 0 length 1000 front 1 speed 8\n",
+        ),
+        (
+            RESTRICT_TWICE,
+            "24 stamp 1001 ack 1 lrbg 5 65 dir 1 scale 0 tsr 0 start 10000 length 1000 front 1 speed 8 65 dir 1 scale 0 tsr 1 start 20000 length 1000 front 0 speed 16\n",
         ),
         (
             REPORT,

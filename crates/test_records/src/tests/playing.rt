@@ -230,7 +230,8 @@ Done(0) +Roster +Train(7) +Unplaced
 Done(0) +Limits
 > report 7 1000 5
 Done(1) -Unplaced +Line(0) +Train(7)
-7 Restrict { head: Head { stamp: 1001, ack: true, lrbg: 5 }, dir: 1, scale: 0, id: 0, start: 1000, length: 1000, front: true, speed: 8 }
+7 General { head: Head { stamp: 1001, ack: true, lrbg: 5 }, packets: Packets { \
+first: Restrict { dir: 1, scale: 0, id: 0, start: 1000, length: 1000, front: true, speed: 8 }, more: [] } }
 > stop 4 0:20000-21000
 Done(1) +Train(7) +Stops
 7 StopAt { head: Head { stamp: 1002, ack: false, lrbg: 5 }, id: 0, scale: 0, reference: 0, dir: 1, distance: 10000 }
@@ -242,7 +243,32 @@ Done(1) +Train(7) +Stops
 7 Revoke { head: Head { stamp: 1102, ack: true, lrbg: 5 }, id: 0 }
 > lift 1
 Done(1) +Train(7) +Limits
-7 Lift { head: Head { stamp: 1103, ack: true, lrbg: 5 }, dir: 2, id: 0 }
+7 General { head: Head { stamp: 1103, ack: true, lrbg: 5 }, packets: Packets { \
+first: Lift { dir: 2, id: 0 }, more: [] } }
+";
+
+/// One message tells two restrictions, and one acknowledgement answers both; each ends by a message of its own.
+const SEVERAL: &str = "> enrol 7 2000
+Done(0) +Roster +Train(7) +Unplaced
+> restrict 1 0:20000-21000 40
+Done(0) +Limits
+> restrict 2 0:30000-31000 80
+Done(0) +Limits
+> report 7 1000 5
+Done(1) -Unplaced +Line(0) +Train(7)
+7 General { head: Head { stamp: 1001, ack: true, lrbg: 5 }, packets: Packets { \
+first: Restrict { dir: 1, scale: 0, id: 0, start: 10000, length: 1000, front: true, speed: 8 }, \
+more: [Restrict { dir: 1, scale: 0, id: 1, start: 20000, length: 1000, front: true, speed: 16 }] } }
+> ack 1000 1001
+Done(0) +Train(7)
+> lift 2
+Done(1) +Train(7) +Limits
+7 General { head: Head { stamp: 1002, ack: true, lrbg: 5 }, packets: Packets { \
+first: Lift { dir: 2, id: 1 }, more: [] } }
+> lift 1
+Done(1) +Train(7) +Limits
+7 General { head: Head { stamp: 1003, ack: true, lrbg: 5 }, packets: Packets { \
+first: Lift { dir: 2, id: 0 }, more: [] } }
 ";
 
 /// Train 7 is enrolled and stop 5 is active: the least code that applies refuses each of these, and nothing changes.
@@ -322,6 +348,7 @@ Done(0) -Roster -Train(7) -Unplaced
 fn each_input_writes_what_it_changes(rt: HostRuntime) {
     assert_transcript(&rt, rt.alloc(), WITHOUT_A_PLACE);
     assert_transcript(&rt, rt.alloc(), AT_A_PLACE);
+    assert_transcript(&rt, rt.alloc(), SEVERAL);
     assert_transcript(&rt, rt.alloc(), REFUSED);
     assert_transcript(&rt, rt.alloc(), MOVING);
 }

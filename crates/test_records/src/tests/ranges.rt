@@ -6,7 +6,7 @@ use ertms_codec::{FromTrain, ToTrain};
 use rbc_rule::{Input, Segments, SentList};
 use rbc_zones::{Dirs, Segment};
 use std::alloc::Global;
-use test_fixtures::{UP, head};
+use test_fixtures::{UP, head, is_same_message};
 
 const SEGMENT: Segment = Segment {
     line: 0,
@@ -24,6 +24,12 @@ fn nowhere(alloc: Global) -> Input {
         number: 1,
         segments: Segments::new(alloc),
     }
+}
+
+/// A message with this stamp.
+fn stopped(stamp: u32) -> ToTrain {
+    let head = head(stamp, false, 5);
+    ToTrain::Stop { head, id: 0 }
 }
 
 #[test]
@@ -76,17 +82,15 @@ fn lists_keep_their_order(rt: HostRuntime) {
     same(&rt, segments.as_slice(), [SEGMENT, other].as_slice());
     let mut sent = SentList::new(rt.alloc());
     same(&rt, sent.len(), 0);
-    let first = to_seven(ToTrain::Stop {
-        head: head(1, false, 5),
-        id: 0,
-    });
-    let second = to_seven(ToTrain::Revoke {
-        head: head(2, true, 5),
-        id: 0,
-    });
-    sent.add(first).expect(&rt, "memory");
-    sent.add(second).expect(&rt, "memory");
+    for stamp in [1, 2] {
+        sent.add(to_seven(stopped(stamp))).expect(&rt, "memory");
+    }
     assert!(rt; sent.len() == 2);
-    same(&rt, (*sent.at(0), *sent.at(1)), (first, second));
-    same(&rt, sent.into_vec().as_slice(), [first, second].as_slice());
+    assert!(rt; is_same_message(&sent.at(0).message, &stopped(1)));
+    assert!(rt; is_same_message(&sent.at(1).message, &stopped(2)));
+    let all = sent.into_vec();
+    same(&rt, all.len(), 2);
+    for (one, stamp) in all.iter().zip([1, 2]) {
+        assert!(rt; is_same_message(&one.message, &stopped(stamp)));
+    }
 }

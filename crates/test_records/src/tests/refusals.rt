@@ -15,7 +15,8 @@ use std::alloc::{AllocError, Global};
 use std::process::Abort;
 use std::test::Fail;
 use test_fixtures::{
-    UNKNOWN_GROUP, UP, ending, head, lifted, rejected, reported, restricted, stop_at,
+    UNKNOWN_GROUP, UP, ending, head, is_same_message, lifted, rejected, reported, restricted,
+    stop_at,
 };
 
 /// Engines 1 to this one are those of the batch with many trains.
@@ -61,8 +62,10 @@ fn assert_right(rt: &impl Abort, outcome: &Outcome, right: &Right<'_>) {
     assert_keys(rt, &outcome.writes, right.keys);
     same(rt, outcome.messages.len(), right.sent.len());
     for index in 0..outcome.messages.len() {
-        let sent = *outcome.messages.at(index);
-        same(rt, Some(sent), right.sent.get(index).copied());
+        let sent = outcome.messages.at(index);
+        let wanted = right.sent.get(index).expect(rt, "a message");
+        same(rt, sent.engine, wanted.engine);
+        assert!(rt; is_same_message(&sent.message, &wanted.message));
     }
 }
 
@@ -200,16 +203,16 @@ fn play_rejected(rt: &impl Abort, play: &mut Play) -> Result<(), Fail> {
 
 /// Of two restrictions one lies ahead of train 7, and is lifted.
 fn play_restricted(rt: &impl Abort, play: &mut Play) -> Result<(), Fail> {
-    let restricted = restricted(head(1_001, true, 5), 0, 1_000);
-    let lifted = lifted(head(1_002, true, 5));
     let with_limits = [Key::Train(7), Key::Limits];
     play.done(rt, &enrol(7), ENROLLED, None)?;
     play.done(rt, &Input::Received(reported(1_000, UP)), PLACED, None)?;
     let ahead = restrict(1, 11_000, 12_000);
+    let restricted = restricted(play.alloc, head(1_001, true, 5), 0, 1_000)?;
     play.done(rt, &ahead, with_limits.as_slice(), Some(restricted))?;
     let behind = restrict(2, 1_000, 9_899);
     play.done(rt, &behind, &[Key::Limits], None)?;
     let free = Input::Lift { number: 1 };
+    let lifted = lifted(play.alloc, head(1_002, true, 5))?;
     play.done(rt, &free, with_limits.as_slice(), Some(lifted))
 }
 

@@ -117,18 +117,18 @@ const READ_IN_BETWEEN: &[Call] = &[
 #[test]
 fn read_before_and_behind_a_commit(rt: HostRuntime) {
     let inputs = enrol_and_stop(&rt);
-    let mail = stopped(2, 1, 0);
+    let mails = [stopped(2, 1, 0)];
     let left_stale = Left {
         taken: 2,
         recomputed: 1,
         results: &[DONE, TOLD],
-        mails: &[mail],
+        mails: &mails,
     };
     let left_fresh = Left {
         taken: 2,
         recomputed: 0,
         results: &[DONE, TOLD],
-        mails: &[mail],
+        mails: &mails,
     };
     assert_left(&rt, &inputs, SECOND_FIRST, &left_stale);
     assert_left(&rt, &inputs, READ_BEFORE_IT_IS_COMMITTED, &left_fresh);
@@ -187,9 +187,9 @@ fn two_trains_are_told(rt: HostRuntime) {
     same(&rt, stats, wanted);
     same(&rt, desk.results(), [DONE, DONE, Reply::Done(2)].as_slice());
     same(&rt, desk.outboxes(), 2);
-    let mail = stopped(3, 1, 0);
-    assert_outbox(&rt, &desk, 0, 7, &[mail]);
-    assert_outbox(&rt, &desk, 1, 8, &[mail]);
+    let mails = [stopped(3, 1, 0)];
+    assert_outbox(&rt, &desk, 0, 7, &mails);
+    assert_outbox(&rt, &desk, 1, 8, &mails);
     let last_inputs = [
         enrol(9),
         enrol(7),
@@ -202,8 +202,8 @@ fn two_trains_are_told(rt: HostRuntime) {
         [DONE, DONE, Reply::Done(2)].as_slice(),
     );
     same(&rt, last_desk.outboxes(), 2);
-    assert_outbox(&rt, &last_desk, 0, 7, &[mail]);
-    assert_outbox(&rt, &last_desk, 1, 9, &[mail]);
+    assert_outbox(&rt, &last_desk, 0, 7, &mails);
+    assert_outbox(&rt, &last_desk, 1, 9, &mails);
     assert!(rt; last_desk.outbox(8).is_empty());
 }
 

@@ -13,7 +13,7 @@ use rbc_track::Track;
 use rbc_zones::Segment;
 use std::alloc::{AllocError, Global};
 use std::process::Abort;
-use test_fixtures::{UNKNOWN_GROUP, head, track};
+use test_fixtures::{UNKNOWN_GROUP, head, is_same_message, track};
 
 /// The track, where memory suffices.
 pub(crate) fn good_track<R: Abort + AllocGlobal>(rt: &R) -> Track
@@ -62,6 +62,15 @@ pub(crate) fn revoked(input: u32, stamp: u32, id: u8) -> Mail {
     Mail { input, message }
 }
 
+/// Asserts that mails are the wanted ones.
+fn assert_mails(rt: &impl Abort, mails: &[Mail], wanted: &[Mail]) {
+    same(rt, mails.len(), wanted.len());
+    for (got, mail) in mails.iter().zip(wanted) {
+        same(rt, got.input, mail.input);
+        assert!(rt; is_same_message(&got.message, &mail.message));
+    }
+}
+
 /// Asserts the engine and the mails of the outbox at an index.
 pub(crate) fn assert_outbox(
     rt: &impl Abort,
@@ -73,6 +82,6 @@ pub(crate) fn assert_outbox(
     assert!(rt; index < desk.outboxes());
     let (number, sent) = desk.outbox_at(index);
     same(rt, number, engine);
-    same(rt, sent, mails);
-    same(rt, desk.outbox(engine), mails);
+    assert_mails(rt, sent, mails);
+    assert_mails(rt, desk.outbox(engine), mails);
 }

@@ -102,6 +102,11 @@ fn reported(kind: Kind, acked: bool, count: u8) -> Option<Slot> {
     }))
 }
 
+/// Returns what an acknowledgement did that answered so many slots.
+fn answered(freed: u8, marked: u8) -> StampAck {
+    StampAck::Answered { freed, marked }
+}
+
 // the least free one, up to the last of 15 and of 255; one that is being revoked is not free
 #[test]
 fn issues_the_least_free_identifier(rt: HostRuntime) {
@@ -172,8 +177,31 @@ fn acknowledges_no_restriction_by_its_identifier(rt: HostRuntime) {
         same(&rt, table.ack_id(0, answer), IdAck::Nothing);
     }
     same(&rt, table.slot(0), told(Kind::Restriction, false));
-    same(&rt, table.ack_stamp(7), StampAck::Marked);
+    same(&rt, table.ack_stamp(7), answered(0, 1));
     same(&rt, table.slot(0), told(Kind::Restriction, true));
+}
+
+// one message with stamp 7 told a restriction and revoked another one; a stop is not acknowledged by its stamp
+#[test]
+fn acknowledges_each_slot_with_the_stamp(rt: HostRuntime) {
+    let mut table = one(&rt, rt.alloc(), Kind::Restriction);
+    for (id, stamp, kind) in [(1, 6, Kind::Restriction), (2, 7, Kind::Unconditional)] {
+        let number = 1 + u32::from(id);
+        same(&rt, issue(&mut table, number, stamp, kind), Some(Ok(id)));
+    }
+    assert!(rt; revoke(&mut table, 1, 7));
+    let told_stop = table.slot(2);
+    same(&rt, table.ack_stamp(6), StampAck::Nothing);
+    same(&rt, table.slot(1), Some(Slot::Revoking { stamp: 7 }));
+    for freed in [1, 0] {
+        same(&rt, table.ack_stamp(7), answered(freed, 1));
+        same(&rt, table.slot(0), told(Kind::Restriction, true));
+        same(&rt, (table.slot(1), table.slot(2)), (None, told_stop));
+        same(&rt, table.held(), 2);
+    }
+    assert!(rt; free(&mut table, 0));
+    same(&rt, table.ack_stamp(7), StampAck::Nothing);
+    same(&rt, table.slot(2), told_stop);
 }
 
 // a conditional stop counts reports, to at most three, until it is answered; an answer keeps the count
@@ -285,8 +313,6 @@ fn tables_differ_by_each_part_of_a_slot(rt: HostRuntime) {
     same(&rt, other.is_same(&table), false);
     same(&rt, revoke(&mut other, 0, 7), true);
     same(&rt, other.is_same(&table), false);
-    same(&rt, Slot::Revoking { stamp: 6 }.stamp(), 6);
-    same(&rt, stop(5).stamp(), 5);
     let (first, second) = (told_under(&rt, alloc, 1), told_under(&rt, alloc, 2));
     same(&rt, first.is_same(&second), false);
 }

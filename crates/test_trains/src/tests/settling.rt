@@ -1,4 +1,4 @@
-//! Trains whose stamps end.
+//! Trains whose stamps end, or whose restrictions take several messages.
 
 use super::tables::stops;
 use super::{good_track, same};
@@ -6,11 +6,25 @@ use ertms_codec::ToTrain;
 use rbc_ids::{Kind, Slot};
 use rbc_place::place_of;
 use rbc_settle::{Sent, TrainRec, settle};
-use rbc_zones::{Dirs, Limits};
-use test_fixtures::{UNKNOWN_GROUP, UP, area, head, issue, limit, stop_at};
+use rbc_track::Track;
+use rbc_zones::{Dirs, Limits, Stops};
+use std::alloc::Global;
+use std::process::Abort;
+use test_fixtures::{
+    UNKNOWN_GROUP, UP, area, head, is_same_message, issue, limit, stop_at, written,
+};
 
 /// The last stamp.
 const LAST: u32 = 4_294_967_294;
+
+/// Asserts that messages to the train are these.
+fn assert_sent(rt: &impl Abort, sent: &[Sent], wanted: &[ToTrain]) {
+    same(rt, sent.len(), wanted.len());
+    for (one, message) in sent.iter().zip(wanted) {
+        same(rt, one.engine, 7);
+        assert!(rt; is_same_message(&one.message, message));
+    }
+}
 
 // the last stamp is used, and nothing is told after it
 #[test]
@@ -26,17 +40,16 @@ fn stamps_end_inside_a_list(rt: HostRuntime) {
         head: head(LAST, false, UNKNOWN_GROUP),
         id: 0,
     };
-    let wanted = [Sent { engine: 7, message }];
-    same(&rt, sent.as_slice(), wanted.as_slice());
+    assert_sent(&rt, &sent, &[message]);
     same(&rt, (train.stamp, train.stops.held()), (LAST, 1));
     let again = settle(alloc, &track, &active, &limits, &mut train).expect(&rt, "memory");
     assert!(rt; again.is_empty());
     same(&rt, (train.stamp, train.stops.held()), (LAST, 1));
 }
 
-// two stamps are left for four actions of different kinds: a stop is revoked and another one told, and no restriction
+// two stamps are left for three messages: a stop is revoked and another one told, and no message on restrictions follows
 #[test]
-fn the_first_two_actions_get_the_last_two_stamps(rt: HostRuntime) {
+fn the_first_two_messages_get_the_last_two_stamps(rt: HostRuntime) {
     let alloc = rt.alloc();
     let track = good_track(&rt);
     let ahead = area(&track, 20_000, 21_000).expect(&rt, "a good area");
@@ -57,17 +70,7 @@ fn the_first_two_actions_get_the_last_two_stamps(rt: HostRuntime) {
         id: 0,
     };
     let told = stop_at(head(LAST, false, 5), 1, 0, 1, 10_000);
-    let wanted = [
-        Sent {
-            engine: 7,
-            message: revoked,
-        },
-        Sent {
-            engine: 7,
-            message: told,
-        },
-    ];
-    same(&rt, sent.as_slice(), wanted.as_slice());
+    assert_sent(&rt, &sent, &[revoked, told]);
     same(&rt, (train.stamp, train.limits.held()), (LAST, 1));
     same(
         &rt,
@@ -76,4 +79,54 @@ fn the_first_two_actions_get_the_last_two_stamps(rt: HostRuntime) {
             stamp: 4_294_967_293,
         }),
     );
+}
+
+/// So many restrictions ahead of the train.
+fn ahead(rt: &impl Abort, alloc: Global, track: &Track, count: u32) -> Limits {
+    let slow = limit(track, 20_000, 21_000, Dirs::Up).expect(rt, "a good restriction");
+    let mut limits = Limits::new(alloc);
+    for number in 1..=count {
+        assert!(rt; limits.last() < number);
+        limits.add(number, slow).expect(rt, "memory");
+    }
+    limits
+}
+
+/// Settles a train that only restrictions concern, and asserts how many bytes its messages have. Returns its last stamp, and how many
+/// restrictions it is told.
+fn settle_limits(
+    rt: &impl Abort,
+    alloc: Global,
+    track: &Track,
+    limits: &Limits,
+    train: &mut TrainRec,
+    wanted: &[usize],
+) -> (u32, usize) {
+    let stops = Stops::new(alloc);
+    let sent = settle(alloc, track, &stops, limits, train).expect(rt, "memory");
+    same(rt, sent.len(), wanted.len());
+    for (one, used) in sent.iter().zip(wanted) {
+        same(rt, written(&one.message).1, *used);
+    }
+    (train.stamp, train.limits.held())
+}
+
+// where stamps are left for all, and where one is left: its message tells a hundred, and nothing is told after it
+#[test]
+fn tells_a_hundred_restrictions_a_message(rt: HostRuntime) {
+    let alloc = rt.alloc();
+    let track = good_track(&rt);
+    let limits = ahead(&rt, alloc, &track, 255);
+    let rows = [
+        (1_000, [897, 897, 498].as_slice(), (1_003, 255)),
+        (LAST - 1, [897].as_slice(), (LAST, 100)),
+    ];
+    for (stamp, lengths, wanted) in rows {
+        let mut train = TrainRec::new(alloc, 7, 2_000, stamp);
+        train.place = place_of(&track, &UP, 2_000);
+        let told = settle_limits(&rt, alloc, &track, &limits, &mut train, lengths);
+        same(&rt, told, wanted);
+        let again = settle_limits(&rt, alloc, &track, &limits, &mut train, &[]);
+        same(&rt, again, wanted);
+    }
 }

@@ -1,11 +1,11 @@
-use Rattle.std.proofs.Common.{◌≡◌, ℕ, ◌≤◌, Bool, true, false, cond, eqb, List, [], ◌∷◌, ◌++◌, refl, sym, ◌∙◌, subst, arith}
+use Rattle.std.proofs.Common.{◌≡◌, ℕ, ◌≤◌, Bool, true, false, cond, eqb, List, [], ◌∷◌, ◌++◌, refl, sym, ap, ◌∙◌, subst, arith}
 use Rattle.std.specs.List.{All}
 use Rattle.std.proofs.lemmas.Bool.{eqb-true}
 use Rattle.std.proofs.lemmas.Option.{same_Some}
 use Rattle.std.proofs.lemmas.List.Elements.{All-nil, All-cons, All-head, All-tail}
 use Rattle.rbc_zones.specs.declared.segment.Segment.{Segment}
 use Rattle.rbc_settle.specs.Settling.{concern_to}
-use Rattle.rbc_rule.specs.Saying.{StopsAtOnce, StopsBefore, RevokesStop}
+use Rattle.rbc_rule.specs.Saying.{Said, StopsAtOnce, StopsBefore, RevokesStop}
 use Rattle.rbc_rule.specs.SaidFor.{IsEdgeSaid, IsConcernSaid}
 use Rattle.rbc_rule.specs.Witnesses.{on_line_0, stop_before, stop_now, revoke, naming}
 use Rattle.rbc_rule.proofs.WitnessSays.{differ, revokes_right}
@@ -34,7 +34,7 @@ returns-clause-both c engine = boxes engine (eqb 7 engine) refl
 pub returns-clause-other_number : goal.returns-clause-other_number
 returns-clause-other_number c h =
     let says = revokes_stop 7 (stop_before 1 0 10000) h in
-    let same : StopsBefore 0 says.says.1.0 ≡ RevokesStop 0 = sym says.says.1.1.1 ∙ says.is_for in
+    let same : StopsBefore 0 says.says.1.0 ∷ [] ≡ RevokesStop 0 ∷ [] = sym says.says.1.1.1 ∙ says.is_for in
     absurd (cc same)
 
 pub returns-clause-past_the_inputs : goal.returns-clause-past_the_inputs
@@ -47,9 +47,9 @@ pub returns-clause-other_kind : goal.returns-clause-other_kind
 returns-clause-other_kind c h =
     let says = tells_stop 7 (stop_now 1 0) h in
     let is_for = says.is_for in
-    let area : on_line_0 20000 21000 ∷ [] ≡ is_for.area = same_Some _ _ is_for.active in
-    let edge : IsEdgeSaid waiting 20000 0 says.said = subst (λ (a : List Segment). IsConcernSaid waiting (concern_to waiting (1, a)) 0 says.said) (sym area) is_for.concern in
-    let same : StopsAtOnce 0 ≡ StopsBefore 0 edge.spot = sym says.says ∙ edge.is_said in
+    let area : on_line_0 20000 21000 ∷ [] ≡ is_for.is.area = same_Some _ _ is_for.is.active in
+    let edge : IsEdgeSaid waiting 20000 0 is_for.one = subst (λ (a : List Segment). IsConcernSaid waiting (concern_to waiting (1, a)) 0 is_for.one) (sym area) is_for.is.concern in
+    let same : StopsAtOnce 0 ∷ [] ≡ StopsBefore 0 edge.spot ∷ [] = sym says.says ∙ is_for.alone ∙ ap (λ (one : Said). one ∷ []) edge.is_said in
     absurd (cc same)
 
 other_identifier : IsSaidThere 7 (mail 2 (revoke 1)) → ⊥

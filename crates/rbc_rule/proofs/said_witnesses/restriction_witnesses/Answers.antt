@@ -1,6 +1,5 @@
-use Rattle.std.proofs.Common.{◌≡◌, ◌+◌, ◌*◌, true, false, [], ◌∷◌, refl, ap, arith}
+use Rattle.std.proofs.Common.{◌≡◌, ◌+◌, ◌*◌, true, false, refl, arith}
 use Rattle.rbc_track.specs.declared.group.Way.TheVariants.{Up}
-use Rattle.rbc_rule.specs.Saying.{Stretch}
 use Rattle.rbc_rule.specs.Witnesses.{facing_up, on_line_0}
 use Rattle.rbc_rule.proofs.WitnessSays.{restrict_sendable, right_limit, limit_seen, front_seen, under_limit_id, differ}
 use Rattle.rbc_rule.proofs.said_witnesses.restriction_witnesses.Goals as goal

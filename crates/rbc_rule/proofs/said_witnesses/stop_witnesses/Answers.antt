@@ -1,7 +1,7 @@
-use Rattle.std.proofs.Common.{◌≡◌, ◌+◌, ◌*◌, ◌<◌, ◌≤◌, pos, [], ◌∷◌, refl, sym, ap, arith}
+use Rattle.std.proofs.Common.{◌≡◌, ◌+◌, ◌*◌, ◌<◌, ◌≤◌, pos, [], ◌∷◌, refl, arith}
 use Rattle.rbc_track.specs.declared.group.Way.TheVariants.{Up, Down}
 use Rattle.rbc_zones.proofs.ToldStops.{told_rightly}
-use Rattle.rbc_rule.specs.Saying.{Spot, StopsAtOnce, StopsBefore}
+use Rattle.rbc_rule.specs.Saying.{StopsAtOnce, StopsBefore}
 use Rattle.rbc_rule.specs.Witnesses.{facing_up, short_of_5, on_line_0}
 use Rattle.rbc_rule.proofs.Sendable as sendable
 use Rattle.rbc_rule.proofs.WitnessSays.{at_5, stop_before_sendable, right_stop, stop_seen, under_stop_id, not_at_once, under_edge_id, not_before, no_reference, differ, from_5, counted_from_5, from_6}
@@ -13,9 +13,9 @@ returns-clause-at_once c = (
   (
     (
       record {
-        said = StopsAtOnce 0;
+        said = StopsAtOnce 0 ∷ [];
         says = refl;
-        is_for = record { area = on_line_0 12100 13000 ∷ []; active = refl; concern = refl };
+        is_for = record { one = StopsAtOnce 0; is = record { area = on_line_0 12100 13000 ∷ []; active = refl; concern = refl }; alone = refl };
         by_its_group = refl;
         sendable = sendable.stop_at_once (at_5 1000) (omega arith) (omega arith) 0 1 (omega arith);
       },
@@ -34,8 +34,8 @@ returns-clause-at_the_group c =
 
 pub returns-clause-by_place : goal.returns-clause-by_place
 returns-clause-by_place c = record {
-  said = StopsBefore 0 from_6;
-  wanted = StopsBefore 0 (from_5 Up 50000 10);
+  said = StopsBefore 0 from_6 ∷ [];
+  wanted = StopsBefore 0 (from_5 Up 50000 10) ∷ [];
   says = (
     refl,
     (
@@ -50,15 +50,19 @@ returns-clause-by_place c = record {
     ),
   );
   is_for = record {
-    area = on_line_0 50005 60000 ∷ [];
-    active = refl;
-    concern = record {
-      p = facing_up;
-      placed = refl;
-      spot = from_5 Up 50000 10;
-      is_for = record { scale = 1; units = 4000; told = told_rightly 40005 (omega arith); on_line = refl; from_group = refl; faces = refl; in_units = refl; ahead = refl };
-      is_said = refl;
+    one = StopsBefore 0 (from_5 Up 50000 10);
+    is = record {
+      area = on_line_0 50005 60000 ∷ [];
+      active = refl;
+      concern = record {
+        p = facing_up;
+        placed = refl;
+        spot = from_5 Up 50000 10;
+        is_for = record { scale = 1; units = 4000; told = told_rightly 40005 (omega arith); on_line = refl; from_group = refl; faces = refl; in_units = refl; ahead = refl };
+        is_said = refl;
+      };
     };
+    alone = refl;
   };
   same = refl;
 }

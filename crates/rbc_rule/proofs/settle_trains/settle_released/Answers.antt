@@ -1,4 +1,4 @@
-use Rattle.std.proofs.Common.{◌≡◌, ℕ, ◌≤◌, ◌++◌, ◌∷◌, [], List, Option, Some, length, ap, sym, subst, ◌∙◌}
+use Rattle.std.proofs.Common.{◌≡◌, ℕ, ◌++◌, ◌∷◌, [], List, Option, Some, ap, sym, ◌∙◌}
 use Rattle.std.proofs.lemmas.Result.{on_ok_weaker, IfOk-equal}
 use Rattle.rbc_settle.specs.declared.train.TrainRec.{TrainRec}
 use Rattle.rbc_settle.specs.declared.upkeep.Sent.{Sent}
@@ -39,14 +39,11 @@ returns-clause-messages c =
     let copy : after ≡ train = c.in_ok-after.ensures in
     let start : record after { forced = c.remove.new.self } ≡ forget number train =
     ap (λ (forced : List ℕ). record after { forced = forced }) c.remove.ensures.numbers ∙ ap (forget number) copy in
-    let sent : c.deref.result.now ≡ to_engine train.engine (messages_of plan stops limits (forget number train)) =
-    c.deref.ensures.value
-    ∙ sent_is after.engine (messages_of plan stops limits (record after { forced = c.remove.new.self })) c.in_ok-sent.sent.items c.in_ok-sent.ensures.messages c.in_ok-sent.ensures.engine
+    let sent : c.in_ok-sent.sent.items ≡ to_engine train.engine (messages_of plan stops limits (forget number train)) =
+    sent_is after.engine (messages_of plan stops limits (record after { forced = c.remove.new.self })) c.in_ok-sent.sent.items c.in_ok-sent.ensures.messages c.in_ok-sent.ensures.engine
     ∙ (λ i. to_engine (copy i).engine (messages_of plan stops limits (start i))) in
     IfOk-equal c.gather.result _ _ _ c.gather.ensures.messages (ap (λ (more : List Sent). c.args.gathered.now.messages ++ more) sent)
 
 pub returns-clause-few : goal.returns-clause-few
 returns-clause-few c =
-    let same : c.deref.result.now ≡ c.in_ok-sent.sent.items = c.deref.ensures.value in
-    let few : length c.deref.result.now ≤ 540 = subst (λ (sent : List Sent). length sent ≤ 540) (sym same) c.in_ok-sent.ensures.few in
-    on_ok_weaker c.gather.result (λ e. few_more 540 c.args.gathered.now.messages c.gather.new.gathered.messages c.deref.result.now e few) c.gather.ensures.messages
+    on_ok_weaker c.gather.result (λ e. few_more 36 c.args.gathered.now.messages c.gather.new.gathered.messages c.in_ok-sent.sent.items e c.in_ok-sent.ensures.few) c.gather.ensures.messages

@@ -12,6 +12,6 @@ invariant-loop-engine g l =
     record {
       writes : (w : World) → MayBe l.track notes w → l.gathered.writes ≡ flat_map (write_at l.track l.stops l.limits (released_by l.change) w.trains) (take l.engine-index l.engine-items);
       messages : (w : World) → MayBe l.track notes w → l.gathered.messages ≡ flat_map (sent_at l.track l.stops l.limits (released_by l.change) w.trains) (take l.engine-index l.engine-items);
-      few : length l.gathered.messages ≤ l.engine-index * 540;
+      few : length l.gathered.messages ≤ l.engine-index * 36;
       fit : AreSendable l.gathered.messages;
     }

@@ -1,4 +1,4 @@
-use Rattle.std.proofs.Common.{◌≡◌, ◌+◌, ◌*◌, ◌/◌, ◌^◌, ◌<◌, ◌≤◌, false, [], ◌∷◌, refl, ap, arith}
+use Rattle.std.proofs.Common.{◌≡◌, ◌+◌, ◌*◌, ◌/◌, ◌^◌, ◌<◌, ◌≤◌, [], ◌∷◌, refl, ap, arith}
 use Rattle.rbc_track.specs.declared.group.Way.TheVariants.{Up, Down}
 use Rattle.rbc_zones.proofs.ToldStops.{told_rightly}
 use Rattle.rbc_rule.specs.Saying.{Spot, StopsAtOnce, StopsBefore, RevokesStop}
@@ -40,17 +40,17 @@ returns-clause-both_told c = (
   (
     (
       record {
-        said = StopsAtOnce 0;
+        said = StopsAtOnce 0 ∷ [];
         says = refl;
-        is_for = record { area = on_line_0 20000 21000 ∷ []; active = refl; concern = refl };
+        is_for = record { one = StopsAtOnce 0; is = record { area = on_line_0 20000 21000 ∷ []; active = refl; concern = refl }; alone = refl };
         by_its_group = refl;
         sendable = stop_now_sendable 0 0 (omega arith) (omega arith);
       },
       (
         record {
-          said = StopsAtOnce 1;
+          said = StopsAtOnce 1 ∷ [];
           says = refl;
-          is_for = record { area = on_line_0 40000 41000 ∷ []; active = refl; concern = refl };
+          is_for = record { one = StopsAtOnce 1; is = record { area = on_line_0 40000 41000 ∷ []; active = refl; concern = refl }; alone = refl };
           by_its_group = refl;
           sendable = stop_now_sendable 1 1 (omega arith) (omega arith);
         },
@@ -62,7 +62,7 @@ returns-clause-both_told c = (
 )
 
 pub returns-clause-revoked : goal.returns-clause-revoked
-returns-clause-revoked c = (refl, ((record { said = RevokesStop 0; says = refl; is_for = refl; by_its_group = refl; sendable = revoke_sendable 0 (omega arith) }, tt), tt))
+returns-clause-revoked c = (refl, ((record { said = RevokesStop 0 ∷ []; says = refl; is_for = refl; by_its_group = refl; sendable = revoke_sendable 0 (omega arith) }, tt), tt))
 
 pub returns-clause-refused : goal.returns-clause-refused
 returns-clause-refused c = refl
@@ -139,7 +139,7 @@ returns-clause-sent_though_refused c h = cc
 
 pub returns-clause-other_place : goal.returns-clause-other_place
 returns-clause-other_place c h =
-    let same : StopsBefore 0 (spot_at 20000) ≡ StopsBefore 0 (spot_at 20001) =
-    says_one_thing track_a (stop_before 1 0 10000) (StopsBefore 0 (spot_at 20000)) (StopsBefore 0 (spot_at 20001)) before_20000 h in
+    let same : StopsBefore 0 (spot_at 20000) ∷ [] ≡ StopsBefore 0 (spot_at 20001) ∷ [] =
+    says_one_thing track_a (stop_before 1 0 10000) (StopsBefore 0 (spot_at 20000) ∷ []) (StopsBefore 0 (spot_at 20001) ∷ []) before_20000 h in
     let spots : spot_at 20000 ≡ spot_at 20001 = cc in
     differ 20000 20001 refl (ap (λ (s : Spot). s.place) spots)

@@ -7,7 +7,7 @@ use Rattle.rbc_ids.specs.Table.{told_now}
 use Rattle.rbc_ids.specs.declared.slot.Kind.TheVariants.{Conditional}
 use Rattle.rbc_place.specs.Placing.{Place}
 use Rattle.rbc_zones.specs.Limits.{Limit, is_good_limit}
-use Rattle.rbc_settle.specs.declared.action.Action.{Action}
+use Rattle.rbc_settle.specs.Actions.{Action}
 use Rattle.rbc_settle.specs.WellFormed.{IsGiven, has_kind, has_count, is_stop_kind, is_limit_kind, IsPlaceOn, IsWellFormedTrain}
 use Rattle.rbc_rule.specs.WellFormed.{IsGoodStop, AreGoodStops, AreGoodLimits, IsGoodTrain}
 use Rattle.rbc_rule.specs.Witnesses.{track_a, facing_up, on_line_0, train_7, stop_1, told_as_0}
@@ -58,7 +58,7 @@ well_formed_train = record {
   limit_slots = record { kinds = All-nil (λ (held : ℕ × Slot). has_kind is_limit_kind held.1 ≡ true); counts = All-nil (λ (held : ℕ × Slot). has_count held.1 ≡ true); given = All-nil (IsGiven 0); once = tt };
   stamp = omega arith;
   stamps_within = only (λ (s : ℕ). s ≤ 1001) 1001 (omega arith);
-  stamps_distinct = (refl, tt);
+  stamps_apart = (refl, refl, tt);
 }
 
 pub returns-clause-well_formed : goal.returns-clause-well_formed

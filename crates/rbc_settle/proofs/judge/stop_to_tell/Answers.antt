@@ -3,7 +3,7 @@ use Rattle.rbc_place.specs.Placing.{Place}
 use Rattle.rbc_zones.specs.Concerns.{concern_of}
 use Rattle.rbc_ids.specs.Table.{is_told}
 use Rattle.rbc_settle.specs.Numbers.{has_number}
-use Rattle.rbc_settle.specs.declared.action.ToldStop.{ToldStop}
+use Rattle.rbc_settle.specs.declared.change.ToldStop.{ToldStop}
 use Rattle.rbc_settle.specs.Settling.{told_stop}
 use Rattle.rbc_settle.proofs.Judging.{stop_told_already, stop_not_told}
 use Rattle.rbc_settle.proofs.judge.stop_to_tell.Goals as goal

@@ -13,6 +13,9 @@ returns-clause-told_is_well_formed c = case.told_is_well_formed
 pub returns-clause-placed_is_well_formed : goal.returns-clause-placed_is_well_formed
 returns-clause-placed_is_well_formed c = case.placed_is_well_formed
 
+pub returns-clause-one_message_is_well_formed : goal.returns-clause-one_message_is_well_formed
+returns-clause-one_message_is_well_formed c = case.one_message_is_well_formed
+
 pub returns-clause-untold_changes : goal.returns-clause-untold_changes
 returns-clause-untold_changes c = case.untold_changes
 
@@ -39,6 +42,9 @@ returns-clause-identifier_15 c = case.identifier_15
 
 pub returns-clause-one_stamp_twice : goal.returns-clause-one_stamp_twice
 returns-clause-one_stamp_twice c = case.one_stamp_twice
+
+pub returns-clause-stamp_of_a_restriction : goal.returns-clause-stamp_of_a_restriction
+returns-clause-stamp_of_a_restriction c = case.stamp_of_a_restriction
 
 pub returns-clause-stamp_above_the_trains : goal.returns-clause-stamp_above_the_trains
 returns-clause-stamp_above_the_trains c = case.stamp_above_the_trains

@@ -1,25 +1,32 @@
-use Rattle.std.proofs.Common.{◌≡◌, ◌∙◌, Some, sym, ap, subst, arith, eqb}
-use Rattle.rbc_maps.specs.Maps.{value_of}
+use Rattle.std.proofs.Common.{rules, ℕ, ◌≡◌, ◌≤◌, ◌∙◌, refl, ap, sym, subst, arith}
+use Rattle.std.specs.Option.{option_map}
 use Rattle.rbc_ids.specs.declared.slot.Slot.{Slot}
-use Rattle.rbc_ids.specs.declared.slot.Slot.TheVariants.{Used}
-use Rattle.rbc_ids.specs.Table.{TellsApart, stamp_of, marked}
-use Rattle.rbc_ids.proofs.Tables.{has-found, value_of-found}
-use Rattle.rbc_ids.proofs.Once.{apart-marked}
+use Rattle.rbc_ids.specs.Table.{IsTable, is_freed_by, is_marked_by, acked_slot, acked_slots}
+use Rattle.rbc_ids.proofs.Tables.{stays_acked}
+use Rattle.rbc_ids.proofs.Acked.{retained, counted, answered}
+use Rattle.rbc_ids.proofs.table.IdTable.ack_stamp.Given as given
 use Rattle.rbc_ids.proofs.table.IdTable.ack_stamp.Goals as goal
 
-pub free-requires : goal.free-requires
-free-requires g c = (omega arith, has-found (λ held. eqb (stamp_of held.1) c.args.stamp) c.args.self.now (c.in-Some.id, c.in-Some.slot) (sym c.with_stamp.ensures.slot ∙ c.in-Some.is))
+pub overflow_cast-result : goal.overflow_cast-result
+overflow_cast-result g c =
+    let few : c.freed_by-freed.result ≤ 255 = counted g.row.N c.args.self.now c.slots.ensures.sound (λ held. is_freed_by c.args.stamp held.1) c.freed_by-freed.result (search rules) in
+    record { fits = omega arith }
 
-pub put-requires : goal.put-requires
-put-requires g c =
-    let slots = c.args.self.now in
-    let table = c.with_stamp.ensures.sound in
-    let found = sym c.with_stamp.ensures.slot ∙ c.in-Some.is in
-    let there : value_of slots c.in-Some.id ≡ Some (Used c.in-Used.used) =
-    value_of-found (λ held. eqb (stamp_of held.1) c.args.stamp) (c.in-Some.id, c.in-Some.slot) 0 slots table.ascending found ∙ ap (λ (slot : Slot). Some slot) c.in-Used.is in (
-      omega arith,
-      (
-        has-found (λ held. eqb (stamp_of held.1) c.args.stamp) slots (c.in-Some.id, c.in-Some.slot) found,
-        subst (λ (slot : Slot). TellsApart c.in-Some.id slot slots) (sym (c.marked.ensures ∙ ap marked c.in-Used.used-is)) (apart-marked c.in-Some.id c.in-Used.used slots table.ascending table.once there),
-      ),
-    )
+pub overflow_cast-result-2 : goal.overflow_cast-result-2
+overflow_cast-result-2 g c =
+    let few : c.marked_by-marked.result ≤ 255 = counted g.row.N c.args.self.now c.slots.ensures.sound (λ held. is_marked_by c.args.stamp held.1) c.marked_by-marked.result (search rules) in
+    record { fits = omega arith }
+
+-- what is left of the slots
+left : (g : given.Over) (c : goal.After-retain_mut g) → c.retain_mut.new.self.items ≡ acked_slots c.args.stamp c.self.inside.held.items
+left g c =
+    retained _ (λ s. s.0.now ≡ c.args.stamp) (λ held. option_map {U = ℕ × Slot} (λ slot. (held.0, slot)) (acked_slot c.args.stamp held.1))
+    (λ s x b t y is h. let met = h.called.met in (search rules, search rules)) _ _ _ refl c.retain_mut.ensures.filtered
+
+pub invariant_of-self : goal.invariant_of-self
+invariant_of-self g c = subst (IsTable g.row.N) (sym (left g c)) (stays_acked g.row.N c.self.inside.held.items c.self.invariant c.args.stamp)
+
+pub returns : goal.returns
+returns g c =
+    answered c.args.stamp c.args.self.now c.freed_by-freed.result c.marked_by-marked.result c.retain_mut.new.self.items (search rules) (search rules)
+    (left g c ∙ ap (acked_slots c.args.stamp) c.self.view_is) c.else-freed-eq0.either
