@@ -1,7 +1,13 @@
 /* The codec of ertms_codec for C, C++ and Ada: one message at a time, into or out of a struct of fixed layout.
 
-   Library: crates/ertms_c/out/libertms_c.a. It needs no other library, asks for no memory, keeps nothing between calls,
-   reads and writes what its arguments point to and nothing else, and never ends the process, prints or sets errno.
+   Libraries: crates/ertms_c/out/libertms_c.a, and heap.c, which hands memory on from malloc, realloc and free. Memory is
+   asked for by ertms_read_to_train alone, for a message 24 of several packets, and given back before it returns. The
+   library keeps nothing between calls, reads and writes what its arguments point to and nothing else, and never ends the
+   process or prints.
+
+   ERTMS_VERSION 3: a message 24 has up to 100 packets, ertms_to_train has room for them, and a message to a train takes up
+   to ERTMS_TO_TRAIN_BYTES. So the library has the two functions that read and write one under new names, which the header
+   puts in: what was compiled with the header of an earlier version does not link.
 
    What the caller owes, of every call:
    - A pointer is aligned for its type and points to as much as its parameter says. Of bytes with length 0 it may be null;
@@ -19,35 +25,53 @@
 extern "C" {
 #endif
 
+#define ERTMS_VERSION 3
+#define ertms_read_to_train ertms_3_read_to_train
+#define ertms_write_to_train ertms_3_write_to_train
+
 /* Why bytes are refused: the first step that fails, in the order of the checks length, message, length of the message,
    packet, field. */
 enum {
     ERTMS_OK = 0,
     ERTMS_LENGTH = 1,  /* fewer than 3 bytes, L_MESSAGE is not their number, or no length that the message can have */
     ERTMS_MESSAGE = 2, /* NID_MESSAGE is of no message that the reader takes */
-    ERTMS_PACKET = 3,  /* a packet is missing, is another than the message can have, or has a wrong L_PACKET */
-    ERTMS_FIELD = 4    /* a variable has a spare value */
+    ERTMS_PACKET = 3,  /* a packet is missing, is another than the message can have, or has a wrong L_PACKET; or there are
+                          more packets than the message can have */
+    ERTMS_FIELD = 4,   /* a variable has a spare value */
+    ERTMS_MEMORY = 5   /* no refusal: malloc or realloc gave nothing. At a message 24 of several packets alone */
 };
 
-/* The greatest number of bytes of a message to a train. */
-#define ERTMS_TO_TRAIN_BYTES 32
+/* Room for the bytes of a message to a train, of which it has at most 897. */
+#define ERTMS_TO_TRAIN_BYTES 1024
 
-/* A message to a train. A variable that its kind does not have is 0. 24 bytes. */
+/* The greatest number of packets of a message 24. */
+#define ERTMS_PACKETS 100
+
+/* A packet of message 24. A variable that its kind does not have is 0. 10 bytes. */
+typedef struct ertms_packet {
+    uint8_t kind;    /* NID_PACKET: 65 (restriction), 66 (revocation of a restriction); 0 where there is no packet */
+    uint8_t id;      /* NID_TSR: 0 to 255 */
+    uint8_t scale;   /* Q_SCALE of 65: 0 is 10 cm, 1 is 1 m, 2 is 10 m */
+    uint8_t dir;     /* Q_DIR: 0 reverse, 1 nominal, 2 both */
+    uint8_t front;   /* Q_FRONT of 65: 0 the length of the train delays the end, 1 it does not */
+    uint8_t speed;   /* V_TSR of 65: 0 to 120, in units of 5 km/h */
+    uint16_t start;  /* D_TSR of 65: 0 to 32767 units of scale */
+    uint16_t length; /* L_TSR of 65: 0 to 32767 units of scale */
+} ertms_packet;
+
+/* A message to a train. A variable that its kind does not have is 0. 1024 bytes. */
 typedef struct ertms_to_train {
-    uint8_t kind;      /* NID_MESSAGE 15 (stop before a place), 16 (stop at once), 18 (revocation of a stop); or of
-                          message 24 NID_PACKET 65 (restriction), 66 (revocation of a restriction) */
+    uint8_t kind;      /* NID_MESSAGE: 15 (stop before a place), 16 (stop at once), 18 (revocation of a stop), 24 (packets) */
     uint8_t ack;       /* M_ACK: 0 or 1 */
-    uint8_t id;        /* NID_EM of 15, 16, 18: 0 to 15. NID_TSR of 65, 66: 0 to 255 */
-    uint8_t scale;     /* Q_SCALE of 15, 65: 0 is 10 cm, 1 is 1 m, 2 is 10 m */
-    uint8_t dir;       /* Q_DIR of 15, 65, 66: 0 reverse, 1 nominal, 2 both */
-    uint8_t front;     /* Q_FRONT of 65: 0 the length of the train delays the end, 1 it does not */
-    uint8_t speed;     /* V_TSR of 65: 0 to 120, in units of 5 km/h */
+    uint8_t id;        /* NID_EM of 15, 16, 18: 0 to 15 */
+    uint8_t scale;     /* Q_SCALE of 15: 0 is 10 cm, 1 is 1 m, 2 is 10 m */
+    uint8_t dir;       /* Q_DIR of 15: 0 reverse, 1 nominal, 2 both */
     int16_t reference; /* D_REF of 15, in units of scale */
     uint16_t distance; /* D_EMERGENCYSTOP of 15: 0 to 32767 units of scale */
-    uint16_t start;    /* D_TSR of 65: 0 to 32767 units of scale */
-    uint16_t length;   /* L_TSR of 65: 0 to 32767 units of scale */
     uint32_t stamp;    /* T_TRAIN, in units of 10 ms; 4294967295 is unknown */
     uint32_t lrbg;     /* NID_LRBG, NID_C (10 bits) before NID_BG (14 bits): 0 to 16777214; 16777215 is unknown */
+    uint32_t count;    /* how many packets 24 has: 1 to 100 */
+    ertms_packet packets[ERTMS_PACKETS]; /* they stand at the front; behind them all is 0 */
 } ertms_to_train;
 
 /* A message from a train. A variable that its kind does not have is 0. The distances and doubts are in units of scale.
@@ -72,10 +96,10 @@ typedef struct ertms_from_train {
 } ertms_from_train;
 
 /* Decodes the bytes of one message to a train. Answers ERTMS_OK, and *fields are those of the message; or why the bytes are
-   refused, and *fields stay as they were. */
+   refused, or ERTMS_MEMORY, and *fields stay as they were. */
 uint32_t ertms_read_to_train(const uint8_t *bytes, size_t length, ertms_to_train *fields);
 
-/* Encodes one message to a train. Answers how many bytes it has, 1 to 32: they stand at the front of bytes, and the rest of
+/* Encodes one message to a train. Answers how many bytes it has, 1 to 897: they stand at the front of bytes, and the rest of
    bytes stays. Answers 0, and changes nothing, where no message has these fields: the kind is none, a variable is out of its
    range, or one that the kind does not have is not 0. */
 uint32_t ertms_write_to_train(const ertms_to_train *fields, uint8_t bytes[ERTMS_TO_TRAIN_BYTES]);

@@ -1,5 +1,5 @@
-/* The memory of librbc_c.a: the three functions that the library calls for it, by those of the C library. Compile this file with the caller, or
-   write the three functions over an allocator of your own. libertms_c.a takes no memory. */
+/* The memory of librbc_c.a and of libertms_c.a: the three functions that the libraries call for it, by those of the C library. Compile this file
+   with the caller, or write the three functions over an allocator of your own. */
 #include <stdbool.h>
 #include <stddef.h>
 #include <stdlib.h>

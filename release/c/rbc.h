@@ -8,7 +8,7 @@
    - A pointer is aligned for its type and points to as much as its parameter says. Where a length or a room is 0 its pointer may
      be null; otherwise no pointer is null.
    - What a call writes overlaps nothing else that it is given, and nobody else reads or writes it during the call.
-   - A length is below 2^63, and so is a room times 40.
+   - A length is below 2^63, and so is a room times 1032.
    - No call comes from a signal handler, or in the child after a fork of a process with threads.
 
    Threads. Each desk is for one call at a time: that two calls do not meet on one rbc_desk is the caller's duty (a lock, or one
@@ -21,20 +21,25 @@
 extern "C" {
 #endif
 
+/* The version of this header, 3 to 255. Where the structs change it rises, and the library refuses each call of a caller that was
+   compiled with another one: RBC_VERSION_OTHER. Before version 3 a desk began with a byte that was 0 or 1, which is no version. */
+#define RBC_VERSION 3
+
 /* A desk that is open, or none. The caller owns this struct, sets it to RBC_NONE once, before its first use, and passes its
    address; the library alone writes it from then on. It may be moved. A copy of an open desk must not be used: a desk that
    is closed by one copy is gone for the other. What an open desk holds is given back by rbc_close alone. 16 bytes. */
 typedef struct rbc_desk {
-    uint8_t open; /* 0 or 1 */
+    uint8_t version; /* RBC_VERSION of the header that the caller was compiled with */
+    uint8_t open;    /* 0 or 1 */
     void *memory;
 } rbc_desk;
-#define RBC_NONE {0, NULL}
+#define RBC_NONE {RBC_VERSION, 0, NULL}
 
-/* A message to one train: its bytes as they are sent, of which the first length count; the others stay as they were. 40 bytes. */
+/* A message to one train: its bytes as they are sent, of which the first length count; the others stay as they were. 1032 bytes. */
 typedef struct rbc_message {
-    uint32_t engine;   /* NID_ENGINE of the train: 0 to 16777215 */
-    uint32_t length;   /* 1 to 32 */
-    uint8_t bytes[32]; /* ertms_read_to_train of ertms.h reads them */
+    uint32_t engine;     /* NID_ENGINE of the train: 0 to 16777215 */
+    uint32_t length;     /* 1 to 897 */
+    uint8_t bytes[1024]; /* ertms_read_to_train of ertms.h reads them */
 } rbc_message;
 
 /* What a line led to. 16 bytes. */
@@ -49,6 +54,7 @@ enum {
     RBC_MEMORY = 1,        /* malloc or realloc gave nothing */
     RBC_NOT_NOW = 2,       /* rbc_feed, rbc_close: no desk is open. rbc_open: one is */
     RBC_ROOM = 3,          /* rbc_feed: there are more messages than room for them */
+    RBC_VERSION_OTHER = 4, /* desk->version is not RBC_VERSION of the library: compile the caller with the header beside it */
     RBC_NOT_UTF8 = 5,      /* this and all below: of rbc_open alone */
     RBC_TRACK_TEXT = 10,   /* the track is no TOML text */
     RBC_TRACK_SHAPE = 11,  /* its keys are not those of a track */
@@ -61,17 +67,19 @@ enum {
 
 /* Opens a desk on a track: no train, no stop, no restriction. track is the text of a track in TOML, UTF-8, so many bytes; it is
    not needed after the call. Answers RBC_DONE, and the desk is open; or why not, and the desk is as it was: at RBC_NOT_NOW
-   still open, otherwise none. */
+   still open. */
 uint32_t rbc_open(rbc_desk *desk, const uint8_t *track, size_t length);
 
 /* Gives one line to an open desk, without its line feed: an enrolment, a command or a message, as docs/FORMATS.md has them.
    Answers RBC_DONE: *answer says what it led to, and its messages stand at the front of out, in the order in which they are sent;
    what stands behind them stays. At every other answer the desk is as it was, out too, and the line may be fed again. At RBC_ROOM
    answer->count says how many messages there would be, and answer->refused is 0: feed the line again with room for them.
-   At RBC_MEMORY and RBC_NOT_NOW *answer stays as it was. A room of 0 is a way to ask how many messages there would be. */
+   At RBC_MEMORY, RBC_NOT_NOW and RBC_VERSION_OTHER *answer stays as it was. A room of 0 is a way to ask how many messages there would
+   be. */
 uint32_t rbc_feed(rbc_desk *desk, const uint8_t *line, size_t length, rbc_message *out, size_t room, rbc_answer *answer);
 
-/* Closes an open desk, and gives its memory back. Answers RBC_DONE, or RBC_NOT_NOW where none is open. It is none then. */
+/* Closes an open desk, and gives its memory back. Answers RBC_DONE, or RBC_NOT_NOW where none is open. It is none then, and may be opened
+   again. At RBC_VERSION_OTHER it is as it was. */
 uint32_t rbc_close(rbc_desk *desk);
 
 #ifdef __cplusplus
