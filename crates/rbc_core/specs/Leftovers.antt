@@ -4,4 +4,4 @@ use Rattle.rbc_core.specs.declared.spent.Spent.{Spent}
 
 -- nothing is held of any kind
 abbrev pub nothing_held : Spent
-nothing_held = record { notes = None; stale = None; outcome = None; published = None }
+nothing_held = record { notes = None; stale = None; replaced = None; published = None }

@@ -453,19 +453,11 @@ fn carry_out<N: RunName>(
 {
     let (outcome, published) = outcome_of(rt, alloc, track, inputs, log, turn, desk, spent)?;
     if present.reserve(published.len()).is_err() {
-        spent.keep_outcome(outcome);
         return Err(RuleFault::OutOfMemory);
     }
-    match desk.take_over(alloc, outcome) {
-        Ok(left) => {
-            present.take_over(&published);
-            spent.keep_outcome(left);
-            spent.keep_published(published);
-            Ok(())
-        }
-        Err(back) => {
-            spent.keep_outcome(back);
-            Err(RuleFault::OutOfMemory)
-        }
-    }
+    let replaced = desk.take_over(alloc, outcome)?;
+    present.take_over(&published);
+    spent.keep_replaced(replaced);
+    spent.keep_published(published);
+    Ok(())
 }

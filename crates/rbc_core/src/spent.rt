@@ -4,6 +4,7 @@ ghost use Rattle.std.specs.Prelude.{◌≡◌, ◌↔◌, IsTrue, IfSome, Some, 
 ghost use Rattle.rbc_versions.specs.Entries.{shown, CountsAll};
 ghost use Rattle.rbc_core.specs.Leftovers.{nothing_held};
 
+use rbc_records::Writes;
 use rbc_rule::Outcome;
 use rbc_versions::{Notes, Published};
 
@@ -12,7 +13,7 @@ use rbc_versions::{Notes, Published};
 pub struct Spent {
     notes: Option<Notes>,
     stale: Option<(Outcome, Published)>,
-    outcome: Option<Outcome>,
+    replaced: Option<Writes>,
     published: Option<Published>,
 }
 
@@ -24,7 +25,7 @@ impl Spent {
         Spent {
             notes: None,
             stale: None,
-            outcome: None,
+            replaced: None,
             published: None,
         }
     }
@@ -35,7 +36,7 @@ impl Spent {
     {
         self.notes.is_none()
             && self.stale.is_none()
-            && self.outcome.is_none()
+            && self.replaced.is_none()
             && self.published.is_none()
     }
 
@@ -53,11 +54,11 @@ impl Spent {
         self.stale = Some((outcome, published));
     }
 
-    /// Keeps what is left of the outcome of an input, in place of what is held of that kind.
-    pub(crate) fn keep_outcome(&mut self, outcome: Outcome)
-        ensures { self.new ≡ record self.old { outcome = Some outcome } }
+    /// Keeps the records that the writes of an input replaced, in place of what is held of that kind.
+    pub(crate) fn keep_replaced(&mut self, replaced: Writes)
+        ensures { self.new ≡ record self.old { replaced = Some replaced } }
     {
-        self.outcome = Some(outcome);
+        self.replaced = Some(replaced);
     }
 
     /// Keeps a publication that was taken over, in place of what is held of that kind.

@@ -1,18 +1,19 @@
 -- A message that is taken back leaves the outboxes as they were.
 use Rattle.std.proofs.Common.{◌≡◌, ◌≢◌, ℕ, ◌+◌, ◌-◌, ◌<◌, ◌≤◌, Bool, true, false, not, cond, eqb, ltb, List, [], ◌∷◌, ◌++◌, length, take, get_or, set, refl, sym, ap, ◌∙◌, subst, arith}
 use Rattle.std.proofs.lemmas.Bool.{eq-eqb, eqb-true, lt-ltb, le-ltb, ltb-true}
-use Rattle.std.proofs.lemmas.List.{length-append, take_at, length-take-le}
+use Rattle.std.proofs.Math.Seq.{map-set_same}
+use Rattle.std.proofs.lemmas.List.{length-append, length-map, take_at, length-take-le, get_or-map}
 use Rattle.std.proofs.lemmas.List.Elements.{All-filter}
 use Rattle.std.specs.Prelude.{slice_get, Some, None, Option}
 use Rattle.std.specs.Option.{unwrap_or}
-use Rattle.std.proofs.lemmas.Option.{slice_get_within, get_or_from_slice_get}
+use Rattle.std.proofs.lemmas.Option.{slice_get_within, slice_get-get_or, get_or_from_slice_get}
 use Rattle.rbc_maps.specs.Maps.{has, value_or, value_of, with_value, without, index_for}
 use Rattle.rbc_maps.proofs.MapPlaces.{rises-with_value, value_or-here, value_or-absent}
 use Rattle.rbc_maps.proofs.MapValues.{rises-without, found_here}
 use Rattle.rbc_maps.proofs.MapEdits.{written}
 use Rattle.rbc_settle.specs.declared.upkeep.Sent.{Sent}
 use Rattle.rbc_desk.specs.declared.outbox.Mail.{Mail}
-use Rattle.rbc_desk.specs.Held.{AreOutboxes, post_one, post_each, taken_back}
+use Rattle.rbc_desk.specs.Held.{AreOutboxes, AreToTheEnginesOf, post_one, post_each, taken_back}
 use Rattle.rbc_desk.specs.Serial.{mail}
 use Rattle.rbc_desk.proofs.Runs.{fold_more}
 use Rattle.rbc_desk.proofs.Posts.{later, over, value_or-with, All-with, IsFilled, same_boxes, post_one_keeps, ones_keep}
@@ -100,6 +101,34 @@ posted_last input boxes sent n one is =
 
 pub posts_keep : (input : ℕ) (boxes : List (ℕ × List Mail)) (sent : List Sent) (n : ℕ) → AreOutboxes boxes → AreOutboxes (post_each input boxes (take n sent))
 posts_keep input boxes sent n h = ones_keep input (take n sent) boxes h
+
+-- ---- messages to the same engines
+
+-- the engine of a message
+abbrev pub engine_of : Sent → ℕ
+engine_of sent = sent.engine
+
+-- of messages to the same engines, two at one index go to one engine
+pub same_engine : (sent messages : List Sent) (k : ℕ) (one : Sent) → AreToTheEnginesOf sent messages → slice_get messages k ≡ Some one
+    → (slice_get sent k ≡ Some (get_or sent k one)) × ((get_or sent k one).engine ≡ one.engine)
+same_engine sent messages k one engines there =
+    let many : length messages ≡ length sent = sym (length-map messages engine_of) ∙ ap length engines ∙ length-map sent engine_of in
+    let within : k < length sent = subst (λ n. k < n) many (slice_get_within messages k one there) in
+    let goes : (get_or sent k one).engine ≡ one.engine =
+    sym (get_or-map engine_of sent k one one.engine within)
+    ∙ ap (λ (es : List ℕ). get_or es k one.engine) (sym engines)
+    ∙ get_or-map engine_of messages k one one.engine (slice_get_within messages k one there)
+    ∙ ap engine_of (get_or_from_slice_get messages k one one there) in
+    (slice_get-get_or sent k one within, goes)
+
+-- where a message is replaced by one to its engine, the engines stay
+pub one_moved : (sent messages : List Sent) (k : ℕ) (d new : Sent) → AreToTheEnginesOf sent messages → new.engine ≡ (get_or messages k d).engine
+    → AreToTheEnginesOf sent (set messages k new)
+one_moved sent messages k d new engines same = map-set_same engine_of messages k new d same ∙ engines
+
+-- messages to the same engines are as many
+pub as_many : (sent messages : List Sent) → AreToTheEnginesOf sent messages → length messages ≡ length sent
+as_many sent messages engines = sym (length-map messages engine_of) ∙ ap length engines ∙ length-map sent engine_of
 
 -- ---- the place of an outbox
 

@@ -1,5 +1,5 @@
 -- A desk as it is kept: its world as single records (own rule).
-use Rattle.std.specs.Prelude.{◌≡◌, ℕ, ◌+◌, ◌-◌, ◌≤◌, nat_lt, if◌then◌else◌, List, [], ◌∷◌, ◌++◌, length, take, Option}
+use Rattle.std.specs.Prelude.{◌≡◌, ℕ, ◌+◌, ◌-◌, ◌≤◌, nat_lt, if◌then◌else◌, List, [], ◌∷◌, ◌++◌, length, map, take, Option}
 use Rattle.std.specs.List.{fold, All}
 use Rattle.rbc_track.specs.Plan.{Plan}
 use Rattle.rbc_maps.specs.Maps.{IsMap, with_value, value_or, without}
@@ -68,11 +68,20 @@ post_one input outboxes sent = with_value sent.engine (value_or [] outboxes sent
 abbrev pub post_each : ℕ → List (ℕ × List Mail) → List Sent → List (ℕ × List Mail)
 post_each input outboxes messages = fold (post_one input) outboxes messages
 
+-- messages go to the same engines as others, one by one
+abbrev pub AreToTheEnginesOf : List Sent → List Sent → Type 0
+AreToTheEnginesOf messages others = map (λ (sent : Sent). sent.engine) others ≡ map (λ (sent : Sent). sent.engine) messages
+
 -- the last message of an engine is taken back, and its outbox with it where it has no other
 abbrev pub taken_back : ℕ → List (ℕ × List Mail) → List (ℕ × List Mail)
 taken_back engine outboxes =
     let mails = value_or [] outboxes engine in
     if nat_lt 1 (length mails) then with_value engine (take (length mails - 1) mails) outboxes else without engine outboxes
+
+-- Outboxes into which the first messages were put are what they were before. The messages may be gone: their engines tell the outboxes.
+abbrev pub AreTakenBack : List Sent → ℕ → List (ℕ × List Mail) → List (ℕ × List Mail) → Type 0
+AreTakenBack messages count old new = (input : ℕ) (boxes : List (ℕ × List Mail)) (sent : List Sent)
+    → AreOutboxes boxes → AreToTheEnginesOf sent messages → old ≡ post_each input boxes (take count sent) → new ≡ boxes
 
 -- an outcome is taken over as it is: its writes, its result, and its messages under the number of that result
 abbrev pub after_outcome : Standing → Outcome → Standing

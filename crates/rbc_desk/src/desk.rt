@@ -12,10 +12,10 @@ ghost use Rattle.rbc_desk.specs.Held.{Holds, IsInOrder, IsTakenIn, standing, IsO
 ghost use Rattle.rbc_desk.specs.Sendable as mails;
 
 use crate::outbox::{self, Mail, Outbox};
-use rbc_records::{PlainStore, exchange};
+use rbc_records::{PlainStore, Writes, exchange};
 use rbc_rule::{Input, Outcome, Reply, RuleFault, decide};
 use rbc_track::Track;
-use std::alloc::Global;
+use std::alloc::{AllocError, Global};
 use std::marker::Model;
 
 /// The greatest number of results of a desk.
@@ -131,53 +131,35 @@ impl Desk {
     {
         keeps(track);
         let outcome = self.decide(alloc, track, input)?;
-        match self.take_over(alloc, outcome) {
-            Ok(_) => Ok(()),
-            Err(_) => Err(RuleFault::OutOfMemory),
-        }
+        let _ = self.take_over(alloc, outcome)?;
+        Ok(())
     }
 
-    /// Takes an outcome over: its messages, its result and its writes. There has to be room for one more result. Hands back what is
-    /// left of it, with the records that its writes replaced in their place. Fails only for lack of memory: then nothing is changed,
-    /// and the error hands the outcome back.
-    pub fn take_over(&mut self, alloc: Global, outcome: Outcome) -> Result<Outcome, Outcome>
+    /// Takes an outcome over: its messages, its result and its writes. There has to be room for one more result. Hands back the records
+    /// that its writes replaced, in their place. Fails only for lack of memory: then nothing is changed.
+    #[inline(always)]
+    pub fn take_over(&mut self, alloc: Global, outcome: Outcome) -> Result<Writes, AllocError>
         requires fit { AreSendable outcome.messages }
         requires room { length self.old.results < MAX_RESULTS }
         ensures ok { OnOk result (standing self.new ≡ after_outcome (standing self.old) outcome) }
-        ensures left { IfOk result (λ left. left ≡ record outcome { writes = replaced outcome.writes (record_in self.old.records) }) }
+        ensures old { IfOk result (λ old. old ≡ replaced outcome.writes (record_in self.old.records)) }
         ensures err { OnErr result (self.new ≡ self.old) }
-        ensures back { IfErr result (λ back. back ≡ outcome) }
     {
-        if self.results.reserve(1).is_err() {
-            return Err(outcome);
-        }
+        self.results.reserve(1)?;
         let number = self.results.len() as u32 + 1;
-        if outbox::post_all(alloc, &mut self.outboxes, number, &outcome.messages).is_err() {
-            return Err(outcome);
-        }
         let Outcome {
             result,
             writes,
             messages,
         } = outcome;
-        match exchange(&mut self.records, writes) {
-            Ok(writes) => {
-                self.results.push_reserved(result);
-                Ok(Outcome {
-                    result,
-                    writes,
-                    messages,
-                })
-            }
-            Err(writes) => {
-                outbox::take_back_all(&mut self.outboxes, &messages, messages.len());
-                Err(Outcome {
-                    result,
-                    writes,
-                    messages,
-                })
-            }
-        }
+        let mut messages = messages.into_vec();
+        outbox::post_all(alloc, &mut self.outboxes, number, &mut messages)?;
+        let Ok(old) = exchange(&mut self.records, writes) else {
+            outbox::take_back_all(&mut self.outboxes, &messages, messages.len());
+            return Err(AllocError);
+        };
+        self.results.push_reserved(result);
+        Ok(old)
     }
 }
 

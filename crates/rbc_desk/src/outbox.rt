@@ -1,6 +1,6 @@
 //! The messages that were sent to each engine.
 
-ghost use Rattle.std.specs.Prelude.{◌≡◌, ◌-◌, ◌^◌, ◌<◌, ◌≤◌, ℕ, List, [], ◌∷◌, ◌++◌, length, take, OnOk, OnErr};
+ghost use Rattle.std.specs.Prelude.{◌≡◌, ◌-◌, ◌^◌, ◌<◌, ◌≤◌, [], ◌∷◌, ◌++◌, length, take, OnOk, OnErr};
 ghost use Rattle.std.specs.List.{flat_map};
 ghost use Rattle.std.specs.Int.{w16};
 ghost use Rattle.std.specs.Int.RustNames.{FitsSigned};
@@ -9,16 +9,15 @@ ghost use Rattle.ertms_codec.specs.Layout.{HoldValues};
 ghost use Rattle.ertms_codec.specs.PacketsToTrain.{PacketFits, ArePacketsThatFit, fields_of_packet};
 ghost use Rattle.rbc_maps.specs.Maps.{with_value, value_or};
 ghost use Rattle.rbc_rule.specs.Gathered as gathered;
-ghost use Rattle.rbc_desk.specs.declared.outbox.Mail.{Mail};
 ghost use Rattle.rbc_desk.specs.Sendable.{AreSendable};
-ghost use Rattle.rbc_desk.specs.Held.{AreOutboxes, post_one, post_each, taken_back};
+ghost use Rattle.rbc_desk.specs.Held.{AreOutboxes, AreTakenBack, AreToTheEnginesOf, post_one, post_each, taken_back};
 
 use ertms_codec::{Head, Packets, Part, ToTrain};
-use rbc_rule::SentList;
 use rbc_settle::Sent;
 use std::alloc::{AllocError, Global};
 use std::cell::Cell;
 use std::marker::Model;
+use std::mem;
 
 /// A message that was sent, and the number of the input, from 1, that caused it.
 #[derive(Debug, Drop)]
@@ -195,53 +194,66 @@ fn take_back(outboxes: &mut Vec<(u32, Outbox)>, engine: u32)
     }
 }
 
-/// Takes back the first messages of an input, the last of them first.
-pub(crate) fn take_back_all(outboxes: &mut Vec<(u32, Outbox)>, messages: &SentList, count: usize)
+/// Takes back the first messages of an input, the last of them first. They may be gone: their engines tell the outboxes.
+pub(crate) fn take_back_all(outboxes: &mut Vec<(u32, Outbox)>, messages: &[Sent], count: usize)
     requires outboxes { AreOutboxes outboxes.old.items }
     requires within { count ≤ length messages.now }
-    ensures back { (input : ℕ) (boxes : List (ℕ × List Mail)) → AreOutboxes boxes → outboxes.old.items ≡ post_each input boxes (take count messages.now) → outboxes.new.items ≡ boxes }
+    ensures back { AreTakenBack messages.now count outboxes.old.items outboxes.new.items }
 {
     for done in 0..count {
-        take_back(outboxes, messages.at(count - 1 - done).engine);
+        take_back(outboxes, messages[count - 1 - done].engine);
     }
 }
 
-/// Puts a copy of a message into its engine's outbox. Fails only for lack of memory, and then changes nothing.
-fn post_copy(
+/// The message that stands where one was moved out. It is never sent.
+fn moved_out() -> ToTrain {
+    ToTrain::Stop {
+        head: Head {
+            stamp: 0,
+            ack: false,
+            lrbg: 0,
+        },
+        id: 0,
+    }
+}
+
+/// Moves a message into its engine's outbox. Fails only for lack of memory, and then leaves the outboxes unchanged.
+fn post_moved(
     alloc: Global,
     outboxes: &mut Vec<(u32, Outbox)>,
     input: u32,
-    sent: &Sent,
+    sent: &mut Sent,
     near: &Cell<usize>,
 ) -> Result<(), AllocError>
     requires outboxes { AreOutboxes outboxes.old.items }
-    requires fit { Fits sent.now.message }
-    ensures posted { OnOk result (outboxes.new.items ≡ post_one input outboxes.old.items sent.now) }
+    requires fit { Fits sent.old.message }
+    ensures posted { OnOk result (outboxes.new.items ≡ post_one input outboxes.old.items sent.old) }
     ensures outboxes { AreOutboxes outboxes.new.items }
     ensures err { OnErr result (outboxes.new.items ≡ outboxes.old.items) }
+    ensures engine { sent.new.engine ≡ sent.old.engine }
 {
-    let engine = sent.engine;
-    let message = sent.message.copy(alloc)?;
-    post(alloc, outboxes, engine, Mail { input, message }, near)
+    let message = mem::replace(&mut sent.message, moved_out());
+    post(alloc, outboxes, sent.engine, Mail { input, message }, near)
 }
 
-/// Puts copies of the messages of an input into the outboxes of their engines, one after another. Fails only for lack of memory, and
-/// then changes nothing.
+/// Moves the messages of an input into the outboxes of their engines, one after another; what stands in their place keeps their
+/// engines. Fails only for lack of memory, and then leaves the outboxes unchanged.
 pub(crate) fn post_all(
     alloc: Global,
     outboxes: &mut Vec<(u32, Outbox)>,
     input: u32,
-    messages: &SentList,
+    messages: &mut [Sent],
 ) -> Result<(), AllocError>
     requires outboxes { AreOutboxes outboxes.old.items }
-    requires fit { gathered.AreSendable messages.now }
-    ensures posted { OnOk result (outboxes.new.items ≡ post_each input outboxes.old.items messages.now) }
+    requires fit { gathered.AreSendable messages.old }
+    ensures posted { OnOk result (outboxes.new.items ≡ post_each input outboxes.old.items messages.old) }
     ensures outboxes { AreOutboxes outboxes.new.items }
+    ensures engines { AreToTheEnginesOf messages.old messages.new }
     ensures err { OnErr result (outboxes.new.items ≡ outboxes.old.items) }
 {
     let near = Cell::new(0);
     for index in 0..messages.len() {
-        if post_copy(alloc, outboxes, input, messages.at(index), &near).is_err() {
+        if post_moved(alloc, outboxes, input, &mut messages[index], &near).is_err() {
             take_back_all(outboxes, messages, index);
             return Err(AllocError);
         }

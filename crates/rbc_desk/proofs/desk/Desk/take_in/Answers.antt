@@ -4,8 +4,8 @@ use Rattle.rbc_desk.proofs.Stands.{taken_in}
 use Rattle.rbc_desk.proofs.desk.Desk.take_in.Goals as goal
 
 -- the outcome is that of the world that the desk holds, and it was taken over
-pub returns-in-Ok-clause-taken : goal.returns-in-Ok-clause-taken
-returns-in-Ok-clause-taken c =
+pub returns-clause-taken : goal.returns-clause-taken
+returns-clause-taken c =
     let outcome = c.in_ok-outcome.outcome in
     taken_in c.args.track.now c.args.input.now (standing c.args.self.now) (standing c.take_over.new.self) outcome c.keeps.ensures c.requires.fits c.decide.ensures.in_order.0 c.in_ok-outcome.ensures.right
-    (c.in-Ok.ensures.ok ∙ ap (λ (s : Standing). after_outcome s outcome) c.decide.ensures.same)
+    (c.in_ok-take_over.ensures.ok ∙ ap (λ (s : Standing). after_outcome s outcome) c.decide.ensures.same)
