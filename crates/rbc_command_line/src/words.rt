@@ -50,8 +50,7 @@ Exit status: 0 done; 1 a fault, one line on standard error; 2 bad arguments.
 const AFTER_LIVE: &str = "\
 Reads inputs from standard input, a line each, and answers each before it waits for the next one:
 `INPUT ok COUNT` or `INPUT refused CODE`, and then one line for each message that it sends, in the
-order in which they are sent: `ENGINE INPUT HEX`. A line of more than 65,536 bytes is refused with
-code 1. Ends where standard input ends.
+order in which they are sent: `ENGINE INPUT HEX`. Ends where standard input ends.
 
 No state is kept. Keep the lines in a log. After a crash, start the program again, give it the log
 first, and name in --from the first input whose answer you do not have.

@@ -1,4 +1,9 @@
 mod Pieces
+mod Words
+mod LastSpaces
+mod Alike
+mod LongMessages
+mod LongStops
 mod Writing
 mod Taking
 mod Cutting

@@ -14,7 +14,7 @@ first_piece {X} p (x ∷ xs) = elim (p x) as (λ b. (first : List X) × (rest : 
 ]
 
 -- the last piece goes on in others
-abbrev glued : {X : Type 0} → List (List X) → List (List X) → List (List X)
+abbrev pub glued : {X : Type 0} → List (List X) → List (List X) → List (List X)
 glued [] pieces = pieces
 glued (last ∷ []) [] = last ∷ []
 glued (last ∷ []) (first ∷ more) = (last ++ first) ∷ more
@@ -36,7 +36,7 @@ glued_onto x (last ∷ []) (piece ∷ pieces) first more e = refl
 glued_onto x (last ∷ other ∷ front) pieces first more e = refl
 
 -- the pieces of a text behind another
-split_glued : {X : Type 0} (p : X → Bool) (xs ys : List X) → slice_split p (xs ++ ys) ≡ glued (slice_split p xs) (slice_split p ys)
+pub split_glued : {X : Type 0} (p : X → Bool) (xs ys : List X) → slice_split p (xs ++ ys) ≡ glued (slice_split p xs) (slice_split p ys)
 split_glued p [] ys = let is = first_piece p ys in sym (glued_empty (slice_split p ys) is.0 is.1 is.2)
 split_glued p (x ∷ xs) ys =
     let is = first_piece p xs in

@@ -1,5 +1,5 @@
 -- One line more.
-use Rattle.std.proofs.Common.{◌≡◌, ℕ, suc, ◌+◌, ◌<◌, ◌≤◌, true, false, nat_le, List, [], ◌∷◌, ◌++◌, map, length, Option, refl, sym, ap, ◌∙◌, subst, append_assoc, append-nil, arith}
+use Rattle.std.proofs.Common.{◌≡◌, ℕ, suc, ◌+◌, ◌<◌, ◌≤◌, true, false, nat_le, List, [], ◌∷◌, ◌++◌, length, Option, refl, sym, ap, ◌∙◌, subst, append_assoc, append-nil, arith}
 use Rattle.std.proofs.lemmas.List.{map-append, length-append}
 use Rattle.std.proofs.lemmas.Bool.Decides.{nat_tests}
 use Rattle.rbc_track.specs.Plan.{Plan}
@@ -7,7 +7,7 @@ use Rattle.rbc_records.specs.declared.record.Key.{Key}
 use Rattle.rbc_records.specs.declared.record.Rec.{Rec}
 use Rattle.rbc_text.specs.OutputText.{answer_of}
 use Rattle.rbc_live.specs.History.{IsFed, Taken, IsHistory}
-use Rattle.rbc_prompt.specs.Lines.{counted, shown, answers_from}
+use Rattle.rbc_prompt.specs.Lines.{shown, answers_from}
 use Rattle.rbc_prompt.specs.UnderWay.{Shows, IsUnderWay}
 use Rattle.rbc_prompt.specs.declared.session.Session.{Session}
 
@@ -36,7 +36,7 @@ is_shown from number taken reached = rw reached refl
 
 -- the session after a line
 pub line_taken : (plan : Plan) (from : ℕ) (before after : Session) (old new : Option (List ℕ)) (ended : List (List ℕ)) (rest end : List ℕ) (one : Taken)
-    → IsUnderWay plan from before old new ended rest → one.line ≡ counted (rest ++ end)
+    → IsUnderWay plan from before old new ended rest → one.line ≡ rest ++ end
     → IsFed before.desk.track one.line before.desk.records after.desk.records one.reply one.messages
     → after.desk.track ≡ before.desk.track → after.from ≡ before.from → after.number ≡ before.number + 1 → after.sent ≡ before.sent → Shows [] after.line
     → after.text.items ≡ before.text.items ++ shown before.from before.number one
@@ -49,8 +49,7 @@ line_taken plan from before after old new ended rest end one is line fed track f
     record {
       taken = is.taken ++ one ∷ [];
       written = is.written;
-      fed = map-append f is.taken (one ∷ []) ∙ ap (λ (lines : List (List ℕ)). lines ++ one.line ∷ []) is.fed ∙ ap (λ (l : List ℕ). map counted ended ++ l ∷ []) line
-          ∙ sym (map-append counted ended ((rest ++ end) ∷ []));
+      fed = map-append f is.taken (one ∷ []) ∙ ap (λ (lines : List (List ℕ)). lines ++ one.line ∷ []) is.fed ∙ ap (λ (l : List ℕ). ended ++ l ∷ []) line;
       history = taken_more plan is.taken one [] before.desk.records after.desk.records is.history
           (subst (λ (p : Plan). IsFed p one.line before.desk.records after.desk.records one.reply one.messages) is.track fed);
       all = ap (λ (t : List ℕ). is.written ++ t) text ∙ sym (append_assoc is.written before.text.items (shown before.from before.number one))

@@ -1,5 +1,5 @@
 -- The lines of what was read, and the text of the answers to them (own rule).
-use Rattle.std.specs.Prelude.{◌≡◌, ℕ, ◌+◌, nat_le, if◌then◌else◌, List, [], ◌∷◌, ◌++◌, map, length}
+use Rattle.std.specs.Prelude.{◌≡◌, ℕ, ◌+◌, nat_le, if◌then◌else◌, List, [], ◌∷◌, ◌++◌, map}
 use Rattle.std.specs.List.{slice_split}
 use Rattle.rbc_track.specs.Plan.{Plan}
 use Rattle.rbc_records.specs.declared.record.Key.{Key}
@@ -7,14 +7,6 @@ use Rattle.rbc_records.specs.declared.record.Rec.{Rec}
 use Rattle.rbc_text.specs.BatchText.{is_line_feed}
 use Rattle.rbc_text.specs.OutputText.{answer_of}
 use Rattle.rbc_live.specs.History.{Taken, IsSerialRunOf}
-
--- a line has at most so many bytes
-abbrev pub max_line : ℕ
-max_line = 65536
-
--- a longer line counts as the empty one, which is refused with code 1
-abbrev pub counted : List ℕ → List ℕ
-counted line = if nat_le (length line) max_line then line else []
 
 -- all but the last one
 abbrev pub but_last : List (List ℕ) → List (List ℕ)
@@ -40,7 +32,7 @@ answers_from from number (taken ∷ more) = shown from number taken ++ answers_f
 pub record AreAnswers (plan : Plan) (from : ℕ) (lines : List (List ℕ)) (text : List ℕ) : Type 0 where
   pub taken : List Taken
   pub records : List (Key × Rec)
-  pub fed : map (λ one. one.line) taken ≡ map counted lines
+  pub fed : map (λ one. one.line) taken ≡ lines
   pub serial : IsSerialRunOf plan taken records
   pub spelled : text ≡ answers_from from 1 taken
 

@@ -1,28 +1,31 @@
 -- Lines that are being taken.
-use Rattle.std.specs.Prelude.{◌≡◌, ◌+◌, ℕ, nat_lt, List, [], ◌∷◌, ◌++◌, map, length, Option, Result, Ok, Err}
+use Rattle.std.specs.Prelude.{◌≡◌, ◌≤◌, ◌+◌, ℕ, List, [], ◌∷◌, ◌++◌, map, length, Option, Result, Ok, Err}
 use Rattle.std.specs.Io.KnownBytes.{Appends}
 use Rattle.rbc_track.specs.Plan.{Plan}
 use Rattle.rbc_records.specs.declared.record.Key.{Key}
 use Rattle.rbc_records.specs.declared.record.Rec.{Rec}
 use Rattle.rbc_live.specs.History.{Taken, IsHistory}
-use Rattle.rbc_prompt.specs.Lines.{max_line, counted, but_last, answers_from, AreAnswers, AreFirstAnswers}
+use Rattle.rbc_prompt.specs.Lines.{but_last, answers_from, AreAnswers, AreFirstAnswers}
 use Rattle.rbc_prompt.specs.Answers.{count_of, IsPartOut}
+use Rattle.rbc_prompt.specs.GoingOn.{GoesOnAs, max_kept}
 use Rattle.rbc_prompt.specs.declared.line.UnfinishedLine.{UnfinishedLine}
 use Rattle.rbc_prompt.specs.declared.session.Session.{Session}
 use Rattle.rbc_prompt.specs.declared.prompt.PromptError.{PromptError}
 use Rattle.rbc_prompt.specs.declared.prompt.PromptError.TheVariants.{Read, Memory, Write}
 
--- what is kept of a line that has not ended
+-- what is kept of a line that has not ended: few bytes, which go on as the line does, and none only where it has none
 pub record Shows (line : List ℕ) (kept : UnfinishedLine) : Type 0 where
-  pub as_counted : kept.bytes.items ≡ counted line
-  pub long : kept.too_long ≡ nat_lt max_line (length line)
+  pub alike : GoesOnAs kept.bytes.items line
+  pub some : 1 ≤ length line → 1 ≤ length kept.bytes.items
+  pub within : length kept.bytes.items ≤ length line
+  pub few : length kept.bytes.items ≤ max_kept
 
 -- The answers to these lines, which were taken from a new desk, are out, or else in the text; so many bytes are out.
 pub record ArePending (plan : Plan) (from : ℕ) (text : List ℕ) (sent : ℕ) (old new : Option (List ℕ)) (ended : List (List ℕ)) : Type 0 where
   pub taken : List Taken
   pub records : List (Key × Rec)
   pub written : List ℕ
-  pub fed : map (λ one. one.line) taken ≡ map counted ended
+  pub fed : map (λ one. one.line) taken ≡ ended
   pub history : IsHistory plan [] taken records
   pub all : written ++ text ≡ answers_from from 1 taken
   pub out : Appends old new written
@@ -32,7 +35,7 @@ pub record ArePending (plan : Plan) (from : ℕ) (text : List ℕ) (sent : ℕ) 
 pub record IsUnderWay (plan : Plan) (from : ℕ) (session : Session) (old new : Option (List ℕ)) (ended : List (List ℕ)) (rest : List ℕ) : Type 0 where
   pub taken : List Taken
   pub written : List ℕ
-  pub fed : map (λ one. one.line) taken ≡ map counted ended
+  pub fed : map (λ one. one.line) taken ≡ ended
   pub history : IsHistory plan [] taken session.desk.records
   pub all : written ++ session.text.items ≡ answers_from from 1 taken
   pub out : Appends old new written

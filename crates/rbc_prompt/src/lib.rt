@@ -4,5 +4,6 @@
 mod line;
 mod prompt;
 mod session;
+mod stand_in;
 
 pub use prompt::{PromptError, answer_lines};

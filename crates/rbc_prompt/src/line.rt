@@ -1,19 +1,18 @@
 //! The line that has not ended yet.
 
 ghost use Rattle.std.specs.Prelude.{◌≡◌, ◌++◌, ◌≤◌, [], List, ℕ, OnOk, true, false, length};
-ghost use Rattle.rbc_prompt.specs.Lines.{max_line};
 ghost use Rattle.rbc_prompt.specs.UnderWay.{Shows};
 
+use crate::stand_in::shortened;
 use std::alloc::{AllocError, Global};
 
-/// The greatest length of a line, in bytes. A longer one is refused, and not kept.
-const MAX_LINE: usize = 65_536;
+/// The greatest number of bytes that are kept of a line.
+const MAX_KEPT: usize = 65_536;
 
-/// The bytes of a line that has begun. Of a line that is too long none are kept.
+/// The bytes of a line that has begun, or those of a short line that stands in for it.
 #[derive(Drop)]
 pub struct UnfinishedLine {
     bytes: Vec<u8>,
-    too_long: bool,
 }
 
 impl UnfinishedLine {
@@ -23,20 +22,18 @@ impl UnfinishedLine {
     {
         UnfinishedLine {
             bytes: Vec::new(alloc),
-            too_long: false,
         }
     }
 
-    /// Adds bytes of the same line. Fails only for lack of memory, and then changes nothing.
-    pub fn add(&mut self, more: &[u8]) -> Result<(), AllocError>
+    /// Adds bytes of the same line. Fails only for lack of memory; what is kept then counts for nothing.
+    pub fn add(&mut self, alloc: Global, more: &[u8]) -> Result<(), AllocError>
         ensures { (line : List ℕ) → Shows line self.old → OnOk result (Shows (line ++ more.now) self.new) }
     {
-        if self.too_long || more.len() > MAX_LINE || self.bytes.len() > MAX_LINE - more.len() {
-            self.bytes.clear();
-            self.too_long = true;
-            return Ok(());
+        self.bytes.extend_from_slice(more)?;
+        if self.bytes.len() > MAX_KEPT {
+            self.bytes = shortened(alloc, &self.bytes)?;
         }
-        self.bytes.extend_from_slice(more)
+        Ok(())
     }
 
     /// Whether no byte was added.
@@ -44,10 +41,10 @@ impl UnfinishedLine {
         ensures none { (line : List ℕ) → Shows line self.now → result ≡ true → line ≡ [] }
         ensures some { (line : List ℕ) → Shows line self.now → result ≡ false → 1 ≤ length line }
     {
-        !self.too_long && self.bytes.is_empty()
+        self.bytes.is_empty()
     }
 
-    /// The bytes as they count: none where the line is too long.
+    /// The bytes as they count.
     pub fn bytes(&self) -> &[u8]
         ensures { result.now ≡ self.now.bytes.items }
     {
@@ -59,6 +56,5 @@ impl UnfinishedLine {
         ensures { Shows [] self.new }
     {
         self.bytes.clear();
-        self.too_long = false;
     }
 }

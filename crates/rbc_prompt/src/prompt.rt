@@ -47,7 +47,7 @@ impl Error for PromptError {}
 
 /// Reads lines to the end of the reader, and takes each on a desk that has taken none. The answers to the lines from
 /// number `from` on are written and flushed before the reader is asked for more. The last line may lack its line feed.
-/// A line of more than 65,536 bytes is refused with code 1.
+/// However long a line is, at most 131,072 bytes of it are kept.
 ///
 /// # Errors
 ///

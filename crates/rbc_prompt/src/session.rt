@@ -62,7 +62,7 @@ impl Session {
         ensures text { OnErr result (self.new.text.items ≡ self.old.text.items) }
         ensures sent { self.new.sent ≡ self.old.sent }
     {
-        self.line.add(end)?;
+        self.line.add(alloc, end)?;
         let Ok(answer) = self.desk.feed(alloc, self.line.bytes(), usize::MAX) else {
             // No line sends more messages than can be counted, so memory was refused.
             return Err(AllocError);
@@ -149,14 +149,19 @@ impl Session {
     /// # Errors
     ///
     /// `Memory`, with the answers to the lines before it written, or `Write`.
-    fn go_on_line<W: Write>(&mut self, more: &[u8], writer: &mut W) -> Result<(), PromptError>
+    fn go_on_line<W: Write>(
+        &mut self,
+        alloc: Global,
+        more: &[u8],
+        writer: &mut W,
+    ) -> Result<(), PromptError>
         ensures added { (plan : Plan) (from : ℕ) (old : Option (List ℕ)) (ended : List (List ℕ)) (rest : List ℕ)
             → IsUnderWay plan from self.old old (W.contents writer.old) ended rest
             → GoesOn plan from ended old (W.contents writer.new) result
             (IsUnderWay plan from self.new old (W.contents writer.new) ended (rest ++ more.now)) }
         ensures number { OnOk result (self.new.number ≡ self.old.number) }
     {
-        if self.line.add(more).is_err() {
+        if self.line.add(alloc, more).is_err() {
             return Err(self.out_of_memory(writer));
         }
         Ok(())
@@ -186,7 +191,7 @@ impl Session {
             let (line, behind) = cut(bytes, b'\n');
             match behind {
                 Some(_) => self.end_line(alloc, line, writer)?,
-                None => self.go_on_line(line, writer)?,
+                None => self.go_on_line(alloc, line, writer)?,
             }
             left = behind;
         }
