@@ -17,7 +17,7 @@ from pathlib import Path
 KILLS = 200
 LONE = 10_000
 CRASHED = 3_000  # lines of the batch that go through the crashes
-LINE = 65_536  # bytes of the longest line that counts
+PIECE = 65_536  # bytes asked for in one call
 
 
 class Live:
@@ -31,7 +31,7 @@ class Live:
         self.reader.start()
 
     def read(self):
-        while piece := os.read(self.process.stdout.fileno(), LINE):
+        while piece := os.read(self.process.stdout.fileno(), PIECE):
             self.said += piece
 
     def give(self, text):
@@ -146,7 +146,7 @@ def lone_lines(program, track, lines):
             began = time.perf_counter()
             process.stdin.write(line)
             while True:
-                said += os.read(process.stdout.fileno(), LINE)
+                said += os.read(process.stdout.fileno(), PIECE)
                 if answers_of(said, number)[0]:
                     break
             times.append(1e6 * (time.perf_counter() - began))
