@@ -15,6 +15,7 @@ What is checked:
   lines of rules, of formats, of the headline and of texts there are;
 - docs/ASSESSMENT.md says how many faulty variants each crate has;
 - the table of docs/ARCHITECTURE.md says what crates.txt says, and an output in README.md is that of its file;
+- no document is longer than MOST_LINES says, and each subcommand `dispatch WORD` is one of SUBCOMMANDS;
 - no file cites a paper, or a demand by its number.
 """
 import re
@@ -37,6 +38,9 @@ CITATION = re.compile(
 CITED_IN = {".rt", ".antt", ".md", ".edit", ".txt", ".toml", ".sh", ".py", ""}
 NAME = re.compile(r"(?<!\w)[A-Za-z_][A-Za-z0-9_']*")
 CRATE = r"(?:rbc|ertms|test)_[a-z_]+"
+MOST_LINES = {"README.md": 100, "docs/GUIDE.md": 400, "docs/INTEGRATION.md": 200}
+SUBCOMMANDS = {"run", "live", "check", "decode", "codes", "help"}
+SUBCOMMAND = re.compile(r"(?<![\w/-])(?:\./)?dispatch ([a-z][\w-]*)")
 FILE = re.compile(r"(?<![\w/.-])((?:[\w.-]+/)*[\w.-]+\.(?:md|rt|antt|sh|py|toml|batch|expected|edit|tsv|txt|c|h)|"
                   r"(?:crates|docs|examples|bench|include|\.ci)(?:/[\w.-]+)*/?)(?![\w/-])")
 
@@ -211,6 +215,22 @@ def variant_faults(root, text):
         yield said and said.start(), f"does not say: {variants(root)}"
 
 
+def length_faults(root, document, text):
+    """A document with more lines than it may have."""
+    name = document.relative_to(root).as_posix()
+    lines = len(text.splitlines())
+    if lines > MOST_LINES.get(name, lines):
+        yield None, f"has {lines} lines, and may have {MOST_LINES[name]}"
+
+
+def command_faults(text):
+    """Subcommands that the program does not have, in inline code and in blocks."""
+    for code in re.finditer(r"^```.*?^```|`[^`]+`", text, flags=re.M | re.S):
+        for match in SUBCOMMAND.finditer(code.group()):
+            if match.group(1) not in SUBCOMMANDS:
+                yield code.start() + match.start(), f"names `dispatch {match.group(1)}`, which is no subcommand"
+
+
 def citation_faults(root):
     for path in files(root):
         if path.suffix not in CITED_IN or "data" in path.parts or path.resolve() == Path(__file__).resolve():
@@ -231,6 +251,7 @@ def faults(root, world):
         whole = document.read_text()
         text = without_blocks(whole)
         found = [*path_faults(root, document, text), *name_faults(world, known, text), *owned_faults(world, text), *output_faults(root, whole)]
+        found += [*length_faults(root, document, whole), *command_faults(whole)]
         if document.name == "MODEL.md":
             found += model.faults(world, whole)
         if document.name == "ASSESSMENT.md":
