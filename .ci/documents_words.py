@@ -15,7 +15,7 @@ ANTT = """
 All Appends Dec Next Walk abbrev args pair signed CLAUSE CallerLemmas Consumes FitsSigned IfNone IfOk IfSome IsAtEnd IsErrAnd IsFirstByte IsTrue Keeps STEP YieldsList absurd ap arith
 at_drop_all at_drop_more bytes_eq c cc clap_on_literals cond drop elim ensures eq eqb find find_from_yields_List flat_map fold grind from_ from_residual
 holes ids length-drop zero-add insert_entry-new infixr inl inr insert_entry into_iter_items it loop ne_eqb no now of_z old omega on_ok_weaker opaque option_and_then option_copied
-option_map position_or_len proof proved record refl requires rules rw search shift simp slice_get slice_index subst suc sym take_all to_z tt
+option_map position_or_len proof proved ranges record refl requires rules rw search shift simp slice_get slice_index subst suc sym take_all to_z tt
 unfolding w16 was weaker where with_items xs zip line_turn ReadLines define along_header along_dots at_key
 """
 
@@ -29,7 +29,7 @@ bash python3 Prelude ci must-fail edits check doc fail fmt lemma must plant prog
 
 # of batches, outputs, tracks, texts of messages and command lines
 FORMATS = """
-CODE COMMAND COUNT CRATE ENGINE FILE FROM FRONT HEX INPUT LENGTH LINE MODULE NAME NAME_tests NUMBER SPEED TO WAYS WORD bad be both dispatch down em enrol
+CODE COMMAND COUNT CRATE ENGINE FILE FROM FRONT HEX INPUT LENGTH LINE MODULE NAME NAME_tests NUMBER SEGMENT SPEED TO WAYS WORD bad be both dispatch down em enrol
 fault group help horizon lift line long many memory out recv refused release restrict stop too track tsr unreadable up warning warnings withdraw write
 """
 

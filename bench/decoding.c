@@ -1,7 +1,9 @@
-/* Decodes random bytes and mutations of good messages by the codec for C, and by a slow decoder over an array of bits that stands here and shares
-   nothing with it: decoding COUNT SEED. Each string goes to both readers; what they answer, and the fields, must be what the slow decoder answers,
-   and where they refuse the fields must stay. A message to a train that is read is written again, and read again.
-   Prints how many strings each answer came for. Ends with status 1 at the first difference, and prints its bytes. */
+/* Decodes strings by the codec for C, and by a slow decoder over an array of bits that stands here and shares nothing with it: decoding COUNT SEED
+   [FILE]. COUNT of them are random bytes and mutations of good messages. FILE has a message in hexadecimal at the beginning of each line: its
+   beginnings, itself with other bytes in a place, and itself with more bytes behind it are the others. Each string goes to both readers; what
+   they answer, and the fields, must be what the slow decoder answers, and where they refuse the fields must stay. A message to a train that is
+   read is written again, and read again. Prints how many strings each answer came for. Ends with status 1 at the first difference, and prints
+   its bytes. */
 #include "ertms.h"
 #include <stdio.h>
 #include <stdlib.h>
@@ -428,9 +430,68 @@ static void check_to_train(const uint8_t *bytes, size_t length, const list *bits
     }
 }
 
+static void check(const uint8_t *bytes, size_t length) {
+    list bits;
+    take_bits(&bits, bytes, length);
+    check_from_train(bytes, length, &bits);
+    check_to_train(bytes, length, &bits);
+}
+
+/* Some bytes, as they are and with their number as L_MESSAGE. */
+static void check_both(const uint8_t *bytes, size_t length) {
+    uint8_t counted[MOST];
+    check(bytes, length);
+    memcpy(counted, bytes, length);
+    recount(counted, length);
+    check(counted, length);
+}
+
+/* The strings that are one step away from a message of at most MOST - 6 bytes. */
+static void check_near(const uint8_t *bytes, size_t length) {
+    static const uint8_t fills[3] = {0, 2, 0xFF};
+    uint8_t near[MOST];
+    for (size_t end = 0; end <= length; end++) {
+        check_both(bytes, end);
+    }
+    memcpy(near, bytes, length);
+    for (size_t place = 0; place < length; place++) {
+        for (int turned = 0; turned < 256; turned++) {
+            near[place] = bytes[place] ^ (uint8_t)turned;
+            check(near, length);
+        }
+        near[place] = bytes[place];
+    }
+    for (int i = 0; i < 3; i++) {
+        for (size_t more = 1; more <= 6; more++) {
+            memset(near + length, fills[i], more);
+            check_both(near, length + more);
+        }
+    }
+}
+
+/* Each message of a file. */
+static int check_file(const char *name) {
+    char line[4 * MOST];
+    FILE *file = fopen(name, "r");
+    if (!file) {
+        perror(name);
+        return 2;
+    }
+    while (fgets(line, sizeof line, file)) {
+        uint8_t bytes[MOST];
+        size_t length = 0;
+        unsigned byte;
+        while (length < MOST - 6 && sscanf(line + 2 * length, "%2x", &byte) == 1) {
+            bytes[length++] = (uint8_t)byte;
+        }
+        check_near(bytes, length);
+    }
+    return fclose(file) ? 2 : 0;
+}
+
 int main(int count, char **words) {
-    if (count != 3) {
-        fputs("decoding COUNT SEED\n", stderr);
+    if (count != 3 && count != 4) {
+        fputs("decoding COUNT SEED [FILE]\n", stderr);
         return 2;
     }
     uint64_t strings = strtoull(words[1], NULL, 10);
@@ -441,15 +502,13 @@ int main(int count, char **words) {
         if (i % 4 > 1) {
             length = mutate(bytes, length);
         }
-        list bits;
-        take_bits(&bits, bytes, length);
-        check_from_train(bytes, length, &bits);
-        check_to_train(bytes, length, &bits);
+        check(bytes, length);
     }
+    int status = count == 4 ? check_file(words[3]) : 0;
     static const char *names[5] = {"read", "Length", "Message", "Packet", "Field"};
     printf("| answer | from a train | to a train |\n|---|---|---|\n");
     for (int i = 0; i < 5; i++) {
         printf("| %s | %llu | %llu |\n", names[i], (unsigned long long)answers[0][i], (unsigned long long)answers[1][i]);
     }
-    return 0;
+    return status;
 }

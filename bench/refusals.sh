@@ -22,7 +22,7 @@ work=$(mktemp -d)
 trap 'rm -r "$work"' EXIT
 
 if [[ ${1-} != --built ]]; then
-    for crate in test_messages test_trains test_records test_runs test_batches; do
+    for crate in test_trains test_runs; do
         if ! (cd "$root/crates/$crate" && rt test) > "$work/log" 2>&1; then
             tail -n 20 "$work/log" >&2
             exit 1

@@ -23,23 +23,19 @@ SHOWN = 10  # so many wrong ends are printed of each call
 
 # each call with the crate and the name of its test
 TESTS = {
-    "read_to_train": ("test_messages", "refusals::reads_or_wants_memory"),
-    "ToTrain::copy": ("test_messages", "refusals::copies_or_wants_memory"),
-    "describe": ("test_messages", "refusals::describes_or_wants_memory"),
+    "read_to_train": ("test_trains", "messages::reads_or_wants_memory"),
+    "ToTrain::copy": ("test_trains", "messages::copies_or_wants_memory"),
+    "describe": ("test_trains", "messages::describes_or_wants_memory"),
     "track_from_toml": ("test_trains", "tracks::reads_tracks_or_wants_memory"),
     "issue": ("test_trains", "refusals::issues_or_keeps_the_table"),
     "settle": ("test_trains", "refusals::settles_or_keeps_the_train"),
     "settle, by one message": ("test_trains", "refusals::settles_by_one_message_or_keeps_the_train"),
-    "Notes::add": ("test_records", "noted_numbers::notes_or_stays_as_it_was"),
-    "decide": ("test_records", "refusals::decides_or_refuses"),
-    "apply": ("test_records", "refusals::applies_or_hands_back"),
-    "commit": ("test_runs", "refusals::commits_or_keeps_the_desk"),
-    "parse_batch": ("test_batches", "refusals::parses_or_gives_no_inputs"),
-    "render": ("test_batches", "refused_runs::renders_or_gives_no_text"),
-    "process": ("test_batches", "refusals::processes_or_writes_nothing"),
-    "run, by 1 and by 2 workers": ("test_batches", "refused_runs::runs_or_tells_what_is_done"),
-    "run, of two stretches": ("test_runs", "refused_stretches::runs_stretches_or_tells_what_is_done"),
-    "run, alone": ("test_runs", "refused_stretches::runs_alone_or_tells_what_is_done"),
+    "parse_batch": ("test_runs", "refusals::parses_or_gives_no_inputs"),
+    "render": ("test_runs", "refused_runs::renders_or_gives_no_text"),
+    "process": ("test_runs", "refusals::processes_or_writes_nothing"),
+    "run, by 1 and by 2 workers": ("test_runs", "refused_runs::runs_or_tells_what_is_done"),
+    "run, of two stretches": ("test_runs", "refused_runs::runs_stretches_or_tells_what_is_done"),
+    "run, alone": ("test_runs", "refused_runs::runs_alone_or_tells_what_is_done"),
 }
 
 # the first line on standard error of a test that ended right: its call was refused memory, or what it does beside it was

@@ -5,4 +5,3 @@ pub mod Tables
 mod Reported
 mod Acked
 mod Near
-mod Same

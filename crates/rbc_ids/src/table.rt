@@ -53,13 +53,6 @@ impl<const N: usize> IdTable<N> {
         Ok(IdTable { held })
     }
 
-    /// Whether both tables hold the same identifiers by the same slots. Takes no memory.
-    pub fn is_same(&self, other: &Self) -> bool
-        ensures { IsTrue result ↔ (self.now ≡ other.now) }
-    {
-        self.slots() == other.slots()
-    }
-
     /// Returns the slot of an identifier, or `None` if it is free or not below `N`.
     pub fn slot(&self, id: u8) -> Option<Slot>
         ensures value { result ≡ value_of self.now id }

@@ -5,9 +5,7 @@ mod chain;
 mod lookup;
 mod numbered;
 mod on_line;
-mod same;
 
 pub use lookup::{has, index_for, index_near, remove, value_of};
 pub use numbered::Numbered;
 pub use on_line::{OnLine, OnLines, mark_of};
-pub use same::Same;

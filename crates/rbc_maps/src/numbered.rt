@@ -1,6 +1,6 @@
 //! Active values under ascending numbers.
 
-ghost use Rattle.std.specs.Prelude.{◌≡◌, ◌↔◌, ◌<◌, ◌∷◌, ◌++◌, [], OnOk, OnErr, IfOk, length, Some, slice_get, option_copied, IsTrue};
+ghost use Rattle.std.specs.Prelude.{◌≡◌, ◌<◌, ◌∷◌, ◌++◌, [], OnOk, OnErr, IfOk, length, Some, slice_get, option_copied};
 ghost use Rattle.std.specs.List.{All};
 ghost use Rattle.rbc_maps.specs.Maps.{has, value_of, without};
 ghost use Rattle.rbc_maps.specs.Numbered.{AreNumbered, none_numbered};
@@ -9,7 +9,6 @@ ghost use Rattle.rbc_maps.specs.OnLines.{mark_of, marked};
 use crate::chain::{PLACES, chain, hint_of, note_hints};
 use crate::lookup;
 use crate::on_line::{OnLine, OnLines};
-use crate::same::{Same, have_same_pairs};
 use std::alloc::{AllocError, Global};
 use std::cell::Cell;
 use std::marker::Model;
@@ -183,14 +182,5 @@ impl<V: OnLines<N>, const N: usize> Numbered<V, N> {
             first,
             next,
         })
-    }
-
-    /// Whether both have the same last number, and the same values active under the same numbers. Takes no memory.
-    pub fn is_same(&self, other: &Self) -> bool
-    where
-        V: Same,
-        ensures { IsTrue result ↔ (self.now ≡ other.now) }
-    {
-        self.last == other.last && have_same_pairs(&self.active, &other.active)
     }
 }

@@ -25,7 +25,7 @@ impl UnfinishedLine {
         }
     }
 
-    /// Adds bytes of the same line. Fails only for lack of memory; what is kept then counts for nothing.
+    /// Adds bytes of the same line. Fails only for lack of memory; what is kept is then of no use.
     pub fn add(&mut self, alloc: Global, more: &[u8]) -> Result<(), AllocError>
         ensures { (line : List ℕ) → Shows line self.old → OnOk result (Shows (line ++ more.now) self.new) }
     {
@@ -44,7 +44,7 @@ impl UnfinishedLine {
         self.bytes.is_empty()
     }
 
-    /// The bytes as they count.
+    /// The bytes that are kept.
     pub fn bytes(&self) -> &[u8]
         ensures { result.now ≡ self.now.bytes.items }
     {

@@ -39,7 +39,7 @@ fn bad_line(alloc: Global) -> Result<Vec<u8>, AllocError>
     joined(alloc, b" ", b"")
 }
 
-/// The last word of a line, and what stands before the space in front of it. Nothing where there is no space.
+/// What stands before the last space of a line, and the word behind it. Nothing where there is no space.
 fn last_word(line: &[u8]) -> Option<(&[u8], &[u8])>
     ensures words { IfSome result (λ parts. words_of line.now ≡ words_of parts.0.now ++ parts.1.now ∷ []) }
     ensures whole { IfSome result (λ parts. words_of parts.1.now ≡ parts.1.now ∷ []) }
@@ -85,8 +85,8 @@ fn is_stop(input: &Input) -> bool
     matches!(input, Input::Stop { .. })
 }
 
-/// Stands in for `recv` and a word that is too long for a message. It only counts whether the word is made of digits,
-/// and whether their number is even.
+/// Stands in for `recv` and a word that is too long for a message. All that matters is whether the word is made of
+/// digits, and whether their number is even.
 fn message(alloc: Global, word: &[u8]) -> Result<Vec<u8>, AllocError>
     requires { 4097 ≤ length word.now }
     ensures alike { (line : List ℕ) → words_of line ≡ codes "recv" ∷ word.now ∷ []
@@ -103,8 +103,8 @@ fn message(alloc: Global, word: &[u8]) -> Result<Vec<u8>, AllocError>
     joined(alloc, b"recv ", &word[..DIGITS + word.len() % 2])
 }
 
-/// Stands in for `stop` and more words, of which the last one may go on. The segments of a stop that has more than eight
-/// do not count.
+/// Stands in for `stop` and more words, of which the last one may go on. Where there are more than eight segments, it
+/// does not matter which.
 fn stop(alloc: Global, front: &[u8], word: &[u8]) -> Result<Vec<u8>, AllocError>
     requires command { (arguments : List (List ℕ)) × (words_of front.now ≡ codes "stop" ∷ arguments) }
     requires whole { words_of word.now ≡ word.now ∷ [] }

@@ -12,6 +12,6 @@ mod writes;
 pub use notes::Notes;
 pub use rbc_sought::Sought;
 pub use reader::{ReadFault, Reader};
-pub use record::{Key, Rec, same_record};
+pub use record::{Key, Rec};
 pub use store::{PlainStore, apply, exchange};
 pub use writes::Writes;

@@ -1,6 +1,6 @@
 //! Keys and records.
 
-ghost use Rattle.std.specs.Prelude.{◌≡◌, ◌↔◌, IsTrue, IfOk, option_copied};
+ghost use Rattle.std.specs.Prelude.{◌≡◌, IfOk};
 
 use rbc_settle::{Numbers, TrainRec};
 use rbc_zones::{Limits, Stops};
@@ -47,29 +47,5 @@ impl Rec {
             Rec::Stops(stops) => Ok(Rec::Stops(stops.copy(alloc)?)),
             Rec::Limits(limits) => Ok(Rec::Limits(limits.copy(alloc)?)),
         }
-    }
-
-    /// Whether both records are of one kind and the same. Takes no memory.
-    pub fn is_same(&self, other: &Rec) -> bool
-        ensures { IsTrue result ↔ (self.now ≡ other.now) }
-    {
-        match (self, other) {
-            (Rec::Engines(engines), Rec::Engines(others)) => engines.is_same(others),
-            (Rec::Train(train), Rec::Train(other)) => train.is_same(other),
-            (Rec::Stops(stops), Rec::Stops(others)) => stops.is_same(others),
-            (Rec::Limits(limits), Rec::Limits(others)) => limits.is_same(others),
-            _ => false,
-        }
-    }
-}
-
-/// Whether both are absent, or both are there and the same. Takes no memory.
-pub fn same_record(one: Option<&Rec>, other: Option<&Rec>) -> bool
-    ensures { IsTrue result ↔ (option_copied one.entry ≡ option_copied other.entry) }
-{
-    match (one, other) {
-        (Some(one), Some(other)) => one.is_same(other),
-        (None, None) => true,
-        _ => false,
     }
 }

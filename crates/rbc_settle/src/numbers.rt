@@ -1,6 +1,6 @@
 //! Ascending lists of numbers.
 
-ghost use Rattle.std.specs.Prelude.{◌≡◌, ◌↔◌, ◌<◌, ◌≤◌, ◌+◌, nat_le, false, [], length, Some, IsTrue, IfOk, OnOk, OnErr, slice_get};
+ghost use Rattle.std.specs.Prelude.{◌≡◌, ◌<◌, ◌≤◌, ◌+◌, nat_le, false, [], length, Some, IfOk, OnOk, OnErr, slice_get};
 ghost use Rattle.std.specs.List.{position_or_len};
 ghost use Rattle.rbc_settle.specs.Numbers.{AreNumbers, has_number, with_number, without_number, IsUnion};
 
@@ -151,13 +151,6 @@ impl Numbers {
         all.extend_from_slice(&self.all[i..])?;
         all.extend_from_slice(&other.all[j..])?;
         Ok(Numbers { all })
-    }
-
-    /// Whether both lists have the same numbers. Takes no memory.
-    pub fn is_same(&self, other: &Self) -> bool
-        ensures { IsTrue result ↔ (self.now ≡ other.now) }
-    {
-        self.all == other.all
     }
 
     /// Returns the index at which a number stands, or would stand.

@@ -1,6 +1,6 @@
 //! What is known of one train.
 
-ghost use Rattle.std.specs.Prelude.{◌≡◌, ◌↔◌, IsTrue, IfOk};
+ghost use Rattle.std.specs.Prelude.{◌≡◌, IfOk};
 ghost use Rattle.rbc_settle.specs.Trains.{new_train};
 
 use crate::numbers::Numbers;
@@ -57,18 +57,5 @@ impl TrainRec {
             stops: self.stops.copy(alloc)?,
             limits: self.limits.copy(alloc)?,
         })
-    }
-
-    /// Whether both records are the same. Takes no memory.
-    pub fn is_same(&self, other: &Self) -> bool
-        ensures { IsTrue result ↔ (self.now ≡ other.now) }
-    {
-        self.stamp == other.stamp
-            && self.engine == other.engine
-            && self.length == other.length
-            && self.place == other.place
-            && self.forced.is_same(&other.forced)
-            && self.stops.is_same(&other.stops)
-            && self.limits.is_same(&other.limits)
     }
 }

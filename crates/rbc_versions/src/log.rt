@@ -74,7 +74,7 @@ impl Model for VersionLog {
 }
 
 impl VersionLog {
-    /// Makes an empty log. Fails only for lack of memory.
+    /// Makes an empty log. Fails only for lack of memory. No clause says that it is empty: what threads share is seen by its tickets alone.
     pub fn new(alloc: Global) -> Result<Self, OutOfMemory> {
         match boxcar::Vec::new(alloc) {
             Ok(versions) => Ok(VersionLog { versions }),
@@ -82,7 +82,7 @@ impl VersionLog {
         }
     }
 
-    /// How many versions were published, or are about to be.
+    /// How many versions were published, or are about to be. No clause speaks of it: others may publish meanwhile.
     pub fn count(&self) -> usize {
         self.versions.count()
     }

@@ -8,4 +8,3 @@ pub mod ToldLimits
 pub mod WitnessStops
 pub mod WitnessLimits
 pub mod Marks
-mod Same

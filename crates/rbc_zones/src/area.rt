@@ -6,7 +6,7 @@ ghost use Rattle.rbc_zones.specs.Marks.{mark_at};
 ghost use Rattle.std.specs.List.{All};
 
 use crate::segment::{Segment, is_good_segment};
-use rbc_maps::{OnLines, Same, mark_of};
+use rbc_maps::{OnLines, mark_of};
 use rbc_track::Track;
 use std::array;
 use std::marker::Model;
@@ -91,13 +91,6 @@ impl Area {
         ensures sound { AreSegments self.now }
     {
         &self.segments[..self.count]
-    }
-}
-
-impl Same for Area {
-    /// Whether both have the same segments in the same order. Takes no memory.
-    fn is_same(&self, other: &Self) -> bool {
-        self.segments() == other.segments()
     }
 }
 

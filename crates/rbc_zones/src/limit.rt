@@ -4,7 +4,7 @@ ghost use Rattle.std.specs.Prelude.{◌≡◌, ◌≤◌, ◌↔◌, IsTrue, IsO
 ghost use Rattle.rbc_zones.specs.Limits.{Limit, IsLimit, is_good_limit, is_for, is_clear, concerns};
 
 use crate::segment::{Segment, is_good_segment};
-use rbc_maps::{OnLines, Same, mark_of};
+use rbc_maps::{OnLines, mark_of};
 use rbc_place::Place;
 use rbc_track::{Track, Way};
 use std::marker::Model;
@@ -111,13 +111,6 @@ impl Limit {
         ensures { result ≡ self.now.front }
     {
         self.front
-    }
-}
-
-impl Same for Limit {
-    /// Whether both have the same segment, directions, speed and Q_FRONT. Takes no memory.
-    fn is_same(&self, other: &Self) -> bool {
-        self == other
     }
 }
 

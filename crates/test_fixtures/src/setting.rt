@@ -43,13 +43,6 @@ pub const UP: Position = Position {
     under: 100,
 };
 
-/// A train 200 m beyond it on the other side, facing down: from 7,900 to 10,100.
-pub const DOWN: Position = Position {
-    dir: 0,
-    side: 0,
-    ..UP
-};
-
 /// The track of that text.
 ///
 /// # Errors

@@ -1,10 +1,14 @@
 mod attempting;
+mod batches;
 mod calls;
 mod crowd;
 mod gates;
+mod live;
+mod log;
 mod numbers;
+mod processing;
 mod refusals;
-mod refused_stretches;
+mod refused_runs;
 mod rows;
 mod runs;
 mod setting;

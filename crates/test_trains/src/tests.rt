@@ -1,14 +1,10 @@
 mod identifiers;
-mod limits;
-mod numbered;
-mod numbers;
-mod places;
+mod making;
+mod messages;
 mod refusals;
 mod settling;
-mod stops;
 mod tables;
 mod tracks;
-mod trains;
 
 use rbc_track::Track;
 use std::fmt::Debug;

@@ -3,6 +3,7 @@
 ghost use Rattle.std.specs.Prelude.{◌≡◌};
 ghost use Rattle.rbc_core.specs.Runs.{IsGoodRun};
 
+use super::batches::FULL;
 use super::same;
 use crate::tests::setting::{all_fit, good_track};
 use rbc_batch::{parse_batch, render};
@@ -16,7 +17,6 @@ use std::process::Abort;
 use std::sync::{Mutex, Wait};
 use std::thread::{self, Threads};
 use std::time::{Clock, Duration};
-use test_fixtures::FULL;
 
 /// How many threads take inputs.
 const TAKERS: u8 = 2;

@@ -2,7 +2,6 @@
 
 use rbc_engine::Gate;
 use rbc_records::Key;
-use std::hint::spin_loop;
 use std::sync::atomic::{AtomicBool, AtomicU32, AtomicU64, Ordering};
 use std::thread;
 use std::time::{Clock, Duration};
@@ -107,49 +106,12 @@ impl<'a, R: Clock> Gate for Both<'a, R> {
 }
 
 /// A call of a gate.
-#[derive(Clone, Copy, Debug, PartialEq, Eq)]
-pub(super) enum Site {
+#[derive(Clone, Copy)]
+enum Site {
     BeforeRule,
     AfterRead,
     BeforeDeposit,
     AfterDeposit,
-}
-
-/// Spends turns of a loop that does nothing, in one of its calls.
-#[derive(Clone, Copy, Debug)]
-pub(super) struct Idle {
-    pub(super) at: Site,
-}
-
-/// How many turns.
-const IDLE_TURNS: u32 = 1_000;
-
-impl Idle {
-    fn pass(&self, site: Site) {
-        if site == self.at {
-            for _ in 0..IDLE_TURNS {
-                spin_loop();
-            }
-        }
-    }
-}
-
-impl Gate for Idle {
-    fn before_rule(&self, _input: u32) {
-        self.pass(Site::BeforeRule);
-    }
-
-    fn after_read(&self, _input: u32, _key: Key) {
-        self.pass(Site::AfterRead);
-    }
-
-    fn before_deposit(&self, _input: u32) {
-        self.pass(Site::BeforeDeposit);
-    }
-
-    fn after_deposit(&self, _input: u32) {
-        self.pass(Site::AfterDeposit);
-    }
 }
 
 /// Counts the calls for the inputs of a run that withdraws engine 7 first, then 8, and then 9, of which none is enrolled:

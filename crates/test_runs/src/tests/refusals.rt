@@ -1,319 +1,223 @@
-//! A worked run where memory may be refused: opening a book hands the desk back, an attempt is not made, and a commit leaves the
-//! desk as it was and ends the book; made once more, on the desk that is left, each ends right. A test in which one of these calls
-//! was refused memory ends with `Refused`; so where memory is ample, each passes by the right answers alone. `bench/refusals.sh`
-//! refuses one allocation after another.
+//! Worked batches where memory may be refused: a call ends with the right answer, or with the fault for lack of memory, and
+//! made once more it ends with the right answer. A test in which the call that it is about was refused memory ends with
+//! `Refused`; so where memory is ample, each passes by the right answers alone. `bench/refusals.sh` refuses one allocation
+//! after another.
 
-ghost use Rattle.std.specs.Prelude.{◌≡◌, IfOk};
-ghost use Rattle.rbc_track.specs.Plan.{IsPlan};
-ghost use Rattle.rbc_desk.specs.Serial as serial;
-ghost use Rattle.rbc_desk.specs.Held.{Holds, standing};
-ghost use Rattle.rbc_core.specs.Runs.{IsGoodRun};
-
+use super::batches::{FULL, REJECTED, RESTRICTED, SEVERAL, WORKED_BATCHES, Worked};
 use super::same;
-use crate::tests::attempting::{Ahead, Scene, Tried, attempt};
-use crate::tests::setting::{all_fit, assert_outbox, enrol, revoked, stop, stopped};
-use rbc_core::{Book, Commit, Desk, MAX_RESULTS, RunName};
-use rbc_records::{Key, same_record};
-use rbc_rule::{Input, Reply, RuleFault};
+use ertms_codec::{FromTrain, Position};
+use rbc_batch::{ProcessError, parse_batch, process};
+use rbc_engine::{AllWorkers, RunError};
+use rbc_rule::Input;
 use rbc_track::Track;
-use rbc_versions::VersionLog;
-use std::alloc::{AllocError, Global};
-use std::marker::{Brand, PhantomData};
+use rbc_zones::{Dirs, Segment};
+use std::alloc::Global;
 use std::process::Abort;
 use std::sync::Wait;
 use std::test::Fail;
-use test_fixtures::{ending, track};
+use std::thread::Threads;
+use test_fixtures::{UP, ending, track};
 
-/// How the inputs are committed.
-#[derive(Clone, Copy)]
-enum Way {
-    /// By their attempts.
-    Attempts,
-    /// By computing them.
-    Computing,
-}
+/// No output text of these has more bytes.
+const MAX_OUTPUT: usize = 1_000;
 
-/// The desk that a book leaves, and whether memory was refused to it.
-#[derive(Drop)]
-struct Ended {
-    desk: Desk,
-    refused: bool,
-}
-
-/// All keys under which something may stand.
-const KEYS: [Key; 7] = [
-    Key::Roster,
-    Key::Unplaced,
-    Key::Train(3),
-    Key::Train(7),
-    Key::Train(9),
-    Key::Stops,
-    Key::Limits,
-];
-
-/// Opens a book on a desk, once more where memory was refused, and tells whether it was.
-fn open<'a, N: RunName, R: Wait>(
-    scene: &Scene<'a, N, R>,
-    desk: Desk,
-) -> Result<(Book<'a, N>, bool), Fail>
-    requires desk { desk ≡ N.run.opening }
-    requires good { IsGoodRun N.run }
+/// Does a batch, and asserts that its whole output text was written, or that memory was refused and nothing was written. Tells
+/// whether it was refused.
+fn process_once<R>(rt: &R, track: &Track, batch: &str, output: &str, written: &mut Vec<u8>) -> bool
+where
+    R: Abort + AllocGlobal + Threads + Wait + Sync,
 {
-    let (rt, alloc, inputs, log) = (scene.rt, scene.alloc, scene.inputs, scene.log);
-    match Book::<N>::new(rt, alloc, desk, inputs, log) {
-        Ok(book) => Ok((book, false)),
-        Err(back) => {
-            let book = Book::<N>::new(rt, alloc, back, inputs, log)
-                .ok()
-                .ok_or("memory")?;
-            Ok((book, true))
-        }
-    }
-}
-
-/// Attempts an input, once more where memory was refused, and tells whether it was.
-fn attempt_twice<N: RunName, R: Abort + Wait>(
-    scene: &Scene<'_, N, R>,
-    book: &Book<'_, N>,
-    number: u32,
-) -> Result<(Tried<N>, bool), Fail> {
-    let alloc = scene.alloc;
-    match attempt(scene, book, Ahead::nothing(alloc, number)) {
-        Ok(tried) => Ok((tried, false)),
-        Err(fault) => {
-            same(scene.rt, fault, RuleFault::OutOfMemory);
-            let tried = attempt(scene, book, Ahead::nothing(alloc, number))?;
-            Ok((tried, true))
-        }
-    }
-}
-
-/// Takes the next input, and attempts it or gives it up. Tells whether memory was refused.
-fn make_ready<N: RunName, R: Abort + Wait>(
-    scene: &Scene<'_, N, R>,
-    book: &mut Book<'_, N>,
-    number: u32,
-    way: Way,
-) -> Result<bool, Fail> {
-    let rt = scene.rt;
-    same(rt, book.take(), Some(number));
-    match way {
-        Way::Computing => {
-            assert!(rt; book.void(number));
-            Ok(false)
-        }
-        Way::Attempts => {
-            let (tried, refused) = attempt_twice(scene, book, number)?;
-            assert!(rt; book.deposit(tried.attempt).is_ok());
-            Ok(refused)
-        }
-    }
-}
-
-/// Commits the next input. Tells whether memory was refused, which ends the book.
-fn commit<N: RunName, R: Abort + Wait>(
-    scene: &Scene<'_, N, R>,
-    book: &mut Book<'_, N>,
-    way: Way,
-) -> bool {
-    let (rt, alloc, track) = (scene.rt, scene.alloc, scene.track);
-    let committed = book.committed();
-    match book.commit(rt, alloc, track) {
-        Commit::Failed => {
-            same(rt, book.take(), None);
-            same(rt, book.commit(rt, alloc, track), Commit::Failed);
-            same(rt, book.committed(), committed);
-            true
-        }
-        done => {
-            let wanted = match way {
-                Way::Attempts => Commit::Applied,
-                Way::Computing => Commit::Recomputed,
-            };
-            same(rt, done, wanted);
+    let mut reader = batch.as_bytes();
+    match process(rt, track, &mut reader, written, 1, &AllWorkers) {
+        Ok(_) => {
+            same(rt, written.as_slice(), output.as_bytes());
             false
         }
-    }
-}
-
-/// Commits each input in turn, to the first commit that is refused memory. Tells whether memory was refused.
-fn commit_all<N: RunName, R: Abort + Wait>(
-    scene: &Scene<'_, N, R>,
-    book: &mut Book<'_, N>,
-    way: Way,
-) -> Result<bool, Fail> {
-    assert!(scene.rt; scene.inputs.len() <= MAX_RESULTS);
-    let mut refused = false;
-    for number in 1..=scene.inputs.len() as u32 {
-        if make_ready(scene, book, number, way)? {
-            refused = true;
-        }
-        if commit(scene, book, way) {
-            return Ok(true);
+        Err(fault) => {
+            let is_memory = matches!(
+                fault,
+                ProcessError::Memory | ProcessError::Run(RunError::OutOfMemory { .. })
+            );
+            same(rt, is_memory, true);
+            same(rt, written.len(), 0);
+            true
         }
     }
-    Ok(refused)
-}
-
-/// Runs inputs from a desk, to the first commit that is refused memory.
-fn run_all<N: RunName, R: Abort + Wait>(
-    rt: &R,
-    alloc: Global,
-    track: &Track,
-    desk: Desk,
-    inputs: &[Input],
-    log: &VersionLog,
-    way: Way,
-) -> Result<Ended, Fail>
-    requires track { track.now ≡ N.run.track }
-    requires desk { desk ≡ N.run.opening }
-    requires inputs { inputs.now ≡ N.run.inputs }
-    requires log { log.now ≡ N.log }
-    requires good { IsGoodRun N.run }
-    ensures { IfOk result (λ ended. (d : serial.Desk) × Holds N.run.track (standing ended.desk) d) }
-{
-    let scene = Scene {
-        rt,
-        alloc,
-        track,
-        inputs,
-        log,
-        of: PhantomData,
-    };
-    let (mut book, refused_first) = open::<N, R>(&scene, desk)?;
-    let refused = commit_all(&scene, &mut book, way)?;
-    Ok(Ended {
-        desk: book.close(),
-        refused: refused_first || refused,
-    })
-}
-
-/// Runs inputs from a desk on which the records of a valid state stand, to the first commit that is refused memory.
-fn run_from<R: Abort + Wait>(
-    rt: &R,
-    alloc: Global,
-    track: &Track,
-    desk: Desk,
-    inputs: &[Input],
-    way: Way,
-) -> Result<Ended, Fail>
-    requires track { IsPlan track.now }
-    requires held { (d : serial.Desk) × Holds track.now (standing desk) d }
-    ensures { IfOk result (λ ended. (d : serial.Desk) × Holds track.now (standing ended.desk) d) }
-{
-    assert!(rt; all_fit(inputs));
-    assert!(rt; inputs.len() <= MAX_RESULTS - desk.results().len());
-    let log = VersionLog::new(alloc)?;
-    run_all::<Brand, R>(rt, alloc, track, desk, inputs, &log, way)
-}
-
-/// Asserts that the same stands on two desks.
-fn assert_same_desk(rt: &impl Abort, desk: &Desk, wanted: &Desk) {
-    same(rt, desk.results(), wanted.results());
-    same(rt, desk.outboxes(), wanted.outboxes());
-    for index in 0..wanted.outboxes() {
-        let (engine, mails) = wanted.outbox_at(index);
-        assert_outbox(rt, desk, index, engine, mails);
-    }
-    for key in KEYS {
-        assert!(rt; same_record(desk.store().get(key), wanted.store().get(key)));
-    }
-}
-
-/// Asserts that a desk is the one that inputs leave which are computed from the empty state, where no memory is refused.
-fn assert_left_by(
-    rt: &(impl Abort + Wait),
-    alloc: Global,
-    track: &Track,
-    inputs: &[Input],
-    desk: &Desk,
-) -> Result<(), Fail>
-    requires { IsPlan track.now }
-{
-    let wanted = run_from(rt, alloc, track, Desk::new(alloc), inputs, Way::Computing)?;
-    assert_same_desk(rt, desk, &wanted.desk);
-    assert!(rt; !wanted.refused);
-    Ok(())
-}
-
-/// Runs inputs from the empty state. Where a commit is refused memory, asserts that the desk is that of the inputs before, and runs
-/// the others from there.
-fn run_to_end(
-    rt: &(impl Abort + Wait),
-    alloc: Global,
-    track: &Track,
-    inputs: &[Input],
-    way: Way,
-) -> Result<Ended, Fail>
-    requires { IsPlan track.now }
-{
-    let first = run_from(rt, alloc, track, Desk::new(alloc), inputs, way)?;
-    let done = first.desk.results().len();
-    if done >= inputs.len() {
-        return Ok(first);
-    }
-    let (before, after) = inputs.split_at(done);
-    assert_left_by(rt, alloc, track, before, &first.desk)?;
-    let rest = run_from(rt, alloc, track, first.desk, after, way)?;
-    assert!(rt; first.refused && !rest.refused);
-    Ok(Ended {
-        desk: rest.desk,
-        refused: true,
-    })
-}
-
-/// Three trains are enrolled and told of five stops, of which the first is released.
-fn worked(alloc: Global) -> Result<Vec<Input>, AllocError> {
-    let mut inputs = vec![in alloc; enrol(3), enrol(9), enrol(7)]?;
-    for number in 1..=5 {
-        inputs.push(stop(alloc, number)?)?;
-    }
-    inputs.push(Input::Release { number: 1 })?;
-    Ok(inputs)
-}
-
-/// What these inputs are answered.
-const ANSWERS: [Reply; 9] = [
-    Reply::Done(0),
-    Reply::Done(0),
-    Reply::Done(0),
-    Reply::Done(3),
-    Reply::Done(3),
-    Reply::Done(3),
-    Reply::Done(3),
-    Reply::Done(3),
-    Reply::Done(3),
-];
-
-/// Asserts what they leave.
-fn assert_worked(rt: &impl Abort, desk: &Desk) {
-    let mails = [
-        stopped(4, 1, 0),
-        stopped(5, 2, 1),
-        stopped(6, 3, 2),
-        stopped(7, 4, 3),
-        stopped(8, 5, 4),
-        revoked(9, 6, 0),
-    ];
-    same(rt, desk.results(), ANSWERS.as_slice());
-    same(rt, desk.outboxes(), 3);
-    for (index, engine) in [3, 7, 9].iter().enumerate() {
-        assert_outbox(rt, desk, index, *engine, &mails);
-    }
-}
-
-/// Runs these inputs. Tells whether memory was refused.
-fn run_worked(rt: &(impl Abort + Wait), alloc: Global, way: Way) -> Result<bool, Fail> {
-    let inputs = worked(alloc)?;
-    let track = track(alloc)?;
-    let ended = run_to_end(rt, alloc, &track, &inputs, way)?;
-    assert_worked(rt, &ended.desk);
-    Ok(ended.refused)
 }
 
 #[test]
-fn commits_or_keeps_the_desk(rt: HostRuntime) -> Result<(), Fail> {
-    let attempted = run_worked(&rt, rt.alloc(), Way::Attempts)?;
-    let computed = run_worked(&rt, rt.alloc(), Way::Computing)?;
-    ending(attempted || computed)
+fn processes_or_writes_nothing(rt: HostRuntime) -> Result<(), Fail> {
+    let track = track(rt.alloc())?;
+    let mut refused = false;
+    for Worked { batch, output } in WORKED_BATCHES {
+        // what is written takes no more memory then
+        let mut written = Vec::with_capacity(rt.alloc(), MAX_OUTPUT)?;
+        if process_once(&rt, &track, batch, output, &mut written) {
+            refused = true;
+            assert!(rt;
+                !process_once(&rt, &track, batch, output, &mut written),
+                "{batch}"
+            );
+        }
+    }
+    ending(refused)
+}
+
+/// An input that can be compared; a stop has one segment.
+#[derive(Clone, Copy, Debug, PartialEq, Eq)]
+enum Line {
+    Enrol(u32, u32),
+    Stop(u32, Segment),
+    Release(u32),
+    Restrict(u32, Segment, Dirs, u32, bool),
+    Lift(u32),
+    Received(FromTrain),
+    Other,
+}
+
+/// The same input, if it is one of these.
+fn line_of(input: &Input) -> Line {
+    match input {
+        Input::Enrol { engine, length } => Line::Enrol(*engine, *length),
+        Input::Stop { number, segments } => match segments.as_slice() {
+            [segment] => Line::Stop(*number, *segment),
+            _ => Line::Other,
+        },
+        Input::Release { number } => Line::Release(*number),
+        Input::Restrict {
+            number,
+            segment,
+            dirs,
+            speed,
+            front,
+        } => Line::Restrict(*number, *segment, *dirs, *speed, *front),
+        Input::Lift { number } => Line::Lift(*number),
+        Input::Received(message) => Line::Received(*message),
+        Input::Withdraw { .. } | Input::Bad(_) => Line::Other,
+    }
+}
+
+/// The train reports a position.
+fn reported(stamp: u32, position: Position) -> FromTrain {
+    FromTrain::Report {
+        stamp,
+        engine: 7,
+        position,
+    }
+}
+
+/// It rejects the stop under an identifier, at `UP`.
+fn rejected(stamp: u32, id: u8) -> FromTrain {
+    FromTrain::StopAck {
+        stamp,
+        engine: 7,
+        id,
+        answer: 3,
+        position: UP,
+    }
+}
+
+/// It acknowledges the message with a stamp.
+fn acked(stamp: u32) -> FromTrain {
+    FromTrain::Ack {
+        stamp: 1_000,
+        engine: 7,
+        acked: stamp,
+    }
+}
+
+const ENROL: Line = Line::Enrol(7, 2_000);
+
+/// A segment of line 0.
+fn segment(from: u32, to: u32) -> Segment {
+    Segment { line: 0, from, to }
+}
+
+/// The inputs of the batch in which a stop is rejected.
+fn rejected_lines() -> [Line; 7] {
+    [
+        ENROL,
+        Line::Received(reported(1_000, UP)),
+        Line::Stop(1, segment(20_000, 21_000)),
+        Line::Received(rejected(2_000, 0)),
+        Line::Received(rejected(2_000, 0)),
+        Line::Received(rejected(2_000, 1)),
+        Line::Release(1),
+    ]
+}
+
+/// The inputs of the batch with two restrictions.
+fn restricted_lines() -> [Line; 5] {
+    [
+        ENROL,
+        Line::Received(reported(1_000, UP)),
+        Line::Restrict(1, segment(9_000, 11_000), Dirs::Up, 40, true),
+        Line::Restrict(2, segment(1_000, 9_899), Dirs::Up, 40, true),
+        Line::Lift(1),
+    ]
+}
+
+/// The inputs of the batch in which one message tells two restrictions.
+fn several_lines() -> [Line; 6] {
+    [
+        ENROL,
+        Line::Restrict(1, segment(20_000, 21_000), Dirs::Up, 40, true),
+        Line::Restrict(2, segment(30_000, 31_000), Dirs::Up, 80, false),
+        Line::Received(reported(1_000, UP)),
+        Line::Received(acked(1_001)),
+        Line::Received(acked(1_001)),
+    ]
+}
+
+/// The inputs of the batch in which a stop waits for an identifier.
+fn full_lines(alloc: Global) -> Result<Vec<Line>, Fail> {
+    let mut lines = Vec::new(alloc);
+    lines.push(ENROL)?;
+    for number in 1..=16 {
+        lines.push(Line::Stop(number, segment(0, 10)))?;
+    }
+    lines.push(Line::Release(1))?;
+    lines.push(Line::Received(acked(16)))?;
+    Ok(lines)
+}
+
+/// Parses a batch, and asserts that its inputs are these, or that memory was refused. Tells whether it was refused.
+fn parse_once<R: Abort + AllocGlobal + Threads + Sync>(
+    rt: &R,
+    batch: &str,
+    lines: &[Line],
+) -> bool {
+    match parse_batch(rt, batch.as_bytes()) {
+        Ok(inputs) => {
+            same(rt, inputs.len(), lines.len());
+            for (input, line) in inputs.iter().zip(lines) {
+                same(rt, line_of(input), *line);
+            }
+            false
+        }
+        Err(_) => true,
+    }
+}
+
+/// Parses a batch, and once more where memory was refused. Tells whether it was refused.
+fn parse_twice<R: Abort + AllocGlobal + Threads + Sync>(
+    rt: &R,
+    batch: &str,
+    lines: &[Line],
+) -> bool {
+    let refused = parse_once(rt, batch, lines);
+    if refused {
+        assert!(rt; !parse_once(rt, batch, lines), "{batch}");
+    }
+    refused
+}
+
+#[test]
+fn parses_or_gives_no_inputs(rt: HostRuntime) -> Result<(), Fail> {
+    let full = full_lines(rt.alloc())?;
+    let rejected = parse_twice(&rt, REJECTED.batch, rejected_lines().as_slice());
+    let restricted = parse_twice(&rt, RESTRICTED.batch, restricted_lines().as_slice());
+    let several = parse_twice(&rt, SEVERAL.batch, several_lines().as_slice());
+    let waited = parse_twice(&rt, FULL.batch, &full);
+    ending(rejected || restricted || several || waited)
 }

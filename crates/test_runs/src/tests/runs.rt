@@ -2,7 +2,8 @@
 
 ghost use Rattle.rbc_engine.specs.Answers.{IsOpening};
 
-use super::gates::{Both, Hold, Idle, Inside, Moment, Site, Told};
+use super::batches::{FULL, STOPPED, lines_of};
+use super::gates::{Both, Hold, Inside, Moment, Told};
 use super::same;
 use super::setting::good_track;
 use rbc_batch::{parse_batch, process, render};
@@ -13,7 +14,6 @@ use std::alloc::Global;
 use std::process::Abort;
 use std::sync::Wait;
 use std::thread::Threads;
-use test_fixtures::{FULL, STOPPED, lines_of};
 
 /// Asserts what comes of a batch, by so many workers.
 fn assert_answers<R, G>(rt: &R, batch: &str, workers: u8, gate: &G, text: &str) -> Stats
@@ -173,20 +173,6 @@ fn tells_the_gate_each_input(rt: HostRuntime) {
         let inside = Inside::new(&rt, u32::from(workers));
         assert_answers(&rt, batch, workers, &inside, text);
         same(&rt, inside.most(), u32::from(workers));
-    }
-}
-
-// Sixteen workers lose time in one call of their gate, in each of the four by turns.
-#[test]
-fn answers_the_same_where_workers_idle(rt: HostRuntime) {
-    for at in [
-        Site::BeforeRule,
-        Site::AfterRead,
-        Site::BeforeDeposit,
-        Site::AfterDeposit,
-    ] {
-        let stats = assert_answers(&rt, FULL.batch, 16, &Idle { at }, FULL.output);
-        same(&rt, stats.taken, 19);
     }
 }
 

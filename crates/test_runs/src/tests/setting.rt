@@ -13,7 +13,7 @@ use rbc_track::Track;
 use rbc_zones::Segment;
 use std::alloc::{AllocError, Global};
 use std::process::Abort;
-use test_fixtures::{UNKNOWN_GROUP, head, is_same_message, track};
+use test_fixtures::{UNKNOWN_GROUP, head, track, written};
 
 /// The track, where memory suffices.
 pub(crate) fn good_track<R: Abort + AllocGlobal>(rt: &R) -> Track
@@ -67,7 +67,7 @@ fn assert_mails(rt: &impl Abort, mails: &[Mail], wanted: &[Mail]) {
     same(rt, mails.len(), wanted.len());
     for (got, mail) in mails.iter().zip(wanted) {
         same(rt, got.input, mail.input);
-        assert!(rt; is_same_message(&got.message, &mail.message));
+        assert!(rt; written(&got.message) == written(&mail.message));
     }
 }
 

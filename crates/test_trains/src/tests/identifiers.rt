@@ -1,37 +1,12 @@
 //! Tables of a train whose identifiers are issued, revoked, acknowledged and freed.
 
-ghost use Rattle.std.specs.Prelude.{◌≡◌, ◌≤◌, false};
-ghost use Rattle.rbc_ids.specs.Table.{is_told};
+ghost use Rattle.std.specs.Prelude.{◌≤◌};
 
+use super::making::issue;
 use super::same;
 use rbc_ids::{IdAck, IdTable, IssueError, Kind, Slot, StampAck, UsedSlot};
 use std::alloc::Global;
-use std::cell::Cell;
 use std::process::Abort;
-use test_fixtures::issue;
-
-/// Uses an identifier for a number with stamp 40 if it is free and the number is not told, and returns whether it was.
-fn tell(rt: &impl Abort, table: &mut IdTable<15>, id: u8, number: u32) -> bool {
-    match table.of_number(number) {
-        Some(_) => false,
-        None => tell_new(rt, table, id, number),
-    }
-}
-
-/// The same for a number that is not told.
-fn tell_new(rt: &impl Abort, table: &mut IdTable<15>, id: u8, number: u32) -> bool
-    requires { is_told table.old number ≡ false }
-{
-    match table.slot(id) {
-        None if id < 15 => {
-            table
-                .tell(id, number, 40, Kind::Conditional)
-                .expect(rt, "memory");
-            true
-        }
-        _ => false,
-    }
-}
 
 /// Revokes an identifier if it is used, and returns whether it was.
 fn revoke<const N: usize>(table: &mut IdTable<N>, id: u8, stamp: u32) -> bool {
@@ -146,29 +121,6 @@ fn issues_the_least_free_identifier(rt: HostRuntime) {
     same(&rt, many.slot(255), None);
 }
 
-// identifiers below it may be free, and identifiers above it held
-#[test]
-fn tells_under_the_identifier_that_was_chosen(rt: HostRuntime) {
-    let mut table = IdTable::<15>::new(rt.alloc());
-    let numbers = [(7u8, 30u32), (14, 31), (0, 32), (6, 33)];
-    for (id, number) in numbers {
-        assert!(rt; tell(&rt, &mut table, id, number));
-    }
-    for (id, number) in numbers {
-        let slot = Slot::Used(UsedSlot {
-            number,
-            stamp: 40,
-            kind: Kind::Conditional,
-            acked: false,
-            count: 0,
-        });
-        same(&rt, table.slot(id), Some(slot));
-        assert!(rt; !tell(&rt, &mut table, id, 34));
-    }
-    assert!(rt; !tell(&rt, &mut table, 15, 34));
-    same(&rt, (table.held(), table.least_free()), (4, Some(1)));
-}
-
 // no answer about a stop marks a restriction
 #[test]
 fn acknowledges_no_restriction_by_its_identifier(rt: HostRuntime) {
@@ -238,29 +190,6 @@ fn counts_no_reports_of_other_messages(rt: HostRuntime) {
     }
 }
 
-// numbers 0 and 2, and 1 again, after its first identifier is being revoked; each with the index behind its slot
-#[test]
-fn finds_numbers_wherever_the_search_begins(rt: HostRuntime) {
-    let mut table = stops::<15>(&rt, rt.alloc(), 3);
-    same(&rt, table.of_number(1), Some(1));
-    same(&rt, table.of_number(3), None);
-    assert!(rt; revoke(&mut table, 1, 9));
-    same(&rt, table.of_number(1), None);
-    same(
-        &rt,
-        issue(&mut table, 1, 10, Kind::Conditional),
-        Some(Ok(3)),
-    );
-    same(&rt, table.of_number(1), Some(3));
-    for start in [0, 1, 2, 3, 4, 5, usize::MAX] {
-        for (number, behind) in [(0, Some(1)), (1, Some(4)), (2, Some(3)), (9, None)] {
-            let near = Cell::new(start);
-            same(&rt, table.tells(number, &near), behind.is_some());
-            same(&rt, near.get(), behind.unwrap_or(start));
-        }
-    }
-}
-
 #[test]
 fn copies_each_slot(rt: HostRuntime) {
     let mut table = stops::<15>(&rt, rt.alloc(), 15);
@@ -271,48 +200,4 @@ fn copies_each_slot(rt: HostRuntime) {
     for id in 0u8..16 {
         same(&rt, copy.slot(id), table.slot(id));
     }
-}
-
-/// Whether a table is the same as another one once an identifier is issued in it. Before, it is not.
-fn is_same_once_issued(
-    rt: &impl Abort,
-    alloc: Global,
-    table: &IdTable<15>,
-    number: u32,
-    stamp: u32,
-    kind: Kind,
-) -> bool {
-    let mut other = IdTable::new(alloc);
-    same(rt, other.is_same(table), false);
-    same(rt, issue(&mut other, number, stamp, kind), Some(Ok(0)));
-    other.is_same(table)
-}
-
-/// A table in which one identifier is used, for number 30.
-fn told_under(rt: &impl Abort, alloc: Global, id: u8) -> IdTable<15> {
-    let mut table = IdTable::new(alloc);
-    same(rt, tell(rt, &mut table, id, 30), true);
-    table
-}
-
-#[test]
-fn tables_differ_by_each_part_of_a_slot(rt: HostRuntime) {
-    let alloc = rt.alloc();
-    let table = one(&rt, alloc, Kind::Conditional);
-    for (number, stamp, kind, wanted) in [
-        (1, 7, Kind::Conditional, true),
-        (2, 7, Kind::Conditional, false),
-        (1, 8, Kind::Conditional, false),
-        (1, 7, Kind::Unconditional, false),
-    ] {
-        let is_same = is_same_once_issued(&rt, alloc, &table, number, stamp, kind);
-        same(&rt, is_same, wanted);
-    }
-    let mut other = table.copy(alloc).expect(&rt, "memory");
-    same(&rt, other.ack_id(0, 1), IdAck::Marked);
-    same(&rt, other.is_same(&table), false);
-    same(&rt, revoke(&mut other, 0, 7), true);
-    same(&rt, other.is_same(&table), false);
-    let (first, second) = (told_under(&rt, alloc, 1), told_under(&rt, alloc, 2));
-    same(&rt, first.is_same(&second), false);
 }

@@ -1,5 +1,6 @@
 //! Trains whose stamps end, or whose restrictions take several messages.
 
+use super::making::{area, issue, limit, stop_at};
 use super::tables::stops;
 use super::{good_track, same};
 use ertms_codec::ToTrain;
@@ -10,9 +11,7 @@ use rbc_track::Track;
 use rbc_zones::{Dirs, Limits, Stops};
 use std::alloc::Global;
 use std::process::Abort;
-use test_fixtures::{
-    UNKNOWN_GROUP, UP, area, head, is_same_message, issue, limit, stop_at, written,
-};
+use test_fixtures::{UNKNOWN_GROUP, UP, head, written};
 
 /// The last stamp.
 const LAST: u32 = 4_294_967_294;
@@ -22,7 +21,7 @@ fn assert_sent(rt: &impl Abort, sent: &[Sent], wanted: &[ToTrain]) {
     same(rt, sent.len(), wanted.len());
     for (one, message) in sent.iter().zip(wanted) {
         same(rt, one.engine, 7);
-        assert!(rt; is_same_message(&one.message, message));
+        assert!(rt; written(&one.message) == written(message));
     }
 }
 

@@ -1,22 +1,22 @@
-//! Batches worked by hand, on the track of this crate, with what they lead to. The train is engine 7.
+//! Batches worked by hand, on the track of `test_fixtures`, with what they lead to. The train is engine 7.
 
 use std::alloc::{AllocError, Global};
 
 /// A batch, and its output text.
 #[derive(Clone, Copy)]
-pub struct Worked {
-    pub batch: &'static str,
-    pub output: &'static str,
+pub(crate) struct Worked {
+    pub(crate) batch: &'static str,
+    pub(crate) output: &'static str,
 }
 
 /// The train is told a stop: it has not reported, so it has to stop at once.
-pub const STOPPED: Worked = Worked {
+pub(crate) const STOPPED: Worked = Worked {
     batch: "enrol 7 2000\nstop 1 0:0-10\n",
     output: "1 ok 0\n2 ok 1\n7 2 1002800000005FFFFFE0\n",
 };
 
 /// It is told to stop before an area, rejects that and is told to stop at once, and the stop is released.
-pub const REJECTED: Worked = Worked {
+pub(crate) const REJECTED: Worked = Worked {
     batch: "enrol 7 2000
 recv 8806000000FA000001C000E400000287D0500C8019000830
 stop 1 0:20000-21000
@@ -39,7 +39,7 @@ release 1
 };
 
 /// Of two restrictions one lies ahead of it, and is lifted.
-pub const RESTRICTED: Worked = Worked {
+pub(crate) const RESTRICTED: Worked = Worked {
     batch: "enrol 7 2000
 recv 8806000000FA000001C000E400000287D0500C8019000830
 restrict 1 0:9000-11000 up 40 1
@@ -57,7 +57,7 @@ lift 1
 };
 
 /// One report brings two restrictions into sight, which one message tells. Its acknowledgement comes twice.
-pub const SEVERAL: Worked = Worked {
+pub(crate) const SEVERAL: Worked = Worked {
     batch: "enrol 7 2000
 restrict 1 0:20000-21000 up 40 1
 restrict 2 0:30000-31000 up 80 0
@@ -76,7 +76,7 @@ recv 9203800000FA000001C00000FA40
 };
 
 /// Stops take all 15 identifiers of the train; one more waits until it acknowledges that the first one is revoked.
-pub const FULL: Worked = Worked {
+pub(crate) const FULL: Worked = Worked {
     batch: "enrol 7 2000
 stop 1 0:0-10
 stop 2 0:0-10
@@ -137,7 +137,7 @@ recv 9203800000FA000001C000000400
 };
 
 /// A stop is active twice under one number, and the train leaves; each thing that is done twice is refused.
-pub const TWICE: Worked = Worked {
+pub(crate) const TWICE: Worked = Worked {
     batch: "enrol 7 2000
 stop 1 0:0-10
 withdraw 7
@@ -163,7 +163,7 @@ withdraw 7
 };
 
 /// Lines that are refused, each by the least code that applies.
-pub const EACH_REFUSAL: Worked = Worked {
+pub(crate) const EACH_REFUSAL: Worked = Worked {
     batch: "enrol 7 2000
 enrol 7 2000
 enrol 16777216 2000
@@ -201,14 +201,14 @@ recv 8806000000FA000001C000E580000287D0500C8019000830
 };
 
 /// Those in which the train is told something, and more than one thing happens.
-pub const WORKED_BATCHES: [Worked; 5] = [REJECTED, RESTRICTED, SEVERAL, FULL, TWICE];
+pub(crate) const WORKED_BATCHES: [Worked; 5] = [REJECTED, RESTRICTED, SEVERAL, FULL, TWICE];
 
 /// So many lines of a batch, behind the first ones.
 ///
 /// # Errors
 ///
 /// Memory is refused.
-pub fn lines_of(
+pub(crate) fn lines_of(
     alloc: Global,
     batch: &str,
     from: usize,

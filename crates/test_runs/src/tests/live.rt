@@ -2,12 +2,13 @@
 
 ghost use Rattle.rbc_rule.specs.Gathered.{AreSendable};
 
+use super::batches::{EACH_REFUSAL, STOPPED, WORKED_BATCHES, Worked};
 use super::same;
 use ertms_codec::write_to_train;
 use rbc_live::{LiveDesk, LiveFault};
 use rbc_rule::{Reply, SentList};
 use std::process::Abort;
-use test_fixtures::{EACH_REFUSAL, STOPPED, TRACK, WORKED_BATCHES, Worked};
+use test_fixtures::TRACK;
 
 /// Writes the messages of a line, a line each: the engine, the number of the line, and the bytes.
 fn write_messages<R: Abort + AllocGlobal>(

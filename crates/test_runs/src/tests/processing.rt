@@ -1,18 +1,12 @@
 //! Batches from a reader to a writer.
 
+use super::batches::{FULL, STOPPED};
 use super::same;
+use super::setting::good_track;
 use rbc_batch::{ProcessError, process, write_text};
 use rbc_engine::OpenGate;
-use rbc_track::Track;
 use std::io;
 use std::io::{ErrorKind, Read, Write};
-use std::process::Abort;
-use test_fixtures::{FULL, STOPPED, track};
-
-/// The track, where memory suffices.
-fn good_track<R: Abort + AllocGlobal>(rt: &R) -> Track {
-    track(rt.alloc()).expect(rt, "a good track")
-}
 
 /// Gives a text in pieces of so many bytes, and fails at one call.
 #[derive(Drop)]

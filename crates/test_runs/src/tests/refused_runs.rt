@@ -3,25 +3,18 @@
 
 ghost use Rattle.rbc_engine.specs.Answers.{IsOpening};
 
+use super::batches::{WORKED_BATCHES, Worked, lines_of};
+use super::runs::new_desk;
 use super::same;
 use rbc_batch::{parse_batch, render};
 use rbc_core::{Desk, Stats};
 use rbc_engine::{AllWorkers, Gate, OpenGate, RunError, run};
 use rbc_track::Track;
-use std::alloc::Global;
 use std::process::Abort;
 use std::sync::Wait;
 use std::test::Fail;
 use std::thread::Threads;
-use test_fixtures::{WORKED_BATCHES, Worked, ending, lines_of, track};
-
-/// A new desk, from which a run on any track can begin.
-fn new_desk(alloc: Global, track: &Track) -> Desk
-    ensures { IsOpening track.now result }
-{
-    let _ = track;
-    Desk::new(alloc)
-}
+use test_fixtures::{ending, track};
 
 /// Runs a batch on a desk, where memory may be refused beside the run.
 fn run_batch<R, G>(
@@ -127,4 +120,61 @@ fn renders_or_gives_no_text(rt: HostRuntime) -> Result<(), Fail> {
         }
     }
     ending(refused)
+}
+
+/// How many lines are no input, which is more than one stretch takes.
+const BAD_LINES: usize = 20_000;
+
+/// Runs so many lines that are no input, by one worker.
+fn run_bad_lines<R, G>(
+    rt: &R,
+    track: &Track,
+    desk: &mut Desk,
+    count: usize,
+    gate: &G,
+) -> Result<Result<Stats, RunError>, Fail>
+where
+    R: AllocGlobal + Threads + Wait + Sync,
+    G: Gate + Sync,
+    requires { IsOpening track.now desk.old }
+    ensures { IsOpening track.now desk.new }
+{
+    let mut batch = String::new(rt.alloc());
+    for _ in 0..count {
+        batch.push('\n')?;
+    }
+    run_batch(rt, track, desk, batch.as_str(), 1, gate)
+}
+
+/// Runs more lines than one stretch takes, and the rest where memory was refused, also where the second stretch could not be begun.
+fn run_or_tell<R, G>(rt: &R, gate: &G) -> Result<(), Fail>
+where
+    R: Abort + AllocGlobal + Threads + Wait + Sync,
+    G: Gate + Sync,
+{
+    let track = track(rt.alloc())?;
+    let mut desk = new_desk(rt.alloc(), &track);
+    let Err(error) = run_bad_lines(rt, &track, &mut desk, BAD_LINES, gate)? else {
+        same(rt, desk.results().len(), BAD_LINES);
+        return Ok(());
+    };
+    let RunError::OutOfMemory { committed } = error else {
+        return Err(Fail::from("another error"));
+    };
+    same(rt, desk.results().len(), committed as usize);
+    let left = BAD_LINES.saturating_sub(committed as usize);
+    let again = run_bad_lines(rt, &track, &mut desk, left, gate)?;
+    same(rt, again.is_ok(), true);
+    same(rt, desk.results().len(), BAD_LINES);
+    ending(true)
+}
+
+#[test]
+fn runs_stretches_or_tells_what_is_done(rt: HostRuntime) -> Result<(), Fail> {
+    run_or_tell(&rt, &AllWorkers)
+}
+
+#[test]
+fn runs_alone_or_tells_what_is_done(rt: HostRuntime) -> Result<(), Fail> {
+    run_or_tell(&rt, &OpenGate)
 }
