@@ -1,5 +1,5 @@
-//! The codec for callers in C: one message at a time, in structs of fixed layout. `ertms.h` is the header. It takes memory only while
-//! it reads a message of several packets.
+//! The codec for callers in C: one message at a time, in structs of fixed layout. `ertms.h` is the header. It takes
+//! memory only while it reads a message of several packets.
 #![tactic(auto)]
 
 ghost use Rattle.std.specs.Prelude.{◌≡◌, ◌<◌, ◌⊎◌, drop};
@@ -46,8 +46,8 @@ fn read_code_of(fault: ReadError) -> u32
     }
 }
 
-/// Decodes the bytes of one message to a train. Answers 0, and `fields` are those of the message; or the number of the first step
-/// that fails, 1 to 4, or 5 where memory ran out at message 24, and `fields` stay.
+/// Decodes the bytes of one message to a train. Answers 0, and `fields` are those of the message; or the number of the
+/// first step that fails, 1 to 4, or 5 where memory ran out at message 24, and `fields` stay.
 #[unsafe(no_mangle)]
 pub extern "C" fn ertms_3_read_to_train(
     alloc: Global,
@@ -55,7 +55,8 @@ pub extern "C" fn ertms_3_read_to_train(
     fields: &mut ToTrainFields,
 ) -> u32
     ensures read { result ≡ 0 → to_train_fields.AreRead bytes.now fields.new }
-    ensures only { (m : ToTrain) → to_train.Spells bytes.now m → ((result ≡ 0) × (fields.new ≡ to_train_fields.fields_of m)) ⊎ IsWantOfMemory bytes.now result }
+    ensures only { (m : ToTrain) → to_train.Spells bytes.now m
+        → ((result ≡ 0) × (fields.new ≡ to_train_fields.fields_of m)) ⊎ IsWantOfMemory bytes.now result }
     ensures refused { 0 < result → to_train_fields.IsRefused bytes.now result ⊎ IsWantOfMemory bytes.now result }
     ensures stays { 0 < result → fields.new ≡ fields.old }
 {
@@ -68,8 +69,8 @@ pub extern "C" fn ertms_3_read_to_train(
     }
 }
 
-/// Encodes one message to a train. Answers how many bytes it has, at most 897, which stand at the front of `bytes`; or 0 where no
-/// message has these fields. What stands behind the message stays.
+/// Encodes one message to a train. Answers how many bytes it has, at most 897, which stand at the front of `bytes`; or
+/// 0 where no message has these fields. What stands behind the message stays.
 #[unsafe(no_mangle)]
 pub extern "C" fn ertms_3_write_to_train(fields: &ToTrainFields, bytes: &mut [u8; 1024]) -> u32
     ensures written { 0 < result → to_train_fields.AreWritten fields.now result bytes.new }
@@ -103,12 +104,13 @@ fn write_packets(fields: &ToTrainFields, bytes: &mut [u8; 1024]) -> u32
     write_general(to_train::head_in(fields), &packets[..count], bytes) as u32
 }
 
-/// Decodes the bytes of one message from a train. Answers 0, and `fields` are those of the message; or the number of the first step
-/// that fails, 1 to 4, and `fields` stay.
+/// Decodes the bytes of one message from a train. Answers 0, and `fields` are those of the message; or the number of
+/// the first step that fails, 1 to 4, and `fields` stay.
 #[unsafe(no_mangle)]
 pub extern "C" fn ertms_read_from_train(bytes: &[u8], fields: &mut FromTrainFields) -> u32
     ensures read { result ≡ 0 → from_train_fields.AreRead bytes.now fields.new }
-    ensures only { (m : FromTrain) → from_train.Spells bytes.now m → (result ≡ 0) × (fields.new ≡ from_train_fields.fields_of m) }
+    ensures only { (m : FromTrain) → from_train.Spells bytes.now m
+        → (result ≡ 0) × (fields.new ≡ from_train_fields.fields_of m) }
     ensures refused { 0 < result → from_train_fields.IsRefused bytes.now result }
     ensures stays { 0 < result → fields.new ≡ fields.old }
 {

@@ -6,7 +6,8 @@ ghost use Rattle.ertms_codec.specs.declared.packets.Part.{Part as Packet};
 ghost use Rattle.ertms_codec.specs.declared.to_train.ToTrain.TheVariants.{General};
 ghost use Rattle.ertms_codec.specs.PacketsToTrain.{PacketFits};
 ghost use Rattle.ertms_codec.specs.ToTrain.{Fits};
-ghost use Rattle.ertms_c.specs.ToTrainFields.{begun, fields_of, head_in, named_by, packet_fields, packets_fields, packet_named_by, no_packet, AreFieldsOf, IsFrame, AreOfNone};
+ghost use Rattle.ertms_c.specs.ToTrainFields.{begun, fields_of, head_in, named_by, packet_fields, packets_fields};
+ghost use Rattle.ertms_c.specs.ToTrainFields.{packet_named_by, no_packet, AreFieldsOf, IsFrame, AreOfNone};
 
 use ertms_codec::{Head, Packets, Part, ToTrain};
 
@@ -288,7 +289,8 @@ fn packet_of(fields: &PacketFields) -> Option<Part>
     }
 }
 
-/// Puts the packets that have exactly these fields to the front of others, and tells whether there are such and they fit.
+/// Puts the packets that have exactly these fields to the front of others, and tells whether there are such and they
+/// fit.
 pub fn packets_of(fields: &[PacketFields], packets: &mut [Part]) -> bool
     requires { length fields.now ≤ length packets.old }
     ensures are { IsTrue result → AreFieldsOf (take (length fields.now) packets.new) fields.now }

@@ -16,8 +16,8 @@ pub enum DecodeError {
     Length,
     /// NID_MESSAGE is of no message that the reader takes.
     Message,
-    /// A packet is missing, is another than the message can have, or has a wrong L_PACKET; or there are more packets than the
-    /// message can have.
+    /// A packet is missing, is another than the message can have, or has a wrong L_PACKET; or there are more packets
+    /// than the message can have.
     Packet,
     /// A variable has a spare value.
     Field,

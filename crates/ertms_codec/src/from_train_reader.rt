@@ -2,7 +2,10 @@
 
 ghost use Rattle.std.specs.Prelude.{◌≡◌, ◌≤◌, List, ℕ, IfOk, IfErr, length, drop};
 ghost use Rattle.ertms_codec.specs.declared.error.DecodeError.{DecodeError as Refusal};
-ghost use Rattle.ertms_codec.specs.declared.error.DecodeError.TheVariants.{Message as message_refusal, Length as length_refusal, Packet as packet_refusal, Field as field_refusal};
+ghost use Rattle.ertms_codec.specs.declared.error.DecodeError.TheVariants.{Message as message_refusal};
+ghost use Rattle.ertms_codec.specs.declared.error.DecodeError.TheVariants.{Length as length_refusal};
+ghost use Rattle.ertms_codec.specs.declared.error.DecodeError.TheVariants.{Packet as packet_refusal};
+ghost use Rattle.ertms_codec.specs.declared.error.DecodeError.TheVariants.{Field as field_refusal};
 ghost use Rattle.ertms_codec.specs.declared.from_train.FromTrain.{FromTrain as Received};
 ghost use Rattle.ertms_codec.specs.declared.from_train.FromTrain.TheVariants as received;
 ghost use Rattle.ertms_codec.specs.Layout.{value_at};
@@ -10,7 +13,8 @@ ghost use Rattle.ertms_codec.specs.FromTrain.{Spells};
 ghost use Rattle.ertms_codec.specs.Refusals.{Unless, Never};
 ghost use Rattle.ertms_codec.specs.RefusalsFromTrain.{Refuses, IsFromTrain, IsLongEnough, HasItsPackets};
 ghost use Rattle.ertms_codec.specs.FromTrainAtPlaces.{HasNoSpare, RefusesAtPlaces};
-ghost use Rattle.ertms_codec.specs.Reading.{IsReadFromTrain, IsReadBehind, IsReport, IsStopAcknowledgement, RefusesPosition};
+ghost use Rattle.ertms_codec.specs.Reading.{IsReadFromTrain, IsReadBehind, IsReport, IsStopAcknowledgement};
+ghost use Rattle.ertms_codec.specs.Reading.{RefusesPosition};
 
 use crate::error::DecodeError;
 use crate::from_train::FromTrain;
@@ -53,7 +57,8 @@ fn read(bytes: &[u8]) -> Result<FromTrain, DecodeError>
 /// Whether a message of this number can have so many bytes.
 fn check_length(number: u64, len: usize) -> Result<(), DecodeError>
     ensures ok { IfOk result (λ _. IsFromTrain number × IsLongEnough number len) }
-    ensures err { IfErr result (Unless (IsFromTrain number) message_refusal (Unless (IsLongEnough number len) length_refusal Never)) }
+    ensures err { IfErr result (Unless (IsFromTrain number) message_refusal
+        (Unless (IsLongEnough number len) length_refusal Never)) }
 {
     let is_enough = match number {
         136 | 147 => len >= 10,

@@ -1,10 +1,12 @@
 //! Reading the packets of a message from a train.
 
-ghost use Rattle.std.specs.Prelude.{◌≡◌, ◌+◌, ◌-◌, ◌<◌, ◌≤◌, ◌==◌, List, ℕ, IfOk, IfErr, OnOk, length, drop, if◌then◌else◌};
+ghost use Rattle.std.specs.Prelude.{◌≡◌, ◌+◌, ◌-◌, ◌<◌, ◌≤◌, ◌==◌, List, ℕ, IfOk, IfErr, OnOk, length, drop};
+ghost use Rattle.std.specs.Prelude.{if◌then◌else◌};
 ghost use Rattle.ertms_codec.specs.declared.error.DecodeError.TheVariants.{Packet as packet_refusal};
 ghost use Rattle.ertms_codec.specs.Layout.{value_at};
 ghost use Rattle.ertms_codec.specs.FromTrain.{ArePackets, has_length, has_system};
-ghost use Rattle.ertms_codec.specs.RefusalsFromTrain.{BeginWithPosition, shift_in, length_width, system_width, train_place};
+ghost use Rattle.ertms_codec.specs.RefusalsFromTrain.{BeginWithPosition, shift_in, length_width, system_width};
+ghost use Rattle.ertms_codec.specs.RefusalsFromTrain.{train_place};
 ghost use Rattle.ertms_codec.specs.FromTrainAtPlaces.{previous_at, position_at};
 ghost use Rattle.ertms_codec.specs.Reading.{BeginsWithPacket, ReadsPosition, RefusesPosition};
 

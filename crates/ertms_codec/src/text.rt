@@ -5,7 +5,9 @@ ghost use Rattle.std.specs.Fmt.{DisplaysOnOk};
 ghost use Rattle.std.specs.List.{flat_map};
 ghost use Rattle.ertms_codec.specs.declared.error.DecodeError.{DecodeError as Refusal};
 ghost use Rattle.ertms_codec.specs.declared.text.DescribeError.TheVariants.{Decode};
-ghost use Rattle.ertms_codec.specs.Texts.{head_text, packet_text, packet_behind, text_to_train, position_text, text_from_train, is_to_train, HasText, HasTextOf, IsRefused, IsRefusedOf, IsFault, IsFaultOf, IsWantOfMemory, fault_of_reading};
+ghost use Rattle.ertms_codec.specs.Texts.{head_text, packet_text, packet_behind, text_to_train, position_text};
+ghost use Rattle.ertms_codec.specs.Texts.{text_from_train, is_to_train, HasText, HasTextOf, IsRefused, IsRefusedOf};
+ghost use Rattle.ertms_codec.specs.Texts.{IsFault, IsFaultOf, IsWantOfMemory, fault_of_reading};
 
 use crate::error::{DecodeError, ReadError};
 use crate::from_train::{FromTrain, Position};
@@ -192,7 +194,8 @@ impl fmt::Display for FromTrain {
 pub fn describe(alloc: Global, bytes: &[u8]) -> Result<Vec<u8>, DescribeError>
     ensures text { IfOk result (λ text. HasText bytes.now text.items) }
     ensures fault { IfErr result (λ fault. IsFault bytes.now fault) }
-    ensures refused { (e : Refusal) → IsRefused bytes.now e → (result ≡ Err (Decode e)) ⊎ IsWantOfMemory bytes.now result }
+    ensures refused { (e : Refusal) → IsRefused bytes.now e
+        → (result ≡ Err (Decode e)) ⊎ IsWantOfMemory bytes.now result }
 {
     let line = if is_to_train(bytes) {
         line_to_train(alloc, bytes)?
@@ -213,7 +216,8 @@ fn is_to_train(bytes: &[u8]) -> bool
 fn line_to_train(alloc: Global, bytes: &[u8]) -> Result<String, DescribeError>
     ensures text { IfOk result (λ line. HasTextOf true bytes.now (string_bytes line)) }
     ensures fault { IfErr result (λ fault. IsFaultOf true bytes.now fault) }
-    ensures refused { (e : Refusal) → IsRefusedOf true bytes.now e → (result ≡ Err (Decode e)) ⊎ IsWantOfMemory bytes.now result }
+    ensures refused { (e : Refusal) → IsRefusedOf true bytes.now e
+        → (result ≡ Err (Decode e)) ⊎ IsWantOfMemory bytes.now result }
 {
     Ok(format!(in alloc; "{}\n", read_to_train(alloc, bytes)?)?)
 }

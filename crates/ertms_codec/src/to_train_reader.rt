@@ -3,7 +3,9 @@
 ghost use Rattle.std.specs.Prelude.{◌≡◌, ◌⊎◌, ◌+◌, ◌<◌, ◌≤◌, ◌==◌, List, ℕ, IfOk, IfErr, OnOk, length, drop};
 ghost use Rattle.std.specs.Int.{w16, cast_signed};
 ghost use Rattle.ertms_codec.specs.declared.error.DecodeError.{DecodeError as Refusal};
-ghost use Rattle.ertms_codec.specs.declared.error.DecodeError.TheVariants.{Message as message_refusal, Length as length_refusal, Packet as packet_refusal};
+ghost use Rattle.ertms_codec.specs.declared.error.DecodeError.TheVariants.{Message as message_refusal};
+ghost use Rattle.ertms_codec.specs.declared.error.DecodeError.TheVariants.{Length as length_refusal};
+ghost use Rattle.ertms_codec.specs.declared.error.DecodeError.TheVariants.{Packet as packet_refusal};
 ghost use Rattle.ertms_codec.specs.declared.error.ReadError.TheVariants.{Decode};
 ghost use Rattle.ertms_codec.specs.declared.packets.Part.TheVariants as packet;
 ghost use Rattle.ertms_codec.specs.declared.to_train.ToTrain.{ToTrain as Sent};
@@ -12,7 +14,8 @@ ghost use Rattle.ertms_codec.specs.Layout.{value_at};
 ghost use Rattle.ertms_codec.specs.PacketsToTrain.{most_packets};
 ghost use Rattle.ertms_codec.specs.ToTrain.{Spells};
 ghost use Rattle.ertms_codec.specs.Refusals.{Unless, Never};
-ghost use Rattle.ertms_codec.specs.RefusalsToTrain.{Refuses, IsReadFault, IsWantOfMemory, IsToTrain, IsLongEnough, BeginWithPacket, ArePackets, behind_packet};
+ghost use Rattle.ertms_codec.specs.RefusalsToTrain.{Refuses, IsReadFault, IsWantOfMemory, IsToTrain, IsLongEnough};
+ghost use Rattle.ertms_codec.specs.RefusalsToTrain.{BeginWithPacket, ArePackets, behind_packet};
 ghost use Rattle.ertms_codec.specs.ToTrainAtPlaces.{head_at, packet_at, packets_at, message_at, IsFaultAtPlaces};
 ghost use Rattle.ertms_codec.specs.Reading.{IsReadToTrain, IsPacketsFault};
 
@@ -67,7 +70,8 @@ fn read(alloc: Global, bytes: &[u8]) -> Result<ToTrain, ReadError>
 /// Whether a message of this number can have so many bytes.
 fn check_length(number: u64, len: usize) -> Result<(), DecodeError>
     ensures ok { IfOk result (λ _. IsToTrain number × IsLongEnough number len) }
-    ensures err { IfErr result (Unless (IsToTrain number) message_refusal (Unless (IsLongEnough number len) length_refusal Never)) }
+    ensures err { IfErr result (Unless (IsToTrain number) message_refusal
+        (Unless (IsLongEnough number len) length_refusal Never)) }
 {
     let is_enough = match number {
         15 => len == 15,
@@ -105,7 +109,8 @@ fn body(
     requires least { 4 ≤ length bits.old }
     requires conditional { number ≡ 15 → 39 ≤ length bits.old }
     ensures packets { IfOk result (λ _. number ≡ 24 → ArePackets most_packets bits.old) }
-    ensures ok { IfOk result (λ m. (whole : List ℕ) → bits.old ≡ drop 75 whole → head ≡ head_at whole → number ≡ value_at 0 8 whole → m ≡ message_at whole) }
+    ensures ok { IfOk result (λ m. (whole : List ℕ) → bits.old ≡ drop 75 whole → head ≡ head_at whole
+        → number ≡ value_at 0 8 whole → m ≡ message_at whole) }
     ensures err { IfErr result (λ fault. (number ≡ 24) × IsPacketsFault bits.old fault) }
 {
     match number {
@@ -120,7 +125,8 @@ fn body(
 fn stop_at(bits: &mut BitReader<'_>, head: Head) -> ToTrain
     requires { 39 ≤ length bits.old }
     ensures { (whole : List ℕ) → bits.old ≡ drop 75 whole
-        → result ≡ sent.StopAt head (value_at 75 4 whole) (value_at 79 2 whole) (cast_signed w16 (value_at 81 16 whole)) (value_at 97 2 whole) (value_at 99 15 whole) }
+        → result ≡ sent.StopAt head (value_at 75 4 whole) (value_at 79 2 whole)
+        (cast_signed w16 (value_at 81 16 whole)) (value_at 97 2 whole) (value_at 99 15 whole) }
 {
     ToTrain::StopAt {
         head,
@@ -207,7 +213,8 @@ fn packet(bits: &mut BitReader<'_>) -> Result<Part, DecodeError>
 fn restrict(bits: &mut BitReader<'_>, dir: u8) -> Part
     requires { 48 ≤ length bits.old }
     ensures { (whole : List ℕ) → bits.old ≡ drop 23 whole
-        → (result ≡ packet.Restrict dir (value_at 23 2 whole) (value_at 25 8 whole) (value_at 33 15 whole) (value_at 48 15 whole) (value_at 63 1 whole == 1) (value_at 64 7 whole))
+        → (result ≡ packet.Restrict dir (value_at 23 2 whole) (value_at 25 8 whole) (value_at 33 15 whole)
+        (value_at 48 15 whole) (value_at 63 1 whole == 1) (value_at 64 7 whole))
         × (bits.new ≡ drop 71 whole) }
 {
     Part::Restrict {

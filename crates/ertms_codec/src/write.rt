@@ -6,7 +6,8 @@ ghost use Rattle.ertms_bits.specs.Bits.{bits_of_bytes, bytes_for, bytes_of};
 ghost use Rattle.ertms_codec.specs.Layout.{field, width_of};
 ghost use Rattle.ertms_codec.specs.PacketsToTrain.{fields_of_packet, PacketFits, most_packets};
 ghost use Rattle.ertms_codec.specs.declared.to_train.ToTrain.TheVariants as sent;
-ghost use Rattle.ertms_codec.specs.ToTrain.{Fits, Spells, HoldsReference, number_of_message, body_of, length_of_message, spelling_of};
+ghost use Rattle.ertms_codec.specs.ToTrain.{Fits, Spells, HoldsReference, number_of_message, body_of};
+ghost use Rattle.ertms_codec.specs.ToTrain.{length_of_message, spelling_of};
 ghost use Rattle.ertms_codec.specs.Written.{Writes, header_of};
 
 use crate::packets::Part;

@@ -78,8 +78,8 @@ impl From<RunError> for ProcessError {
     }
 }
 
-/// The lines of a batch, if so many workers can run them. It is refused for the number of workers first, and then for the
-/// number of its lines.
+/// The lines of a batch, if so many workers can run them. It is refused for the number of workers first, and then for
+/// the number of its lines.
 fn admit(alloc: Global, batch: &[u8], workers: u8) -> Result<Vec<&[u8]>, ProcessError>
     ensures lines { IfOk result (λ lines. texts_of lines.items ≡ lines_of batch.now) }
     ensures refused { IfErr result (IsRefused workers batch.now) }
@@ -103,7 +103,8 @@ fn read_inputs<R: Read>(
 ) -> Result<Vec<Input>, ProcessError>
     ensures read { IfOk result (λ inputs. AreRead (R.remaining reader.old) (R.remaining reader.new) inputs.items) }
     ensures fit { IfOk result (λ inputs. All Fits inputs.items) }
-    ensures too_long { IsErrOf result ProcessError.TooLong → IfSome (R.remaining reader.old) (λ batch. max_batch < length batch) }
+    ensures too_long { IsErrOf result ProcessError.TooLong
+        → IfSome (R.remaining reader.old) (λ batch. max_batch < length batch) }
     ensures before { IfErr result (λ e. IsBeforeRun workers (R.remaining reader.old) (R.remaining reader.new) e) }
 {
     let batch = read_batch(rt.alloc(), reader)?;
@@ -129,8 +130,8 @@ fn run_all<G: Gate + Sync>(
     }
 }
 
-/// Reads a batch to its end, runs its lines on a track, from the empty state, by so many workers (1 to 16), and writes the output
-/// text: that of the lines run one after another. Nothing is written before the whole output is known.
+/// Reads a batch to its end, runs its lines on a track, from the empty state, by so many workers (1 to 16), and writes
+/// the output text: that of the lines run one after another. Nothing is written before the whole output is known.
 ///
 /// # Errors
 ///
@@ -145,8 +146,10 @@ pub fn process<R: Read, W: Write, G: Gate + Sync>(
     workers: u8,
     gate: &G,
 ) -> Result<Stats, ProcessError>
-    ensures answers { Answers track.now workers (R.remaining reader.old) (R.remaining reader.new) (W.contents writer.old) (W.contents writer.new) result }
-    ensures too_long { IsErrOf result ProcessError.TooLong → IfSome (R.remaining reader.old) (λ batch. max_batch < length batch) }
+    ensures answers { Answers track.now workers (R.remaining reader.old) (R.remaining reader.new)
+        (W.contents writer.old) (W.contents writer.new) result }
+    ensures too_long { IsErrOf result ProcessError.TooLong
+        → IfSome (R.remaining reader.old) (λ batch. max_batch < length batch) }
     ensures untouched { IsUntouched result writer.old writer.new }
 {
     let (desk, stats) = {

@@ -74,7 +74,8 @@ pub(crate) fn parse_lines(
     }
 }
 
-/// Parses a batch into its inputs, one for each line. An empty line is an input too, a refusal. Fails only for lack of memory.
+/// Parses a batch into its inputs, one for each line. An empty line is an input too, a refusal. Fails only for lack of
+/// memory.
 pub fn parse_batch(
     rt: &(impl AllocGlobal + Threads + Sync),
     text: &[u8],

@@ -24,7 +24,8 @@ const MAX_INTERRUPTIONS: u32 = 1_000;
 pub fn read_batch<R: Read>(alloc: Global, reader: &mut R) -> Result<Vec<u8>, ProcessError>
     ensures read { IfOk result (λ batch. IsAllRead (R.remaining reader.old) (R.remaining reader.new) batch.items) }
     ensures short { IfOk result (λ batch. length batch.items ≤ max_batch) }
-    ensures too_long { IsErrOf result ProcessError.TooLong → IfSome (R.remaining reader.old) (λ bytes. max_batch < length bytes) }
+    ensures too_long { IsErrOf result ProcessError.TooLong
+        → IfSome (R.remaining reader.old) (λ bytes. max_batch < length bytes) }
     ensures before { IfErr result (λ e. IsBeforeWriting e) }
 {
     let mut batch = Vec::new(alloc);
@@ -48,11 +49,12 @@ pub fn read_batch<R: Read>(alloc: Global, reader: &mut R) -> Result<Vec<u8>, Pro
     Err(ProcessError::Read)
 }
 
-/// Writes the whole text. It fails if the writer fails, takes no bytes, or is interrupted `MAX_INTERRUPTIONS` times. The
-/// error is the number of bytes that are out: exactly that many, from the beginning of the text.
+/// Writes the whole text. It fails if the writer fails, takes no bytes, or is interrupted `MAX_INTERRUPTIONS` times.
+/// The error is the number of bytes that are out: exactly that many, from the beginning of the text.
 pub fn write_text<W: Write>(writer: &mut W, text: &[u8]) -> Result<(), usize>
     ensures ok { OnOk result (Appends (W.contents writer.old) (W.contents writer.new) text.now) }
-    ensures part { IfErr result (λ sent. (sent ≤ length text.now) × Appends (W.contents writer.old) (W.contents writer.new) (take sent text.now)) }
+    ensures part { IfErr result (λ sent. (sent ≤ length text.now)
+        × Appends (W.contents writer.old) (W.contents writer.new) (take sent text.now)) }
 {
     let mut sent = 0;
     let mut interruptions = 0;

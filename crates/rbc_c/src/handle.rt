@@ -15,7 +15,8 @@ const VERSION: u8 = 3;
 #[repr(C)]
 #[derive(Drop)]
 pub struct Handle {
-    /// RBC_VERSION of the rbc.h that the caller was compiled with. It stands first: there a caller of an older rbc.h has 0 or 1.
+    /// RBC_VERSION of the rbc.h that the caller was compiled with. It stands first: there a caller of an older rbc.h
+    /// has 0 or 1.
     pub version: u8,
     is_open: bool,
     pub memory: DeskPointer,
@@ -56,7 +57,8 @@ impl Handle {
 
     /// Takes the desk out, if one is open. The handle has none then.
     pub fn take(&mut self, alloc: Global) -> Option<Box<LiveDesk>>
-        ensures desk { MatchOption result (self.old.memory.live ≡ None) (λ desk. self.old.memory.live ≡ Some desk.value) }
+        ensures desk { MatchOption result (self.old.memory.live ≡ None)
+            (λ desk. self.old.memory.live ≡ Some desk.value) }
         ensures none { self.new.memory.live ≡ None }
         ensures version { self.new.version ≡ this_version }
     {

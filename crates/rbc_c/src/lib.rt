@@ -37,9 +37,9 @@ fn desk_on(alloc: Global, track: &[u8]) -> Result<Box<LiveDesk>, u32>
     }
 }
 
-/// Opens a desk on the track that a text in TOML writes. Answers 0, and the handle has the desk; or the code of a fault, and the
-/// handle is unchanged. A handle that has a desk keeps it, and the call is refused. So is that of a caller that was compiled with
-/// another rbc.h.
+/// Opens a desk on the track that a text in TOML writes. Answers 0, and the handle has the desk; or the code of a
+/// fault, and the handle is unchanged. A handle that has a desk keeps it, and the call is refused. So is that of a
+/// caller that was compiled with another rbc.h.
 #[unsafe(no_mangle)]
 pub extern "C" fn rbc_open(handle: &mut Handle, alloc: Global, track: &[u8]) -> u32
     ensures { Versioned handle.old.version handle.new.version result
@@ -70,9 +70,9 @@ fn open_handle(handle: &mut Handle, alloc: Global, track: &[u8]) -> u32
     }
 }
 
-/// Gives one line to the desk of a handle. Answers 0: `answer` says what it led to, and its messages stand at the front of `out`. At
-/// the code of a fault the desk and `out` are as they were; where `out` has no room `answer` says for how many messages. A handle with
-/// no desk is refused, and so is that of a caller that was compiled with another rbc.h.
+/// Gives one line to the desk of a handle. Answers 0: `answer` says what it led to, and its messages stand at the front
+/// of `out`. At the code of a fault the desk and `out` are as they were; where `out` has no room `answer` says for how
+/// many messages. A handle with no desk is refused, and so is that of a caller that was compiled with another rbc.h.
 #[unsafe(no_mangle)]
 pub extern "C" fn rbc_feed(
     handle: &mut Handle,
@@ -99,7 +99,8 @@ fn feed_handle(
     out: &mut [Message],
     answer: &mut Answer,
 ) -> u32
-    ensures feeds { Feeds handle.old.memory.live line.now out.old answer.old result handle.new.memory.live out.new answer.new }
+    ensures feeds { Feeds handle.old.memory.live line.now out.old answer.old result handle.new.memory.live out.new
+        answer.new }
     ensures version { handle.new.version ≡ this_version }
 {
     let Some(mut desk) = handle.take(alloc) else {
@@ -110,8 +111,8 @@ fn feed_handle(
     code
 }
 
-/// Gives back the memory of a handle's desk, which has none then. A handle with no desk is refused, and so is that of a caller that
-/// was compiled with another rbc.h, which stays as it is.
+/// Gives back the memory of a handle's desk, which has none then. A handle with no desk is refused, and so is that of a
+/// caller that was compiled with another rbc.h, which stays as it is.
 #[unsafe(no_mangle)]
 pub extern "C" fn rbc_close(handle: &mut Handle, alloc: Global) -> u32
     ensures { Versioned handle.old.version handle.new.version result

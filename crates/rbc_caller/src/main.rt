@@ -1,8 +1,9 @@
 //! A worked caller: a dispatcher that keeps a state of its own, and takes one input after another.
 //!
-//! It reads a batch from standard input and takes the first half of it, sends what comes of each input at once, and then loses
-//! everything but its log. It replays the log without sending anything a second time, and goes on with the other half. Each input is
-//! answered by its result, as `dispatch run` writes it, and its messages, in the order in which they are sent.
+//! It reads a batch from standard input and takes the first half of it, sends what comes of each input at once, and
+//! then loses everything but its log. It replays the log without sending anything a second time, and goes on with the
+//! other half. Each input is answered by its result, as `dispatch run` writes it, and its messages, in the order in
+//! which they are sent.
 #![tactic(auto)]
 
 mod office;

@@ -1,10 +1,15 @@
 //! The arguments that the program takes.
-ghost use Rattle.std.specs.Prelude.{◌≡◌, ◌⊎◌, ℕ, List, [], codes, false, IfErr, IfNone, IfOk, IfSome, OnOk, map, option_map, string_bytes, true};
+ghost use Rattle.std.specs.Prelude.{◌≡◌, ◌⊎◌, ℕ, List, [], codes, false, IfErr, IfNone, IfOk, IfSome, OnOk, map};
+ghost use Rattle.std.specs.Prelude.{option_map, string_bytes, true};
 ghost use Rattle.clap.specs.Simple.{App, Shape, new_rule, with_subcommand};
 ghost use Rattle.clap.specs.Words.{app_of, fault_of, rule_of, shape_of, subcommand_rows_of};
 ghost use Rattle.clap.specs.declared.builder.command.Command.TheViews.{out-Command as fields_of};
 ghost use Rattle.rbc_command_line.specs.NoTask.{status_of, status_of_kind};
-ghost use Rattle.rbc_command_line.specs.Words.{AsksToCheck, AsksToDecode, AsksToLive, AsksToRun, IsCheckOf, IsDecode, IsFound, IsLiveOn, IsNoTask, IsRunOn, IsTakenFor, IsWantOfMemory, bare_line, check_shape, codes_shape, command_line, count_after, decode_shape, finding_in, from_rule, live_shape, number_after, other_keys_rule, run_shape, track_rule, word_after, workers_rule};
+ghost use Rattle.rbc_command_line.specs.Words.{AsksToCheck, AsksToDecode, AsksToLive, AsksToRun, IsCheckOf, IsDecode};
+ghost use Rattle.rbc_command_line.specs.Words.{IsFound, IsLiveOn, IsNoTask, IsRunOn, IsTakenFor, IsWantOfMemory};
+ghost use Rattle.rbc_command_line.specs.Words.{bare_line, check_shape, codes_shape, command_line, count_after};
+ghost use Rattle.rbc_command_line.specs.Words.{decode_shape, finding_in, from_rule, live_shape, number_after};
+ghost use Rattle.rbc_command_line.specs.Words.{other_keys_rule, run_shape, track_rule, word_after, workers_rule};
 
 use crate::no_task::NoTask;
 use clap::error::ErrorKind;

@@ -5,7 +5,8 @@ ghost use Rattle.std.specs.Option.{option_map};
 ghost use Rattle.rbc_records.specs.declared.record.Key.{Key};
 ghost use Rattle.rbc_records.specs.Notes.{Part, AreNow};
 ghost use Rattle.rbc_versions.specs.Log.{number_of};
-ghost use Rattle.rbc_versions.specs.Entries.{AreOf, AreKeyedOf, AreOfWrites, AreCurrent, StandIn, numbered, number_for, records_of, shown, record_of, ticket_in};
+ghost use Rattle.rbc_versions.specs.Entries.{AreOf, AreKeyedOf, AreOfWrites, AreCurrent, StandIn, numbered, number_for};
+ghost use Rattle.rbc_versions.specs.Entries.{records_of, shown, record_of, ticket_in};
 ghost use Rattle.rbc_versions.specs.Entries.{CountsAll};
 ghost use Rattle.rbc_rule.specs.Right.{IsRight};
 ghost use Rattle.rbc_rule.specs.Gathered.{AreSendable};
@@ -21,9 +22,9 @@ use rbc_track::Track;
 use rbc_versions::{Notes, Present, Published, VersionLog};
 use std::marker::{Model, PhantomData};
 
-/// An attempt at an input of a run: the numbers that were read, what the input does where these stand, and the numbers of what it
-/// writes. Each attempt is right: in every valid state that has the records that were read, its outcome is that of the input's
-/// step, and its numbers mean what the outcome writes.
+/// An attempt at an input of a run: the numbers that were read, what the input does where these stand, and the numbers
+/// of what it writes. Each attempt is right: in every valid state that has the records that were read, its outcome is
+/// that of the input's step, and its numbers mean what the outcome writes.
 #[derive(Drop)]
 pub struct Attempt<N: RunName> {
     number: u32,
@@ -39,15 +40,27 @@ impl<N: RunName> Model for Attempt<N> {
 
     ghost Value = { core.Try };
 
-    ghost view = { λ a. record { number = a.number; notes = entries.numbered a.notes; outcome = a.outcome; writes = entries.numbered a.published } };
+    ghost view = { λ a. record {
+      number = a.number;
+      notes = entries.numbered a.notes;
+      outcome = a.outcome;
+      writes = entries.numbered a.published;
+    } };
 
     // It is right, and its numbers are those of the run's log.
-    ghost invariant = { λ a. core.IsRightTry N.run (record { number = a.number; notes = entries.numbered a.notes; outcome = a.outcome; writes = entries.numbered a.published }) × entries.AreOf N.log a.notes × entries.AreKeyedOf N.log a.published };
+    ghost invariant = { λ a. core.IsRightTry N.run
+        (record {
+          number = a.number;
+          notes = entries.numbered a.notes;
+          outcome = a.outcome;
+          writes = entries.numbered
+              a.published;
+        }) × entries.AreOf N.log a.notes × entries.AreKeyedOf N.log a.published };
 }
 
 impl<N: RunName> Attempt<N> {
-    /// Makes an attempt at the input of a number, which counts from 1. `decide` gives an outcome that is right for the notes of its
-    /// reader, and `publish_all` the publication of its writes. Takes no memory.
+    /// Makes an attempt at the input of a number, which counts from 1. `decide` gives an outcome that is right for the
+    /// notes of its reader, and `publish_all` the publication of its writes. Takes no memory.
     pub fn of(
         track: &Track,
         number: u32,
@@ -58,12 +71,19 @@ impl<N: RunName> Attempt<N> {
     ) -> Self
         requires track { track.now ≡ N.run.track }
         requires input { IsInput N.run number input.now }
-        requires right { IsRight track.now input.now (Part (shown notes)) outcome.result outcome.writes outcome.messages }
+        requires right { IsRight track.now input.now
+            (Part (shown notes)) outcome.result outcome.writes outcome.messages }
         requires fit { AreSendable outcome.messages }
         requires notes { AreOf N.log notes }
         requires published { AreKeyedOf N.log published }
         requires writes { AreOfWrites (numbered published) outcome.writes }
-        ensures { result ≡ record { number = number; notes = numbered notes; outcome = outcome; writes = numbered published } }
+        ensures { result ≡ record {
+          number = number;
+          notes = numbered notes;
+          outcome = outcome;
+          writes = numbered
+              published;
+        } }
     {
         let _ = track;
         let _ = input;
@@ -101,7 +121,8 @@ impl<N: RunName> Attempt<N> {
 
     /// Raises the bounds for the keys that it writes. Takes no memory.
     pub(crate) fn raise(&self, reach: &mut Reach)
-        ensures here { (k : Key) (n : ℕ) → number_for self.now.writes k ≡ Some n → self.now.number ≤ reached reach.new k }
+        ensures here { (k : Key) (n : ℕ) → number_for self.now.writes k ≡ Some n
+            → self.now.number ≤ reached reach.new k }
         ensures more { (k : Key) → reached reach.old k ≤ reached reach.new k }
     {
         let Attempt {
@@ -112,12 +133,14 @@ impl<N: RunName> Attempt<N> {
         reach.raise_all(published, *number);
     }
 
-    /// Whether the numbers of all that was read, also of absent records, are the present ones. Nothing but numbers is compared.
+    /// Whether the numbers of all that was read, also of absent records, are the present ones. Nothing but numbers is
+    /// compared.
     pub(crate) fn is_fresh(&self, log: &VersionLog, present: &Present) -> bool
         requires log { log.now ≡ N.log }
         requires present { StandIn log.now present.now.tickets }
         ensures numbers { IsTrue result ↔ AreCurrent self.now.notes (λ k. number_of (ticket_in present.now.tickets k)) }
-        ensures records { IsTrue result → AreNow (records_of self.now.notes) (λ k. option_map record_of (ticket_in present.now.tickets k)) }
+        ensures records { IsTrue result
+            → AreNow (records_of self.now.notes) (λ k. option_map record_of (ticket_in present.now.tickets k)) }
     {
         present.are_current(log, &self.notes)
     }

@@ -1,6 +1,7 @@
 //! The book of a run: its inputs are taken and attempted in any order, and committed in their own.
 
-ghost use Rattle.std.specs.Prelude.{◌≡◌, ◌+◌, ◌<◌, ◌≤◌, ◌↔◌, ◌-◌, ℕ, IsTrue, Some, None, length, replicate, set, slice_get, is_ok, IfOk, IfErr, IfSome, OnOk, OnErr};
+ghost use Rattle.std.specs.Prelude.{◌≡◌, ◌+◌, ◌<◌, ◌≤◌, ◌↔◌, ◌-◌, ℕ, IsTrue, Some, None, length, replicate, set};
+ghost use Rattle.std.specs.Prelude.{slice_get, is_ok, IfOk, IfErr, IfSome, OnOk, OnErr};
 ghost use Rattle.std.specs.Prelude.{List};
 ghost use Rattle.rbc_records.specs.declared.record.Key.{Key};
 ghost use Rattle.rbc_records.specs.Notes.{record_in};
@@ -11,7 +12,8 @@ ghost use Rattle.rbc_desk.specs.Held.{IsMemoryOf, standing};
 ghost use Rattle.rbc_core.specs.declared.stage.Stage.TheVariants.{Free, Tried, Void};
 ghost use Rattle.rbc_core.specs.Runs.{IsGoodRun, IsSerialRun, IsSaidSince};
 ghost use Rattle.rbc_core.specs.Core.{Try, opening};
-ghost use Rattle.rbc_core.specs.Books.{IsBook, ArePresent, state_of, number_now, IsOutIn, IsJudged, Judges, IsOutcomeAt, IsCarriedOut};
+ghost use Rattle.rbc_core.specs.Books.{IsBook, ArePresent, state_of, number_now, IsOutIn, IsJudged, Judges};
+ghost use Rattle.rbc_core.specs.Books.{IsOutcomeAt, IsCarriedOut};
 ghost use Rattle.rbc_core.specs.Reaches.{IsLatestIn, NoneWritesIn, number_put};
 ghost use Rattle.rbc_core.specs.Forwards.{IsLatest};
 ghost use Rattle.rbc_core.specs.Events.{Happens, Commits};
@@ -54,8 +56,9 @@ pub enum Commit {
     Failed,
 }
 
-/// A desk, for each of its records the ticket under which it is published in the log of the run, and how far each input is. The desk
-/// is always that of the rules applied to the inputs that are committed, one after another. Inputs are numbered from 1.
+/// A desk, for each of its records the ticket under which it is published in the log of the run, and how far each input
+/// is. The desk is always that of the rules applied to the inputs that are committed, one after another. Inputs are
+/// numbered from 1.
 #[derive(Drop)]
 pub struct Book<'a, N: RunName> {
     log: &'a VersionLog,
@@ -79,20 +82,38 @@ impl<'a, N: RunName> Model for Book<'a, N> {
 
     ghost Value = { books.BookValue };
 
-    ghost view = { λ b. record { desk = b.desk; present = b.present.tickets; stages = b.stages.items; committed = b.committed; taken = b.taken; recomputed = b.recomputed; closed = b.is_closed } };
+    ghost view = { λ b. record {
+      desk = b.desk;
+      present = b.present.tickets;
+      stages = b.stages.items;
+      committed = b.committed;
+      taken = b.taken;
+      recomputed = b.recomputed;
+      closed = b.is_closed;
+    } };
 
-    // The inputs and the log are those of the run, and what is held is the serial run of the inputs that are committed. No attempt at an
-    // input above a key's bound writes the key.
-    ghost invariant = { λ b. (b.log.now ≡ N.log) × (b.inputs.now ≡ N.run.inputs) × books.IsBook N.run N.log (record { desk = b.desk; present = b.present.tickets; stages = b.stages.items; committed = b.committed; taken = b.taken; recomputed = b.recomputed; closed = b.is_closed }) × AreWithin b.stages.items b.reach };
+    // The inputs and the log are those of the run, and what is held is the serial run of the inputs that are committed.
+    // No attempt at an input above a key's bound writes the key.
+    ghost invariant = { λ b. (b.log.now ≡ N.log) × (b.inputs.now ≡ N.run.inputs)
+        × books.IsBook N.run N.log (record {
+          desk = b.desk;
+          present = b.present.tickets;
+          stages = b.stages.items;
+          committed = b.committed;
+          taken = b.taken;
+          recomputed = b.recomputed;
+          closed = b.is_closed;
+        }) × AreWithin b.stages.items b.reach };
 }
 
 impl<'a, N: RunName> Book<'a, N> {
-    /// Opens a book on a desk and inputs: publishes copies of the desk's records in the log, and makes the room that `take`, `deposit`
-    /// and `void` need.
+    /// Opens a book on a desk and inputs: publishes copies of the desk's records in the log, and makes the room that
+    /// `take`, `deposit` and `void` need.
     ///
     /// # Errors
     ///
-    /// Fails only for lack of memory, and then hands the desk back. It may then leave versions in the log that nothing names.
+    /// Fails only for lack of memory, and then hands the desk back. It may then leave versions in the log that nothing
+    /// names.
     pub fn new(
         rt: &impl Wait,
         alloc: Global,
@@ -133,7 +154,8 @@ impl<'a, N: RunName> Book<'a, N> {
         })
     }
 
-    /// Takes the next input that was not taken yet, and returns its number; `None` if all are taken, or the book is closed to this.
+    /// Takes the next input that was not taken yet, and returns its number; `None` if all are taken, or the book is
+    /// closed to this.
     pub fn take(&mut self) -> Option<u32>
         ensures event { Happens N.run (state_of self.old) (Takes result) (state_of self.new) }
     {
@@ -145,9 +167,10 @@ impl<'a, N: RunName> Book<'a, N> {
         Some(self.taken)
     }
 
-    /// The number of the record that stands under a key as an input is to see it, or 0 if there is none: what the attempt at the latest
-    /// earlier input puts there, of those that were deposited, are not committed and write the key; and else what stands there now. It
-    /// takes no memory, and where no such attempt has written a key of the same bucket, no longer than a look at what stands there.
+    /// The number of the record that stands under a key as an input is to see it, or 0 if there is none: what the
+    /// attempt at the latest earlier input puts there, of those that were deposited, are not committed and write the
+    /// key; and else what stands there now. It takes no memory, and where no such attempt has written a key of the same
+    /// bucket, no longer than a look at what stands there.
     pub fn present(&self, input: u32, key: Key) -> u64
         ensures event { Happens N.run (state_of self.now) (Reads input key result) (state_of self.now) }
         ensures latest { IsLatest (state_of self.now) input key result }
@@ -160,8 +183,8 @@ impl<'a, N: RunName> Book<'a, N> {
         }
     }
 
-    /// Keeps an attempt at an input that was taken, and is neither attempted nor given up. Any other attempt is handed back, and
-    /// nothing changes. Takes no memory.
+    /// Keeps an attempt at an input that was taken, and is neither attempted nor given up. Any other attempt is handed
+    /// back, and nothing changes. Takes no memory.
     pub fn deposit(&mut self, attempt: Attempt<N>) -> Result<(), Attempt<N>>
         ensures event { Happens N.run (state_of self.old) (Deposits attempt (is_ok result)) (state_of self.new) }
         ensures back { IfErr result (λ back. back ≡ attempt) }
@@ -176,8 +199,8 @@ impl<'a, N: RunName> Book<'a, N> {
         Ok(())
     }
 
-    /// Gives up an input that was taken, and is neither attempted nor given up; it is then computed where it is committed. `false` for
-    /// any other number, and then nothing changes. Takes no memory.
+    /// Gives up an input that was taken, and is neither attempted nor given up; it is then computed where it is
+    /// committed. `false` for any other number, and then nothing changes. Takes no memory.
     pub fn void(&mut self, number: u32) -> bool
         ensures { Happens N.run (state_of self.old) (Voids number result) (state_of self.new) }
     {
@@ -188,10 +211,10 @@ impl<'a, N: RunName> Book<'a, N> {
         true
     }
 
-    /// Commits the next input, in the order of the inputs: by its attempt if the number of all that was read for it is the present one,
-    /// and else by computing it here and publishing what it writes. Where an attempt is taken over, nothing but numbers is compared. The
-    /// track has to be that of the run. What it has no more use for is kept for `take_spent`, and freed by a later commit where nobody
-    /// takes it.
+    /// Commits the next input, in the order of the inputs: by its attempt if the number of all that was read for it is
+    /// the present one, and else by computing it here and publishing what it writes. Where an attempt is taken over,
+    /// nothing but numbers is compared. The track has to be that of the run. What it has no more use for is kept for
+    /// `take_spent`, and freed by a later commit where nobody takes it.
     pub fn commit(&mut self, rt: &impl Wait, alloc: Global, track: &Track) -> Commit
         requires { track.now ≡ N.run.track }
         ensures event { Commits N.run (state_of self.old) result (state_of self.new) }
@@ -246,8 +269,8 @@ impl<'a, N: RunName> Book<'a, N> {
         self.committed
     }
 
-    /// How much was published for attempts and commits: one for each record, and one for each item of its lists. It is for whoever bounds
-    /// the memory of the log; nothing else hangs on it.
+    /// How much was published for attempts and commits: one for each record, and one for each item of its lists. It is
+    /// for whoever bounds the memory of the log; nothing else hangs on it.
     pub fn weight(&self) -> usize
         ensures book { IsBook N.run N.log self.now }
     {
@@ -265,8 +288,8 @@ impl<'a, N: RunName> Book<'a, N> {
         }
     }
 
-    /// Closes the book, and returns the desk: that of the rules applied to the inputs that are committed, one after another. Each mail
-    /// that it has more than the desk before says what the rules give its train.
+    /// Closes the book, and returns the desk: that of the rules applied to the inputs that are committed, one after
+    /// another. Each mail that it has more than the desk before says what the rules give its train.
     pub fn close(self) -> Desk
         ensures desk { result ≡ self.entry.desk }
         ensures serial { IsSerialRun N.run self.entry.committed (standing result) }
@@ -308,8 +331,8 @@ fn is_out<N: RunName>(stages: &Vec<Stage<Attempt<N>>>, number: u32) -> bool
     number > 0 && matches!(stages.get(number as usize - 1), Some(Stage::Out))
 }
 
-/// The number of the last input before one that may have an attempt which writes a key, with so many inputs taken, by the bound of the
-/// key; 0 where there is none.
+/// The number of the last input before one that may have an attempt which writes a key, with so many inputs taken, by
+/// the bound of the key; 0 where there is none.
 fn last_before(input: u32, taken: u32, reach: u32) -> u32
     ensures before { result ≤ input - 1 }
     ensures taken { result ≤ taken }
@@ -330,7 +353,8 @@ fn put_by<N: RunName>(stage: &Stage<Attempt<N>>, key: Key) -> Option<u64>
     }
 }
 
-/// The number that the attempt at the latest input puts under a key, of those above the ones that are committed and up to the last one.
+/// The number that the attempt at the latest input puts under a key, of those above the ones that are committed and up
+/// to the last one.
 fn forwarded<N: RunName>(
     stages: &Vec<Stage<Attempt<N>>>,
     committed: u32,
@@ -387,8 +411,8 @@ struct Turn<N: RunName> {
     is_fresh: bool,
 }
 
-/// The outcome of the next input and its publication: those of its attempt if it is fresh, and else as they are computed here. Puts
-/// aside what is not needed of the attempt. Fails only for lack of memory.
+/// The outcome of the next input and its publication: those of its attempt if it is fresh, and else as they are
+/// computed here. Puts aside what is not needed of the attempt. Fails only for lack of memory.
 fn outcome_of<N: RunName>(
     rt: &impl Wait,
     alloc: Global,
@@ -401,9 +425,11 @@ fn outcome_of<N: RunName>(
 ) -> Result<(Outcome, Published), RuleFault>
     requires run { (track.now ≡ N.run.track) × (inputs.now ≡ N.run.inputs) × (log.now ≡ N.log) × IsGoodRun N.run }
     requires within { turn.front < length inputs.now }
-    requires judged { (tickets : List (Key × Shown)) × ArePresent log.now tickets (record_in desk.old.records) × Judges tickets turn.stage (Some turn.is_fresh) }
+    requires judged { (tickets : List (Key × Shown)) × ArePresent log.now tickets (record_in desk.old.records)
+        × Judges tickets turn.stage (Some turn.is_fresh) }
     requires number { (a : Try) → turn.stage ≡ Tried a → a.number ≡ turn.front + 1 }
-    ensures outcome { IfOk result (λ done. IsOutcomeAt N.run N.log turn.front turn.stage turn.is_fresh (record_in desk.old.records) done.0 done.1) }
+    ensures outcome { IfOk result (λ done. IsOutcomeAt N.run N.log turn.front turn.stage turn.is_fresh
+        (record_in desk.old.records) done.0 done.1) }
     ensures fit { IfOk result (λ done. AreSendable done.0.messages) }
     ensures memory { IfErr result (λ fault. IsMemoryOf N.run.track (record_in desk.old.records) fault) }
     ensures same { standing desk.new ≡ standing desk.old }
@@ -428,7 +454,8 @@ fn outcome_of<N: RunName>(
     }
 }
 
-/// Does what the next input does, and puts aside what is not needed any more. Fails only for lack of memory, and then changes nothing.
+/// Does what the next input does, and puts aside what is not needed any more. Fails only for lack of memory, and then
+/// changes nothing.
 fn carry_out<N: RunName>(
     rt: &impl Wait,
     alloc: Global,
@@ -446,7 +473,8 @@ fn carry_out<N: RunName>(
     requires present { ArePresent log.now present.old.tickets (record_in desk.old.records) }
     requires number { (a : Try) → turn.stage ≡ Tried a → a.number ≡ turn.front + 1 }
     requires room { length desk.old.results < MAX_RESULTS }
-    ensures done { OnOk result (IsCarriedOut N.run N.log turn.front turn.stage turn.is_fresh (standing desk.old) (standing desk.new) present.old.tickets present.new.tickets) }
+    ensures done { OnOk result (IsCarriedOut N.run N.log turn.front turn.stage turn.is_fresh (standing desk.old)
+        (standing desk.new) present.old.tickets present.new.tickets) }
     ensures memory { IfErr result (λ fault. IsMemoryOf N.run.track (record_in desk.old.records) fault) }
     ensures err { OnErr result (standing desk.new ≡ standing desk.old) }
     ensures kept { OnErr result (present.new.tickets ≡ present.old.tickets) }

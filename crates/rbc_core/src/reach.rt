@@ -13,8 +13,8 @@ use std::marker::Model;
 /// The number of buckets.
 const BUCKETS: usize = 4_096;
 
-/// For each bucket of keys the number of an input above which no attempt that is kept writes a key of the bucket; 0 where none does. A
-/// bound is only ever raised, so a bucket that nobody has written is known at one look.
+/// For each bucket of keys the number of an input above which no attempt that is kept writes a key of the bucket; 0
+/// where none does. A bound is only ever raised, so a bucket that nobody has written is known at one look.
 #[derive(Drop)]
 pub(crate) struct Reach {
     bounds: Vec<u32>,
@@ -62,7 +62,8 @@ impl Reach {
 
     /// Raises the bounds for the keys that a publication writes, to the number of its input. Takes no memory.
     pub(crate) fn raise_all(&mut self, published: &Published, number: u32)
-        ensures here { (k : Key) (n : ℕ) → number_for (numbered published.now) k ≡ Some n → number ≤ reached self.new k }
+        ensures here { (k : Key) (n : ℕ) → number_for (numbered published.now) k ≡ Some n
+            → number ≤ reached self.new k }
         ensures more { (k : Key) → reached self.old k ≤ reached self.new k }
     {
         for index in 0..published.len() {

@@ -2,8 +2,8 @@
 
 use std::marker::Brand;
 
-/// Names a run and a log: the track, the desk before the run, and its inputs; and the log in which its records are published. Each call of
-/// a program that makes a book picks the name, and its attempts carry the same one.
+/// Names a run and a log: the track, the desk before the run, and its inputs; and the log in which its records are
+/// published. Each call of a program that makes a book picks the name, and its attempts carry the same one.
 pub trait RunName {
     ghost use Rattle.rbc_versions.specs.Log.{LogName};
     ghost use Rattle.rbc_core.specs.Runs.{Run};

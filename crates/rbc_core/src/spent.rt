@@ -47,7 +47,8 @@ impl Spent {
         self.notes = Some(notes);
     }
 
-    /// Keeps the outcome and the publication of an attempt that does not stand any more, in place of what is held of that kind.
+    /// Keeps the outcome and the publication of an attempt that does not stand any more, in place of what is held of
+    /// that kind.
     pub(crate) fn keep_stale(&mut self, outcome: Outcome, published: Published)
         ensures { self.new ≡ record self.old { stale = Some (outcome, published) } }
     {

@@ -8,11 +8,17 @@ ghost use Rattle.rbc_core.specs.Events.Event.{Takes, Deposits, Applies, Recomput
 ghost use Rattle.rbc_core.specs.Facts.{KeepsAttempts, KeepsRecords, KeepsNumbers, KeepsClosed};
 ghost use Rattle.rbc_core.specs.Conflicts.{AreAnswered, WasVoided, IsOvertaken, IsMisled, IsExplained};
 ghost use Rattle.rbc_core.specs.Forwards.{IsForwarding};
-ghost use Rattle.rbc_core.specs.Witnesses.{two_inputs, engines, train_7, enrolled, refused, absent, under, enrolled_numbers, means, two_under_one, no_numbers, start};
-ghost use Rattle.rbc_core.specs.Witnesses.{first_try, second_try, stops_try, computing_again, applying, failing, after_events, one_stale, published_again, second_first};
-ghost use Rattle.rbc_core.specs.Witnesses.{both_tried, first_committed, first_lost, none_tried, second_enrols, second_gone, second_changed, engines_there, stops_there, stops_numbered};
-ghost use Rattle.rbc_core.specs.Witnesses.{second_overtaken, second_given_up, giving_up, again_for_nothing, stops_read, nothing_read};
-ghost use Rattle.rbc_core.specs.Witnesses.{forwarded_try, first_tried, forwarding, applying_forwarded, passing_over, then_again, MissesAnswers, MissesAttempts, MissesLatest, MissesDeposits, started_with_4, second_misled, start_of_three, third_try, third_misled};
+ghost use Rattle.rbc_core.specs.Witnesses.{two_inputs, engines, train_7, enrolled, refused, absent, under};
+ghost use Rattle.rbc_core.specs.Witnesses.{enrolled_numbers, means, two_under_one, no_numbers, start};
+ghost use Rattle.rbc_core.specs.Witnesses.{first_try, second_try, stops_try, computing_again, applying, failing};
+ghost use Rattle.rbc_core.specs.Witnesses.{after_events, one_stale, published_again, second_first};
+ghost use Rattle.rbc_core.specs.Witnesses.{both_tried, first_committed, first_lost, none_tried, second_enrols};
+ghost use Rattle.rbc_core.specs.Witnesses.{second_gone, second_changed, engines_there, stops_there, stops_numbered};
+ghost use Rattle.rbc_core.specs.Witnesses.{second_overtaken, second_given_up, giving_up, again_for_nothing, stops_read};
+ghost use Rattle.rbc_core.specs.Witnesses.{nothing_read};
+ghost use Rattle.rbc_core.specs.Witnesses.{forwarded_try, first_tried, forwarding, applying_forwarded, passing_over};
+ghost use Rattle.rbc_core.specs.Witnesses.{then_again, MissesAnswers, MissesAttempts, MissesLatest, MissesDeposits};
+ghost use Rattle.rbc_core.specs.Witnesses.{started_with_4, second_misled, start_of_three, third_try, third_misled};
 
 /// From the empty state train 7 is enrolled, and then comes a line that is no input. The three records of the first are
 /// published under the numbers 1, 2 and 3.
@@ -65,12 +71,13 @@ pub fn event_order_witnesses()
 
 /// There are attempts at both of those inputs.
 ///
-/// Right: the first is committed by its attempt, which leaves the second one and writes the engines and train 7, with their numbers;
-/// memory is refused, which closes the book and loses the first attempt; and a book that is closed stays so as the second is given up.
+/// Right: the first is committed by its attempt, which leaves the second one and writes the engines and train 7, with
+/// their numbers; memory is refused, which closes the book and loses the first attempt; and a book that is closed stays
+/// so as the second is given up.
 ///
-/// Wrong: the second attempt is gone, or another one, as the first is committed; the first is lost though the book was closed before;
-/// the engines change at a deposit, or as nothing is taken, and so do their numbers; the stops change though no write names them, or their
-/// number does; the book is open again.
+/// Wrong: the second attempt is gone, or another one, as the first is committed; the first is lost though the book was
+/// closed before; the engines change at a deposit, or as nothing is taken, and so do their numbers; the stops change
+/// though no write names them, or their number does; the book is open again.
 pub fn staying_law_witnesses()
     ensures second_stays { KeepsAttempts both_tried first_committed }
     ensures lost_as_closed { KeepsAttempts both_tried first_lost }
@@ -91,15 +98,15 @@ pub fn staying_law_witnesses()
 
 /// The first of those inputs is committed by its attempt, and then it is the turn of the second one.
 ///
-/// Right: it was read for the second that there is no train 7, and then the first was committed, which writes that record, so the
-/// attempt at the second is overtaken; and the second was given up. Each note of an attempt was read. Or train 7 was read for the second as
-/// the attempt at the first wrote it, and then the first was computed again, so that the attempt at the second is misled. Or the engines were
-/// read for a third as the attempt at the first wrote them, the first was committed by it, and then a second wrote them, so that the attempt
-/// at the third is misled.
+/// Right: it was read for the second that there is no train 7, and then the first was committed, which writes that
+/// record, so the attempt at the second is overtaken; and the second was given up. Each note of an attempt was read. Or
+/// train 7 was read for the second as the attempt at the first wrote it, and then the first was computed again, so that
+/// the attempt at the second is misled. Or the engines were read for a third as the attempt at the first wrote them,
+/// the first was committed by it, and then a second wrote them, so that the attempt at the third is misled.
 ///
-/// Wrong: the first is computed again though its attempt is fresh; a note of stops is overtaken, which nobody writes; a note is overtaken
-/// that was never read; a note that was never read is answered; and the attempt at the second is misled where the first is committed by its
-/// attempt.
+/// Wrong: the first is computed again though its attempt is fresh; a note of stops is overtaken, which nobody writes; a
+/// note is overtaken that was never read; a note that was never read is answered; and the attempt at the second is
+/// misled where the first is committed by its attempt.
 pub fn conflict_law_witnesses()
     ensures answered { AreAnswered second_overtaken }
     ensures overtaken { IsOvertaken start second_overtaken second_try (key.Train 7, absent) }
@@ -120,12 +127,12 @@ pub fn conflict_law_witnesses()
 
 /// Both of those inputs are taken.
 ///
-/// Right: train 7 is read for the second after the first is attempted, as that attempt writes it and before it is committed; and nothing is
-/// computed again.
+/// Right: train 7 is read for the second after the first is attempted, as that attempt writes it and before it is
+/// committed; and nothing is computed again.
 ///
-/// Wrong, and computed again: nothing was read for the second, though its attempt has a note; the second was given up; train 7 was read for
-/// the second as it stood before, though the first was attempted; and it was read before the first was attempted. In each of these all else
-/// holds that has to.
+/// Wrong, and computed again: nothing was read for the second, though its attempt has a note; the second was given up;
+/// train 7 was read for the second as it stood before, though the first was attempted; and it was read before the first
+/// was attempted. In each of these all else holds that has to.
 pub fn forward_law_witnesses()
     ensures forwarding { Follow two_inputs start applying_forwarded }
     ensures all_met { IsForwarding start applying_forwarded }

@@ -38,7 +38,8 @@ impl Model for Desk {
     ghost view = { λ d. record { records = d.records; results = d.results.items; outboxes = d.outboxes.items } };
 
     // The outboxes are in order, and the results not too many.
-    ghost invariant = { λ d. held.IsInOrder (record { records = d.records; results = d.results.items; outboxes = d.outboxes.items }) };
+    ghost invariant = { λ d. held.IsInOrder
+        (record { records = d.records; results = d.results.items; outboxes = d.outboxes.items }) };
 }
 
 impl Desk {
@@ -78,8 +79,8 @@ impl Desk {
         self.outboxes.len()
     }
 
-    /// The engine (NID_ENGINE) and the messages of the outbox at an index below `outboxes`, in ascending order of the engine. None is
-    /// empty. Each message is what its bytes encode.
+    /// The engine (NID_ENGINE) and the messages of the outbox at an index below `outboxes`, in ascending order of the
+    /// engine. None is empty. Each message is what its bytes encode.
     pub fn outbox_at(&self, index: usize) -> (u32, &[Mail])
         requires { index < length self.now.outboxes }
         ensures outbox { slice_get self.now.outboxes index ≡ Some (result.0, result.1.now) }
@@ -89,7 +90,8 @@ impl Desk {
         (*engine, outbox.mails())
     }
 
-    /// The messages that were sent to an engine (NID_ENGINE), in order; none if it has no outbox. Each is what its bytes encode.
+    /// The messages that were sent to an engine (NID_ENGINE), in order; none if it has no outbox. Each is what its
+    /// bytes encode.
     pub fn outbox(&self, engine: u32) -> &[Mail]
         ensures mails { result.now ≡ value_or [] self.now.outboxes engine }
         ensures sendable { mails.AreSendable result.now }
@@ -97,7 +99,8 @@ impl Desk {
         outbox::mails_of(&self.outboxes, engine)
     }
 
-    /// Decides an input by the records, and changes nothing. If the desk holds a valid state, this fails only for lack of memory.
+    /// Decides an input by the records, and changes nothing. If the desk holds a valid state, this fails only for lack
+    /// of memory.
     #[inline(always)]
     pub fn decide(
         &mut self,
@@ -115,13 +118,14 @@ impl Desk {
         decide(alloc, track, input, &mut self.records)
     }
 
-    /// Takes an input in: decides it by the records, and takes its messages, its result and its writes over. There has to be room for
-    /// one more result. If the desk is one of the rules, it is then the one that they give after this input.
+    /// Takes an input in: decides it by the records, and takes its messages, its result and its writes over. There has
+    /// to be room for one more result. If the desk is one of the rules, it is then the one that they give after this
+    /// input.
     ///
     /// # Errors
     ///
-    /// If the desk is one of the rules, this fails only for lack of memory. After an error nothing is changed, and the same input can
-    /// be taken in again.
+    /// If the desk is one of the rules, this fails only for lack of memory. After an error nothing is changed, and the
+    /// same input can be taken in again.
     pub fn take_in(&mut self, alloc: Global, track: &Track, input: &Input) -> Result<(), RuleFault>
         requires fits { Fits input.now }
         requires room { length self.old.results < MAX_RESULTS }
@@ -135,8 +139,9 @@ impl Desk {
         Ok(())
     }
 
-    /// Takes an outcome over: its messages, its result and its writes. There has to be room for one more result. Hands back the records
-    /// that its writes replaced, in their place. Fails only for lack of memory: then nothing is changed.
+    /// Takes an outcome over: its messages, its result and its writes. There has to be room for one more result. Hands
+    /// back the records that its writes replaced, in their place. Fails only for lack of memory: then nothing is
+    /// changed.
     #[inline(always)]
     pub fn take_over(&mut self, alloc: Global, outcome: Outcome) -> Result<Writes, AllocError>
         requires fit { AreSendable outcome.messages }

@@ -153,8 +153,9 @@ fn spells(message: &ToTrain)
     has_room(message);
 }
 
-/// Puts a message into its engine's outbox. An engine gets an outbox with its first message. It is looked for at the index `near`
-/// first, which is the index behind it from then on. Fails only for lack of memory, and then changes nothing.
+/// Puts a message into its engine's outbox. An engine gets an outbox with its first message. It is looked for at the
+/// index `near` first, which is the index behind it from then on. Fails only for lack of memory, and then changes
+/// nothing.
 fn post(
     alloc: Global,
     outboxes: &mut Vec<(u32, Outbox)>,
@@ -164,7 +165,8 @@ fn post(
 ) -> Result<(), AllocError>
     requires outboxes { AreOutboxes outboxes.old.items }
     requires fit { Fits mail.message }
-    ensures posted { OnOk result (outboxes.new.items ≡ with_value engine (value_or [] outboxes.old.items engine ++ mail ∷ []) outboxes.old.items) }
+    ensures posted { OnOk result (outboxes.new.items
+        ≡ with_value engine (value_or [] outboxes.old.items engine ++ mail ∷ []) outboxes.old.items) }
     ensures outboxes { AreOutboxes outboxes.new.items }
     ensures err { OnErr result (outboxes.new.items ≡ outboxes.old.items) }
 {
@@ -194,7 +196,8 @@ fn take_back(outboxes: &mut Vec<(u32, Outbox)>, engine: u32)
     }
 }
 
-/// Takes back the first messages of an input, the last of them first. They may be gone: their engines tell the outboxes.
+/// Takes back the first messages of an input, the last of them first. They may be gone: their engines tell the
+/// outboxes.
 pub(crate) fn take_back_all(outboxes: &mut Vec<(u32, Outbox)>, messages: &[Sent], count: usize)
     requires outboxes { AreOutboxes outboxes.old.items }
     requires within { count ≤ length messages.now }
@@ -236,8 +239,8 @@ fn post_moved(
     post(alloc, outboxes, sent.engine, Mail { input, message }, near)
 }
 
-/// Moves the messages of an input into the outboxes of their engines, one after another; what stands in their place keeps their
-/// engines. Fails only for lack of memory, and then leaves the outboxes unchanged.
+/// Moves the messages of an input into the outboxes of their engines, one after another; what stands in their place
+/// keeps their engines. Fails only for lack of memory, and then leaves the outboxes unchanged.
 pub(crate) fn post_all(
     alloc: Global,
     outboxes: &mut Vec<(u32, Outbox)>,

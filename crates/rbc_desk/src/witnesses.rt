@@ -9,8 +9,10 @@ ghost use Rattle.rbc_desk.specs.Witnesses.{stop_told, stop_revoked, IsSaidThere,
 ///
 /// Right: mail 1 tells the train to stop before 20000, mail 2 revokes that, and the train's outbox has these two more.
 ///
-/// Wrong: the stop is told by mail 2, or by mail 3; it is told to engine 8; the train is told to stop at once; the message names balise
-/// group 6; another identifier is revoked, among them 16, which the four bits of its variable would cut to 0; behind the two right mails is one that revokes another identifier; engine 8 has a mail; a mail of before is gone.
+/// Wrong: the stop is told by mail 2, or by mail 3; it is told to engine 8; the train is told to stop at once; the
+/// message names balise group 6; another identifier is revoked, among them 16, which the four bits of its variable
+/// would cut to 0; behind the two right mails is one that revokes another identifier; engine 8 has a mail; a mail of
+/// before is gone.
 pub fn mails_law_witnesses()
     ensures told { IsSaidThere 7 stop_told }
     ensures revoked { IsSaidThere 7 stop_revoked }

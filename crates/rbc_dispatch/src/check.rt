@@ -12,8 +12,8 @@ use std::io::Write;
 ///
 /// # Errors
 ///
-/// `Track` if the text is no track and `TrackWarnings` if it is one with warnings, both with the report written; `Write`; or
-/// `OutOfMemory`, with nothing written.
+/// `Track` if the text is no track and `TrackWarnings` if it is one with warnings, both with the report written;
+/// `Write`; or `OutOfMemory`, with nothing written.
 pub fn check_text<O: Write>(
     alloc: Global,
     text: &str,

@@ -9,8 +9,8 @@ use rbc_prompt::answer_lines;
 use std::alloc::Global;
 use std::io::{Read, Write};
 
-/// Answers the lines of a reader as they come, from this number on, on the track that a text is. The track is known before
-/// anything is read.
+/// Answers the lines of a reader as they come, from this number on, on the track that a text is. The track is known
+/// before anything is read.
 ///
 /// # Errors
 ///

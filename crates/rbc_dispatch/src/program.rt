@@ -7,7 +7,8 @@ ghost use Rattle.rbc_dispatch.specs.Decoding.{Decodes, IsUntouched};
 ghost use Rattle.rbc_dispatch.specs.Ending.{AtTask, status_of};
 ghost use Rattle.rbc_dispatch.specs.Living.{Lives};
 ghost use Rattle.rbc_dispatch.specs.Running.{IsUnread, Keeps, Runs, RunsOn};
-ghost use Rattle.rbc_command_line.specs.Words.{AsksToCheck, AsksToDecode, AsksToLive, AsksToRun, IsCheckOf, IsDecode, IsLiveOn, IsRunOn, command_line};
+ghost use Rattle.rbc_command_line.specs.Words.{AsksToCheck, AsksToDecode, AsksToLive, AsksToRun, IsCheckOf, IsDecode};
+ghost use Rattle.rbc_command_line.specs.Words.{IsLiveOn, IsRunOn, command_line};
 
 use crate::check::check_text;
 use crate::codes::write_codes;

@@ -2,8 +2,8 @@
 
 use rbc_records::Key;
 
-/// Called by a worker between the steps of an attempt, never while it holds the lock of the book. A gate may wait there, so a test
-/// can choose in which order the steps of several workers come. Inputs are numbered from 1.
+/// Called by a worker between the steps of an attempt, never while it holds the lock of the book. A gate may wait
+/// there, so a test can choose in which order the steps of several workers come. Inputs are numbered from 1.
 pub trait Gate {
     /// Before it is decided what an input does.
     fn before_rule(&self, input: u32);
@@ -23,8 +23,8 @@ pub trait Gate {
     }
 }
 
-/// A gate that does nothing. Behind it a stretch in which trains are told of few stops and restrictions is left to one worker, since
-/// several would take longer.
+/// A gate that does nothing. Behind it a stretch in which trains are told of few stops and restrictions is left to one
+/// worker, since several would take longer.
 #[derive(Clone, Copy, Debug)]
 pub struct OpenGate;
 
@@ -56,7 +56,8 @@ impl Gate for AllWorkers {
     fn after_deposit(&self, _input: u32) {}
 }
 
-/// A gate for the inputs behind the first `before` of a run: it is told of each under the number that it has in the whole run.
+/// A gate for the inputs behind the first `before` of a run: it is told of each under the number that it has in the
+/// whole run.
 #[derive(Drop)]
 pub(crate) struct Behind<'a, G> {
     pub(crate) gate: &'a G,

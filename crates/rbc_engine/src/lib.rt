@@ -1,4 +1,5 @@
-//! Workers that attempt many inputs of a run at once. What they leave is as if one had done the inputs one after another.
+//! Workers that attempt many inputs of a run at once. What they leave is as if one had done the inputs one after
+//! another.
 #![tactic(auto)]
 
 mod gate;
@@ -9,5 +10,6 @@ mod recorder;
 mod workers;
 
 pub use gate::{AllWorkers, Gate, OpenGate};
+pub use rbc_rule::MAX_INPUTS;
 pub use recorder::Recorder;
-pub use workers::{MAX_INPUTS, MAX_WORKERS, RunError, run};
+pub use workers::{MAX_WORKERS, RunError, run};

@@ -7,8 +7,8 @@ use rbc_core::{Book, RunName};
 use std::hint::spin_loop;
 use std::sync::{Mutex, MutexGuard, Wait};
 
-/// How often the lock is tried before it is waited for, and how long a moment between two tries is. What is done under the lock takes
-/// less time than waking a thread that waits for it.
+/// How often the lock is tried before it is waited for, and how long a moment between two tries is. What is done under
+/// the lock takes less time than waking a thread that waits for it.
 const TRIES: u32 = 64;
 
 const SPINS: u32 = 16;

@@ -8,13 +8,13 @@ use rbc_records::{Key, Rec};
 use rbc_rule::Input;
 use rbc_settle::TrainRec;
 
-/// How many stops and restrictions a train has to be told of, on average, so that several workers are faster than one. A message of a train
-/// that is told of fewer is decided faster than its records are handed from one worker to another. With 255 one worker was still twice as
-/// fast as four (docs/INTEGRATION.md); a train is told of 270 at most.
+/// How many stops and restrictions a train has to be told of, on average, so that several workers are faster than one.
+/// A message of a train that is told of fewer is decided faster than its records are handed from one worker to another.
+/// With 255 one worker was still twice as fast as four (docs/INTEGRATION.md); a train is told of 270 at most.
 const HEAVY: u64 = 512;
 
-/// How many messages came from trains, and of how many stops and restrictions these trains are told. It decides how many workers share a
-/// stretch, and no more: nothing that is proved of a run hangs on it.
+/// How many messages came from trains, and of how many stops and restrictions these trains are told. It decides how
+/// many workers share a stretch, and no more: nothing that is proved of a run hangs on it.
 #[derive(Drop)]
 pub(crate) struct Pace {
     workers: u8,
@@ -62,8 +62,8 @@ impl Pace {
         }
     }
 
-    /// Whether the next stretch is faster by one worker: if only one can be had, or if the trains before were told of few stops and
-    /// restrictions.
+    /// Whether the next stretch is faster by one worker: if only one can be had, or if the trains before were told of
+    /// few stops and restrictions.
     pub(crate) fn is_for_one(&self) -> bool
         ensures { IsTrue result ↔ ((self.now.workers ≡ 1) ⊎ (self.now.weight / HEAVY ≤ self.now.messages)) }
     {

@@ -14,9 +14,9 @@ use std::alloc::Global;
 use std::marker::Model;
 use std::sync::{Mutex, Wait};
 
-/// Reads the records of a book for one input: the number of each for itself under the lock of the book, and the record in the log of the
-/// run, without the lock and without a copy. What was read under a key, also that there is no record, is read once; the notes stand in
-/// the order of first reading.
+/// Reads the records of a book for one input: the number of each for itself under the lock of the book, and the record
+/// in the log of the run, without the lock and without a copy. What was read under a key, also that there is no record,
+/// is read once; the notes stand in the order of first reading.
 #[derive(Drop)]
 pub struct Recorder<'a, 'b, N: RunName, G, R> {
     rt: &'a R,
@@ -42,7 +42,8 @@ impl<'a, 'b, N: RunName, G, R> Model for Recorder<'a, 'b, N, G, R> {
 }
 
 impl<'a, 'b, N: RunName, G: Gate, R: Wait> Recorder<'a, 'b, N, G, R> {
-    /// Makes a recorder for the input of a number, which has read nothing yet. The log has to be that of the run. Takes no memory.
+    /// Makes a recorder for the input of a number, which has read nothing yet. The log has to be that of the run. Takes
+    /// no memory.
     pub fn new(
         rt: &'a R,
         alloc: Global,
@@ -82,8 +83,8 @@ impl<'a, 'b, N: RunName, G: Gate, R: Wait> Recorder<'a, 'b, N, G, R> {
         notes
     }
 
-    /// The ticket of what stands under a key while the book is locked, as the input is to see it, or that nothing does. `None` if the
-    /// number is not in the log.
+    /// The ticket of what stands under a key while the book is locked, as the input is to see it, or that nothing does.
+    /// `None` if the number is not in the log.
     fn read(&self, key: Key) -> Option<Option<Ticket>>
         ensures here { IfSome result (λ ticket. IfSome ticket (IsOf N.log)) }
         ensures stood { IfSome result (λ ticket. WasLatest N.run N.log self.now.input key (number_of ticket)) }

@@ -1,4 +1,5 @@
-//! Runs by several workers, in stretches: each has a book and a log of its own, so that the memory of a log is given back with it.
+//! Runs by several workers, in stretches: each has a book and a log of its own, so that the memory of a log is given
+//! back with it.
 
 ghost use Rattle.std.specs.Prelude.{◌≡◌, ◌≤◌, IsTrue, Ok, false, length, drop};
 ghost use Rattle.std.specs.List.{All};
@@ -15,7 +16,7 @@ use crate::gate::{Behind, Gate};
 use crate::job::work_together;
 use crate::pace::Pace;
 use rbc_core::{Book, Commit, Desk, MAX_RESULTS, RunName, Stats};
-use rbc_rule::Input;
+use rbc_rule::{Input, MAX_INPUTS};
 use rbc_track::Track;
 use rbc_versions::VersionLog;
 use std::alloc::Global;
@@ -28,9 +29,6 @@ use std::{fmt, mem};
 /// The greatest number of workers.
 pub const MAX_WORKERS: u8 = 16;
 
-/// The greatest number of inputs of one run.
-pub const MAX_INPUTS: usize = 100_000;
-
 /// The greatest number of inputs of one stretch of a run: a book takes memory for each of its inputs.
 const MAX_STRETCH: usize = 16_384;
 
@@ -39,7 +37,8 @@ const MAX_STRETCH: usize = 16_384;
 pub enum RunError {
     /// The number of workers is not 1 to 16. The desk is as before.
     Workers,
-    /// There are more than 100,000 inputs, or the desk would have more than 4,000,000,000 results. The desk is as before.
+    /// There are more than 100,000 inputs, or the desk would have more than 4,000,000,000 results. The desk is as
+    /// before.
     TooManyInputs,
     /// There was not enough memory. The desk is that after the first `committed` inputs, and the rest can be run.
     OutOfMemory { committed: u32 },
@@ -64,8 +63,8 @@ impl fmt::Display for RunError {
 
 impl Error for RunError {}
 
-/// Gives up the next input to be committed, which nobody will deposit any more. `false` if it was not taken, and is not the first: then
-/// nothing changed.
+/// Gives up the next input to be committed, which nobody will deposit any more. `false` if it was not taken, and is not
+/// the first: then nothing changed.
 fn give_up<N: RunName>(book: &mut Book<'_, N>, number: u32) -> bool
     requires waiting { IsWaiting N.run (state_of book.old) }
     requires front { number ≡ front (state_of book.old) }
@@ -170,7 +169,8 @@ fn run_named<N: RunName + Send + Sync, G: Gate + Sync, R: Threads + Wait + Sync>
     }
 }
 
-/// Takes all inputs of a stretch in on the desk itself, one after another, without a book, a log or a lock. Nothing is computed twice.
+/// Takes all inputs of a stretch in on the desk itself, one after another, without a book, a log or a lock. Nothing is
+/// computed twice.
 fn run_alone(
     alloc: Global,
     track: &Track,
@@ -198,8 +198,8 @@ fn run_alone(
     })
 }
 
-/// Runs a stretch of a run: by one worker on the desk itself, if nobody sees it and it is no slower, and else by all workers on a log of
-/// its own, which is dropped with it.
+/// Runs a stretch of a run: by one worker on the desk itself, if nobody sees it and it is no slower, and else by all
+/// workers on a log of its own, which is dropped with it.
 fn run_stretch<G: Gate + Sync, R: Threads + Wait + Sync>(
     rt: &R,
     alloc: Global,
@@ -255,7 +255,8 @@ fn run_behind<G: Gate + Sync, R: Threads + Wait + Sync>(
 ) -> Result<Stats, RunError>
     requires within { before ≤ length inputs.now }
     requires good { IsGoodRun (record { track = track.now; opening = desk.old; inputs = drop before inputs.now }) }
-    ensures { IsStretch (record { track = track.now; opening = desk.old; inputs = drop before inputs.now }) result desk.new }
+    ensures { IsStretch (record { track = track.now; opening = desk.old; inputs = drop before inputs.now }) result
+        desk.new }
 {
     let behind = Behind { gate, before };
     let rest = &inputs[before as usize..];
@@ -330,8 +331,9 @@ fn keeps(track: &Track)
     let _ = track.horizon();
 }
 
-/// Runs inputs on a track, from a desk on, by so many workers, of which the calling thread is one. With `Ok` the desk is the one
-/// that the rules give where they are applied to the inputs one after another, whatever the workers did in between.
+/// Runs inputs on a track, from a desk on, by so many workers, of which the calling thread is one. With `Ok` the desk
+/// is the one that the rules give where they are applied to the inputs one after another, whatever the workers did in
+/// between.
 ///
 /// # Errors
 ///

@@ -1,8 +1,9 @@
-//! Runs golden batches by 1, 2 and 16 workers, of which each takes part. An independent model of the rules has given their outputs; says of each batch whether
-//! every output is right.
+//! Runs golden batches by 1, 2 and 16 workers, of which each takes part. An independent model of the rules has given
+//! their outputs; says of each batch whether every output is right.
 //!
-//! `rbc_golden RUNS WORKERS` runs each batch so many times, once if no number is given, and by so many workers; by 1, 2 and 16 if no number
-//! of workers is given. If there are more runs than one, it says on standard error how many inputs of a batch were computed again.
+//! `rbc_golden RUNS WORKERS` runs each batch so many times, once if no number is given, and by so many workers; by 1, 2
+//! and 16 if no number of workers is given. If there are more runs than one, it says on standard error how many inputs
+//! of a batch were computed again.
 #![tactic(auto)]
 
 use anyhow::{Context, Result};

@@ -28,8 +28,8 @@ pub struct UsedSlot {
     pub kind: Kind,
     /// Whether the train has acknowledged that message.
     pub acked: bool,
-    /// How often the train has reported its position since it was told to stop before a place, without an answer: 0 to 3,
-    /// and 0 for any other message.
+    /// How often the train has reported its position since it was told to stop before a place, without an answer: 0 to
+    /// 3, and 0 for any other message.
     pub count: u8,
 }
 
@@ -38,8 +38,8 @@ pub struct UsedSlot {
 pub enum Slot {
     /// It is used by a number that the train was told.
     Used(UsedSlot),
-    /// It is being revoked by a message with this stamp (T_TRAIN, 10 ms), which the train has not acknowledged yet. It is
-    /// not free.
+    /// It is being revoked by a message with this stamp (T_TRAIN, 10 ms), which the train has not acknowledged yet. It
+    /// is not free.
     Revoking { stamp: u32 },
 }
 

@@ -1,7 +1,7 @@
 -- Worked lines for the law on what a live desk takes.
 use Rattle.std.specs.Prelude.{false, List, [], ◌∷◌}
 use Rattle.ertms_codec.specs.declared.to_train.ToTrain.TheVariants.{Stop}
-use Rattle.rbc_settle.specs.declared.upkeep.Sent.{Sent}
+use Rattle.rbc_settle.specs.declared.settling.Sent.{Sent}
 use Rattle.rbc_records.specs.declared.record.Key.{Key}
 use Rattle.rbc_records.specs.declared.record.Key.TheVariants as key
 use Rattle.rbc_records.specs.declared.record.Rec.{Rec}

@@ -13,8 +13,9 @@ use rbc_text::parse_line;
 use rbc_track::{Track, TrackError, track_from_toml};
 use std::alloc::{AllocError, Global};
 
-/// A track, and the records of all that is known: those after the inputs that were taken, one after another, from the empty state. Neither
-/// answers nor messages are kept, so the memory of a desk is bounded by its trains, stops and restrictions, however long it lives.
+/// A track, and the records of all that is known: those after the inputs that were taken, one after another, from the
+/// empty state. Neither answers nor messages are kept, so the memory of a desk is bounded by its trains, stops and
+/// restrictions, however long it lives.
 #[derive(Drop)]
 pub struct LiveDesk {
     pub track: Track,
@@ -72,15 +73,16 @@ impl LiveDesk {
         Ok(LiveDesk { track, records })
     }
 
-    /// Takes one line, without its line feed, which may send at most `most` messages. The answer, the messages and the records after
-    /// it are those of the rule's step (own rule; see `step` of rbc_rule) for the input of the line.
+    /// Takes one line, without its line feed, which may send at most `most` messages. The answer, the messages and the
+    /// records after it are those of the rule's step (own rule; see `step` of rbc_rule) for the input of the line.
     ///
     /// # Errors
     ///
-    /// `Memory` where memory was refused; `Room` with the number of messages where there are more than `most`. The desk is then as it
-    /// was, and the line may be fed again.
+    /// `Memory` where memory was refused; `Room` with the number of messages where there are more than `most`. The desk
+    /// is then as it was, and the line may be fed again.
     pub fn feed(&mut self, alloc: Global, line: &[u8], most: usize) -> Result<Answer, LiveFault>
-        ensures step { IfOk result (λ answer. IsFed self.old.track line.now self.old.records self.new.records answer.reply answer.messages) }
+        ensures step { IfOk result (λ answer. IsFed self.old.track line.now self.old.records self.new.records
+            answer.reply answer.messages) }
         ensures fit { IfOk result (λ answer. AreSendable answer.messages) }
         ensures few { IfOk result (λ answer. length answer.messages ≤ most) }
         ensures track { self.new.track ≡ self.old.track }

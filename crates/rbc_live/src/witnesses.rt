@@ -7,10 +7,11 @@ ghost use Rattle.rbc_live.specs.Witnesses.{refused, accepted, sending, engines_t
 
 /// A desk is opened and takes the line `x`, which is no input, on any track.
 ///
-/// Right: the line is refused with code 1, nothing is sent, and no record stands there; this is the serial run of one input. So is the
-/// same twice.
+/// Right: the line is refused with code 1, nothing is sent, and no record stands there; this is the serial run of one
+/// input. So is the same twice.
 ///
-/// Wrong: the line is accepted; a message is sent; a record stands there afterwards; or nothing was taken, and a record stands there.
+/// Wrong: the line is accepted; a message is sent; a record stands there afterwards; or nothing was taken, and a record
+/// stands there.
 pub fn history_law_witnesses()
     ensures taken { (plan : Plan) → IsHistory plan [] (refused ∷ []) [] }
     ensures taken_twice { (plan : Plan) → IsHistory plan [] (refused ∷ refused ∷ []) [] }

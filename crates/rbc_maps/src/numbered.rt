@@ -14,16 +14,16 @@ use std::cell::Cell;
 use std::marker::Model;
 
 /// The active values by their numbers, which are above 0, and the last number that was ever given. A number that was
-/// removed is not given again. Beside the values stand the marks of the lines on which they lie, `N` of each, and where the next value
-/// stands that carries each of them, so that those of one line are found without a look at the others.
+/// removed is not given again. Beside the values stand the marks of the lines on which they lie, `N` of each, and where
+/// the next value stands that carries each of them, so that those of one line are found without a look at the others.
 #[derive(Debug, Drop)]
 pub struct Numbered<V: OnLines<N>, const N: usize> {
     last: u32,
     active: Vec<(u32, V)>,
     /// The marks of the active values, in their order.
     marks: Vec<[u8; N]>,
-    /// For each mark of a line, the place of the first active value that carries it, and then hints where numbers stand. Empty until
-    /// a value is added.
+    /// For each mark of a line, the place of the first active value that carries it, and then hints where numbers
+    /// stand. Empty until a value is added.
     first: Vec<u32>,
     /// For each active value and each of its marks, the place of the next one that carries it.
     next: Vec<[u32; N]>,
@@ -37,7 +37,8 @@ impl<V: OnLines<N>, const N: usize> Model for Numbered<V, N> {
 
     ghost view = { λ n. record { last = n.last; active = n.active.items } };
 
-    ghost invariant = { λ n. chains.AreMarked V.marks V.is_sound N (record { last = n.last; active = n.active.items }) n.marks.items n.first.items n.next.items };
+    ghost invariant = { λ n. chains.AreMarked V.marks V.is_sound N
+        (record { last = n.last; active = n.active.items }) n.marks.items n.first.items n.next.items };
 }
 
 impl<V: OnLines<N>, const N: usize> Numbered<V, N> {
@@ -78,8 +79,8 @@ impl<V: OnLines<N>, const N: usize> Numbered<V, N> {
         self.active.as_slice()
     }
 
-    /// The active values that carry the mark of a line, with their numbers, in ascending order of the number. Among them is each that
-    /// lies on the line. The others are not looked at. Takes no memory.
+    /// The active values that carry the mark of a line, with their numbers, in ascending order of the number. Among
+    /// them is each that lies on the line. The others are not looked at. Takes no memory.
     #[inline]
     pub fn on_line(&self, line: u32) -> OnLine<'_, V, N>
         ensures line { result ≡ marked V.marks (mark_of line) self.now.active }
@@ -98,9 +99,9 @@ impl<V: OnLines<N>, const N: usize> Numbered<V, N> {
 
     /// The value that is active under a number, if there is one, as `get` finds it.
     ///
-    /// It is looked for at the index `near` among the active values first. If it is found, `near` is the index behind it from then on.
-    /// So numbers that are asked for in ascending order are found at once, and mostly others too; the answer is the same whatever
-    /// `near` is.
+    /// It is looked for at the index `near` among the active values first. If it is found, `near` is the index behind
+    /// it from then on. So numbers that are asked for in ascending order are found at once, and mostly others too; the
+    /// answer is the same whatever `near` is.
     pub fn get_near(&self, number: u32, near: &Cell<usize>) -> Option<&V>
         ensures { option_copied result ≡ value_of self.now.active number }
     {
@@ -126,7 +127,8 @@ impl<V: OnLines<N>, const N: usize> Numbered<V, N> {
     where
         V: Drop,
         requires { self.old.last < number }
-        ensures ok { OnOk result (self.new ≡ record { last = number; active = self.old.active ++ (number, value) ∷ [] }) }
+        ensures ok { OnOk result (self.new
+            ≡ record { last = number; active = self.old.active ++ (number, value) ∷ [] }) }
         ensures err { OnErr result (self.new ≡ self.old) }
     {
         self.active.reserve(1)?;
@@ -160,8 +162,8 @@ impl<V: OnLines<N>, const N: usize> Numbered<V, N> {
         found
     }
 
-    /// Copies all of it, with room for one value more. Takes memory for the active values and that room, and, once a value was
-    /// added, for the 128 places beside them. Fails only for lack of memory.
+    /// Copies all of it, with room for one value more. Takes memory for the active values and that room, and, once a
+    /// value was added, for the 128 places beside them. Fails only for lack of memory.
     pub fn copy(&self, alloc: Global) -> Result<Self, AllocError>
     where
         V: Copy,

@@ -10,8 +10,9 @@ use crate::chain::first_of;
 use memchr::memchr;
 use std::marker::Model;
 
-/// Values that lie on lines and carry `N` marks, at most 8: among them the mark of each line on which they lie. A value may carry the
-/// mark of a line on which it does not lie, so who looks for what lies on a line judges what has its mark.
+/// Values that lie on lines and carry `N` marks, at most 8: among them the mark of each line on which they lie. A value
+/// may carry the mark of a line on which it does not lie, so who looks for what lies on a line judges what has its
+/// mark.
 pub trait OnLines<const N: usize> {
     ghost use Rattle.std.specs.Prelude.{ℕ, List};
 
@@ -39,7 +40,8 @@ pub fn mark_of(line: u32) -> u8
     (line % 64) as u8
 }
 
-/// The values of a list that carry a mark, with their numbers, in the order of the list. Seen as the list of those that are left.
+/// The values of a list that carry a mark, with their numbers, in the order of the list. Seen as the list of those that
+/// are left.
 #[derive(Debug, Drop)]
 pub struct OnLine<'a, V: OnLines<N>, const N: usize> {
     mark: u8,

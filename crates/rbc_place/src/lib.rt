@@ -4,9 +4,9 @@
 mod law;
 mod line;
 mod report;
-mod standing;
+mod train_place;
 mod witnesses;
 
 pub use law::place_law;
-pub use standing::{Place, place_of};
+pub use train_place::{Place, place_of};
 pub use witnesses::place_law_witnesses;

@@ -4,7 +4,7 @@ use Rattle.std.specs.Prelude.{codes, IfNone}
 use Rattle.std.specs.Str.{bytes_eq}
 use Rattle.std.proofs.lemmas.Slice.Eq.{bytes_eq-Decides}
 use Rattle.rbc_track.specs.Plan.{Plan}
-use Rattle.rbc_settle.specs.declared.upkeep.Sent.{Sent}
+use Rattle.rbc_settle.specs.declared.settling.Sent.{Sent}
 use Rattle.rbc_records.specs.declared.record.Key.{Key}
 use Rattle.rbc_records.specs.declared.record.Rec.{Rec}
 use Rattle.rbc_rule.specs.declared.input.Input.TheVariants.{Bad}

@@ -5,7 +5,8 @@ ghost use Rattle.std.specs.List.{slice_split};
 ghost use Rattle.rbc_track.specs.Plan.{Plan};
 ghost use Rattle.rbc_text.specs.BatchText.{is_line_feed, without_empty_end};
 ghost use Rattle.rbc_prompt.specs.Lines.{but_last};
-ghost use Rattle.rbc_prompt.specs.UnderWay.{ArePending, IsUnderWay, IsWaiting, IsDone, GoesOn, IsEnded, HasTaken, joined};
+ghost use Rattle.rbc_prompt.specs.UnderWay.{ArePending, IsUnderWay, IsWaiting, IsDone, GoesOn, IsEnded, HasTaken};
+ghost use Rattle.rbc_prompt.specs.UnderWay.{joined};
 
 use crate::line::UnfinishedLine;
 use crate::prompt::PromptError;

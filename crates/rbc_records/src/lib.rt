@@ -1,15 +1,15 @@
 //! The single records in which everything known is kept: how they are read, noted, stored and written.
 #![tactic(auto)]
 
-mod notes;
+mod noted_records;
 mod reader;
 mod record;
+mod record_table;
 mod search;
 mod store;
-mod table;
 mod writes;
 
-pub use notes::Notes;
+pub use noted_records::Notes;
 pub use rbc_sought::Sought;
 pub use reader::{ReadFault, Reader};
 pub use record::{Key, Rec};

@@ -26,8 +26,8 @@ pub trait Reader {
     /// The number of reads that have failed.
     ghost failed: { Self → ℕ };
 
-    /// Reads the record under a key, and so makes the key known. An error leaves what is known unchanged; `Failed` counts
-    /// as one more failure.
+    /// Reads the record under a key, and so makes the key known. An error leaves what is known unchanged; `Failed`
+    /// counts as one more failure.
     fn fetch(&mut self, key: Key) -> Result<(), ReadFault>
         requires { failed self.old + 1 < 2 ^ 64 }
         ensures ok { OnOk result (Learns (notes self.old) key (notes self.new)) }
@@ -43,9 +43,9 @@ pub trait Reader {
     fn failures(&self) -> u64
         ensures { result ≡ failed self.now };
 
-    /// The engines of some trains, among them all that a command seeks. `None` from a reader that keeps no account of what its trains
-    /// were told; also where there are many, so that it is no use. A reader that returns engines knows every key. Fails only for lack
-    /// of memory.
+    /// The engines of some trains, among them all that a command seeks. `None` from a reader that keeps no account of
+    /// what its trains were told; also where there are many, so that it is no use. A reader that returns engines knows
+    /// every key. Fails only for lack of memory.
     fn search(&self, _alloc: Global, _sought: Sought<'_>) -> Result<Option<Numbers>, AllocError>
         ensures { IfOk result (λ found. IfSome found (AreFound (notes self.now) _sought.entry)) }
     {

@@ -25,7 +25,8 @@ pub fn told_of_stop(
     number: u32,
 ) -> Result<Option<Numbers>, AllocError>
     requires { tolds.now ≡ tolds_of entries.now.entries }
-    ensures { IfOk result (λ found. IfSome found (ArePassing (λ rec. has_bit (told_of rec).stops number) entries.now.entries)) }
+    ensures { IfOk result (λ found. IfSome found
+        (ArePassing (λ rec. has_bit (told_of rec).stops number) entries.now.entries)) }
 {
     let mut found = Numbers::new(alloc);
     for (index, told) in tolds.iter().enumerate() {
@@ -44,7 +45,8 @@ pub fn told_of_limit(
     number: u32,
 ) -> Result<Option<Numbers>, AllocError>
     requires { tolds.now ≡ tolds_of entries.now.entries }
-    ensures { IfOk result (λ found. IfSome found (ArePassing (λ rec. has_bit (told_of rec).limits number) entries.now.entries)) }
+    ensures { IfOk result (λ found. IfSome found
+        (ArePassing (λ rec. has_bit (told_of rec).limits number) entries.now.entries)) }
 {
     let mut found = Numbers::new(alloc);
     for (index, told) in tolds.iter().enumerate() {
@@ -55,7 +57,8 @@ pub fn told_of_limit(
     Ok(Some(found))
 }
 
-/// The engines of the trains that may have to be told of a new stop that lies somewhere in an extent. `None` where they are many.
+/// The engines of the trains that may have to be told of a new stop that lies somewhere in an extent. `None` where they
+/// are many.
 pub fn stoppable(
     alloc: Global,
     entries: &IndexMap<Key, Rec>,
@@ -74,15 +77,17 @@ pub fn stoppable(
     Ok(Some(found))
 }
 
-/// Adds the engine at an index if a train stands there, unless it is among the engines already. Returns whether there was room
-/// for it: `false` where there are as many engines as a search returns. Fails only for lack of memory.
+/// Adds the engine at an index if a train stands there, unless it is among the engines already. Returns whether there
+/// was room for it: `false` where there are as many engines as a search returns. Fails only for lack of memory.
 fn add_train(
     entries: &IndexMap<Key, Rec>,
     index: usize,
     found: &mut Numbers,
 ) -> Result<bool, AllocError>
     requires { index < length entries.now.entries }
-    ensures { IfOk result (λ fits. IsTrue fits → (entry : Key × Rec) (engine : ℕ) → slice_get entries.now.entries index ≡ Some entry → has_number found.new engine ≡ (has_number found.old engine || is_of_train engine entry.0 entry.1)) }
+    ensures { IfOk result (λ fits. IsTrue fits → (entry : Key × Rec) (engine : ℕ)
+        → slice_get entries.now.entries index ≡ Some entry
+        → has_number found.new engine ≡ (has_number found.old engine || is_of_train engine entry.0 entry.1)) }
 {
     let (Key::Train(engine), Rec::Train(_)) = entries.get_index(index).unwrap() else {
         return Ok(true);

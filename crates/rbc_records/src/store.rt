@@ -1,13 +1,14 @@
 //! A store of all records.
 
-ghost use Rattle.std.specs.Prelude.{◌≡◌, ℕ, ◌+◌, ◌<◌, ◌≤◌, [], length, slice_get, Some, OnOk, OnErr, IfOk, IfErr, IsOk, option_copied};
+ghost use Rattle.std.specs.Prelude.{◌≡◌, ℕ, ◌+◌, ◌<◌, ◌≤◌, [], length, slice_get, Some, OnOk, OnErr, IfOk, IfErr, IsOk};
+ghost use Rattle.std.specs.Prelude.{option_copied};
 ghost use Rattle.rbc_records.specs.declared.record.Key.{Key};
 ghost use Rattle.rbc_records.specs.Notes.{record_in};
 ghost use Rattle.rbc_records.specs.Writes.{written, write_over, replaced};
 
 use crate::reader::{ReadFault, Reader};
 use crate::record::{Key, Rec};
-use crate::table::Table;
+use crate::record_table::Table;
 use crate::writes::Writes;
 use rbc_settle::Numbers;
 use rbc_sought::Sought;
@@ -91,10 +92,12 @@ impl Reader for PlainStore {
     }
 }
 
-/// Does one write, and leaves in its place the record that stood under its key. There has to be room for one more record.
+/// Does one write, and leaves in its place the record that stood under its key. There has to be room for one more
+/// record.
 fn write_one(records: &mut Table, key: Key, rec: &mut Option<Rec>)
     requires { 0 < records.old.room }
-    ensures records { (k : Key) → record_in records.new.entries k ≡ write_over (key, rec.old) (record_in records.old.entries) k }
+    ensures records { (k : Key) → record_in records.new.entries k
+        ≡ write_over (key, rec.old) (record_in records.old.entries) k }
     ensures replaced { rec.new ≡ record_in records.old.entries key }
     ensures room { records.old.room ≤ records.new.room + 1 }
 {
@@ -109,8 +112,8 @@ fn write_one(records: &mut Table, key: Key, rec: &mut Option<Rec>)
     };
 }
 
-/// Does the writes, one after another, and hands back under each key what stood there just before. Fails only for lack of
-/// memory: the store is then unchanged, and the error hands the writes back.
+/// Does the writes, one after another, and hands back under each key what stood there just before. Fails only for lack
+/// of memory: the store is then unchanged, and the error hands the writes back.
 #[inline(always)]
 pub fn exchange(store: &mut PlainStore, mut writes: Writes) -> Result<Writes, Writes>
     ensures ok { OnOk result ((k : Key) → record_in store.new k ≡ written writes (record_in store.old) k) }
@@ -128,8 +131,8 @@ pub fn exchange(store: &mut PlainStore, mut writes: Writes) -> Result<Writes, Wr
     Ok(writes)
 }
 
-/// Does the writes, one after another. Fails only for lack of memory: the store is then unchanged, and the error hands the
-/// writes back.
+/// Does the writes, one after another. Fails only for lack of memory: the store is then unchanged, and the error hands
+/// the writes back.
 pub fn apply(store: &mut PlainStore, writes: Writes) -> Result<(), Writes>
     ensures ok { OnOk result ((k : Key) → record_in store.new k ≡ written writes (record_in store.old) k) }
     ensures err { OnErr result (store.new ≡ store.old) }

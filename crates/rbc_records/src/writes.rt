@@ -33,8 +33,8 @@ impl Writes {
         }
     }
 
-    /// Adds a write behind the others: of a new record, or of a removal. Fails only for lack of memory, and then changes
-    /// nothing.
+    /// Adds a write behind the others: of a new record, or of a removal. Fails only for lack of memory, and then
+    /// changes nothing.
     pub fn set(&mut self, key: Key, rec: Option<Rec>) -> Result<(), AllocError>
         ensures ok { OnOk result (self.new ≡ self.old ++ (key, rec) ∷ []) }
         ensures err { OnErr result (self.new ≡ self.old) }

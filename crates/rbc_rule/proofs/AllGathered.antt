@@ -8,7 +8,7 @@ use Rattle.rbc_maps.specs.Maps.{has, value_or, value_of, keys, rises_from}
 use Rattle.rbc_maps.proofs.MapPlaces.{absent_below, value_or-absent}
 use Rattle.rbc_maps.proofs.MapValues.{value_of-absent}
 use Rattle.rbc_settle.specs.declared.train.TrainRec.{TrainRec}
-use Rattle.rbc_settle.specs.declared.upkeep.Sent.{Sent}
+use Rattle.rbc_settle.specs.declared.settling.Sent.{Sent}
 use Rattle.rbc_settle.specs.Settling.{to_engine}
 use Rattle.rbc_records.specs.declared.record.Key.{Key}
 use Rattle.rbc_records.specs.declared.record.Key.TheVariants as key

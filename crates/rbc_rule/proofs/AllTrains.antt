@@ -12,7 +12,7 @@ use Rattle.rbc_maps.specs.Numbered.{Numbered, AreNumbered}
 use Rattle.rbc_zones.specs.declared.segment.Segment.{Segment}
 use Rattle.rbc_zones.specs.declared.limit.Dirs.{Dirs}
 use Rattle.rbc_settle.specs.declared.train.TrainRec.{TrainRec}
-use Rattle.rbc_settle.specs.declared.upkeep.Sent.{Sent}
+use Rattle.rbc_settle.specs.declared.settling.Sent.{Sent}
 use Rattle.rbc_settle.specs.Settling.{Stops, Limits, actions_with_stamp, settled, messages_of}
 use Rattle.rbc_settle.proofs.NumberLists.{without-absent}
 use Rattle.rbc_records.specs.declared.record.Key.{Key}

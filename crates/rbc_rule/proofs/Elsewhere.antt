@@ -7,8 +7,8 @@ use Rattle.rbc_track.specs.declared.group.Way.{Way}
 use Rattle.rbc_track.specs.declared.group.Way.TheVariants.{Up, Down}
 use Rattle.rbc_place.specs.Placing.{Place}
 use Rattle.rbc_zones.specs.declared.segment.Segment.{Segment}
-use Rattle.rbc_zones.specs.declared.edge.Concern.{Concern}
-use Rattle.rbc_zones.specs.declared.edge.Concern.TheVariants as concern
+use Rattle.rbc_zones.specs.declared.stop_meaning.Concern.{Concern}
+use Rattle.rbc_zones.specs.declared.stop_meaning.Concern.TheVariants as concern
 use Rattle.rbc_zones.specs.Concerns.{meets, edge_of, is_ahead, nearest, concern_by_edge, concern_at, concern_of}
 use Rattle.rbc_zones.specs.Limits.{Limit, is_for, lies_behind, ends_beyond_group, starts_within, concerns}
 use Rattle.rbc_settle.specs.declared.train.TrainRec.{TrainRec}

@@ -17,8 +17,8 @@ use Rattle.rbc_place.specs.Reach.{IsAhead}
 use Rattle.rbc_maps.specs.Maps.{value_of, keys}
 use Rattle.rbc_ids.specs.Table.{Slots, is_told, free_identifiers}
 use Rattle.rbc_zones.specs.declared.segment.Segment.{Segment}
-use Rattle.rbc_zones.specs.declared.edge.Concern.{Concern}
-use Rattle.rbc_zones.specs.declared.edge.Concern.TheVariants as concern
+use Rattle.rbc_zones.specs.declared.stop_meaning.Concern.{Concern}
+use Rattle.rbc_zones.specs.declared.stop_meaning.Concern.TheVariants as concern
 use Rattle.rbc_zones.specs.Segments.{IsSegment}
 use Rattle.rbc_zones.specs.Concerns.{concern_at, concern_of, told_distance, distance_to}
 use Rattle.rbc_zones.specs.Limits.{Limit, IsLimit, is_good_limit, concerns, told_part}

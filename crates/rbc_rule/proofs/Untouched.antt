@@ -16,8 +16,8 @@ use Rattle.rbc_ids.specs.Table.{Slots, IsTable, is_told, is_ripe, free_identifie
 use Rattle.rbc_ids.proofs.Gaps.{run, least_free-run, run_is_all}
 use Rattle.rbc_ids.proofs.Tables.{few}
 use Rattle.rbc_zones.specs.declared.segment.Segment.{Segment}
-use Rattle.rbc_zones.specs.declared.edge.Concern.{Concern}
-use Rattle.rbc_zones.specs.declared.edge.Concern.TheVariants as concern
+use Rattle.rbc_zones.specs.declared.stop_meaning.Concern.{Concern}
+use Rattle.rbc_zones.specs.declared.stop_meaning.Concern.TheVariants as concern
 use Rattle.rbc_zones.specs.Limits.{Limit}
 use Rattle.rbc_settle.specs.declared.train.TrainRec.{TrainRec}
 use Rattle.rbc_settle.specs.Actions.{Action, ChangesStop, ChangesLimits, groups}

@@ -14,8 +14,8 @@ use Rattle.rbc_place.specs.Reach.{IsAhead}
 use Rattle.rbc_maps.specs.Maps.{value_of}
 use Rattle.rbc_maps.specs.Numbered.{none_numbered}
 use Rattle.rbc_zones.specs.declared.segment.Segment.{Segment}
-use Rattle.rbc_zones.specs.declared.edge.Concern.{Concern}
-use Rattle.rbc_zones.specs.declared.edge.Concern.TheVariants as concern
+use Rattle.rbc_zones.specs.declared.stop_meaning.Concern.{Concern}
+use Rattle.rbc_zones.specs.declared.stop_meaning.Concern.TheVariants as concern
 use Rattle.rbc_zones.specs.Concerns.{concern_of, distance_to, IsToldFor}
 use Rattle.rbc_zones.specs.Limits.{Limit}
 use Rattle.rbc_settle.specs.declared.train.TrainRec.{TrainRec}

@@ -5,16 +5,11 @@ ghost use Rattle.rbc_rule.specs.Codes.{IsReason};
 ghost use Rattle.rbc_rule.specs.Effect.{stops_after, limits_after, after_removing};
 
 use crate::input::Segments;
+use crate::limits::{MAX_LIMITS, MAX_STOPS};
 use crate::refuse::{NotChanged, Refusal};
 use rbc_track::Track;
 use rbc_zones::{Area, Dirs, Limit, Limits, Segment, Stops};
 use std::alloc::Global;
-
-/// The greatest number of active stops (own rule).
-const MAX_STOPS: usize = 64;
-
-/// The greatest number of active restrictions (own rule).
-const MAX_LIMITS: usize = 300;
 
 /// Returns the stops with one more, or why there cannot be one more.
 pub(crate) fn stops_after(

@@ -12,6 +12,7 @@ ghost use Rattle.rbc_rule.specs.Gathered.{AreSendable, enrolled_outcome};
 
 use crate::fetch::fetch;
 use crate::input::Input;
+use crate::limits::MAX_TRAINS;
 use crate::lists::write_with;
 use crate::outcome::{Outcome, RuleFault, SentList};
 use crate::read;
@@ -75,7 +76,7 @@ fn enrolled<S: Reader>(
     if engines.has(engine) {
         return Ok(Outcome::refused(alloc, Refusal::AlreadyEnrolled));
     }
-    if engines.len() >= read::MAX_TRAINS {
+    if engines.len() >= MAX_TRAINS {
         return Ok(Outcome::refused(alloc, Refusal::TooManyTrains));
     }
     let unplaced = read::engines(store, Key::Unplaced)?.unwrap_or(&nobody);

@@ -1,6 +1,7 @@
 //! Fetches records from the reader.
 
-ghost use Rattle.std.specs.Prelude.{◌≡◌, ℕ, ◌+◌, ◌*◌, ◌<◌, ◌≤◌, ◌^◌, IsTrue, IfOk, IfErr, IfSome, OnOk, None, length, true};
+ghost use Rattle.std.specs.Prelude.{◌≡◌, ℕ, ◌+◌, ◌*◌, ◌<◌, ◌≤◌, ◌^◌, IsTrue, IfOk, IfErr, IfSome, OnOk, None, length};
+ghost use Rattle.std.specs.Prelude.{true};
 ghost use Rattle.std.specs.List.{All};
 ghost use Rattle.rbc_track.specs.Plan.{Plan};
 ghost use Rattle.rbc_zones.specs.Segments.{is_good_segment, is_good_area};
@@ -15,9 +16,10 @@ ghost use Rattle.rbc_rule.specs.Gathered.{IsEnough};
 ghost use Rattle.rbc_rule.specs.Lists.{AreEnginesOf, AreTrainsKnown, HaveSought, engines_at, is_list, may_stop};
 
 use crate::input::Segments;
+use crate::limits::MAX_TRAINS;
 use crate::lists::line_of;
 use crate::outcome::RuleFault;
-use crate::read::{self, MAX_TRAINS};
+use crate::read;
 use rbc_records::{Key, ReadFault, Reader, Sought};
 use rbc_settle::Numbers;
 use rbc_track::Track;

@@ -3,16 +3,11 @@
 ghost use Rattle.std.specs.Prelude.{◌≡◌, ◌↔◌, ◌∷◌, ◌++◌, [], OnOk, OnErr, IsTrue};
 ghost use Rattle.rbc_rule.specs.Inputs.{Fits};
 
+use crate::limits::{MAX_ENGINE, MAX_LENGTH};
 use ertms_codec::FromTrain;
 use rbc_zones::{Dirs, Segment};
 use std::alloc::{AllocError, Global};
 use std::marker::Model;
-
-/// The greatest engine number (NID_ENGINE has 24 bits).
-const MAX_ENGINE: u32 = 16_777_215;
-
-/// The greatest length of a train, in units of 10 cm.
-const MAX_LENGTH: u32 = 40_000;
 
 /// The greatest code of a bad line (own rule).
 const MAX_BAD: u8 = 6;

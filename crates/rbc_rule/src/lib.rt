@@ -6,9 +6,9 @@ mod change;
 mod commands;
 mod enrol;
 mod fetch;
-mod hear;
 mod input;
 mod law;
+mod limits;
 mod lists;
 mod outcome;
 mod read;
@@ -18,11 +18,15 @@ mod rule;
 mod said_witnesses;
 mod settle_trains;
 mod touch;
+mod train_message;
 mod withdraw;
 mod witnesses;
 
 pub use input::{Input, Segments};
 pub use law::{says_law, step_law, told_law};
+pub use limits::{
+    MAX_ENGINE, MAX_INPUTS, MAX_LENGTH, MAX_LIMITS, MAX_STAMP, MAX_STOPS, MAX_TRAINS,
+};
 pub use outcome::{Outcome, Reply, RuleFault, SentList};
 pub use refuse::Refusal;
 pub use rule::decide;

@@ -28,7 +28,7 @@ pub struct SentList {
 
 impl Model for SentList {
     ghost use Rattle.std.specs.Prelude.{List};
-    ghost use Rattle.rbc_settle.specs.declared.upkeep.Sent.{Sent};
+    ghost use Rattle.rbc_settle.specs.declared.settling.Sent.{Sent};
 
     ghost Value = { List Sent };
 

@@ -12,13 +12,11 @@ ghost use Rattle.rbc_rule.specs.Faults.{IsFaultOf};
 ghost use Rattle.rbc_rule.specs.Lists.{engines_at, is_list, or_nobody};
 ghost use Rattle.rbc_rule.specs.Gathered.{or_none};
 
+use crate::limits::MAX_TRAINS;
 use crate::outcome::RuleFault;
 use rbc_records::{Key, Reader, Rec};
 use rbc_settle::{Numbers, TrainRec};
 use rbc_zones::{Limits, Stops};
-
-/// The greatest number of enrolled trains (own rule).
-pub(crate) const MAX_TRAINS: usize = 2_000;
 
 /// Returns the engines of a list, or `None` if the list has no record.
 pub(crate) fn engines<S: Reader>(store: &S, list: Key) -> Result<Option<&Numbers>, RuleFault>

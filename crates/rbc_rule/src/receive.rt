@@ -13,12 +13,12 @@ ghost use Rattle.rbc_rule.specs.Lists.{engines_at, is_list, moves};
 ghost use Rattle.rbc_rule.specs.Gathered.{AreSendable, heard_outcome};
 
 use crate::fetch::fetch;
-use crate::hear::{engine_of, heard};
 use crate::input::Input;
 use crate::lists::{list_of, write_with, write_without};
 use crate::outcome::{Outcome, RuleFault, SentList};
 use crate::read;
 use crate::refuse::{NotChanged, Refusal};
+use crate::train_message::{engine_of, heard};
 use ertms_codec::FromTrain;
 use rbc_records::{Key, Reader, Rec, Writes};
 use rbc_settle::{Numbers, TrainRec, settle};

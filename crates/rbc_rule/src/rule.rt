@@ -19,7 +19,8 @@ use std::alloc::Global;
 /// that is refused writes nothing and sends nothing, whatever was read. Each write changes what stands under its key,
 /// but that of the train that sent a message, which is written in any case. A stop that begins reads the trains without
 /// a place and those on the lines of its segments, a restriction that begins those on its line; what ends reads all
-/// trains, or those that a search of the reader finds. Nothing is written to the store, and records that were read before stay as they were.
+/// trains, or those that a search of the reader finds. Nothing is written to the store, and records that were read
+/// before stay as they were.
 ///
 /// # Errors
 ///

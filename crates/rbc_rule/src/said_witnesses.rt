@@ -1,4 +1,5 @@
-//! Worked cases of `says_law` for each kind of message: right ones, and wrong ones that differ from them in one variable.
+//! Worked cases of `says_law` for each kind of message: right ones, and wrong ones that differ from them in one
+//! variable.
 //!
 //! Train 7 of 200 m stands 200 m beyond balise group 5, which lies at 10000 on line 0, and faces up, unless it is said
 //! otherwise.
@@ -6,17 +7,21 @@
 ghost use Rattle.std.specs.Prelude.{pos, true, false, [], ◌∷◌};
 ghost use Rattle.rbc_zones.specs.declared.limit.Dirs.TheVariants as dirs;
 ghost use Rattle.rbc_rule.specs.declared.input.Input.TheVariants as input;
-ghost use Rattle.rbc_rule.specs.Witnesses.{facing_up, short_of_5, on_line_0, stop_before, stop_before_as, stop_at_once, stop_now, restrict_to, restrict_as, revoke, lift, naming, told_world, world_limited, IsSaidIn, IsSaidOfStop, IsSaidOfLimit, IsSaidAtEnrolment, SaysByPlaceOf, IsSaidAgain, IsSaidBeforeAgain, lift_0, restrict_1, of_packets, IsSaidOfTwo};
+ghost use Rattle.rbc_rule.specs.Witnesses.{facing_up, short_of_5, on_line_0, stop_before, stop_before_as, stop_at_once};
+ghost use Rattle.rbc_rule.specs.Witnesses.{stop_now, restrict_to, restrict_as, revoke, lift, naming, told_world};
+ghost use Rattle.rbc_rule.specs.Witnesses.{world_limited, IsSaidIn, IsSaidOfStop, IsSaidOfLimit, IsSaidAtEnrolment};
+ghost use Rattle.rbc_rule.specs.Witnesses.{SaysByPlaceOf, IsSaidAgain, IsSaidBeforeAgain, lift_0, restrict_1};
+ghost use Rattle.rbc_rule.specs.Witnesses.{of_packets, IsSaidOfTwo};
 
-/// Messages 15 and 16: stop 1 becomes active on 20000 to 21000, on 12100 to 13000, which meets the train, or for a train
-/// that stands short of its balise group on 10000 to 11000.
+/// Messages 15 and 16: stop 1 becomes active on 20000 to 21000, on 12100 to 13000, which meets the train, or for a
+/// train that stands short of its balise group on 10000 to 11000.
 ///
-/// Right: to stop at once; by 0 units at the balise group itself; and by the place alone, 15000 units of 10 m from balise
-/// group 6, which lies at 200000, to 50000.
+/// Right: to stop at once; by 0 units at the balise group itself; and by the place alone, 15000 units of 10 m from
+/// balise group 6, which lies at 200000, to 50000.
 ///
-/// Wrong: a distance one short, and one far; the other direction, also by 0 units; another balise group in 15 and in 16,
-/// also where the same place is meant; another identifier in 15 and in 16; a distance that does not count from the balise
-/// group itself; message 15 to a train that has to stop at once, and 16 to one that has not.
+/// Wrong: a distance one short, and one far; the other direction, also by 0 units; another balise group in 15 and in
+/// 16, also where the same place is meant; another identifier in 15 and in 16; a distance that does not count from the
+/// balise group itself; message 15 to a train that has to stop at once, and 16 to one that has not.
 pub fn stop_witnesses()
     ensures at_once { IsSaidOfStop facing_up 12100 13000 (stop_at_once ∷ []) }
     ensures at_the_group { IsSaidOfStop short_of_5 10000 11000 (stop_before 1 0 0 ∷ []) }
@@ -38,8 +43,8 @@ pub fn stop_witnesses()
 ///
 /// Right: it begins 1050 units ahead, is 1000 units long, and the train's length delays its end.
 ///
-/// Wrong: one unit less and more, where it begins, how long it is and how fast the train may go; another identifier; the
-/// train's length does not delay its end; another balise group.
+/// Wrong: one unit less and more, where it begins, how long it is and how fast the train may go; another identifier;
+/// the train's length does not delay its end; another balise group.
 pub fn restriction_witnesses()
     ensures told { IsSaidOfLimit facing_up 11050 12050 (restrict_to 1 0 1050 1000 16 ∷ []) }
     ensures begins_before { IsSaidOfLimit facing_up 11050 12050 (restrict_to 1 0 1049 1000 16 ∷ []) → ⊥ }
@@ -67,7 +72,8 @@ pub fn revocation_witnesses()
     ensures other_group { IsSaidIn world_limited (input.Lift 1) ((7, naming 6 (lift 2 0) ∷ []) ∷ []) → ⊥ }
     ensures stop_other_group { IsSaidIn told_world (input.Release 1) ((7, naming 6 (revoke 0) ∷ []) ∷ []) → ⊥ }
     ensures as_a_restriction { IsSaidIn told_world (input.Release 1) ((7, lift 2 0 ∷ []) ∷ []) → ⊥ }
-    ensures while_active { IsSaidIn told_world (input.Restrict 1 (on_line_0 0 10) dirs.Both 80 false) ((7, revoke 0 ∷ []) ∷ []) → ⊥ }
+    ensures while_active { IsSaidIn told_world (input.Restrict 1 (on_line_0 0 10) dirs.Both 80 false)
+        ((7, revoke 0 ∷ []) ∷ []) → ⊥ }
 {}
 
 /// Message 16, for a stop that train 7 was told conditionally and has not answered.
@@ -81,7 +87,8 @@ pub fn escalation_witnesses()
     ensures before_again { IsSaidBeforeAgain 3 → ⊥ }
 {}
 
-/// Message 24 with two packets: identifier 0 is revoked, and a restriction of 11050 to 12050 to 80 km/h is told under identifier 1.
+/// Message 24 with two packets: identifier 0 is revoked, and a restriction of 11050 to 12050 to 80 km/h is told under
+/// identifier 1.
 ///
 /// Right: the revocation first, and then the restriction.
 ///

@@ -1,6 +1,7 @@
 //! Settles the trains that a change touches.
 
-ghost use Rattle.std.specs.Prelude.{◌≡◌, ℕ, ◌+◌, ◌*◌, ◌≤◌, true, ◌∷◌, ◌++◌, [], IsTrue, IfOk, IfErr, OnOk, length, Some, None};
+ghost use Rattle.std.specs.Prelude.{◌≡◌, ℕ, ◌+◌, ◌*◌, ◌≤◌, true, ◌∷◌, ◌++◌, [], IsTrue, IfOk, IfErr, OnOk, length};
+ghost use Rattle.std.specs.Prelude.{Some, None};
 ghost use Rattle.std.specs.List.{flat_map, All};
 ghost use Rattle.rbc_track.specs.Plan.{Plan};
 ghost use Rattle.rbc_maps.specs.Maps.{keys};

@@ -3,7 +3,7 @@
 ghost use Rattle.std.specs.Prelude.{◌≡◌};
 ghost use Rattle.rbc_rule.specs.Touching.{is_stop_for, is_limit_for, has_stop, has_limit, touches, released_by};
 
-use rbc_settle::TrainRec;
+use rbc_settle::{LIMIT_IDENTIFIERS, STOP_IDENTIFIERS, TrainRec};
 use rbc_track::Track;
 use rbc_zones::{Area, Concern, Limit, concern, limit_concerns};
 
@@ -13,12 +13,6 @@ pub(crate) enum Change<'a> {
     Stop(u32, Option<&'a Area>),
     Limit(u32, Option<&'a Limit>),
 }
-
-/// The number of stop identifiers of a train.
-const STOP_IDENTIFIERS: usize = 15;
-
-/// The number of restriction identifiers of a train.
-const LIMIT_IDENTIFIERS: usize = 255;
 
 impl Change<'_> {
     /// Whether there may be something to tell a train that was settled before the change.

@@ -10,7 +10,11 @@ ghost use Rattle.rbc_rule.specs.WellFormed.{IsWellFormed};
 ghost use Rattle.rbc_rule.specs.Saying.{StopsBefore, Says};
 ghost use Rattle.rbc_rule.specs.Told.{EachTrainIsUpToDate};
 ghost use Rattle.rbc_rule.specs.Records.{Agrees};
-ghost use Rattle.rbc_rule.specs.Witnesses.{track_a, facing_up, facing_down, stop_before, stop_now, restrict_to, revoke, two_stops, told_as_0, world_told, told_world, told_twice, world_released, world_restricted, world_off_line, world_numbered_high, spot_at, only_train_7, on_line_0, IsSaidIn, IsSaidOfStop, IsSaidOfLimit, IsSaidAtEnrolment, three_trains, engines_there, all_lists_read, read_alone};
+ghost use Rattle.rbc_rule.specs.Witnesses.{track_a, facing_up, facing_down, stop_before, stop_now, restrict_to, revoke};
+ghost use Rattle.rbc_rule.specs.Witnesses.{two_stops, told_as_0, world_told, told_world, told_twice, world_released};
+ghost use Rattle.rbc_rule.specs.Witnesses.{world_restricted, world_off_line, world_numbered_high, spot_at};
+ghost use Rattle.rbc_rule.specs.Witnesses.{only_train_7, on_line_0, IsSaidIn, IsSaidOfStop, IsSaidOfLimit};
+ghost use Rattle.rbc_rule.specs.Witnesses.{IsSaidAtEnrolment, three_trains, engines_there, all_lists_read, read_alone};
 
 /// Train 7 of 200 m stands 200 m from balise group 5, which lies at 10000 on line 0; nothing was told to it, and stop 1
 /// or a restriction to 80 km/h becomes active there.

@@ -8,8 +8,8 @@ use Rattle.rbc_maps.specs.Maps.{has, value_of, keys, rises_from}
 use Rattle.rbc_maps.specs.Numbered.{AreNumbered}
 use Rattle.rbc_maps.proofs.MapFacts.{rises_from-lower}
 use Rattle.rbc_zones.specs.declared.segment.Segment.{Segment}
-use Rattle.rbc_zones.specs.declared.edge.Concern.{Concern}
-use Rattle.rbc_zones.specs.declared.edge.Concern.TheVariants as concern
+use Rattle.rbc_zones.specs.declared.stop_meaning.Concern.{Concern}
+use Rattle.rbc_zones.specs.declared.stop_meaning.Concern.TheVariants as concern
 use Rattle.rbc_zones.specs.Concerns.{concern_of}
 use Rattle.rbc_zones.specs.Limits.{Limit, is_clear, ends_beyond_group, starts_within}
 use Rattle.rbc_settle.specs.declared.change.ToldStop.{ToldStop}

@@ -7,7 +7,7 @@ use Rattle.rbc_place.specs.Placing.{Place}
 use Rattle.rbc_ids.specs.Table.{Slots, IsTable, is_told, free_identifiers}
 use Rattle.rbc_ids.proofs.Gaps.{run, least_free-run, run_is_all}
 use Rattle.rbc_zones.specs.declared.segment.Segment.{Segment}
-use Rattle.rbc_zones.specs.declared.edge.Concern.TheVariants as concern
+use Rattle.rbc_zones.specs.declared.stop_meaning.Concern.TheVariants as concern
 use Rattle.rbc_settle.specs.declared.train.TrainRec.{TrainRec}
 use Rattle.rbc_settle.specs.Settling.{told_stop, is_used_by, is_stop_gone, is_limit_gone, due_number}
 use Rattle.rbc_settle.specs.UpToDate.{IsToldIfItCan, IsLimitToldIfItCan, NothingIsLeftToDo}

@@ -6,7 +6,7 @@ use Rattle.rbc_place.specs.Placing.{Place}
 use Rattle.rbc_maps.specs.OnLines.{mark_of, has_mark, marked}
 use Rattle.rbc_ids.specs.Table.{is_told}
 use Rattle.rbc_zones.specs.declared.segment.Segment.{Segment}
-use Rattle.rbc_zones.specs.declared.edge.Concern.TheVariants as concern
+use Rattle.rbc_zones.specs.declared.stop_meaning.Concern.TheVariants as concern
 use Rattle.rbc_zones.specs.Segments.{AreSegments}
 use Rattle.rbc_zones.specs.Concerns.{concern_of}
 use Rattle.rbc_zones.specs.Limits.{Limit}

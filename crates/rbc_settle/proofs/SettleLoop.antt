@@ -12,7 +12,7 @@ use Rattle.rbc_settle.specs.declared.train.TrainRec.{TrainRec}
 use Rattle.rbc_settle.specs.declared.change.StopChange.{StopChange}
 use Rattle.rbc_settle.specs.declared.change.StopChange.TheVariants as stop_change
 use Rattle.rbc_settle.specs.declared.change.LimitChange.{LimitChange}
-use Rattle.rbc_settle.specs.declared.upkeep.Sent.{Sent}
+use Rattle.rbc_settle.specs.declared.settling.Sent.{Sent}
 use Rattle.rbc_settle.specs.Actions.{Action, ChangesStop, ChangesLimits, groups}
 use Rattle.rbc_settle.specs.Settling.{Stops, Limits, last_stamp, actions, actions_with_stamp, in_messages, carried_out, message_of, settled, messages_of, to_engine}
 use Rattle.rbc_settle.specs.Following.{Allows, CanFollow}

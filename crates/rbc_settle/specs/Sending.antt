@@ -3,7 +3,7 @@ use Rattle.std.specs.Prelude.{◌≡◌, ◌+◌, ◌≤◌, List, ◌++◌, len
 use Rattle.std.specs.List.{All, fold, scan}
 use Rattle.ertms_codec.specs.ToTrain.{Fits}
 use Rattle.rbc_settle.specs.declared.train.TrainRec.{TrainRec}
-use Rattle.rbc_settle.specs.declared.upkeep.Sent.{Sent}
+use Rattle.rbc_settle.specs.declared.settling.Sent.{Sent}
 use Rattle.rbc_settle.specs.Actions.{Action}
 use Rattle.rbc_settle.specs.Settling.{last_stamp, carried_out, message_of, to_engine}
 use Rattle.rbc_settle.specs.Following.{CanFollow}

@@ -19,8 +19,8 @@ use Rattle.rbc_ids.specs.declared.slot.Kind.{Kind}
 use Rattle.rbc_ids.specs.declared.slot.Kind.TheVariants.{Conditional, Unconditional, Restriction}
 use Rattle.rbc_ids.specs.Table.{Slots, is_told, is_ripe, free_identifiers, told_now}
 use Rattle.rbc_zones.specs.declared.segment.Segment.{Segment}
-use Rattle.rbc_zones.specs.declared.edge.Concern.{Concern}
-use Rattle.rbc_zones.specs.declared.edge.Concern.TheVariants as concern
+use Rattle.rbc_zones.specs.declared.stop_meaning.Concern.{Concern}
+use Rattle.rbc_zones.specs.declared.stop_meaning.Concern.TheVariants as concern
 use Rattle.rbc_zones.specs.Concerns.{concern_of, told_distance, distance_to}
 use Rattle.rbc_zones.specs.Limits.{Limit, is_clear, concerns, told_part}
 use Rattle.rbc_settle.specs.declared.train.TrainRec.{TrainRec}
@@ -31,7 +31,7 @@ use Rattle.rbc_settle.specs.declared.change.LimitChange.TheVariants as limit_cha
 use Rattle.rbc_settle.specs.declared.change.ToldStop.{ToldStop}
 use Rattle.rbc_settle.specs.declared.change.ToldStop.TheVariants.{AtOnce, Before}
 use Rattle.rbc_settle.specs.Actions.{Action, ChangesStop, ChangesLimits, groups}
-use Rattle.rbc_settle.specs.declared.upkeep.Sent.{Sent}
+use Rattle.rbc_settle.specs.declared.settling.Sent.{Sent}
 use Rattle.rbc_settle.specs.Told.{Edge, Part}
 use Rattle.rbc_settle.specs.Trains.{stop_identifiers, limit_identifiers}
 use Rattle.rbc_settle.specs.Numbers.{has_number, and_number}

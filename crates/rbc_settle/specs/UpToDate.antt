@@ -5,7 +5,7 @@ use Rattle.rbc_track.specs.Plan.{Plan}
 use Rattle.rbc_maps.specs.Numbered.{AreNumbered}
 use Rattle.rbc_ids.specs.Table.{IsTable, is_told}
 use Rattle.rbc_zones.specs.declared.segment.Segment.{Segment}
-use Rattle.rbc_zones.specs.declared.edge.Concern.TheVariants as concern
+use Rattle.rbc_zones.specs.declared.stop_meaning.Concern.TheVariants as concern
 use Rattle.rbc_zones.specs.Limits.{Limit}
 use Rattle.rbc_settle.specs.declared.train.TrainRec.{TrainRec}
 use Rattle.rbc_settle.specs.Trains.{stop_identifiers, limit_identifiers}

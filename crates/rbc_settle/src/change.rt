@@ -49,11 +49,26 @@ impl Model for ToldLimit {
 
     ghost Value = { Part };
 
-    ghost view = { λ l. record { dir = l.dir; scale = l.scale; start = l.start; length = l.length; front = l.front; speed = l.speed } };
+    ghost view = { λ l. record {
+      dir = l.dir;
+      scale = l.scale;
+      start = l.start;
+      length = l.length;
+      front = l.front;
+      speed = l.speed;
+    } };
 
-    ghost invariant = { λ l. IsPartInField (record { dir = l.dir; scale = l.scale; start = l.start; length = l.length; front = l.front; speed = l.speed }) };
+    ghost invariant = { λ l. IsPartInField
+        (record { dir = l.dir; scale = l.scale; start = l.start; length = l.length; front = l.front; speed = l.speed }) };
 
-    ghost inverse = { λ v. record { dir = v.dir; scale = v.scale; start = v.start; length = v.length; front = v.front; speed = v.speed } };
+    ghost inverse = { λ v. record {
+      dir = v.dir;
+      scale = v.scale;
+      start = v.start;
+      length = v.length;
+      front = v.front;
+      speed = v.speed;
+    } };
 }
 
 /// One change to a train's stop identifiers, made by one message.
@@ -80,7 +95,8 @@ pub enum LimitChange {
     },
 }
 
-/// What has to be done to a train: first the changes to its stop identifiers, then those to its restriction identifiers.
+/// What has to be done to a train: first the changes to its stop identifiers, then those to its restriction
+/// identifiers.
 #[derive(Debug, Drop)]
 pub struct Changes {
     pub stops: Vec<StopChange>,

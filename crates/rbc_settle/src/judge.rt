@@ -5,9 +5,12 @@ ghost use Rattle.std.specs.List.{filter_map};
 ghost use Rattle.rbc_maps.specs.Maps.{has};
 ghost use Rattle.rbc_maps.specs.Numbered.{AreNumbered};
 ghost use Rattle.rbc_ids.specs.Table.{IsTable};
-ghost use Rattle.rbc_zones.specs.declared.edge.Concern.TheVariants.{Before};
+ghost use Rattle.rbc_zones.specs.declared.stop_meaning.Concern.TheVariants.{Before};
 ghost use Rattle.rbc_settle.specs.Trains.{stop_identifiers, limit_identifiers};
-ghost use Rattle.rbc_settle.specs.Settling.{direction_of, told_at, told_stop, told_limit, limit_told_to, stop_to_tell, limit_to_tell, is_used_by, is_limit_gone, due_number, spare_identifiers, escalated, is_stop_revoked, number_forced, next_to_tell, stops_revoked, stops_told, limits_revoked, limits_told, in_messages, actions_with_stamp};
+ghost use Rattle.rbc_settle.specs.Settling.{direction_of, told_at, told_stop, told_limit, limit_told_to, stop_to_tell};
+ghost use Rattle.rbc_settle.specs.Settling.{limit_to_tell, is_used_by, is_limit_gone, due_number, spare_identifiers};
+ghost use Rattle.rbc_settle.specs.Settling.{escalated, is_stop_revoked, number_forced, next_to_tell, stops_revoked};
+ghost use Rattle.rbc_settle.specs.Settling.{stops_told, limits_revoked, limits_told, in_messages, actions_with_stamp};
 ghost use Rattle.rbc_settle.specs.Numbers.{has_number};
 ghost use Rattle.rbc_settle.specs.OneLine.{IsJudgedOnLine};
 ghost use Rattle.rbc_settle.specs.UpToDate.{HasTables};
@@ -28,8 +31,8 @@ use std::cell::Cell;
 /// The last stamp that a message may have. The number after it means that the time is unknown.
 const LAST_STAMP: u32 = 4_294_967_294;
 
-/// Returns the changes for which stamps are left, in their order (own rule). Takes memory only if there is something to revoke
-/// or to tell. Fails only for lack of memory.
+/// Returns the changes for which stamps are left, in their order (own rule). Takes memory only if there is something to
+/// revoke or to tell. Fails only for lack of memory.
 pub fn changes(
     alloc: Global,
     track: &Track,
@@ -37,7 +40,8 @@ pub fn changes(
     limits: &Limits,
     train: &TrainRec,
 ) -> Result<Changes, AllocError>
-    ensures actions { IfOk result (λ found. in_messages found.stops.items found.limits.items ≡ actions_with_stamp track.now stops.now limits.now train.now) }
+    ensures actions { IfOk result (λ found. in_messages found.stops.items found.limits.items
+        ≡ actions_with_stamp track.now stops.now limits.now train.now) }
     ensures sound { OnOk result (HasTables train.now × (AreNumbered stops.now × AreNumbered limits.now)) }
 {
     let forced_now = escalated(alloc, stops, train)?;
@@ -57,7 +61,8 @@ pub fn changes(
     })
 }
 
-/// Puts changes behind others. Takes no memory where there are no others, or none to be put. Fails only for lack of memory.
+/// Puts changes behind others. Takes no memory where there are no others, or none to be put. Fails only for lack of
+/// memory.
 #[inline(always)]
 fn put_behind<T: Drop>(changes: &mut Vec<T>, mut more: Vec<T>) -> Result<(), AllocError>
     ensures { OnOk result (changes.new.items ≡ changes.old.items ++ more.items) }
@@ -72,9 +77,9 @@ fn put_behind<T: Drop>(changes: &mut Vec<T>, mut more: Vec<T>) -> Result<(), All
     changes.append(&mut more)
 }
 
-/// Returns the numbers that are escalated (own rule): of the stops that the train was told conditionally and left unanswered
-/// in three reports those with the least identifiers, as many as there are identifiers to spare. Takes no memory where
-/// there is no such stop.
+/// Returns the numbers that are escalated (own rule): of the stops that the train was told conditionally and left
+/// unanswered in three reports those with the least identifiers, as many as there are identifiers to spare. Takes no
+/// memory where there is no such stop.
 fn escalated(alloc: Global, stops: &Stops, train: &TrainRec) -> Result<Vec<u32>, AllocError>
     ensures { IfOk result (λ numbers. numbers.items ≡ escalated stops.now train.now) }
 {
@@ -101,8 +106,8 @@ fn due_numbers(alloc: Global, stops: &Stops, train: &TrainRec) -> Result<Vec<u32
         .collect(alloc)
 }
 
-/// The number of a slot that is due: it tells an active stop conditionally, and was left unanswered in three reports. The stop
-/// is searched for from `near` on, which is moved.
+/// The number of a slot that is due: it tells an active stop conditionally, and was left unanswered in three reports.
+/// The stop is searched for from `near` on, which is moved.
 fn due_number(stops: &Stops, slot: Slot, near: &Cell<usize>) -> Option<u32>
     ensures { result ≡ due_number stops.now slot }
 {
@@ -160,8 +165,8 @@ fn stops_revoked(
         .collect(alloc)
 }
 
-/// Whether a slot is used by a stop that has to be revoked, since it is not active or is escalated. The stop is searched for from
-/// `near` on, which is moved.
+/// Whether a slot is used by a stop that has to be revoked, since it is not active or is escalated. The stop is
+/// searched for from `near` on, which is moved.
 fn is_used_by_revoked_stop(
     stops: &Stops,
     forced_now: &[u32],
@@ -205,8 +210,8 @@ fn number_forced(forced_now: &[u32], slot: Slot) -> Option<u32>
     }
 }
 
-/// Pairs the stops that have to be told, in ascending order of the numbers, with the free identifiers, in ascending order. The
-/// pairs end with the shorter of both lists, so no stop is looked at where no identifier is free.
+/// Pairs the stops that have to be told, in ascending order of the numbers, with the free identifiers, in ascending
+/// order. The pairs end with the shorter of both lists, so no stop is looked at where no identifier is free.
 fn stops_told(
     alloc: Global,
     stops: &Stops,
@@ -225,8 +230,8 @@ fn stops_told(
     }
 }
 
-/// The line by whose stops alone a train is judged: its own, if it has a place and rejected no stop. A train without a place is
-/// judged by all stops, and so is one that is told some at once, as those concern it wherever they are.
+/// The line by whose stops alone a train is judged: its own, if it has a place and rejected no stop. A train without a
+/// place is judged by all stops, and so is one that is told some at once, as those concern it wherever they are.
 fn line_to_judge(train: &TrainRec) -> Option<u32>
     ensures { IfSome result (IsJudgedOnLine train.now) }
 {
@@ -292,8 +297,8 @@ fn next_to_tell(
     stop_to_tell(train, number, area, near)
 }
 
-/// Returns a revocation of each told restriction that is not active, or is clear of the train, in ascending order of the
-/// identifiers.
+/// Returns a revocation of each told restriction that is not active, or is clear of the train, in ascending order of
+/// the identifiers.
 fn limits_revoked(
     alloc: Global,
     limits: &Limits,
@@ -312,7 +317,8 @@ fn limits_revoked(
         .collect(alloc)
 }
 
-/// Whether a slot is used by a restriction that has to be revoked. The restriction is searched for from `near` on, which is moved.
+/// Whether a slot is used by a restriction that has to be revoked. The restriction is searched for from `near` on,
+/// which is moved.
 fn is_used_by_gone_limit(
     limits: &Limits,
     place: Option<&Place>,
@@ -327,8 +333,8 @@ fn is_used_by_gone_limit(
     }
 }
 
-/// Pairs the restrictions that have to be told with the free identifiers, as `stops_told` does with stops. Only those on its line
-/// concern a train, and none concerns one without a place.
+/// Pairs the restrictions that have to be told with the free identifiers, as `stops_told` does with stops. Only those
+/// on its line concern a train, and none concerns one without a place.
 fn limits_told(
     alloc: Global,
     horizon: u32,
@@ -354,8 +360,8 @@ fn limits_told(
         .collect(alloc)
 }
 
-/// Returns a stop and how it is told, if it is not told yet and concerns the train. Whether it is told is searched for from `near` on,
-/// which is moved.
+/// Returns a stop and how it is told, if it is not told yet and concerns the train. Whether it is told is searched for
+/// from `near` on, which is moved.
 fn stop_to_tell(
     train: &TrainRec,
     number: u32,

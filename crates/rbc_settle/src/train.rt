@@ -8,6 +8,12 @@ use rbc_ids::IdTable;
 use rbc_place::Place;
 use std::alloc::{AllocError, Global};
 
+/// How many stop identifiers (NID_EM) a train has.
+pub const STOP_IDENTIFIERS: usize = 15;
+
+/// How many restriction identifiers (NID_TSR) a train has.
+pub const LIMIT_IDENTIFIERS: usize = 255;
+
 /// An enrolled train.
 #[derive(Debug, Drop)]
 pub struct TrainRec {
@@ -28,8 +34,8 @@ pub struct TrainRec {
 }
 
 impl TrainRec {
-    /// Makes the record of a train without a place, to which nothing was told. The length is in units of 10 cm, the stamp in
-    /// units of 10 ms. Takes no memory.
+    /// Makes the record of a train without a place, to which nothing was told. The length is in units of 10 cm, the
+    /// stamp in units of 10 ms. Takes no memory.
     pub fn new(alloc: Global, engine: u32, length: u32, stamp: u32) -> Self
         ensures { result ≡ new_train engine length stamp }
     {

@@ -6,15 +6,12 @@ ghost use Rattle.rbc_sought.specs.Extents.{nowhere, extent_of_train, ahead_of, e
 
 use rbc_ids::{IdTable, Slot};
 use rbc_place::Place;
-use rbc_settle::TrainRec;
+use rbc_settle::{STOP_IDENTIFIERS, TrainRec};
 use rbc_track::Way;
 use rbc_zones::{Area, Segment};
 
-/// How many stop identifiers (NID_EM) a train has.
-const STOP_IDENTIFIERS: usize = 15;
-
-/// The most restriction identifiers of a train that are looked at. One that holds more counts as told of every restriction, so
-/// that a write of its record costs no more than a few steps.
+/// The most restriction identifiers of a train that are looked at. One that holds more counts as told of every
+/// restriction, so that a write of its record costs no more than a few steps.
 const FEW: usize = 16;
 
 /// The trains for which a command may have something to do.
@@ -28,8 +25,8 @@ pub enum Sought<'a> {
     Stoppable(u32, &'a Area),
 }
 
-/// The numbers that a train was told, by bits: bit `n % 64` stands for the number n. So a bit that is not set tells that no such
-/// number was told.
+/// The numbers that a train was told, by bits: bit `n % 64` stands for the number n. So a bit that is not set tells
+/// that no such number was told.
 #[derive(Clone, Copy, Debug)]
 pub struct Told {
     /// The numbers of the stops that the train was told or that it rejected.
@@ -138,8 +135,8 @@ impl Extent {
         NOWHERE
     }
 
-    /// Where a new stop has to lie if a train may have to be told of it: nowhere if it has no free stop identifier (NID_EM), and
-    /// anywhere if it has no place, or rejected a stop, which may be forced on it.
+    /// Where a new stop has to lie if a train may have to be told of it: nowhere if it has no free stop identifier
+    /// (NID_EM), and anywhere if it has no place, or rejected a stop, which may be forced on it.
     pub fn of_train(train: &TrainRec) -> Self
         ensures { result ≡ extent_of_train train.now }
     {
@@ -174,8 +171,8 @@ impl Extent {
         }
     }
 
-    /// The extent of an area: on all lines of its segments, from the least end of any to the greatest. Of an area without
-    /// segments it is everywhere.
+    /// The extent of an area: on all lines of its segments, from the least end of any to the greatest. Of an area
+    /// without segments it is everywhere.
     pub fn of_area(area: &Area) -> Self
         ensures { result ≡ extent_of_area area.now }
     {
@@ -199,8 +196,8 @@ impl Extent {
         }
     }
 
-    /// Whether both are on a line of the same bit, and have a place in common. Without a branch for each kind of extent, as this is
-    /// asked of every train at every new stop.
+    /// Whether both are on a line of the same bit, and have a place in common. Without a branch for each kind of
+    /// extent, as this is asked of every train at every new stop.
     #[inline(always)]
     pub fn meets(&self, other: &Extent) -> bool
         ensures { result ≡ meet self.now other.now }

@@ -2,20 +2,16 @@
 
 ghost use Rattle.std.specs.Prelude.{◌≡◌, IfOk};
 ghost use Rattle.rbc_rule.specs.declared.input.Input.TheVariants.{Bad};
-ghost use Rattle.rbc_text.specs.BatchText.{enrolment_from, enrolment_of, stop_from, stop_of, withdrawal_from, withdrawal_of, restriction_from, restriction_of, command_of, words_of, line_of, IsInput};
+ghost use Rattle.rbc_text.specs.BatchText.{enrolment_from, enrolment_of, stop_from, stop_of, withdrawal_from};
+ghost use Rattle.rbc_text.specs.BatchText.{withdrawal_of, restriction_from, restriction_of, command_of, words_of};
+ghost use Rattle.rbc_text.specs.BatchText.{line_of, IsInput};
 ghost use Rattle.rbc_rule.specs.Inputs.{Fits};
 
 use crate::messages::message;
 use crate::words::{cut, decimal, dirs, front, number, segment, segments};
-use rbc_rule::{Input, Refusal, Segments};
+use rbc_rule::{Input, MAX_ENGINE, MAX_LENGTH, Refusal, Segments};
 use rbc_zones::{Dirs, Segment};
 use std::alloc::{AllocError, Global};
-
-/// The greatest engine number (NID_ENGINE has 24 bits).
-const MAX_ENGINE: u32 = 16_777_215;
-
-/// The greatest length of a train, in units of 10 cm.
-const MAX_LENGTH: u32 = 40_000;
 
 /// The input of a line that spells none.
 pub fn bad_line() -> Input
@@ -163,8 +159,8 @@ pub fn command(alloc: Global, word: &[u8], arguments: &[u8]) -> Result<Option<In
     }
 }
 
-/// The input of one line, without its line feed (own rule): what it spells, or a refusal with its code. It is one that a
-/// batch can have. Fails only for lack of memory.
+/// The input of one line, without its line feed (own rule): what it spells, or a refusal with its code. It is one that
+/// a batch can have. Fails only for lack of memory.
 pub fn parse_line(alloc: Global, line: &[u8]) -> Result<Input, AllocError>
     ensures spelled { IfOk result (λ input. IsInput (line_of line.now) input) }
     ensures fits { IfOk result (λ input. Fits input) }

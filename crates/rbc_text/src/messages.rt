@@ -5,7 +5,8 @@ ghost use Rattle.std.specs.List.{list_all};
 ghost use Rattle.std.specs.Option.{unwrap_or};
 ghost use Rattle.hex.specs.Hex.{decode_of};
 ghost use Rattle.rbc_rule.specs.declared.input.Input.TheVariants.{Bad};
-ghost use Rattle.rbc_text.specs.BatchText.{Spelled, is_hex_word, line_of_hex, message_of, words_of, refusal_of, AreHeard, IsInput};
+ghost use Rattle.rbc_text.specs.BatchText.{Spelled, is_hex_word, line_of_hex, message_of, words_of, refusal_of};
+ghost use Rattle.rbc_text.specs.BatchText.{AreHeard, IsInput};
 
 use crate::line::{bad_hex, bad_line};
 use crate::words::cut;
@@ -55,8 +56,8 @@ fn is_hex_word(word: &[u8]) -> bool
     !word.is_empty() && has_no_return(word)
 }
 
-/// The input of a short message in hexadecimal digits, if a text is that and nothing else. Most are, and then no separator
-/// has to be looked for.
+/// The input of a short message in hexadecimal digits, if a text is that and nothing else. Most are, and then no
+/// separator has to be looked for.
 fn short_message(text: &[u8]) -> Option<Input>
     ensures { IfSome result (λ input. IsInput (unwrap_or (message_of (words_of text.now)) (Spelled (Bad 1))) input) }
 {

@@ -1,5 +1,5 @@
-//! Writing answers and messages as output text: those of a desk, or those of one input. What writes a line stands in line in both: it is
-//! a tenth of a batch that sends many messages.
+//! Writing answers and messages as output text: those of a desk, or those of one input. What writes a line stands in
+//! line in both: it is a tenth of a batch that sends many messages.
 
 ghost use Rattle.std.specs.Prelude.{◌≡◌, ◌++◌, ◌*◌, ◌≤◌, ◌<◌, ◌^◌, codes, length, OnOk, IfOk, map};
 ghost use Rattle.std.specs.Fmt.{decimal};
@@ -8,7 +8,8 @@ ghost use Rattle.hex.specs.Hex.{encode_upper};
 ghost use Rattle.ertms_codec.specs.ToTrain.{Fits};
 ghost use Rattle.rbc_desk.specs.Sendable.{AreSendable};
 ghost use Rattle.rbc_rule.specs.Gathered as sending;
-ghost use Rattle.rbc_text.specs.OutputText.{reply_text, result_line, mail_line, sent_line, outbox_lines, output_of, answer_of};
+ghost use Rattle.rbc_text.specs.OutputText.{reply_text, result_line, mail_line, sent_line, outbox_lines, output_of};
+ghost use Rattle.rbc_text.specs.OutputText.{answer_of};
 
 use ertms_codec::{ToTrain, write_to_train};
 use itoa::Buffer;
@@ -104,7 +105,8 @@ fn push_message(
     message: &ToTrain,
 ) -> Result<(), AllocError>
     requires { Fits message.now }
-    ensures { OnOk result (text.new.items ≡ text.old.items ++ mail_line engine (record { input = input; message = message.now })) }
+    ensures { OnOk result (text.new.items ≡ text.old.items
+        ++ mail_line engine (record { input = input; message = message.now })) }
 {
     let used = write_to_train(message, buffer);
     push_decimal(text, u64::from(engine))?;

@@ -2,7 +2,8 @@
 
 ghost use Rattle.std.specs.Prelude.{◌≡◌, ◌∷◌, ◌<◌, length, IfSome, IfNone, ◌==◌, IfOk};
 ghost use Rattle.std.specs.List.{position, slice_split, before_first, after_first};
-ghost use Rattle.rbc_text.specs.BatchText.{lines_of, decimal_of, segment_from, segment_of, segments_of, number_of, dirs_of, front_of, words_of};
+ghost use Rattle.rbc_text.specs.BatchText.{lines_of, decimal_of, segment_from, segment_of, segments_of, number_of};
+ghost use Rattle.rbc_text.specs.BatchText.{dirs_of, front_of, words_of};
 ghost use Rattle.rbc_text.specs.Pieces.{pieces_behind, text_behind};
 
 use memchr::memchr;

@@ -5,7 +5,8 @@ ghost use Rattle.toml.specs.Parse.{parse_document};
 ghost use Rattle.rbc_track.specs.declared.error.TrackError.TheVariants.{Text, OutOfMemory};
 ghost use Rattle.toml.specs.Data.{as_table, get_member};
 ghost use Rattle.toml.specs.View.{view, items_view, table_view};
-ghost use Rattle.rbc_track.specs.Document.{number_within, number_at, horizon_in, way_in, length_in, site_from, site_in, lengths_under, sites_under, in_each};
+ghost use Rattle.rbc_track.specs.Document.{number_within, number_at, horizon_in, way_in, length_in, site_from, site_in};
+ghost use Rattle.rbc_track.specs.Document.{lengths_under, sites_under, in_each};
 ghost use Rattle.rbc_track.specs.Outcomes.{Misses};
 
 use crate::error::TrackError;
@@ -17,7 +18,7 @@ use toml::{Table, Value};
 const MAX_HORIZON: u32 = 3_000_000;
 
 /// The greatest number of a balise group.
-const MAX_NID: u32 = 16_777_214;
+pub const MAX_NID: u32 = 16_777_214;
 
 /// A balise group as it is written in a document.
 #[derive(Clone, Copy)]

@@ -8,6 +8,7 @@ mod error;
 mod group;
 mod track;
 
+pub use document::MAX_NID;
 pub use error::TrackError;
 pub use group::{Group, Way};
-pub use track::{Track, track_from_toml};
+pub use track::{MAX_LENGTH, Track, track_from_toml};

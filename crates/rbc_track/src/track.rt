@@ -3,7 +3,8 @@
 ghost use Rattle.std.specs.Prelude.{◌≡◌, ◌⊎◌, ◌≤◌, ◌<◌, true, false, IfOk, IfErr, OnOk, IfSome, All, slice_get};
 ghost use Rattle.rbc_track.specs.declared.error.TrackError.TheVariants.{GroupTwice, OutOfMemory};
 ghost use Rattle.rbc_track.specs.Plan.{max_group_number, group_of, IsPlan, IsPlaced, IsLength};
-ghost use Rattle.rbc_track.specs.Reading.{track_of, plan_of, is_length, is_on, are_apart, numbers_of, by_number, IsTrackOf, FindsItsGroups, RefusesTrack, IsUnlessMemory};
+ghost use Rattle.rbc_track.specs.Reading.{track_of, plan_of, is_length, is_on, are_apart, numbers_of, by_number};
+ghost use Rattle.rbc_track.specs.Reading.{IsTrackOf, FindsItsGroups, RefusesTrack, IsUnlessMemory};
 ghost use Rattle.std.specs.BTreeMap.{IsOrdered};
 ghost use Rattle.std.specs.Ordering.{nat_cmp};
 ghost use Rattle.std.specs.List.{list_all};
@@ -23,7 +24,7 @@ const MAX_LINES: usize = 64;
 const MAX_GROUPS: usize = 8_000;
 
 /// The greatest length of a line, in units of 10 cm.
-const MAX_LENGTH: u32 = 3_000_000;
+pub const MAX_LENGTH: u32 = 3_000_000;
 
 /// A track: its lines, its balise groups, and its horizon, which is how far ahead of a train a restriction concerns
 /// it.

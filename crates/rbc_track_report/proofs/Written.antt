@@ -3,7 +3,7 @@ use Rattle.std.proofs.Common.{◌≡◌, Bool, List, [], ◌∷◌, ◌++◌, tr
 use Rattle.rbc_track_report.specs.Growth.{Grows, IsAddedOrCut, IsWarned, IsNoted, AreWarned, AreNoted, AreOnKeys, IsWrittenOn}
 use Rattle.rbc_track_report.specs.declared.remark.Remark.{Remark}
 use Rattle.rbc_track_report.specs.declared.remark.Remarks.{Remarks}
-use Rattle.rbc_track_report.specs.declared.sheet.Sheet.{Sheet}
+use Rattle.rbc_track_report.specs.declared.report_text.Sheet.{Sheet}
 
 -- a list in front of itself
 pub grows_none : {A : Type 0} (list : List A) → Grows list list

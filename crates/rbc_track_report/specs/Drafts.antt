@@ -3,8 +3,8 @@ use Rattle.std.specs.Prelude.{◌≡◌, ◌≤◌, true, None, IsSome, All, IsP
 use Rattle.std.specs.Ordering.{nat_cmp, ordering_then}
 use Rattle.std.specs.declared.cmp.Ordering.{Ordering}
 use Rattle.rbc_track.specs.Plan.{max_length, max_group_number}
-use Rattle.rbc_track_report.specs.declared.draft.Draft.{Draft}
-use Rattle.rbc_track_report.specs.declared.draft.GroupDraft.{GroupDraft}
+use Rattle.rbc_track_report.specs.declared.named_document.Draft.{Draft}
+use Rattle.rbc_track_report.specs.declared.named_document.GroupDraft.{GroupDraft}
 
 -- Of a draft only a first misfit is noted, if there was none.
 pub record IsMissed (old new : Draft) : Type 0 where

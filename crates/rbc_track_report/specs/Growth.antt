@@ -2,7 +2,7 @@
 use Rattle.std.specs.Prelude.{◌≡◌, ◌⊎◌, Bool, true, false, List, [], ◌∷◌, ◌++◌, string_bytes}
 use Rattle.rbc_track_report.specs.declared.remark.Remark.{Remark}
 use Rattle.rbc_track_report.specs.declared.remark.Remarks.{Remarks}
-use Rattle.rbc_track_report.specs.declared.sheet.Sheet.{Sheet}
+use Rattle.rbc_track_report.specs.declared.report_text.Sheet.{Sheet}
 
 -- What was there stays in front of what is new.
 pub record Grows {A : Type 0} (old new : List A) : Type 0 where

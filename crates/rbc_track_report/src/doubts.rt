@@ -2,10 +2,10 @@
 
 ghost use Rattle.rbc_track_report.specs.Growth.{AreWarned, AreNoted};
 
-use crate::draft::{Draft, GroupDraft, Place, rows_under};
+use crate::line_table::count_on;
+use crate::named_document::{Draft, GroupDraft, Place, rows_under};
 use crate::names::has_hidden_name;
 use crate::remark::{Gap, Remark, Remarks};
-use crate::table::count_on;
 use toml::{Table, Value};
 
 /// A horizon below which a fast train may need more to brake, in units of 10 cm.

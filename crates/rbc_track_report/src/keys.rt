@@ -4,7 +4,7 @@ ghost use Rattle.std.specs.Prelude.{◌≡◌};
 ghost use Rattle.rbc_track_report.specs.Growth.{AreOnKeys};
 ghost use Rattle.rbc_track_report.specs.Keys.{is_known};
 
-use crate::draft::{Place, rows_under};
+use crate::named_document::{Place, rows_under};
 use crate::remark::{Remark, Remarks};
 use std::alloc::Global;
 use std::collections::BTreeMap;
@@ -103,7 +103,8 @@ fn push_unknown_in_rows<'a>(alloc: Global, remarks: &mut Remarks<'a>, kind: Kind
     push_found(remarks, kind, &found);
 }
 
-/// Adds a remark for each key that nobody knows: of the document, of lines, of balise groups, each in the order of the keys.
+/// Adds a remark for each key that nobody knows: of the document, of lines, of balise groups, each in the order of the
+/// keys.
 #[tactic(auto, using(crate::proofs::Written::on_keys_then))]
 pub fn push_unknown<'a>(alloc: Global, remarks: &mut Remarks<'a>, document: &'a Table)
     ensures { AreOnKeys remarks.old remarks.new }

@@ -1,15 +1,15 @@
-//! What a track file says, in words: its lines and balise groups in order, what is doubtful about it, and where it breaks
-//! the first rule that it breaks.
+//! What a track file says, in words: its lines and balise groups in order, what is doubtful about it, and where it
+//! breaks the first rule that it breaks.
 #![tactic(auto)]
 
 mod doubts;
-mod draft;
 mod keys;
+mod line_table;
+mod named_document;
 mod names;
 mod place;
 mod remark;
 mod report;
-mod sheet;
-mod table;
+mod report_text;
 
 pub use report::{Report, Verdict, check};

@@ -4,9 +4,9 @@ ghost use Rattle.std.specs.Prelude.{◌≡◌};
 ghost use Rattle.rbc_track_report.specs.Growth.{IsWrittenOn};
 ghost use Rattle.rbc_track_report.specs.Sentences.{sentence_of};
 
-use crate::draft::{Draft, GroupDraft, MAX_LENGTH, Misfit, Place, Wanted};
-use crate::sheet::Sheet;
-use rbc_track::TrackError;
+use crate::named_document::{Draft, GroupDraft, Misfit, Place, Wanted};
+use crate::report_text::Sheet;
+use rbc_track::{MAX_LENGTH, TrackError};
 use toml::Value;
 
 /// The sentence of a rule.

@@ -3,10 +3,10 @@
 ghost use Rattle.std.specs.Prelude.{◌≡◌, ◌-◌, [], true, false};
 ghost use Rattle.rbc_track_report.specs.Growth.{IsWarned, IsNoted, IsWrittenOn};
 
-use crate::draft::Place;
 use crate::keys::Kind;
+use crate::named_document::Place;
 use crate::place::push_place;
-use crate::sheet::Sheet;
+use crate::report_text::Sheet;
 use std::alloc::Global;
 
 const NO_LINE: &str = "The track has no line: every stop and every restriction is refused.\n";

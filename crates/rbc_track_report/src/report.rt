@@ -5,12 +5,12 @@ ghost use Rattle.rbc_track.specs.Reading.{track_of};
 ghost use Rattle.rbc_track_report.specs.Report.{IsVerdictOn};
 
 use crate::doubts::{push_bare, push_hidden_names, push_notes};
-use crate::draft::{Draft, draft_of};
 use crate::keys::push_unknown;
+use crate::line_table::{push_head, push_lines};
+use crate::named_document::{Draft, draft_of};
 use crate::place::{push_list_fault, push_misfit, sentence_of};
 use crate::remark::{Remarks, push_remarks};
-use crate::sheet::Sheet;
-use crate::table::{push_head, push_lines};
+use crate::report_text::Sheet;
 use rbc_track::{TrackError, track_from_toml};
 use std::alloc::{AllocError, Global};
 use toml::Table;

@@ -1,12 +1,13 @@
-//! Records that are published once under numbers: a number means one record for good, so numbers are compared in place of records.
+//! Records that are published once under numbers: a number means one record for good, so numbers are compared in place
+//! of records.
 #![tactic(auto)]
 
 mod log;
-mod notes;
+mod noted_numbers;
 mod present;
 mod published;
 
 pub use log::{OutOfMemory, Ticket, Version, VersionLog};
-pub use notes::Notes;
+pub use noted_numbers::Notes;
 pub use present::Present;
 pub use published::{Published, publish_all};

@@ -74,7 +74,8 @@ impl Model for VersionLog {
 }
 
 impl VersionLog {
-    /// Makes an empty log. Fails only for lack of memory. No clause says that it is empty: what threads share is seen by its tickets alone.
+    /// Makes an empty log. Fails only for lack of memory. No clause says that it is empty: what threads share is seen
+    /// by its tickets alone.
     pub fn new(alloc: Global) -> Result<Self, OutOfMemory> {
         match boxcar::Vec::new(alloc) {
             Ok(versions) => Ok(VersionLog { versions }),
@@ -87,7 +88,8 @@ impl VersionLog {
         self.versions.count()
     }
 
-    /// Publishes a record under a number that no other record has. Fails only for lack of memory, or where no number is left.
+    /// Publishes a record under a number that no other record has. Fails only for lack of memory, or where no number is
+    /// left.
     pub fn publish(&self, rt: &impl Wait, key: Key, rec: Rec) -> Result<Ticket, OutOfMemory>
         ensures { IfOk result (λ ticket. IsOf self.now ticket × (ticket.value ≡ record { key = key; rec = rec })) }
     {
@@ -122,7 +124,8 @@ impl VersionLog {
         self.versions.value(&ticket.token)
     }
 
-    /// Says in its contract that two tickets of this log and of one number show one version, whichever threads got them.
+    /// Says in its contract that two tickets of this log and of one number show one version, whichever threads got
+    /// them.
     pub fn agree(&self, one: &Ticket, other: &Ticket)
         requires { IsOf self.now one.now × IsOf self.now other.now × (one.now.index ≡ other.now.index) }
         ensures { one.now.value ≡ other.now.value }

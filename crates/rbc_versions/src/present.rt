@@ -1,15 +1,17 @@
 //! The present tickets: which version stands under each key now.
 
-ghost use Rattle.std.specs.Prelude.{◌≡◌, ◌+◌, ◌<◌, ◌≤◌, ◌↔◌, if◌then◌else◌, length, IsTrue, IfOk, OnOk, option_copied, IfSome};
+ghost use Rattle.std.specs.Prelude.{◌≡◌, ◌+◌, ◌<◌, ◌≤◌, ◌↔◌, if◌then◌else◌, length, IsTrue, IfOk, OnOk, option_copied};
+ghost use Rattle.std.specs.Prelude.{IfSome};
 ghost use Rattle.std.specs.Option.{option_map};
 ghost use Rattle.rbc_records.specs.declared.record.Key.{Key};
 ghost use Rattle.indexmap.specs.IndexMap.{spare};
 ghost use Rattle.rbc_records.specs.Notes.{AreNow, record_in, same_key};
 ghost use Rattle.rbc_versions.specs.Log.{IsOf, number_of};
-ghost use Rattle.rbc_versions.specs.Entries.{AreOf, AreCurrent, StandIn, numbered, shown, record_of, ticket_in, tickets_after};
+ghost use Rattle.rbc_versions.specs.Entries.{AreOf, AreCurrent, StandIn, numbered, shown, record_of, ticket_in};
+ghost use Rattle.rbc_versions.specs.Entries.{tickets_after};
 
 use crate::log::{OutOfMemory, Ticket, VersionLog};
-use crate::notes::Notes;
+use crate::noted_numbers::Notes;
 use crate::published::Published;
 use indexmap::IndexMap;
 use rbc_records::{Key, PlainStore};
@@ -17,8 +19,8 @@ use std::alloc::Global;
 use std::marker::Model;
 use std::sync::Wait;
 
-/// For each key under which a record stands now, the ticket of its version. In contracts a list of pairs, of which the first with a key
-/// counts, and for how many keys more there is room.
+/// For each key under which a record stands now, the ticket of its version. In contracts a list of pairs, of which the
+/// first with a key counts, and for how many keys more there is room.
 #[derive(Drop)]
 pub struct Present {
     tickets: IndexMap<Key, Ticket>,
@@ -33,13 +35,14 @@ impl Model for Present {
     ghost view = { λ present. record { tickets = present.tickets.entries; room = spare present.tickets } };
 }
 
-/// Whether two tickets of the log have one number, or both are absent. Then they show one record. This is the one place at which
-/// numbers are taken for records.
+/// Whether two tickets of the log have one number, or both are absent. Then they show one record. This is the one place
+/// at which numbers are taken for records.
 fn is_same(log: &VersionLog, one: Option<&Ticket>, other: Option<&Ticket>) -> bool
     requires one { IfSome (option_copied one) (IsOf log.now) }
     requires other { IfSome (option_copied other) (IsOf log.now) }
     ensures numbers { IsTrue result ↔ (number_of (option_copied one.entry) ≡ number_of (option_copied other.entry)) }
-    ensures records { IsTrue result → option_map record_of (option_copied one.entry) ≡ option_map record_of (option_copied other.entry) }
+    ensures records { IsTrue result
+        → option_map record_of (option_copied one.entry) ≡ option_map record_of (option_copied other.entry) }
 {
     match (one, other) {
         (None, None) => true,
@@ -57,7 +60,8 @@ fn is_same(log: &VersionLog, one: Option<&Ticket>, other: Option<&Ticket>) -> bo
 /// Puts a ticket under a key, or takes away the one that stands there. There has to be room for one more ticket.
 fn put(tickets: &mut IndexMap<Key, Ticket>, key: Key, ticket: Option<Ticket>)
     requires { 0 < spare tickets.old }
-    ensures tickets { (k : Key) → ticket_in tickets.new.entries k ≡ (if same_key k key then ticket else ticket_in tickets.old.entries k) }
+    ensures tickets { (k : Key) → ticket_in tickets.new.entries k
+        ≡ (if same_key k key then ticket else ticket_in tickets.old.entries k) }
     ensures room { spare tickets.old ≤ spare tickets.new + 1 }
 {
     match ticket {
@@ -71,8 +75,8 @@ fn put(tickets: &mut IndexMap<Key, Ticket>, key: Key, ticket: Option<Ticket>)
 }
 
 impl Present {
-    /// Publishes a copy of each record of a store, and takes their tickets for the present ones. Fails only for lack of memory, and may
-    /// then leave versions in the log that nothing names.
+    /// Publishes a copy of each record of a store, and takes their tickets for the present ones. Fails only for lack of
+    /// memory, and may then leave versions in the log that nothing names.
     pub fn of_store(
         rt: &impl Wait,
         alloc: Global,
@@ -80,7 +84,8 @@ impl Present {
         store: &PlainStore,
     ) -> Result<Self, OutOfMemory>
         ensures here { IfOk result (λ present. StandIn log.now present.tickets) }
-        ensures records { IfOk result (λ present. (k : Key) → option_map record_of (ticket_in present.tickets k) ≡ record_in store.now k) }
+        ensures records { IfOk result (λ present. (k : Key)
+            → option_map record_of (ticket_in present.tickets k) ≡ record_in store.now k) }
     {
         let mut tickets = IndexMap::new(alloc);
         if tickets.reserve(store.len()).is_err() {
@@ -108,13 +113,15 @@ impl Present {
         }
     }
 
-    /// Whether the number of every note is the present one. Nothing but numbers is compared; where they are the same, so are the
-    /// records. Takes no memory.
+    /// Whether the number of every note is the present one. Nothing but numbers is compared; where they are the same,
+    /// so are the records. Takes no memory.
     pub fn are_current(&self, log: &VersionLog, notes: &Notes) -> bool
         requires notes { AreOf log.now notes.now }
         requires here { StandIn log.now self.now.tickets }
-        ensures numbers { IsTrue result ↔ AreCurrent (numbered notes.now) (λ k. number_of (ticket_in self.now.tickets k)) }
-        ensures records { IsTrue result → AreNow (shown notes.now) (λ k. option_map record_of (ticket_in self.now.tickets k)) }
+        ensures numbers { IsTrue result
+            ↔ AreCurrent (numbered notes.now) (λ k. number_of (ticket_in self.now.tickets k)) }
+        ensures records { IsTrue result
+            → AreNow (shown notes.now) (λ k. option_map record_of (ticket_in self.now.tickets k)) }
     {
         for index in 0..notes.len() {
             let (key, ticket) = notes.at(index);
@@ -136,11 +143,12 @@ impl Present {
         }
     }
 
-    /// Makes the tickets of a publication the present ones, and takes away those of its removals. There has to be room. Takes no
-    /// memory.
+    /// Makes the tickets of a publication the present ones, and takes away those of its removals. There has to be room.
+    /// Takes no memory.
     pub fn take_over(&mut self, published: &Published)
         requires { length published.now ≤ self.old.room }
-        ensures { (k : Key) → ticket_in self.new.tickets k ≡ tickets_after published.now (ticket_in self.old.tickets) k }
+        ensures { (k : Key) → ticket_in self.new.tickets k
+            ≡ tickets_after published.now (ticket_in self.old.tickets) k }
     {
         for index in 0..published.len() {
             let (key, ticket) = published.at(index);

@@ -16,8 +16,8 @@ use std::alloc::Global;
 use std::marker::Model;
 use std::sync::Wait;
 
-/// The publication of some writes: for each key that they name one entry, the ticket of its new record, or none for a removal. In
-/// contracts a list of pairs.
+/// The publication of some writes: for each key that they name one entry, the ticket of its new record, or none for a
+/// removal. In contracts a list of pairs.
 #[derive(Drop)]
 pub struct Published {
     all: IndexMap<Key, Option<Ticket>>,
@@ -41,8 +41,8 @@ impl Model for Published {
 }
 
 impl Published {
-    /// How much was published: one for each record, and one for each item of its lists. It is for whoever bounds the memory of a log;
-    /// nothing else hangs on it.
+    /// How much was published: one for each record, and one for each item of its lists. It is for whoever bounds the
+    /// memory of a log; nothing else hangs on it.
     pub fn weight(&self) -> usize
         ensures all { CountsAll result (shown self.now) }
         ensures once { IsNotedOnce (shown self.now) }
@@ -58,7 +58,8 @@ impl Published {
         self.all.len()
     }
 
-    /// The entry at an index, which counts from 0 and is below `len`: its key, and the ticket of its record, or none for a removal.
+    /// The entry at an index, which counts from 0 and is below `len`: its key, and the ticket of its record, or none
+    /// for a removal.
     pub fn at(&self, index: usize) -> (Key, Option<&Ticket>)
         requires { index < length self.now }
         ensures at { slice_get self.now index ≡ Some (result.0, option_copied result.1) }
@@ -68,8 +69,8 @@ impl Published {
         (*key, ticket.as_ref())
     }
 
-    /// The number that the publication puts under a key: 0 where it removes what stands there. `None` if it names no such key. Takes no
-    /// memory.
+    /// The number that the publication puts under a key: 0 where it removes what stands there. `None` if it names no
+    /// such key. Takes no memory.
     pub fn number(&self, key: Key) -> Option<u64>
         ensures { result ≡ number_for (numbered self.now) key }
     {
@@ -117,7 +118,8 @@ fn publish_one(
     }
 }
 
-/// Puts a ticket, or none for a removal, under a key, in place of what stands there. There has to be room for one more entry.
+/// Puts a ticket, or none for a removal, under a key, in place of what stands there. There has to be room for one more
+/// entry.
 fn put(all: &mut IndexMap<Key, Option<Ticket>>, key: Key, ticket: Option<Ticket>)
     requires { 0 < spare all.old }
     ensures entries { all.new.entries ≡ insert_entry same_key all.old.entries key ticket }
@@ -126,8 +128,8 @@ fn put(all: &mut IndexMap<Key, Option<Ticket>>, key: Key, ticket: Option<Ticket>
     all.insert(key, ticket).unwrap();
 }
 
-/// Publishes copies of what is written: one entry for each key, by its last write. Fails only for lack of memory, and may then leave
-/// versions in the log that nothing names.
+/// Publishes copies of what is written: one entry for each key, by its last write. Fails only for lack of memory, and
+/// may then leave versions in the log that nothing names.
 pub fn publish_all(
     rt: &impl Wait,
     alloc: Global,

@@ -7,8 +7,8 @@ ghost use Rattle.rbc_words.specs.Rows.{IsRowOf, name_of};
 
 use rbc_rule::Refusal;
 
-/// A result code with its name, what it means and what to do about it. A sentence that is longer than a line is broken, and its
-/// further lines are indented as in the text of all codes.
+/// A result code with its name, what it means and what to do about it. A sentence that is longer than a line is broken,
+/// and its further lines are indented as in the text of all codes.
 #[derive(Clone, Copy, Debug, PartialEq, Eq)]
 pub struct Row {
     /// The code, 1 to 16.

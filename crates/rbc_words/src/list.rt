@@ -21,8 +21,8 @@ const END: &str = "
 EXIT STATUS. 0: done. 1: a fault. 2: bad arguments, with a text on standard error.
 ";
 
-/// Lists each result code and each fault: its number or its line, its name, what it means and what to do. The text has lines of at
-/// most 100 columns.
+/// Lists each result code and each fault: its number or its line, its name, what it means and what to do. The text has
+/// lines of at most 100 columns.
 ///
 /// # Errors
 ///

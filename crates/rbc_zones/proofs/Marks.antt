@@ -8,7 +8,7 @@ use Rattle.rbc_track.specs.declared.group.Way.{Way}
 use Rattle.rbc_track.specs.declared.group.Way.TheVariants.{Up, Down}
 use Rattle.rbc_place.specs.Placing.{Place}
 use Rattle.rbc_zones.specs.declared.segment.Segment.{Segment}
-use Rattle.rbc_zones.specs.declared.edge.Concern.TheVariants as concern
+use Rattle.rbc_zones.specs.declared.stop_meaning.Concern.TheVariants as concern
 use Rattle.rbc_zones.specs.Concerns.{on_its_line, meets, edge_of, is_ahead, nearest, concern_by_edge, concern_at}
 use Rattle.rbc_zones.specs.Limits.{Limit, is_for, lies_behind, ends_beyond_group, starts_within, concerns}
 use Rattle.rbc_zones.specs.Marks.{mark_at, stop_marks, limit_marks}

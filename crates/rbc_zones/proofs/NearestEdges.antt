@@ -7,7 +7,7 @@ use Rattle.rbc_track.specs.declared.group.Way.{Way}
 use Rattle.rbc_track.specs.declared.group.Way.TheVariants.{Up, Down}
 use Rattle.rbc_place.specs.Placing.{Place}
 use Rattle.rbc_zones.specs.declared.segment.Segment.{Segment}
-use Rattle.rbc_zones.specs.declared.edge.Concern.TheVariants as concern
+use Rattle.rbc_zones.specs.declared.stop_meaning.Concern.TheVariants as concern
 use Rattle.rbc_zones.specs.Segments.{IsSegment}
 use Rattle.rbc_zones.specs.Concerns.{on_its_line, edge_of, is_ahead, edges_ahead, nearest, is_behind_group, concern_by_edge, IsAtOrBeyond}
 

@@ -8,7 +8,7 @@ use Rattle.rbc_track.specs.declared.group.Way.TheVariants.{Up, Down}
 use Rattle.rbc_place.specs.Placing.{Place}
 use Rattle.rbc_place.specs.Reach.{IsAhead}
 use Rattle.rbc_zones.specs.declared.segment.Segment.{Segment}
-use Rattle.rbc_zones.specs.declared.edge.Concern.TheVariants as concern
+use Rattle.rbc_zones.specs.declared.stop_meaning.Concern.TheVariants as concern
 use Rattle.rbc_zones.specs.Segments.{IsSegment}
 use Rattle.rbc_zones.specs.Concerns.{on_its_line, meets, is_ahead, edges_ahead, nearest, is_behind_group, concern_at, IsAtOrBeyond, distance_to, EachStopIsToldRightly}
 use Rattle.rbc_zones.proofs.NearestEdges.{of_one, is_nearest, has_edge, edges_within}

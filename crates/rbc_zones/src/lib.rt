@@ -3,24 +3,24 @@
 #![tactic(auto)]
 
 mod area;
-mod edge;
-mod field;
 mod law;
 mod limit;
-mod part;
+mod restricted_stretch;
 mod segment;
 mod stop;
+mod stop_distance;
+mod stop_meaning;
 mod witnesses;
 
 pub use area::{Area, BadArea};
-pub use edge::Concern;
-pub use field::stop_field;
 pub use law::{limit_law, stop_law};
 pub use limit::{BadLimit, Dirs, Limit, limit_clear, limit_concerns};
-pub use part::limit_fields;
 use rbc_maps::Numbered;
+pub use restricted_stretch::limit_fields;
 pub use segment::Segment;
 pub use stop::concern;
+pub use stop_distance::stop_field;
+pub use stop_meaning::Concern;
 pub use witnesses::{limit_law_witnesses, stop_law_witnesses};
 
 /// The areas of the active stops, by the numbers of the stops. Eight marks of each tell the lines of its segments.

@@ -45,7 +45,8 @@ impl Model for Limit {
 
     ghost view = { λ l. record { segment = l.segment; dirs = l.dirs; speed = l.speed; front = l.front } };
 
-    ghost invariant = { λ l. limits.IsLimit (record { segment = l.segment; dirs = l.dirs; speed = l.speed; front = l.front }) };
+    ghost invariant = { λ l. limits.IsLimit
+        (record { segment = l.segment; dirs = l.dirs; speed = l.speed; front = l.front }) };
 
     ghost inverse = { λ v. record { segment = v.segment; dirs = v.dirs; speed = v.speed; front = v.front } };
 }
@@ -65,7 +66,8 @@ impl Limit {
         speed: u32,
         front: bool,
     ) -> Result<Limit, BadLimit>
-        ensures limit { IfOk result (λ limit. limit ≡ record { segment = segment; dirs = dirs; speed = speed; front = front }) }
+        ensures limit { IfOk result (λ limit. limit
+            ≡ record { segment = segment; dirs = dirs; speed = speed; front = front }) }
         ensures good { IsOk result ↔ IsTrue (is_good_limit track.now segment speed) }
     {
         let is_good = is_good_segment(track, &segment)

@@ -2,7 +2,8 @@
 
 ghost use Rattle.rbc_zones.specs.Concerns.{IsToldRightly};
 ghost use Rattle.rbc_zones.specs.Limits.{IsToldPart};
-ghost use Rattle.rbc_zones.specs.Witnesses.{facing_up, facing_down, near_stop, far_stop, double_stop, stop_elsewhere, low_stop, lowest_stop, restriction};
+ghost use Rattle.rbc_zones.specs.Witnesses.{facing_up, facing_down, near_stop, far_stop, double_stop, stop_elsewhere};
+ghost use Rattle.rbc_zones.specs.Witnesses.{low_stop, lowest_stop, restriction};
 
 /// Worked cases of the law on stops, for a train whose balise group lies at 1,000 m. Each case says a Q_SCALE and a
 /// D_EMERGENCYSTOP.

@@ -1,4 +1,5 @@
-//! What the crates of tests share: a track with a train on it, messages to a train, and how a test ends in which memory may be refused.
+//! What the crates of tests share: a track with a train on it, messages to a train, and how a test ends in which memory
+//! may be refused.
 #![tactic(auto)]
 
 mod endings;

@@ -39,7 +39,8 @@ pub(crate) enum Call {
     TakeSpent(bool),
 }
 
-/// What is kept from one call to the next: what was read for an attempt that is made later, and the numbers that are known.
+/// What is kept from one call to the next: what was read for an attempt that is made later, and the numbers that are
+/// known.
 #[derive(Drop)]
 struct Kept<N: RunName> {
     ahead: Ahead<N>,

@@ -114,9 +114,9 @@ enum Site {
     AfterDeposit,
 }
 
-/// Counts the calls for the inputs of a run that withdraws engine 7 first, then 8, and then 9, of which none is enrolled:
-/// one hexadecimal digit for each call and input. Each input reads its own train and nothing else; what is told of
-/// another input, or of another key, is counted beyond these digits.
+/// Counts the calls for the inputs of a run that withdraws engine 7 first, then 8, and then 9, of which none is
+/// enrolled: one hexadecimal digit for each call and input. Each input reads its own train and nothing else; what is
+/// told of another input, or of another key, is counted beyond these digits.
 #[derive(Drop)]
 pub(super) struct Told {
     calls: AtomicU64,

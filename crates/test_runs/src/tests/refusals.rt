@@ -1,7 +1,7 @@
-//! Worked batches where memory may be refused: a call ends with the right answer, or with the fault for lack of memory, and
-//! made once more it ends with the right answer. A test in which the call that it is about was refused memory ends with
-//! `Refused`; so where memory is ample, each passes by the right answers alone. `bench/refusals.sh` refuses one allocation
-//! after another.
+//! Worked batches where memory may be refused: a call ends with the right answer, or with the fault for lack of memory,
+//! and made once more it ends with the right answer. A test in which the call that it is about was refused memory ends
+//! with `Refused`; so where memory is ample, each passes by the right answers alone. `bench/refusals.sh` refuses one
+//! allocation after another.
 
 use super::batches::{FULL, REJECTED, RESTRICTED, SEVERAL, WORKED_BATCHES, Worked};
 use super::same;
@@ -21,8 +21,8 @@ use test_fixtures::{UP, ending, track};
 /// No output text of these has more bytes.
 const MAX_OUTPUT: usize = 1_000;
 
-/// Does a batch, and asserts that its whole output text was written, or that memory was refused and nothing was written. Tells
-/// whether it was refused.
+/// Does a batch, and asserts that its whole output text was written, or that memory was refused and nothing was
+/// written. Tells whether it was refused.
 fn process_once<R>(rt: &R, track: &Track, batch: &str, output: &str, written: &mut Vec<u8>) -> bool
 where
     R: Abort + AllocGlobal + Threads + Wait + Sync,

@@ -1,5 +1,6 @@
-//! Runs of worked batches, and their output texts, where memory may be refused. A run ends with the desk of all inputs, or with that of those
-//! that are committed, as a serial run gives it; and a run of the rest ends right. The tests end as those of `refusals` do.
+//! Runs of worked batches, and their output texts, where memory may be refused. A run ends with the desk of all inputs,
+//! or with that of those that are committed, as a serial run gives it; and a run of the rest ends right. The tests end
+//! as those of `refusals` do.
 
 ghost use Rattle.rbc_engine.specs.Answers.{IsOpening};
 
@@ -146,7 +147,8 @@ where
     run_batch(rt, track, desk, batch.as_str(), 1, gate)
 }
 
-/// Runs more lines than one stretch takes, and the rest where memory was refused, also where the second stretch could not be begun.
+/// Runs more lines than one stretch takes, and the rest where memory was refused, also where the second stretch could
+/// not be begun.
 fn run_or_tell<R, G>(rt: &R, gate: &G) -> Result<(), Fail>
 where
     R: Abort + AllocGlobal + Threads + Wait + Sync,

@@ -135,7 +135,8 @@ fn read_before_and_behind_a_commit(rt: HostRuntime) {
     assert_left(&rt, &inputs, READ_IN_BETWEEN, &left_stale);
 }
 
-/// The last input is attempted before the train leaves and comes again: each record is unchanged, and has another number.
+/// The last input is attempted before the train leaves and comes again: each record is unchanged, and has another
+/// number.
 const THERE_AND_BACK: &[Call] = &[
     Call::Take(Some(1)),
     Call::Deposit(1, true),
@@ -240,8 +241,8 @@ fn assert_silent<R: Abort + AllocGlobal + Wait>(
     same(rt, desk.outboxes(), 0);
 }
 
-/// Each commit puts the numbers of its attempt under the keys that it writes, and under no other; also under a list that is
-/// again what it was first.
+/// Each commit puts the numbers of its attempt under the keys that it writes, and under no other; also under a list
+/// that is again what it was first.
 const A_NUMBER_FOR_EACH_WRITE: &[Call] = &[
     Call::Number(Key::Roster, Origin::Nowhere),
     Call::Number(Key::Unplaced, Origin::Nowhere),
@@ -306,8 +307,8 @@ const DROPPED_NUMBERS: &[Call] = &[
     AT_END,
 ];
 
-/// An input sees what the attempt at the latest input before it writes, a removal too, and nothing of its own or of a later
-/// one.
+/// An input sees what the attempt at the latest input before it writes, a removal too, and nothing of its own or of a
+/// later one.
 const THE_LATEST_BEFORE: &[Call] = &[
     Call::Take(Some(1)),
     Call::Take(Some(2)),

@@ -62,8 +62,8 @@ fn assert_desk<R: Abort + AllocGlobal>(rt: &R, desk: &Desk, text: &str) {
     same(rt, written.as_slice(), text.as_bytes());
 }
 
-// The second input reads what the first one writes, and is deposited before it: it is computed again. Then the first input is begun after
-// attempts at all others are deposited, each of which has read what it writes.
+// The second input reads what the first one writes, and is deposited before it: it is computed again. Then the first
+// input is begun after attempts at all others are deposited, each of which has read what it writes.
 #[test]
 fn computes_again_what_went_stale(rt: HostRuntime) {
     let gate = Hold::new(&rt, Moment::BeforeDeposit(1), Moment::AfterDeposit(2));
@@ -84,7 +84,8 @@ fn computes_again_what_went_stale(rt: HostRuntime) {
     same(&rt, late.was_passed(), true);
 }
 
-// The second input reads what the attempt at the first one writes, which is not committed yet: nothing is computed again.
+// The second input reads what the attempt at the first one writes, which is not committed yet: nothing is computed
+// again.
 #[test]
 fn reads_what_is_not_committed(rt: HostRuntime) {
     let gate = Both {
@@ -118,8 +119,8 @@ fn commits_in_the_order_of_the_inputs(rt: HostRuntime) {
     same(&rt, gate.was_passed(), true);
 }
 
-// Two trains acknowledge at once, and neither reads what the other writes: nothing is computed again. The run goes on from the desk that
-// an earlier one left.
+// Two trains acknowledge at once, and neither reads what the other writes: nothing is computed again. The run goes on
+// from the desk that an earlier one left.
 #[test]
 fn applies_what_is_apart(rt: HostRuntime) {
     let alloc = rt.alloc();
@@ -160,8 +161,8 @@ fn stops<R: Abort + AllocGlobal>(rt: &R, from: usize, count: usize) -> String {
     lines_of(rt.alloc(), FULL.batch, from, count).expect(rt, "memory")
 }
 
-// A gate is told each input by its own number, once in each call, and the train that is read for it. As many workers are
-// at an input at once as are asked for, and no more.
+// A gate is told each input by its own number, once in each call, and the train that is read for it. As many workers
+// are at an input at once as are asked for, and no more.
 #[test]
 fn tells_the_gate_each_input(rt: HostRuntime) {
     let batch = "withdraw 7\nwithdraw 8\nwithdraw 9\n";
@@ -222,7 +223,8 @@ where
     same(rt, text.ends_with(b"7 10 1002800000025FFFFFF0\n"), true);
 }
 
-// One worker takes each input after all before it are committed: in the book of a run, and on the desk itself behind an open gate.
+// One worker takes each input after all before it are committed: in the book of a run, and on the desk itself behind an
+// open gate.
 #[test]
 fn computes_nothing_twice_alone(rt: HostRuntime) {
     ten_stops_by_one(&rt, &AllWorkers);

@@ -30,7 +30,8 @@ pub(super) fn issue<const N: usize>(
     }
 }
 
-/// The train has to stop before a place that is so far from its balise group, in the nominal direction where `dir` is 1.
+/// The train has to stop before a place that is so far from its balise group, in the nominal direction where `dir` is
+/// 1.
 pub(super) fn stop_at(head: Head, id: u8, scale: u8, dir: u8, distance: u16) -> ToTrain {
     ToTrain::StopAt {
         head,

@@ -1,6 +1,7 @@
-//! Messages of several packets, where memory may be refused: each call ends right, or with the fault for lack of memory, and made once more it
-//! ends right. A test in which the call that it is about was refused memory ends with `Refused`; so where memory is ample, each passes by the
-//! right answers alone. `bench/refusals.sh` refuses one allocation after another.
+//! Messages of several packets, where memory may be refused: each call ends right, or with the fault for lack of
+//! memory, and made once more it ends right. A test in which the call that it is about was refused memory ends with
+//! `Refused`; so where memory is ample, each passes by the right answers alone. `bench/refusals.sh` refuses one
+//! allocation after another.
 
 use super::same;
 use ertms_codec::{DescribeError, ReadError, ToTrain, describe, read_to_train};

@@ -1,7 +1,7 @@
-//! A train that is settled, and a table in which identifiers are issued, where memory may be refused: each call ends right, or with the fault for
-//! lack of memory and nothing changed, and made once more it ends right. A test in which the call that it is about was refused memory ends
-//! with `Refused`; so where memory is ample, each passes by the right answers alone. `bench/refusals.sh` refuses one allocation after
-//! another.
+//! A train that is settled, and a table in which identifiers are issued, where memory may be refused: each call ends
+//! right, or with the fault for lack of memory and nothing changed, and made once more it ends right. A test in which
+//! the call that it is about was refused memory ends with `Refused`; so where memory is ample, each passes by the right
+//! answers alone. `bench/refusals.sh` refuses one allocation after another.
 
 use super::making::{area, issue, limit, stop_at};
 use super::same;

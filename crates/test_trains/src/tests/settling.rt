@@ -46,7 +46,8 @@ fn stamps_end_inside_a_list(rt: HostRuntime) {
     same(&rt, (train.stamp, train.stops.held()), (LAST, 1));
 }
 
-// two stamps are left for three messages: a stop is revoked and another one told, and no message on restrictions follows
+// two stamps are left for three messages: a stop is revoked and another one told, and no message on restrictions
+// follows
 #[test]
 fn the_first_two_messages_get_the_last_two_stamps(rt: HostRuntime) {
     let alloc = rt.alloc();
@@ -91,8 +92,8 @@ fn ahead(rt: &impl Abort, alloc: Global, track: &Track, count: u32) -> Limits {
     limits
 }
 
-/// Settles a train that only restrictions concern, and asserts how many bytes its messages have. Returns its last stamp, and how many
-/// restrictions it is told.
+/// Settles a train that only restrictions concern, and asserts how many bytes its messages have. Returns its last
+/// stamp, and how many restrictions it is told.
 fn settle_limits(
     rt: &impl Abort,
     alloc: Global,

@@ -2,7 +2,7 @@ use Rattle.std.proofs.Common.{rules, ◌≡◌, ℕ, ◌++◌, false, List, Opti
 use Rattle.std.proofs.lemmas.Result.{IfOk-equal}
 use Rattle.rbc_records.specs.declared.record.Key.{Key}
 use Rattle.rbc_records.specs.declared.record.Rec.{Rec}
-use Rattle.rbc_settle.specs.declared.upkeep.Sent.{Sent}
+use Rattle.rbc_settle.specs.declared.settling.Sent.{Sent}
 use Rattle.rbc_rule.specs.Gathered.{is_forced_by, write_of, sent_of}
 use Rattle.rbc_rule.proofs.Gathering.{same_write, same_sent}
 use Rattle.rbc_rule.proofs.settle_trains.settle_one.Goals.{in_default-via-in-Some+else-has, in_default-via-in_default}

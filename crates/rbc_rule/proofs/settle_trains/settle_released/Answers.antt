@@ -1,7 +1,7 @@
 use Rattle.std.proofs.Common.{◌≡◌, ℕ, ◌++◌, ◌∷◌, [], List, Option, Some, ap, sym, ◌∙◌}
 use Rattle.std.proofs.lemmas.Result.{on_ok_weaker, IfOk-equal}
 use Rattle.rbc_settle.specs.declared.train.TrainRec.{TrainRec}
-use Rattle.rbc_settle.specs.declared.upkeep.Sent.{Sent}
+use Rattle.rbc_settle.specs.declared.settling.Sent.{Sent}
 use Rattle.rbc_settle.specs.Settling.{settled, messages_of, to_engine}
 use Rattle.rbc_settle.proofs.Addressed.{sent_is}
 use Rattle.rbc_records.specs.declared.record.Key.{Key}

@@ -4,7 +4,7 @@ use Rattle.rbc_maps.specs.Numbered.{none_numbered}
 use Rattle.rbc_ids.specs.declared.slot.Slot.{Slot}
 use Rattle.rbc_ids.specs.Table.{told_now}
 use Rattle.rbc_ids.specs.declared.slot.Kind.TheVariants.{Conditional}
-use Rattle.rbc_zones.specs.declared.edge.Concern.TheVariants as concern
+use Rattle.rbc_zones.specs.declared.stop_meaning.Concern.TheVariants as concern
 use Rattle.rbc_settle.specs.declared.train.TrainRec.{TrainRec}
 use Rattle.rbc_settle.specs.Settling.{Stops, Limits, last_stamp, is_stop_gone, is_limit_gone, is_used_by, due_number}
 use Rattle.rbc_settle.specs.Told.{Part}

@@ -1,6 +1,6 @@
 use Rattle.std.proofs.Common.{◌≡◌, ◌<◌, min, [], ◌∷◌, ◌++◌, length, take, drop, rules, refl, ◌∙◌, arith}
 use Rattle.std.proofs.lemmas.Grind.{common_steps}
-use Rattle.rbc_settle.specs.declared.upkeep.Sent.{Sent}
+use Rattle.rbc_settle.specs.declared.settling.Sent.{Sent}
 use Rattle.rbc_settle.specs.Actions.{ChangesLimits}
 use Rattle.rbc_settle.specs.Settling.{carried_out}
 use Rattle.rbc_settle.proofs.SettleLoop.{next_group, cut_first, cut_behind, is_allowed, goes_on}

@@ -1,5 +1,5 @@
 use Rattle.std.proofs.Common.{◌≡◌, [], ◌∷◌, ◌++◌, rules, refl}
-use Rattle.rbc_settle.specs.declared.upkeep.Sent.{Sent}
+use Rattle.rbc_settle.specs.declared.settling.Sent.{Sent}
 use Rattle.rbc_settle.specs.Actions.{ChangesStop}
 use Rattle.rbc_settle.specs.Settling.{carried_out}
 use Rattle.rbc_settle.proofs.SettleLoop.{next_stop, goes_on}

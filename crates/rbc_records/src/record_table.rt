@@ -1,0 +1,183 @@
+//! A table of records, with what a search reads of them beside it.
+
+ghost use Rattle.std.specs.Prelude.{◌≡◌, ℕ, ◌+◌, ◌<◌, ◌≤◌, [], length, slice_get, Some, None, is_some, IsTrue, IsFalse};
+ghost use Rattle.std.specs.Prelude.{OnOk, OnErr, IfOk, IfSome, option_copied};
+ghost use Rattle.rbc_records.specs.declared.record.Key.{Key};
+ghost use Rattle.rbc_records.specs.Notes.{Whole, record_in};
+ghost use Rattle.rbc_records.specs.Columns.{told_of, extent_of};
+ghost use Rattle.rbc_records.specs.Seeking.{AreFound};
+ghost use Rattle.rbc_records.specs.Writes.{write_over};
+
+use crate::record::{Key, Rec};
+use crate::search;
+use indexmap::IndexMap;
+use rbc_settle::Numbers;
+use rbc_sought::{Extent, Sought, Told};
+use std::alloc::{AllocError, Global};
+use std::marker::Model;
+use std::mem;
+
+/// Records by their keys. Two columns, whose entries have the indices of the records, hold the little of each that a
+/// search reads, so that it goes over contiguous memory.
+#[derive(Debug, Drop)]
+pub struct Table {
+    entries: IndexMap<Key, Rec>,
+    tolds: Vec<Told>,
+    extents: Vec<Extent>,
+}
+
+impl Model for Table {
+    ghost use Rattle.std.specs.Prelude.{◌-◌, min, vec_len, vec_capacity};
+    ghost use Rattle.indexmap.specs.IndexMap.{spare};
+    ghost use Rattle.rbc_records.specs.Columns.{Kept, AreBeside};
+
+    ghost Value = { Kept };
+
+    ghost view = { λ table. record {
+      entries = table.entries.entries;
+      room = min (spare table.entries)
+          (min (vec_capacity table.tolds - vec_len table.tolds) (vec_capacity table.extents - vec_len table.extents));
+    } };
+
+    ghost invariant = { λ table. AreBeside table.entries.entries table.tolds.items table.extents.items };
+}
+
+impl Table {
+    /// Makes an empty table. It allocates nothing.
+    pub fn new(alloc: Global) -> Self
+        ensures { result.entries ≡ [] }
+    {
+        Table {
+            entries: IndexMap::new(alloc),
+            tolds: Vec::new(alloc),
+            extents: Vec::new(alloc),
+        }
+    }
+
+    /// The record under a key, or `None` if there is none.
+    pub fn get(&self, key: Key) -> Option<&Rec>
+        ensures { option_copied result ≡ record_in self.now.entries key }
+    {
+        self.entries.get(&key)
+    }
+
+    /// The number of records.
+    pub fn len(&self) -> usize
+        ensures { result ≡ length self.now.entries }
+    {
+        self.entries.len()
+    }
+
+    /// The key and the record at an index, which counts from 0 and is below `len`.
+    pub fn at(&self, index: usize) -> (Key, &Rec)
+        requires { index < length self.now.entries }
+        ensures { slice_get self.now.entries index ≡ Some (result.0, result.1.now) }
+    {
+        let (key, rec) = self.entries.get_index(index).unwrap();
+        (*key, rec)
+    }
+
+    /// Makes room for some more records. Fails only for lack of memory; the records stay in either case.
+    pub fn reserve(&mut self, additional: usize) -> Result<(), AllocError>
+        ensures entries { self.new.entries ≡ self.old.entries }
+        ensures ok { OnOk result (additional ≤ self.new.room) }
+    {
+        self.tolds.reserve(additional)?;
+        self.extents.reserve(additional)?;
+        self.entries.reserve(additional)
+    }
+
+    /// Puts a record under a key, and returns the one that stood there. There has to be room for one more record.
+    pub fn put(&mut self, key: Key, rec: Rec) -> Option<Rec>
+        requires { 0 < self.old.room }
+        ensures records { (k : Key) → record_in self.new.entries k
+            ≡ write_over (key, Some rec) (record_in self.old.entries) k }
+        ensures replaced { result ≡ record_in self.old.entries key }
+        ensures room { self.old.room ≤ self.new.room + 1 }
+    {
+        let told = told_of(&rec);
+        let extent = extent_of(&rec);
+        let (index, old) = self.entries.insert_full(key, rec).unwrap();
+        if index < self.tolds.len() {
+            self.tolds[index] = told;
+            self.extents[index] = extent;
+        } else {
+            self.tolds.push(told).unwrap();
+            self.extents.push(extent).unwrap();
+        }
+        old
+    }
+
+    /// Exchanges the record under a key with another one, if a record stands there, and says whether one does. If none
+    /// does, nothing changes. Takes no memory and no room.
+    pub fn replace(&mut self, key: Key, rec: &mut Rec) -> bool
+        ensures held { result ≡ is_some (record_in self.old.entries key) }
+        ensures records { IsTrue result → (k : Key)
+            → record_in self.new.entries k ≡ write_over (key, Some rec.old) (record_in self.old.entries) k }
+        ensures replaced { IsTrue result → record_in self.old.entries key ≡ Some rec.new }
+        ensures absent { IsFalse result → (self.new ≡ self.old) × (rec.new ≡ rec.old) }
+        ensures room { self.old.room ≤ self.new.room }
+    {
+        let Some(index) = self.entries.get_index_of(&key) else {
+            return false;
+        };
+        self.tolds[index] = told_of(rec);
+        self.extents[index] = extent_of(rec);
+        mem::swap(self.entries.get_index_mut(index).unwrap(), rec);
+        true
+    }
+
+    /// Removes the record under a key and returns it, or `None` if there is none.
+    pub fn remove(&mut self, key: Key) -> Option<Rec>
+        ensures records { (k : Key) → record_in self.new.entries k
+            ≡ write_over (key, None) (record_in self.old.entries) k }
+        ensures removed { result ≡ record_in self.old.entries key }
+        ensures room { self.old.room ≤ self.new.room }
+    {
+        let (index, _, rec) = self.entries.swap_remove_full(&key)?;
+        let _ = self.tolds.swap_remove(index);
+        let _ = self.extents.swap_remove(index);
+        Some(rec)
+    }
+
+    /// The engines of the trains that a command may seek, among them all that it does seek. `None` where they are many.
+    /// Fails only for lack of memory.
+    pub fn search(&self, alloc: Global, sought: Sought<'_>) -> Result<Option<Numbers>, AllocError>
+        ensures { IfOk result (λ found. IfSome found (AreFound (Whole self.now.entries) sought.entry)) }
+    {
+        let tolds = self.tolds.as_slice();
+        match sought {
+            Sought::ToldOfStop(number) => search::told_of_stop(alloc, &self.entries, tolds, number),
+            Sought::ToldOfLimit(number) => {
+                search::told_of_limit(alloc, &self.entries, tolds, number)
+            }
+            Sought::Stoppable(_, area) => {
+                let extent = Extent::of_area(area);
+                search::stoppable(alloc, &self.entries, self.extents.as_slice(), extent)
+            }
+        }
+    }
+}
+
+/// What the train of a record was told; nothing if it is that of no train.
+fn told_of(rec: &Rec) -> Told
+    ensures { result ≡ told_of rec.now }
+{
+    match rec {
+        Rec::Train(train) => Told::of(train),
+        Rec::Engines(_) | Rec::Stops(_) | Rec::Limits(_) => Told {
+            stops: 0,
+            limits: 0,
+        },
+    }
+}
+
+/// Where a new stop has to lie if the train of a record may have to be told of it; nowhere if it is that of no train.
+fn extent_of(rec: &Rec) -> Extent
+    ensures { result ≡ extent_of rec.now }
+{
+    match rec {
+        Rec::Train(train) => Extent::of_train(train),
+        Rec::Engines(_) | Rec::Stops(_) | Rec::Limits(_) => Extent::nowhere(),
+    }
+}

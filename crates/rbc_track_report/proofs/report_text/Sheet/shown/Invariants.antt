@@ -1,0 +1,5 @@
+use Rattle.rbc_track_report.specs.Growth.{IsWrittenOn}
+use Rattle.rbc_track_report.proofs.report_text.Sheet.shown.Given as goal
+
+abbrev pub invariant-loop-index : goal.invariant-loop-index
+invariant-loop-index l = IsWrittenOn l.fn.self l.self

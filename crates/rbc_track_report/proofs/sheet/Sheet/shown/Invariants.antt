@@ -1,5 +1,0 @@
-use Rattle.rbc_track_report.specs.Growth.{IsWrittenOn}
-use Rattle.rbc_track_report.proofs.sheet.Sheet.shown.Given as goal
-
-abbrev pub invariant-loop-index : goal.invariant-loop-index
-invariant-loop-index l = IsWrittenOn l.fn.self l.self

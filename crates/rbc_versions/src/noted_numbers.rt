@@ -1,0 +1,91 @@
+//! Notes of which numbers were read.
+
+ghost use Rattle.std.specs.Prelude.{◌≡◌, ◌<◌, [], ◌∷◌, ◌++◌, false, length, is_some, IfSome, OnOk, OnErr, Some};
+ghost use Rattle.std.specs.Prelude.{slice_get, option_copied};
+ghost use Rattle.std.specs.Option.{option_map};
+ghost use Rattle.rbc_records.specs.Notes.{Part, Learns, IsNotedOnce, is_noted, note_in};
+ghost use Rattle.rbc_versions.specs.Log.{LogName, IsOf};
+ghost use Rattle.rbc_versions.specs.Entries.{AreOf, shown, record_of};
+
+use crate::log::{OutOfMemory, Ticket};
+use indexmap::IndexMap;
+use rbc_records::Key;
+use std::alloc::Global;
+use std::marker::Model;
+
+/// Notes of what was read under some keys: the ticket of a record, or that there is none. They stand in the order of
+/// reading, and no key occurs twice. In contracts a list of pairs.
+#[derive(Drop)]
+pub struct Notes {
+    all: IndexMap<Key, Option<Ticket>>,
+}
+
+impl Model for Notes {
+    ghost use Rattle.std.specs.Prelude.{List, Option};
+    ghost use Rattle.rbc_records.specs.declared.record.Key.{Key};
+    ghost use Rattle.rbc_records.specs.Notes.{IsNotedOnce};
+    ghost use Rattle.rbc_versions.specs.Log.{Shown};
+    ghost use Rattle.rbc_versions.specs.Entries.{shown};
+
+    ghost Value = { List (Key × Option Shown) };
+
+    ghost view = { λ notes. notes.all.entries };
+
+    // Each key occurs once.
+    ghost invariant = { λ notes. IsNotedOnce (shown notes.all.entries) };
+}
+
+impl Notes {
+    /// Makes empty notes. It allocates nothing.
+    pub fn new(alloc: Global) -> Self
+        ensures { result ≡ [] }
+    {
+        Notes {
+            all: IndexMap::new(alloc),
+        }
+    }
+
+    /// Adds a note behind the others: what was read under a key that is not noted yet. Fails only for lack of memory,
+    /// and then changes nothing.
+    pub fn add(&mut self, key: Key, ticket: Option<Ticket>) -> Result<(), OutOfMemory>
+        requires { is_noted (shown self.old) key ≡ false }
+        ensures ok { OnOk result (self.new ≡ self.old ++ (key, ticket) ∷ []) }
+        ensures learns { OnOk result (Learns (Part (shown self.old)) key (Part (shown self.new))) }
+        ensures err { OnErr result (self.new ≡ self.old) }
+    {
+        match self.all.insert(key, ticket) {
+            Ok(_) => Ok(()),
+            Err(_) => Err(OutOfMemory),
+        }
+    }
+
+    /// What was read under a key: the ticket of a record, or that there is none. `None` if the key is not noted.
+    pub fn get(&self, key: Key) -> Option<Option<&Ticket>>
+        ensures known { is_some result ≡ is_noted (shown self.now) key }
+        ensures noted { IfSome result (λ ticket. option_map record_of (option_copied ticket)
+            ≡ note_in (shown self.now) key) }
+        ensures here { (log : LogName) → AreOf log self.now
+            → IfSome result (λ ticket. IfSome (option_copied ticket) (IsOf log)) }
+    {
+        let ticket = self.all.get(&key)?;
+        Some(ticket.as_ref())
+    }
+
+    /// The number of notes.
+    pub fn len(&self) -> usize
+        ensures len { result ≡ length self.now }
+        ensures once { IsNotedOnce (shown self.now) }
+    {
+        self.all.len()
+    }
+
+    /// The note at an index, which counts from 0 and is below `len`: its key, and the ticket that was read under it.
+    pub fn at(&self, index: usize) -> (Key, Option<&Ticket>)
+        requires { index < length self.now }
+        ensures at { slice_get self.now index ≡ Some (result.0, option_copied result.1) }
+        ensures once { IsNotedOnce (shown self.now) }
+    {
+        let (key, ticket) = self.all.get_index(index).unwrap();
+        (*key, ticket.as_ref())
+    }
+}
