@@ -15,7 +15,7 @@ What is checked:
   lines of rules, of formats, of the headline and of texts there are;
 - docs/ASSESSMENT.md says how many faulty variants each crate has;
 - the table of docs/ARCHITECTURE.md says what crates.txt says, and an output in README.md is that of its file;
-- no document is longer than MOST_LINES says, and each subcommand `dispatch WORD` is one of SUBCOMMANDS;
+- no document is longer than MOST_LINES says, each subcommand `dispatch WORD` is one of SUBCOMMANDS, and no prose tells of machines or earlier versions;
 - no file cites a paper, or a demand by its number.
 """
 import re
@@ -40,6 +40,7 @@ NAME = re.compile(r"(?<!\w)[A-Za-z_][A-Za-z0-9_']*")
 CRATE = r"(?:rbc|ertms|test)_[a-z_]+"
 MOST_LINES = {"README.md": 100, "docs/GUIDE.md": 400, "docs/INTEGRATION.md": 200}
 SUBCOMMANDS = {"run", "live", "check", "decode", "codes", "help"}
+HISTORY = re.compile(r"\bon (?:[\w-]+ ){0,3}machines?\b|\bearlier versions?\b|\bprevious versions?\b", re.I)
 SUBCOMMAND = re.compile(r"(?<![\w/-])(?:\./)?dispatch ([a-z][\w-]*)")
 FILE = re.compile(r"(?<![\w/.-])((?:[\w.-]+/)*[\w.-]+\.(?:md|rt|antt|sh|py|toml|batch|expected|edit|tsv|txt|c|h)|"
                   r"(?:crates|docs|examples|bench|include|\.ci)(?:/[\w.-]+)*/?)(?![\w/-])")
@@ -245,13 +246,19 @@ def citation_faults(root):
 
 # ---- all of it
 
+def history_faults(text):
+    """Prose tells of the program as it is, and no machine or earlier version."""
+    for match in HISTORY.finditer(text):
+        yield match.start(), f"says '{match.group()}', which belongs in CHANGELOG.md or bench/RESULTS.md"
+
+
 def faults(root, world):
     known = known_names(world)
     for document in documents(root):
         whole = document.read_text()
         text = without_blocks(whole)
         found = [*path_faults(root, document, text), *name_faults(world, known, text), *owned_faults(world, text), *output_faults(root, whole)]
-        found += [*length_faults(root, document, whole), *command_faults(whole)]
+        found += [*length_faults(root, document, whole), *command_faults(whole), *history_faults(text)]
         if document.name == "MODEL.md":
             found += model.faults(world, whole)
         if document.name == "ASSESSMENT.md":
