@@ -1,5 +1,5 @@
-//! Tests of messages, tracks, active stops and restrictions, identifiers and the settling of one train, against values
-//! from outside and where memory may be refused. The program itself does nothing.
+//! Tests of messages, tracks, identifiers and the settling of one train, against values from outside and where memory
+//! may be refused. The program itself does nothing.
 #![tactic(auto)]
 
 #[cfg(test)]

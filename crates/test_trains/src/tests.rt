@@ -3,7 +3,6 @@ mod making;
 mod messages;
 mod refusals;
 mod settling;
-mod tables;
 mod tracks;
 
 use rbc_track::Track;

@@ -3,12 +3,24 @@
 use ertms_codec::{Head, ToTrain};
 use rbc_ids::{IdTable, IssueError, Kind};
 use rbc_track::Track;
-use rbc_zones::{Area, BadArea, BadLimit, Dirs, Limit, Segment};
+use rbc_zones::{Area, BadArea, BadLimit, Dirs, Limit, Segment, Stops};
+use std::alloc::{AllocError, Global};
 
 /// The area of a stop for one segment.
 pub(super) fn area(track: &Track, from: u32, to: u32) -> Result<Area, BadArea> {
     let segment = Segment { line: 0, from, to };
     Area::new(track, &[segment])
+}
+
+/// Stops with the same area, under each number from 1 to `count`.
+pub(super) fn stops(alloc: Global, area: Area, count: u32) -> Result<Stops, AllocError> {
+    let mut stops = Stops::new(alloc);
+    for number in 1..=count {
+        if stops.last() < number {
+            stops.add(number, area)?;
+        }
+    }
+    Ok(stops)
 }
 
 /// A restriction to 40 km/h on one segment, which ends for a train where its front leaves it.

@@ -3,9 +3,8 @@
 //! the call that it is about was refused memory ends with `Refused`; so where memory is ample, each passes by the right
 //! answers alone. `bench/refusals.sh` refuses one allocation after another.
 
-use super::making::{area, issue, limit, stop_at};
+use super::making::{area, issue, limit, stop_at, stops};
 use super::same;
-use super::tables::stops;
 use ertms_codec::{Part, ToTrain};
 use hex::FromHex;
 use rbc_ids::{IdTable, IssueError, Kind, Slot, UsedSlot};

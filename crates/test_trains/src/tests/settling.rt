@@ -1,7 +1,6 @@
 //! Trains whose stamps end, or whose restrictions take several messages.
 
-use super::making::{area, issue, limit, stop_at};
-use super::tables::stops;
+use super::making::{area, issue, limit, stop_at, stops};
 use super::{good_track, same};
 use ertms_codec::ToTrain;
 use rbc_ids::{Kind, Slot};
