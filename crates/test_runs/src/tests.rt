@@ -3,8 +3,6 @@ mod batches;
 mod calls;
 mod crowd;
 mod gates;
-mod live;
-mod log;
 mod numbers;
 mod processing;
 mod refusals;

@@ -162,44 +162,6 @@ withdraw 7
 ",
 };
 
-/// Lines that are refused, each by the least code that applies.
-pub(crate) const EACH_REFUSAL: Worked = Worked {
-    batch: "enrol 7 2000
-enrol 7 2000
-enrol 16777216 2000
-enrol 9 0
-stop 0 0:0-10
-stop 1 9:0-10
-stop 1 0:10-5
-restrict 1 0:0-10 up 42 1
-lift 1
-recv 8
-recv 01
-recv 0100C0
-recv 8800C0
-withdraw 8
-recv 8806000000FA000001C080E400000287D0500C8019000830
-recv 8806000000FA000001C000E580000287D0500C8019000830
-",
-    output: "1 ok 0
-2 refused 8
-3 refused 1
-4 refused 1
-5 refused 11
-6 refused 12
-7 refused 12
-8 refused 12
-9 refused 14
-10 refused 2
-11 refused 3
-12 refused 4
-13 refused 3
-14 refused 7
-15 refused 5
-16 refused 6
-",
-};
-
 /// Those in which the train is told something, and more than one thing happens.
 pub(crate) const WORKED_BATCHES: [Worked; 5] = [REJECTED, RESTRICTED, SEVERAL, FULL, TWICE];
 

@@ -238,23 +238,3 @@ fn computes_nothing_twice_alone(rt: HostRuntime) {
     };
     same(&rt, none, Ok(wanted));
 }
-
-// The workers are looked at before the inputs, and a refused run leaves the desk.
-#[test]
-fn refuses_too_many(rt: HostRuntime) {
-    let track = good_track(&rt);
-    let mut desk = new_desk(rt.alloc(), &track);
-    let begun = run_lines(&rt, &track, &mut desk, STOPPED.batch, 16, &OpenGate);
-    same(&rt, begun.is_ok(), true);
-    let mut long = String::new(rt.alloc());
-    for _ in 0..100_001 {
-        long.push('\n').expect(&rt, "memory");
-    }
-    let by_none = run_lines(&rt, &track, &mut desk, &long, 0, &OpenGate);
-    same(&rt, by_none, Err(RunError::Workers));
-    let by_17 = run_lines(&rt, &track, &mut desk, &long, 17, &OpenGate);
-    same(&rt, by_17, Err(RunError::Workers));
-    let refused = run_lines(&rt, &track, &mut desk, &long, 16, &OpenGate);
-    same(&rt, refused, Err(RunError::TooManyInputs));
-    assert_desk(&rt, &desk, STOPPED.output);
-}
