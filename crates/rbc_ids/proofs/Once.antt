@@ -9,7 +9,7 @@ use Rattle.rbc_ids.specs.declared.slot.Slot.{Slot}
 use Rattle.rbc_ids.specs.declared.slot.Slot.TheVariants.{Used, Revoking}
 use Rattle.rbc_ids.specs.declared.slot.UsedSlot.{UsedSlot}
 use Rattle.rbc_ids.specs.declared.slot.Kind.{Kind}
-use Rattle.rbc_ids.specs.Table.{Slots, tells, is_told, TellsOnce, TellsApart, told_now, marked, reported_slot, after_report, is_unanswered, is_marked_by, acked_slot, acked_slots}
+use Rattle.rbc_ids.specs.Table.{Slots, tells, is_told, TellsOnce, TellsApart, told_now, marked, reported_slot, after_report, is_unanswered, is_answered_by, acked_slot, acked_slots}
 use Rattle.rbc_ids.proofs.Lacking.{absent_below, without_absent}
 
 -- what is not told is not told by fewer slots
@@ -166,7 +166,7 @@ keys-reported (held ∷ slots) = ap (λ (ks : List ℕ). held.0 ∷ ks) (keys-re
 
 -- what holds of a slot, and of a marked one as of the one before, holds of what is left of it
 pub acked_keeps : (P : Slot → Type 0) (stamp : ℕ) (slot : Slot) → ((used : UsedSlot) → P (Used used) → P (marked used)) → P slot → IfSome (acked_slot stamp slot) P
-acked_keeps P stamp (Used used) mark here = elim (is_marked_by stamp (Used used)) as (λ b. P (cond b (marked used) (Used used))) [ true ↦ mark used here | false ↦ here ]
+acked_keeps P stamp (Used used) mark here = elim (is_answered_by stamp (Used used)) as (λ b. P (cond b (marked used) (Used used))) [ true ↦ mark used here | false ↦ here ]
 acked_keeps P stamp (Revoking own) mark here = elim (eqb own stamp) as (λ b. IfSome (cond b None (Some (Revoking own))) P) [ true ↦ tt | false ↦ here ]
 
 -- what is not told is not told then

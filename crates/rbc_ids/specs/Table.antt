@@ -113,18 +113,29 @@ abbrev pub stamp_of : Slot → ℕ
 stamp_of (Used used) = used.stamp
 stamp_of (Revoking stamp) = stamp
 
--- an outcome, with the table in which an identifier is free
-abbrev pub freed : {A : Type 0} → A → ℕ → Slots → A × Slots
-freed answer id slots = (answer, without id slots)
-
--- an outcome, with the table in which an identifier has this slot
-abbrev pub put : {A : Type 0} → A → ℕ → Slot → Slots → A × Slots
-put answer id slot slots = (answer, with_value id slot slots)
-
 abbrev pub is_of_restriction : Kind → Bool
 is_of_restriction Conditional = false
 is_of_restriction Unconditional = false
 is_of_restriction Restriction = true
+
+-- the message with this stamp told the restriction of a slot, or revoked its identifier
+abbrev pub is_answered_by : ℕ → Slot → Bool
+is_answered_by stamp (Used used) = is_of_restriction used.kind && used.stamp == stamp
+is_answered_by stamp (Revoking own) = own == stamp
+
+-- The slot once the train has acknowledged the message with this stamp, or none where its identifier is free then: a
+-- restriction is marked, and a stop stays as it is.
+abbrev pub acked_slot : ℕ → Slot → Option Slot
+acked_slot stamp (Used used) = Some (if is_answered_by stamp (Used used) then marked used else Used used)
+acked_slot stamp (Revoking own) = if own == stamp then None else Some (Revoking own)
+
+-- the slots of the identifiers that are held then
+abbrev pub acked_slots : ℕ → Slots → Slots
+acked_slots stamp slots = filter_map (λ held. option_map (λ slot. (held.0, slot)) (acked_slot stamp held.1)) slots
+
+-- the table after the acknowledgement of the message with this stamp, unless that answers no slot
+abbrev pub after_stamp_ack : Slots → ℕ → Option Slots
+after_stamp_ack slots stamp = if list_any (λ held. is_answered_by stamp held.1) slots then Some (acked_slots stamp slots) else None
 
 -- the message with this stamp revoked the identifier of a slot
 abbrev pub is_freed_by : ℕ → Slot → Bool
@@ -136,16 +147,6 @@ abbrev pub is_marked_by : ℕ → Slot → Bool
 is_marked_by stamp (Used used) = is_of_restriction used.kind && used.stamp == stamp
 is_marked_by stamp (Revoking own) = false
 
--- The slot once the train has acknowledged the message with this stamp, or none where its identifier is free then: a
--- restriction is marked, and a stop stays as it is.
-abbrev pub acked_slot : ℕ → Slot → Option Slot
-acked_slot stamp (Used used) = Some (if is_marked_by stamp (Used used) then marked used else Used used)
-acked_slot stamp (Revoking own) = if own == stamp then None else Some (Revoking own)
-
--- the slots of the identifiers that are held then
-abbrev pub acked_slots : ℕ → Slots → Slots
-acked_slots stamp slots = filter_map (λ held. option_map (λ slot. (held.0, slot)) (acked_slot stamp held.1)) slots
-
 -- how many identifiers the message revoked, and how many restrictions it told
 abbrev pub freed_by : ℕ → Slots → ℕ
 freed_by stamp slots = length (filter (λ held. is_freed_by stamp held.1) slots)
@@ -153,11 +154,16 @@ freed_by stamp slots = length (filter (λ held. is_freed_by stamp held.1) slots)
 abbrev pub marked_by : ℕ → Slots → ℕ
 marked_by stamp slots = length (filter (λ held. is_marked_by stamp held.1) slots)
 
--- what the acknowledgement of the message with this stamp does, and the table after it
-abbrev pub after_stamp_ack : Slots → ℕ → StampAck × Slots
-after_stamp_ack slots stamp =
-    if freed_by stamp slots == 0 && marked_by stamp slots == 0 then (stamp_ack.Nothing, slots)
-    else (stamp_ack.Answered (freed_by stamp slots) (marked_by stamp slots), acked_slots stamp slots)
+-- what the acknowledgement of that message does
+abbrev pub stamp_answer : Slots → ℕ → StampAck
+stamp_answer slots stamp =
+    if freed_by stamp slots == 0 && marked_by stamp slots == 0 then stamp_ack.Nothing
+    else stamp_ack.Answered (freed_by stamp slots) (marked_by stamp slots)
+
+-- a table, if the acknowledgement that led to it did anything
+abbrev pub changed_by_stamp : StampAck → Slots → Option Slots
+changed_by_stamp (stamp_ack.Answered freed marked) slots = Some slots
+changed_by_stamp stamp_ack.Nothing slots = None
 
 -- Q_EMERGENCYSTOP accepts a stop: 0 and 1 a conditional one, 2 an unconditional one
 abbrev pub is_acceptance : Kind → ℕ → Bool
@@ -171,15 +177,33 @@ is_rejection Conditional answer = answer == 3
 is_rejection Unconditional answer = false
 is_rejection Restriction answer = false
 
--- The stop of a slot is answered: it is marked if it was accepted, and its identifier is free if it was rejected.
-abbrev pub acked_by_id : Slots → ℕ → ℕ → Option Slot → IdAck × Slots
-acked_by_id slots id answer None = (id_ack.Nothing, slots)
-acked_by_id slots id answer (Some (Revoking stamp)) = (id_ack.Nothing, slots)
+-- The table once the stop of a slot is answered, unless it waits for no such answer: the stop is marked if it was
+-- accepted, and its identifier is free if it was rejected.
+abbrev pub acked_by_id : Slots → ℕ → ℕ → Option Slot → Option Slots
 acked_by_id slots id answer (Some (Used used)) =
-    if is_acceptance used.kind answer then put id_ack.Marked id (marked used) slots
-    else if is_rejection used.kind answer then freed (id_ack.Rejected used.number) id slots
-    else (id_ack.Nothing, slots)
+    if is_acceptance used.kind answer then Some (with_value id (marked used) slots)
+    else if is_rejection used.kind answer then Some (without id slots) else None
+acked_by_id slots id answer (Some (Revoking stamp)) = None
+acked_by_id slots id answer None = None
 
--- what the train's answer to the stop under an identifier does, and the table after it
-abbrev pub after_id_ack : Slots → ℕ → ℕ → IdAck × Slots
+-- the table after the train's answer to the stop under an identifier, unless nothing waits for that answer
+abbrev pub after_id_ack : Slots → ℕ → ℕ → Option Slots
 after_id_ack slots id answer = acked_by_id slots id answer (value_of slots id)
+
+-- the number of the stop of a slot, if the train rejects it
+abbrev pub rejected : ℕ → Option Slot → Option ℕ
+rejected answer (Some (Used used)) = if is_rejection used.kind answer then Some used.number else None
+rejected answer (Some (Revoking stamp)) = None
+rejected answer None = None
+
+-- a table, if the answer that led to it did anything
+abbrev pub changed_by_id : IdAck → Slots → Option Slots
+changed_by_id id_ack.Marked slots = Some slots
+changed_by_id (id_ack.Rejected number) slots = Some slots
+changed_by_id id_ack.Nothing slots = None
+
+-- the number that the answer rejected
+abbrev pub number_rejected : IdAck → Option ℕ
+number_rejected id_ack.Marked = None
+number_rejected (id_ack.Rejected number) = Some number
+number_rejected id_ack.Nothing = None

@@ -7,7 +7,8 @@ ghost use Rattle.rbc_maps.specs.Maps.{has, index_for, value_of, with_value, with
 ghost use Rattle.rbc_ids.specs.declared.slot.IssueError.TheVariants.{Full};
 ghost use Rattle.rbc_ids.specs.declared.slot.Slot.TheVariants.{Revoking};
 ghost use Rattle.rbc_ids.specs.Table.{IsTable, TellsApart, is_told, is_used_at, least_free, identifier_of, told_now};
-ghost use Rattle.rbc_ids.specs.Table.{marked, IsIssued, freed_by, marked_by, acked_slot, after_stamp_ack, after_id_ack};
+ghost use Rattle.rbc_ids.specs.Table.{marked, IsIssued, freed_by, marked_by, stamp_answer, changed_by_stamp};
+ghost use Rattle.rbc_ids.specs.Table.{acked_slot, after_stamp_ack, after_id_ack, changed_by_id, number_rejected, rejected};
 ghost use Rattle.rbc_ids.specs.Table.{is_ripe_at, reported_slot, after_report};
 
 use crate::slot::{IdAck, IssueError, Kind, MOST_REPORTS, Slot, StampAck, UsedSlot};
@@ -181,7 +182,9 @@ impl<const N: usize> IdTable<N> {
     /// message revoked, and marks each restriction that it told as acknowledged. A stop is not acknowledged by its
     /// stamp. Takes no memory.
     pub fn ack_stamp(&mut self, stamp: u32) -> StampAck
-        ensures { (result, self.new) ≡ after_stamp_ack self.old stamp }
+        ensures answer { result ≡ stamp_answer self.old stamp }
+        ensures after { changed_by_stamp result self.new ≡ after_stamp_ack self.old stamp }
+        ensures nothing { result ≡ StampAck.Nothing → self.new ≡ self.old }
     {
         let freed = freed_by(self.slots(), stamp);
         let marked = marked_by(self.slots(), stamp);
@@ -199,7 +202,9 @@ impl<const N: usize> IdTable<N> {
     /// conditional stop, 2 accepts an unconditional one, and 3 rejects a conditional one. Any other answer changes
     /// nothing.
     pub fn ack_id(&mut self, id: u8, answer: u8) -> IdAck
-        ensures { (result, self.new) ≡ after_id_ack self.old id answer }
+        ensures after { changed_by_id result self.new ≡ after_id_ack self.old id answer }
+        ensures rejected { number_rejected result ≡ rejected answer (value_of self.old id) }
+        ensures nothing { result ≡ IdAck.Nothing → self.new ≡ self.old }
     {
         let Some(Slot::Used(used)) = self.slot(id) else {
             return IdAck::Nothing;

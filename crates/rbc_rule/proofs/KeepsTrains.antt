@@ -1,6 +1,7 @@
 -- Each change that an input makes to a train leaves it well-formed.
 use Rattle.std.proofs.Common.{◌≡◌, ℕ, ◌+◌, ◌<◌, ◌≤◌, max, Bool, true, false, not, ◌&&◌, cond, eqb, ltb, leb, List, [], ◌∷◌, ◌++◌, Option, Some, None, Result, Ok, Err, refl, arith}
-use Rattle.std.specs.List.{All}
+use Rattle.std.specs.List.{All, list_any}
+use Rattle.std.specs.Option.{IfSome, option_map_or}
 use Rattle.std.proofs.lemmas.Bool.{and_parts, and_from, leb-true, ltb-false}
 use Rattle.std.proofs.lemmas.List.Elements.{All-nil, All-weaker, All-filter}
 use Rattle.ertms_codec.specs.declared.from_train.Position.{Position}
@@ -12,24 +13,21 @@ use Rattle.rbc_maps.proofs.MapFacts.{rises_from-lower}
 use Rattle.rbc_ids.specs.declared.slot.Slot.{Slot}
 use Rattle.rbc_ids.specs.declared.slot.Slot.TheVariants.{Used, Revoking}
 use Rattle.rbc_ids.specs.declared.slot.Kind.{Kind}
-use Rattle.rbc_ids.specs.declared.slot.StampAck.{StampAck}
-use Rattle.rbc_ids.specs.declared.slot.StampAck.TheVariants as stamp_ack
-use Rattle.rbc_ids.specs.declared.slot.IdAck.TheVariants as id_ack
-use Rattle.rbc_ids.specs.Table.{Slots, IsTable, freed_by, marked_by, acked_slots, after_stamp_ack, is_acceptance, is_rejection, acked_by_id, marked, after_report}
+use Rattle.rbc_ids.specs.Table.{Slots, IsTable, is_answered_by, acked_slots, after_stamp_ack, is_acceptance, is_rejection, acked_by_id, after_id_ack, rejected, marked, after_report}
 use Rattle.rbc_settle.specs.declared.train.TrainRec.{TrainRec}
 use Rattle.rbc_settle.specs.Numbers.{and_number, without_number}
 use Rattle.rbc_settle.specs.Trains.{new_train}
-use Rattle.rbc_settle.specs.Settling.{Stops, Limits}
+use Rattle.rbc_settle.specs.Settling.{Stops, Limits, and_forced}
 use Rattle.rbc_settle.specs.WellFormed.{told_numbers, stamps, stamps_in, IsGiven, is_stop_kind, is_limit_kind, has_kind, has_count, IsWellFormedTrain}
 use Rattle.rbc_settle.proofs.Forcing.{rises-and, All-and}
-use Rattle.rbc_rule.specs.Effect.{forget, unknown_stamp, is_too_high, raised, placed, limits_acked, stops_acked, acknowledged, stop_acked, answered, told_by, stamp_of as stamp_told, heard}
+use Rattle.rbc_rule.specs.Effect.{forget, unknown_stamp, is_too_high, raised, placed, limits_acked, acknowledged, stop_acked, answered, told_by, stamp_of as stamp_told, heard}
 use Rattle.rbc_rule.proofs.KeepsLists.{part-same, part-all, part-apart, apart-part, part-before, part-behind}
 use Rattle.rbc_rule.proofs.KeepsSlots.{SlotsStay, stay-without, stay-marked, stay-reported, stay-acked, good_slots, told-given}
 use Rattle.rbc_rule.proofs.KeepsPlaces.{place_on}
 use Rattle.rbc_settle.specs.Trains.{max_engine, max_train_length}
 use Rattle.rbc_rule.specs.Bounds.{max_stamp}
 use Rattle.rbc_rule.specs.Codes.{code_of}
-use Rattle.rbc_rule.specs.declared.refuse.Refusal.TheVariants.{StampTooHigh}
+use Rattle.rbc_rule.specs.declared.refuse.Refusal.TheVariants.{StampTooHigh, NothingToAcknowledge}
 
 -- ---- ascending numbers
 
@@ -207,49 +205,63 @@ module _ (count : ℕ) (is_kind : Kind → Bool) (slots : Slots) (table : IsTabl
   stay-same = record { table = table; kinds = kinds; counts = counts; numbers = part-same (told_numbers slots); stamps = part-same (stamps_in slots) }
 
   -- a stamp is acknowledged
-  stay-stamp_acked : (stamp : ℕ) → SlotsStay count is_kind slots (after_stamp_ack slots stamp).1
+  stay-stamp_acked : (stamp : ℕ) → IfSome (after_stamp_ack slots stamp) (SlotsStay count is_kind slots)
   stay-stamp_acked stamp =
-      elim (eqb (freed_by stamp slots) 0 && eqb (marked_by stamp slots) 0)
-      as (λ b. SlotsStay count is_kind slots (cond {A = StampAck × Slots} b (stamp_ack.Nothing, slots) (stamp_ack.Answered (freed_by stamp slots) (marked_by stamp slots), acked_slots stamp slots)).1) [
-        | true ↦ stay-same
-        | false ↦ stay-acked count is_kind slots table kinds counts stamp
+      elim (list_any (λ held. is_answered_by stamp held.1) slots) as (λ b. IfSome (cond b (Some (acked_slots stamp slots)) None) (SlotsStay count is_kind slots)) [
+        | true ↦ stay-acked count is_kind slots table kinds counts stamp
+        | false ↦ tt
       ]
 
 module _ (plan : Plan) (stops : Stops) (limits : Limits) (engine : ℕ) where
-  module _ (train : TrainRec) (same : train.engine ≡ engine) (well : IsWellFormedTrain plan stops limits train) where
-    well_limits_acked : (r : StampAck × Slots) → SlotsStay 255 is_limit_kind train.limits r.1 → WellIfOk plan stops limits engine (limits_acked train r)
-    well_limits_acked (stamp_ack.Answered freed marked, slots) stay = (same, well_limits plan stops limits train well slots stay)
-    well_limits_acked (stamp_ack.Nothing, slots) stay = tt
+  -- a train whose table is changed, where there is a table, or else what is well-formed itself
+  well_or_else : (change : Slots → TrainRec) (after : Option Slots) (otherwise : Result TrainRec ℕ) → IfSome after (λ slots. WellIfOk plan stops limits engine (Ok (change slots))) → WellIfOk plan stops limits engine otherwise → WellIfOk plan stops limits engine (option_map_or (λ slots. Ok (change slots)) after otherwise)
+  well_or_else change None otherwise here there = there
+  well_or_else change (Some slots) otherwise here there = here
 
-    well_stops_acked : (acked : ℕ) (r : StampAck × Slots) → SlotsStay 15 is_stop_kind train.stops r.1 → WellIfOk plan stops limits engine (stops_acked acked train r)
-    well_stops_acked acked (stamp_ack.Answered freed marked, slots) stay = (same, well_stops plan stops limits train well slots stay)
-    well_stops_acked acked (stamp_ack.Nothing, slots) stay =
-        well_limits_acked (after_stamp_ack train.limits acked) (stay-stamp_acked 255 is_limit_kind train.limits well.tables.limits well.limit_slots.kinds well.limit_slots.counts acked)
+  if-some : {P Q : Slots → Type 0} (after : Option Slots) → ((slots : Slots) → P slots → Q slots) → IfSome after P → IfSome after Q
+  if-some None f here = tt
+  if-some (Some slots) f here = f slots here
+
+  module _ (train : TrainRec) (same : train.engine ≡ engine) (well : IsWellFormedTrain plan stops limits train) where
+    well_limits_acked : (acked : ℕ) → WellIfOk plan stops limits engine (limits_acked acked train)
+    well_limits_acked acked =
+        well_or_else (λ slots. record train { limits = slots }) (after_stamp_ack train.limits acked) (Err (code_of NothingToAcknowledge))
+        (if-some (after_stamp_ack train.limits acked) (λ slots stay. (same, well_limits plan stops limits train well slots stay))
+        (stay-stamp_acked 255 is_limit_kind train.limits well.tables.limits well.limit_slots.kinds well.limit_slots.counts acked)) tt
 
     well_acknowledged : (acked : ℕ) → WellIfOk plan stops limits engine (acknowledged acked train)
     well_acknowledged acked =
-        well_stops_acked acked (after_stamp_ack train.stops acked) (stay-stamp_acked 15 is_stop_kind train.stops well.tables.stops well.stop_slots.kinds well.stop_slots.counts acked)
+        well_or_else (λ slots. record train { stops = slots }) (after_stamp_ack train.stops acked) (limits_acked acked train)
+        (if-some (after_stamp_ack train.stops acked) (λ slots stay. (same, well_stops plan stops limits train well slots stay))
+        (stay-stamp_acked 15 is_stop_kind train.stops well.tables.stops well.stop_slots.kinds well.stop_slots.counts acked)) (well_limits_acked acked)
 
-    well_stop_acked : (id answer : ℕ) (o : Option Slot) → value_of train.stops id ≡ o → WellIfOk plan stops limits engine (stop_acked train (acked_by_id train.stops id answer o))
+    -- a stop is answered
+    well_stop_acked : (id answer : ℕ) (o : Option Slot) → value_of train.stops id ≡ o → IfSome (acked_by_id train.stops id answer o) (λ slots. WellIfOk plan stops limits engine (Ok (record train { stops = slots; forced = and_forced (rejected answer o) train.forced })))
     well_stop_acked id answer None e = tt
     well_stop_acked id answer (Some (Revoking stamp)) e = tt
     well_stop_acked id answer (Some (Used used)) e =
         let accepted = well_stops plan stops limits train well (with_value id (marked used) train.stops)
         (stay-marked 15 is_stop_kind train.stops well.tables.stops well.stop_slots.kinds well.stop_slots.counts id used e) in
-        let freed_then = well_stops plan stops limits train well (without id train.stops) (stay-without 15 is_stop_kind train.stops well.tables.stops well.stop_slots.kinds well.stop_slots.counts id) in
-        let rejected = well_forced plan stops limits (record train { stops = without id train.stops }) freed_then used.number
-        (told-given (IsGiven stops.last) train.stops id used well.stop_slots.given e) in
-        elim (is_acceptance used.kind answer) as (λ b. WellIfOk plan stops limits engine (stop_acked train (cond b (id_ack.Marked, with_value id (marked used) train.stops)
-        (cond (is_rejection used.kind answer) (id_ack.Rejected used.number, without id train.stops) (id_ack.Nothing, train.stops))))) [
-          | true ↦ (same, accepted)
-          | false ↦ elim (is_rejection used.kind answer) as (λ b. WellIfOk plan stops limits engine (stop_acked train (cond b (id_ack.Rejected used.number, without id train.stops) (id_ack.Nothing, train.stops)))) [
-            | true ↦ (same, rejected)
+        let freed = well_stops plan stops limits train well (without id train.stops) (stay-without 15 is_stop_kind train.stops well.tables.stops well.stop_slots.kinds well.stop_slots.counts id) in
+        let given = told-given (IsGiven stops.last) train.stops id used well.stop_slots.given e in
+        let both = λ (slots : Slots) (still : IsWellFormedTrain plan stops limits (record train { stops = slots })). well_forced plan stops limits (record train { stops = slots }) still used.number given in
+        elim (is_rejection used.kind answer) as (λ r. IfSome (cond (is_acceptance used.kind answer) (Some (with_value id (marked used) train.stops)) (cond r (Some (without id train.stops)) None))
+        (λ slots. WellIfOk plan stops limits engine (Ok (record train { stops = slots; forced = and_forced (cond r (Some used.number) None) train.forced })))) [
+          | true ↦ elim (is_acceptance used.kind answer) as (λ b. IfSome (cond b (Some (with_value id (marked used) train.stops)) (Some (without id train.stops)))
+          (λ slots. WellIfOk plan stops limits engine (Ok (record train { stops = slots; forced = and_number used.number train.forced })))) [
+            | true ↦ (same, both (with_value id (marked used) train.stops) accepted)
+            | false ↦ (same, both (without id train.stops) freed)
+          ]
+          | false ↦ elim (is_acceptance used.kind answer) as (λ b. IfSome (cond b (Some (with_value id (marked used) train.stops)) None)
+          (λ slots. WellIfOk plan stops limits engine (Ok (record train { stops = slots })))) [
+            | true ↦ (same, accepted)
             | false ↦ tt
           ]
         ]
 
     well_answered : (id answer : ℕ) → WellIfOk plan stops limits engine (answered id answer train)
-    well_answered id answer = well_stop_acked id answer (value_of train.stops id) refl
+    well_answered id answer =
+        well_or_else (stop_acked id answer train) (after_id_ack train.stops id answer) (Err (code_of NothingToAcknowledge)) (well_stop_acked id answer (value_of train.stops id) refl) tt
 
   engine_raised : (stamp : ℕ) (train : TrainRec) → train.engine ≡ engine → (raised stamp train).engine ≡ engine
   engine_raised stamp train same = elim (eqb stamp unknown_stamp) as (λ b. (cond b train (record train { stamp = max train.stamp stamp })).engine ≡ engine) [

@@ -9,10 +9,6 @@ use Rattle.rbc_track.specs.Plan.{Plan}
 use Rattle.ertms_codec.specs.declared.from_train.FromTrain.{FromTrain}
 use Rattle.ertms_codec.specs.declared.from_train.FromTrain.TheVariants.{Report, Ack, StopAck}
 use Rattle.rbc_ids.specs.Table.{Slots, after_stamp_ack, after_id_ack}
-use Rattle.rbc_ids.specs.declared.slot.StampAck.{StampAck}
-use Rattle.rbc_ids.specs.declared.slot.StampAck.TheVariants as stamp_ack
-use Rattle.rbc_ids.specs.declared.slot.IdAck.{IdAck}
-use Rattle.rbc_ids.specs.declared.slot.IdAck.TheVariants as id_ack
 use Rattle.rbc_place.specs.Placing.{Place}
 use Rattle.rbc_maps.proofs.MapValues.{value_of-absent}
 use Rattle.rbc_maps.specs.Maps.{has, value_or, value_of, with_value, without, keys}
@@ -28,7 +24,7 @@ use Rattle.rbc_rule.specs.declared.outcome.Outcome.{Outcome}
 use Rattle.rbc_rule.specs.declared.outcome.Reply.TheVariants.{Done}
 use Rattle.rbc_rule.specs.declared.input.Input.TheVariants.{Enrol, Withdraw, Received}
 use Rattle.rbc_rule.specs.World.{World}
-use Rattle.rbc_rule.specs.Effect.{effect, unknown_stamp, is_too_high, raised, placed, limits_acked, stops_acked, acknowledged, stop_acked, answered, told_by, stamp_of, engine_of, heard, without_train, then_do, heard_from}
+use Rattle.rbc_rule.specs.Effect.{effect, unknown_stamp, is_too_high, raised, placed, limits_acked, acknowledged, stop_acked, answered, told_by, stamp_of, engine_of, heard, without_train, then_do, heard_from}
 use Rattle.rbc_rule.specs.Step.{settled_trains, sent_to, count_sent}
 use Rattle.rbc_rule.specs.Records.{list_of, record_of}
 use Rattle.rbc_rule.specs.WellFormed.{IsGoodTrain, IsWellFormed}
@@ -45,7 +41,7 @@ use Rattle.rbc_rule.proofs.SettledPlaces.{settled_place}
 use Rattle.rbc_rule.proofs.WorldSettling.{map-done, sent-done, count-done, done-without, sent-with, count-with, trains_done, messages_to-engine, taken}
 use Rattle.rbc_rule.specs.Bounds.{max_trains}
 use Rattle.rbc_rule.specs.Codes.{code_of}
-use Rattle.rbc_rule.specs.declared.refuse.Refusal.TheVariants.{AlreadyEnrolled, TooManyTrains, StopsOutstanding, StampTooHigh}
+use Rattle.rbc_rule.specs.declared.refuse.Refusal.TheVariants.{AlreadyEnrolled, TooManyTrains, StopsOutstanding, StampTooHigh, NothingToAcknowledge}
 
 -- ---- worlds in which one train changes
 
@@ -160,31 +156,32 @@ KeepsEngine engine (Err code) = Unit
 raised_engine : (stamp : ℕ) (train : TrainRec) → (raised stamp train).engine ≡ train.engine
 raised_engine stamp train = elim (eqb stamp unknown_stamp) as (λ b. (cond b train (record train { stamp = max train.stamp stamp })).engine ≡ train.engine) [ true ↦ refl | false ↦ refl ]
 
-limits_acked_engine : (train : TrainRec) (after : StampAck × Slots) → KeepsEngine train.engine (limits_acked train after)
+-- so does a change of its tables, where there is one, or else what keeps it
+or_else_engine : (train : TrainRec) (change : Slots → TrainRec) (after : Option Slots) (otherwise : Result TrainRec ℕ) → ((slots : Slots) → (change slots).engine ≡ train.engine) → KeepsEngine train.engine otherwise → KeepsEngine train.engine (option_map_or (λ slots. Ok (change slots)) after otherwise)
 unfolding KeepsEngine
-limits_acked_engine train (stamp_ack.Answered freed marked, slots) = refl
-limits_acked_engine train (stamp_ack.Nothing, slots) = tt
+or_else_engine train change None otherwise keeps kept = kept
+or_else_engine train change (Some slots) otherwise keeps kept = keeps slots
 
-stops_acked_engine : (acked : ℕ) (train : TrainRec) (after : StampAck × Slots) → KeepsEngine train.engine (stops_acked acked train after)
+acknowledged_engine : (acked : ℕ) (train : TrainRec) → KeepsEngine train.engine (acknowledged acked train)
 unfolding KeepsEngine
-stops_acked_engine acked train (stamp_ack.Answered freed marked, slots) = refl
-stops_acked_engine acked train (stamp_ack.Nothing, slots) = limits_acked_engine train (after_stamp_ack train.limits acked)
+acknowledged_engine acked train =
+    or_else_engine train (λ slots. record train { stops = slots }) (after_stamp_ack train.stops acked) (limits_acked acked train) (λ slots. refl)
+    (or_else_engine train (λ slots. record train { limits = slots }) (after_stamp_ack train.limits acked) (Err (code_of NothingToAcknowledge)) (λ slots. refl) tt)
 
-stop_acked_engine : (train : TrainRec) (after : IdAck × Slots) → KeepsEngine train.engine (stop_acked train after)
+answered_engine : (id answer : ℕ) (train : TrainRec) → KeepsEngine train.engine (answered id answer train)
 unfolding KeepsEngine
-stop_acked_engine train (id_ack.Marked, slots) = refl
-stop_acked_engine train (id_ack.Rejected number, slots) = refl
-stop_acked_engine train (id_ack.Nothing, slots) = tt
+answered_engine id answer train =
+    or_else_engine train (stop_acked id answer train) (after_id_ack train.stops id answer) (Err (code_of NothingToAcknowledge)) (λ slots. refl) tt
 
 told_engine : (plan : Plan) (message : FromTrain) (train : TrainRec) → KeepsEngine train.engine (told_by plan message train)
 unfolding KeepsEngine
 told_engine plan (Report stamp engine position) train = raised_engine stamp train
 told_engine plan (Ack stamp engine acked) train =
     subst (λ e. KeepsEngine e (acknowledged acked (raised stamp train))) (raised_engine stamp train)
-    (stops_acked_engine acked (raised stamp train) (after_stamp_ack (raised stamp train).stops acked))
+    (acknowledged_engine acked (raised stamp train))
 told_engine plan (StopAck stamp engine id answer position) train =
     subst (λ e. KeepsEngine e (answered id answer (placed plan position (raised stamp train)))) (raised_engine stamp train)
-    (stop_acked_engine (placed plan position (raised stamp train)) (after_id_ack (raised stamp train).stops id answer))
+    (answered_engine id answer (placed plan position (raised stamp train)))
 
 either_engine : (engine : ℕ) (b : Bool) (after : Result TrainRec ℕ) → KeepsEngine engine after → KeepsEngine engine (cond b (Err (code_of StampTooHigh)) after)
 unfolding KeepsEngine

@@ -1,6 +1,7 @@
 -- What an input does to the world before the trains are settled, or the code that refuses it (own rule). If several codes apply, the
 -- least one refuses it. A bad line comes with its code.
 use Rattle.std.specs.Prelude.{ℕ, Bool, max, ◌==◌, nat_le, nat_lt, if◌then◌else◌, List, map, length, Option, Some, None, Result, Ok, Err}
+use Rattle.std.specs.Option.{option_map_or}
 use Rattle.ertms_codec.specs.declared.from_train.Position.{Position}
 use Rattle.ertms_codec.specs.declared.from_train.FromTrain.{FromTrain}
 use Rattle.ertms_codec.specs.declared.from_train.FromTrain.TheVariants.{Report, Ack, StopAck}
@@ -8,19 +9,15 @@ use Rattle.rbc_track.specs.Plan.{Plan}
 use Rattle.rbc_place.specs.Placing.{place_of_report}
 use Rattle.rbc_maps.specs.Maps.{has, value_of, with_value, without}
 use Rattle.rbc_maps.specs.Numbered.{Numbered}
-use Rattle.rbc_ids.specs.Table.{Slots, after_stamp_ack, after_id_ack, after_report}
-use Rattle.rbc_ids.specs.declared.slot.StampAck.{StampAck}
-use Rattle.rbc_ids.specs.declared.slot.StampAck.TheVariants as stamp_ack
-use Rattle.rbc_ids.specs.declared.slot.IdAck.{IdAck}
-use Rattle.rbc_ids.specs.declared.slot.IdAck.TheVariants as id_ack
+use Rattle.rbc_ids.specs.Table.{Slots, after_stamp_ack, after_id_ack, rejected, after_report}
 use Rattle.rbc_zones.specs.declared.segment.Segment.{Segment}
 use Rattle.rbc_zones.specs.declared.limit.Dirs.{Dirs}
 use Rattle.rbc_zones.specs.Segments.{is_good_area}
 use Rattle.rbc_zones.specs.Limits.{is_good_limit}
 use Rattle.rbc_settle.specs.declared.train.TrainRec.{TrainRec}
-use Rattle.rbc_settle.specs.Numbers.{and_number, without_number}
+use Rattle.rbc_settle.specs.Numbers.{without_number}
 use Rattle.rbc_settle.specs.Trains.{new_train}
-use Rattle.rbc_settle.specs.Settling.{Stops, Limits}
+use Rattle.rbc_settle.specs.Settling.{Stops, Limits, and_forced}
 use Rattle.rbc_rule.specs.declared.input.Input.{Input}
 use Rattle.rbc_rule.specs.declared.input.Input.TheVariants.{Enrol, Withdraw, Stop, Release, Restrict, Lift, Received, Bad}
 use Rattle.rbc_rule.specs.World.{World}
@@ -86,25 +83,20 @@ abbrev pub placed : Plan → Position → TrainRec → TrainRec
 placed plan position train = record train { place = place_of_report plan position train.length }
 
 -- A train acknowledges a message by its stamp, which is looked up among its stops first, and then among its restrictions.
-abbrev pub limits_acked : TrainRec → StampAck × Slots → Result TrainRec ℕ
-limits_acked train (stamp_ack.Answered freed marked, slots) = Ok (record train { limits = slots })
-limits_acked train (stamp_ack.Nothing, slots) = Err (code_of NothingToAcknowledge)
-
-abbrev pub stops_acked : ℕ → TrainRec → StampAck × Slots → Result TrainRec ℕ
-stops_acked acked train (stamp_ack.Answered freed marked, slots) = Ok (record train { stops = slots })
-stops_acked acked train (stamp_ack.Nothing, slots) = limits_acked train (after_stamp_ack train.limits acked)
+abbrev pub limits_acked : ℕ → TrainRec → Result TrainRec ℕ
+limits_acked acked train =
+    option_map_or (λ slots. Ok (record train { limits = slots })) (after_stamp_ack train.limits acked) (Err (code_of NothingToAcknowledge))
 
 abbrev pub acknowledged : ℕ → TrainRec → Result TrainRec ℕ
-acknowledged acked train = stops_acked acked train (after_stamp_ack train.stops acked)
+acknowledged acked train = option_map_or (λ slots. Ok (record train { stops = slots })) (after_stamp_ack train.stops acked) (limits_acked acked train)
 
 -- a stop is acknowledged by its identifier: a conditional one that is rejected stops the train at once
-abbrev pub stop_acked : TrainRec → IdAck × Slots → Result TrainRec ℕ
-stop_acked train (id_ack.Marked, slots) = Ok (record train { stops = slots })
-stop_acked train (id_ack.Rejected number, slots) = Ok (record train { stops = slots; forced = and_number number train.forced })
-stop_acked train (id_ack.Nothing, slots) = Err (code_of NothingToAcknowledge)
+abbrev pub stop_acked : ℕ → ℕ → TrainRec → Slots → TrainRec
+stop_acked id answer train slots = record train { stops = slots; forced = and_forced (rejected answer (value_of train.stops id)) train.forced }
 
 abbrev pub answered : ℕ → ℕ → TrainRec → Result TrainRec ℕ
-answered id answer train = stop_acked train (after_id_ack train.stops id answer)
+answered id answer train =
+    option_map_or (λ slots. Ok (stop_acked id answer train slots)) (after_id_ack train.stops id answer) (Err (code_of NothingToAcknowledge))
 
 -- a report counts for each stop that the train was told conditionally and has not acknowledged
 abbrev pub counted : TrainRec → TrainRec
