@@ -7,7 +7,7 @@ pub mod Facts
 pub mod Fates
 pub mod Conflicts
 pub mod Forwards
-pub mod Reaching
+pub mod Searching
 pub mod WitnessEvents
 pub mod WitnessConflicts
 pub mod WitnessForwards

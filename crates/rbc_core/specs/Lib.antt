@@ -3,8 +3,7 @@ pub mod Core
 pub mod Events
 pub mod Conflicts
 pub mod Forwards
-pub mod Reaches
+pub mod Searches
 pub mod Books
-pub mod Leftovers
 pub mod Facts
 pub mod Witnesses

@@ -1,8 +1,7 @@
 //! Attempts at inputs.
 
-ghost use Rattle.std.specs.Prelude.{◌≡◌, ◌≤◌, ◌↔◌, ℕ, Some, IsTrue};
+ghost use Rattle.std.specs.Prelude.{◌≡◌, ◌↔◌, IsTrue};
 ghost use Rattle.std.specs.Option.{option_map};
-ghost use Rattle.rbc_records.specs.declared.record.Key.{Key};
 ghost use Rattle.rbc_records.specs.Notes.{Part, AreNow};
 ghost use Rattle.rbc_versions.specs.Log.{number_of};
 ghost use Rattle.rbc_versions.specs.Entries.{AreOf, AreKeyedOf, AreOfWrites, AreCurrent, StandIn, numbered, number_for};
@@ -12,9 +11,7 @@ ghost use Rattle.rbc_rule.specs.Right.{IsRight};
 ghost use Rattle.rbc_rule.specs.Gathered.{AreSendable};
 ghost use Rattle.rbc_core.specs.Runs.{IsInput};
 ghost use Rattle.rbc_core.specs.Core.{IsRightTry};
-ghost use Rattle.rbc_core.specs.Reaches.{reached};
 
-use crate::reach::Reach;
 use crate::run_name::RunName;
 use rbc_records::Key;
 use rbc_rule::{Input, Outcome};
@@ -119,20 +116,6 @@ impl<N: RunName> Attempt<N> {
         self.published.number(key)
     }
 
-    /// Raises the bounds for the keys that it writes. Takes no memory.
-    pub(crate) fn raise(&self, reach: &mut Reach)
-        ensures here { (k : Key) (n : ℕ) → number_for self.now.writes k ≡ Some n
-            → self.now.number ≤ reached reach.new k }
-        ensures more { (k : Key) → reached reach.old k ≤ reached reach.new k }
-    {
-        let Attempt {
-            number,
-            published,
-            ..
-        } = self;
-        reach.raise_all(published, *number);
-    }
-
     /// Whether the numbers of all that was read, also of absent records, are the present ones. Nothing but numbers is
     /// compared.
     pub(crate) fn is_fresh(&self, log: &VersionLog, present: &Present) -> bool
@@ -145,20 +128,20 @@ impl<N: RunName> Attempt<N> {
         present.are_current(log, &self.notes)
     }
 
-    /// What was read, what the input does where that stands, and the publication of what it writes.
-    pub(crate) fn into_parts(self) -> (Notes, Outcome, Published)
-        ensures outcome { result.1 ≡ self.outcome }
-        ensures writes { numbered result.2 ≡ self.writes }
-        ensures published { AreKeyedOf N.log result.2 }
+    /// What the input does where what was read stands, and the publication of what it writes.
+    pub(crate) fn into_parts(self) -> (Outcome, Published)
+        ensures outcome { result.0 ≡ self.outcome }
+        ensures writes { numbered result.1 ≡ self.writes }
+        ensures published { AreKeyedOf N.log result.1 }
         ensures right { IsRightTry N.run self }
     {
         let Attempt {
             number: _,
-            notes,
+            notes: _,
             outcome,
             published,
             of: _,
         } = self;
-        (notes, outcome, published)
+        (outcome, published)
     }
 }

@@ -14,15 +14,13 @@ ghost use Rattle.rbc_core.specs.Runs.{IsGoodRun, IsSerialRun, IsSaidSince};
 ghost use Rattle.rbc_core.specs.Core.{Try, opening};
 ghost use Rattle.rbc_core.specs.Books.{IsBook, ArePresent, state_of, number_now, IsOutIn, IsJudged, Judges};
 ghost use Rattle.rbc_core.specs.Books.{IsOutcomeAt, IsCarriedOut};
-ghost use Rattle.rbc_core.specs.Reaches.{IsLatestIn, NoneWritesIn, number_put};
+ghost use Rattle.rbc_core.specs.Searches.{IsLatestIn, NoneWritesIn, number_put};
 ghost use Rattle.rbc_core.specs.Forwards.{IsLatest};
 ghost use Rattle.rbc_core.specs.Events.{Happens, Commits};
 ghost use Rattle.rbc_core.specs.Events.Event.{Takes, Reads, Deposits, Voids};
 
 use crate::attempt::Attempt;
-use crate::reach::Reach;
 use crate::run_name::RunName;
-use crate::spent::Spent;
 use crate::stage::Stage;
 use rbc_desk::{Desk, MAX_RESULTS};
 use rbc_records::Key;
@@ -70,15 +68,12 @@ pub struct Book<'a, N: RunName> {
     taken: u32,
     recomputed: u32,
     is_closed: bool,
-    reach: Reach,
     weight: usize,
-    spent: Spent,
 }
 
 impl<'a, N: RunName> Model for Book<'a, N> {
     ghost use Rattle.std.specs.Prelude.{◌≡◌};
     ghost use Rattle.rbc_core.specs.Books as books;
-    ghost use Rattle.rbc_core.specs.Reaches.{AreWithin};
 
     ghost Value = { books.BookValue };
 
@@ -93,7 +88,6 @@ impl<'a, N: RunName> Model for Book<'a, N> {
     } };
 
     // The inputs and the log are those of the run, and what is held is the serial run of the inputs that are committed.
-    // No attempt at an input above a key's bound writes the key.
     ghost invariant = { λ b. (b.log.now ≡ N.log) × (b.inputs.now ≡ N.run.inputs)
         × books.IsBook N.run N.log (record {
           desk = b.desk;
@@ -103,7 +97,7 @@ impl<'a, N: RunName> Model for Book<'a, N> {
           taken = b.taken;
           recomputed = b.recomputed;
           closed = b.is_closed;
-        }) × AreWithin b.stages.items b.reach };
+        }) };
 }
 
 impl<'a, N: RunName> Book<'a, N> {
@@ -132,9 +126,6 @@ impl<'a, N: RunName> Book<'a, N> {
         let Ok(stages) = all_free(alloc, inputs.len()) else {
             return Err(desk);
         };
-        let Ok(reach) = Reach::new(alloc) else {
-            return Err(desk);
-        };
         let Ok(present) = Present::of_store(rt, alloc, log, desk.store()) else {
             return Err(desk);
         };
@@ -148,9 +139,7 @@ impl<'a, N: RunName> Book<'a, N> {
             taken: 0,
             recomputed: 0,
             is_closed: false,
-            reach,
             weight: 0,
-            spent: Spent::nothing(),
         })
     }
 
@@ -169,14 +158,13 @@ impl<'a, N: RunName> Book<'a, N> {
 
     /// The number of the record that stands under a key as an input is to see it, or 0 if there is none: what the
     /// attempt at the latest earlier input puts there, of those that were deposited, are not committed and write the
-    /// key; and else what stands there now. It takes no memory, and where no such attempt has written a key of the same
-    /// bucket, no longer than a look at what stands there.
+    /// key; and else what stands there now. It takes no memory.
     pub fn present(&self, input: u32, key: Key) -> u64
         ensures event { Happens N.run (state_of self.now) (Reads input key result) (state_of self.now) }
         ensures latest { IsLatest (state_of self.now) input key result }
         ensures book { IsBook N.run N.log self.now }
     {
-        let last = last_before(input, self.taken, self.reach.of(key));
+        let last = last_before(input, self.taken);
         match forwarded(&self.stages, self.committed, last, key) {
             Some(number) => number,
             None => self.present.number(key),
@@ -194,7 +182,6 @@ impl<'a, N: RunName> Book<'a, N> {
             return Err(attempt);
         }
         self.weight = self.weight.saturating_add(attempt.weight());
-        attempt.raise(&mut self.reach);
         self.stages[number as usize - 1] = Stage::Tried(attempt);
         Ok(())
     }
@@ -213,8 +200,7 @@ impl<'a, N: RunName> Book<'a, N> {
 
     /// Commits the next input, in the order of the inputs: by its attempt if the number of all that was read for it is
     /// the present one, and else by computing it here and publishing what it writes. Where an attempt is taken over,
-    /// nothing but numbers is compared. The track has to be that of the run. What it has no more use for is kept for
-    /// `take_spent`, and freed by a later commit where nobody takes it.
+    /// nothing but numbers is compared. The track has to be that of the run.
     pub fn commit(&mut self, rt: &impl Wait, alloc: Global, track: &Track) -> Commit
         requires { track.now ≡ N.run.track }
         ensures event { Commits N.run (state_of self.old) result (state_of self.new) }
@@ -239,26 +225,18 @@ impl<'a, N: RunName> Book<'a, N> {
         };
         let desk = &mut self.desk;
         let present = &mut self.present;
-        let spent = &mut self.spent;
-        if carry_out(rt, alloc, track, inputs, log, turn, desk, present, spent).is_err() {
+        let Ok(weight) = carry_out(rt, alloc, track, inputs, log, turn, desk, present) else {
             self.is_closed = true;
             return Commit::Failed;
-        }
+        };
         self.stages[front] = Stage::Free;
         self.committed += 1;
         if is_fresh {
             return Commit::Applied;
         }
         self.recomputed += 1;
-        self.weight = self.weight.saturating_add(self.spent.weight());
+        self.weight = self.weight.saturating_add(weight);
         Commit::Recomputed
-    }
-
-    /// Hands out what the last commit has no more use for, and what nobody took of the commits before. Takes no memory.
-    pub fn take_spent(&mut self) -> Spent
-        ensures { self.new ≡ self.old }
-    {
-        mem::replace(&mut self.spent, Spent::nothing())
     }
 
     /// How many inputs are committed.
@@ -305,9 +283,7 @@ impl<'a, N: RunName> Book<'a, N> {
             taken: _,
             recomputed: _,
             is_closed: _,
-            reach: _,
             weight: _,
-            spent: _,
         } = self;
         desk
     }
@@ -331,16 +307,14 @@ fn is_out<N: RunName>(stages: &Vec<Stage<Attempt<N>>>, number: u32) -> bool
     number > 0 && matches!(stages.get(number as usize - 1), Some(Stage::Out))
 }
 
-/// The number of the last input before one that may have an attempt which writes a key, with so many inputs taken, by
-/// the bound of the key; 0 where there is none.
-fn last_before(input: u32, taken: u32, reach: u32) -> u32
+/// The number of the last input before one, of so many that are taken; 0 where there is none.
+fn last_before(input: u32, taken: u32) -> u32
     ensures before { result ≤ input - 1 }
     ensures taken { result ≤ taken }
-    ensures all { (number : ℕ) → result < number → number < input → number ≤ taken → reach < number }
+    ensures all { (number : ℕ) → result < number → number < input → number ≤ taken → ⊥ }
 {
     let before = input.saturating_sub(1);
-    let last = if before < taken { before } else { taken };
-    if reach < last { reach } else { last }
+    if before < taken { before } else { taken }
 }
 
 /// The number that the attempt of a stage puts under a key.
@@ -412,7 +386,7 @@ struct Turn<N: RunName> {
 }
 
 /// The outcome of the next input and its publication: those of its attempt if it is fresh, and else as they are
-/// computed here. Puts aside what is not needed of the attempt. Fails only for lack of memory.
+/// computed here. Fails only for lack of memory.
 fn outcome_of<N: RunName>(
     rt: &impl Wait,
     alloc: Global,
@@ -421,7 +395,6 @@ fn outcome_of<N: RunName>(
     log: &VersionLog,
     turn: Turn<N>,
     desk: &mut Desk,
-    spent: &mut Spent,
 ) -> Result<(Outcome, Published), RuleFault>
     requires run { (track.now ≡ N.run.track) × (inputs.now ≡ N.run.inputs) × (log.now ≡ N.log) × IsGoodRun N.run }
     requires within { turn.front < length inputs.now }
@@ -440,12 +413,10 @@ fn outcome_of<N: RunName>(
         is_fresh,
     } = turn;
     if let Stage::Tried(attempt) = stage {
-        let (notes, outcome, published) = attempt.into_parts();
-        spent.keep_notes(notes);
+        let (outcome, published) = attempt.into_parts();
         if is_fresh {
             return Ok((outcome, published));
         }
-        spent.keep_stale(outcome, published);
     }
     let outcome = desk.decide(alloc, track, &inputs[front])?;
     match publish_all(rt, alloc, log, &outcome.writes) {
@@ -454,8 +425,8 @@ fn outcome_of<N: RunName>(
     }
 }
 
-/// Does what the next input does, and puts aside what is not needed any more. Fails only for lack of memory, and then
-/// changes nothing.
+/// Does what the next input does, and tells how much is published for it. Fails only for lack of memory, and then changes
+/// nothing.
 fn carry_out<N: RunName>(
     rt: &impl Wait,
     alloc: Global,
@@ -465,8 +436,7 @@ fn carry_out<N: RunName>(
     turn: Turn<N>,
     desk: &mut Desk,
     present: &mut Present,
-    spent: &mut Spent,
-) -> Result<(), RuleFault>
+) -> Result<usize, RuleFault>
     requires run { (track.now ≡ N.run.track) × (inputs.now ≡ N.run.inputs) × (log.now ≡ N.log) × IsGoodRun N.run }
     requires within { turn.front < length inputs.now }
     requires judged { Judges present.old.tickets turn.stage (Some turn.is_fresh) }
@@ -479,13 +449,11 @@ fn carry_out<N: RunName>(
     ensures err { OnErr result (standing desk.new ≡ standing desk.old) }
     ensures kept { OnErr result (present.new.tickets ≡ present.old.tickets) }
 {
-    let (outcome, published) = outcome_of(rt, alloc, track, inputs, log, turn, desk, spent)?;
+    let (outcome, published) = outcome_of(rt, alloc, track, inputs, log, turn, desk)?;
     if present.reserve(published.len()).is_err() {
         return Err(RuleFault::OutOfMemory);
     }
-    let replaced = desk.take_over(alloc, outcome)?;
+    let _replaced = desk.take_over(alloc, outcome)?;
     present.take_over(&published);
-    spent.keep_replaced(replaced);
-    spent.keep_published(published);
-    Ok(())
+    Ok(published.weight())
 }

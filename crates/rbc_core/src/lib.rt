@@ -4,9 +4,7 @@
 mod attempt;
 mod book;
 mod law;
-mod reach;
 mod run_name;
-mod spent;
 mod stage;
 mod witnesses;
 
@@ -15,7 +13,6 @@ pub use book::{Book, Commit, Stats};
 pub use law::{conflict_law, event_law, forward_law, staying_law};
 pub use rbc_desk::{Desk, MAX_RESULTS, Mail, Outbox, mails_law, mails_law_witnesses};
 pub use run_name::RunName;
-pub use spent::Spent;
 pub use witnesses::{
     conflict_law_witnesses, event_law_witnesses, event_numbers_witnesses, event_order_witnesses,
     forward_law_witnesses, staying_law_witnesses,

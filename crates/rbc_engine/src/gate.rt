@@ -23,8 +23,8 @@ pub trait Gate {
     }
 }
 
-/// A gate that does nothing. Behind it a stretch in which trains are told of few stops and restrictions is left to one
-/// worker, since several would take longer.
+/// A gate that does nothing. Behind it one worker does all inputs on the desk itself, since several on a locked book take
+/// longer.
 #[derive(Clone, Copy, Debug)]
 pub struct OpenGate;
 
@@ -42,7 +42,7 @@ impl Gate for OpenGate {
     }
 }
 
-/// A gate that does nothing and is not open: all workers share every stretch, whether it pays or not.
+/// A gate that does nothing and is not open: all workers share every stretch, though it takes longer.
 #[derive(Clone, Copy, Debug)]
 pub struct AllWorkers;
 

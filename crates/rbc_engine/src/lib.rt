@@ -5,7 +5,6 @@
 mod gate;
 mod job;
 mod locking;
-mod pace;
 mod recorder;
 mod workers;
 

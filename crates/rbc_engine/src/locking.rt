@@ -4,14 +4,7 @@ ghost use Rattle.std.specs.Sync.Mutex.{mutex_guard_value};
 ghost use Rattle.rbc_core.specs.Books.{IsBook};
 
 use rbc_core::{Book, RunName};
-use std::hint::spin_loop;
 use std::sync::{Mutex, MutexGuard, Wait};
-
-/// How often the lock is tried before it is waited for, and how long a moment between two tries is. What is done under
-/// the lock takes less time than waking a thread that waits for it.
-const TRIES: u32 = 64;
-
-const SPINS: u32 = 16;
 
 /// Locks a book. It is one of the run, whatever others did to it before.
 pub(crate) fn lock<'a, 'b, N: RunName, R: Wait>(
@@ -20,13 +13,6 @@ pub(crate) fn lock<'a, 'b, N: RunName, R: Wait>(
 ) -> MutexGuard<'a, Book<'b, N>>
     ensures { IsBook N.run N.log (mutex_guard_value result) }
 {
-    for _ in 0..TRIES {
-        if let Some(guard) = book.try_lock() {
-            keeps(&guard);
-            return guard;
-        }
-        pause();
-    }
     let guard = book.lock(rt);
     keeps(&guard);
     guard
@@ -46,11 +32,4 @@ fn keeps<N: RunName>(book: &Book<'_, N>)
     ensures { IsBook N.run N.log book.now }
 {
     let _ = book.committed();
-}
-
-/// Lets a moment pass.
-fn pause() {
-    for _ in 0..SPINS {
-        spin_loop();
-    }
 }

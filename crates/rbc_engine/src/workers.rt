@@ -14,7 +14,6 @@ ghost use Rattle.rbc_engine.specs.Fronts.{IsWaiting, IsGivenUp, IsNext, IsAtItsE
 
 use crate::gate::{Behind, Gate};
 use crate::job::work_together;
-use crate::pace::Pace;
 use rbc_core::{Book, Commit, Desk, MAX_RESULTS, RunName, Stats};
 use rbc_rule::{Input, MAX_INPUTS};
 use rbc_track::Track;
@@ -146,7 +145,7 @@ fn run_named<N: RunName + Send + Sync, G: Gate + Sync, R: Threads + Wait + Sync>
     desk: &mut Desk,
     inputs: &[Input],
     log: &VersionLog,
-    pace: &mut Pace,
+    workers: u8,
     gate: &G,
 ) -> Result<Stats, RunError>
     requires track { track.now ≡ N.run.track }
@@ -159,7 +158,7 @@ fn run_named<N: RunName + Send + Sync, G: Gate + Sync, R: Threads + Wait + Sync>
     let opening = mem::replace(desk, Desk::new(alloc));
     match Book::<N>::new(rt, alloc, opening, inputs, log) {
         Ok(book) => {
-            let book = work_together(rt, alloc, track, inputs, log, book, pace, gate);
+            let book = work_together(rt, alloc, track, inputs, log, book, workers, gate);
             finish(rt, alloc, track, book, desk)
         }
         Err(opening) => {
@@ -176,7 +175,6 @@ fn run_alone(
     track: &Track,
     desk: &mut Desk,
     inputs: &[Input],
-    pace: &mut Pace,
 ) -> Result<Stats, RunError>
     requires good { IsGoodRun (record { track = track.now; opening = desk.old; inputs = inputs.now }) }
     ensures { IsStretch (record { track = track.now; opening = desk.old; inputs = inputs.now }) result desk.new }
@@ -185,10 +183,7 @@ fn run_alone(
     while (taken as usize) < inputs.len() {
         let input = &inputs[taken as usize];
         match desk.take_in(alloc, track, input) {
-            Ok(()) => {
-                pace.note_taken_in(input, desk);
-                taken += 1;
-            }
+            Ok(()) => taken += 1,
             Err(_) => return Err(RunError::OutOfMemory { committed: taken }),
         }
     }
@@ -198,29 +193,27 @@ fn run_alone(
     })
 }
 
-/// Runs a stretch of a run: by one worker on the desk itself, if nobody sees it and it is no slower, and else by all
-/// workers on a log of its own, which is dropped with it.
+/// Runs a stretch of a run: by one worker on the desk itself, if nobody sees that, and else by all workers on a log of
+/// its own, which is dropped with it.
 fn run_stretch<G: Gate + Sync, R: Threads + Wait + Sync>(
     rt: &R,
     alloc: Global,
     track: &Track,
     desk: &mut Desk,
     inputs: &[Input],
-    pace: &mut Pace,
+    workers: u8,
     gate: &G,
 ) -> Result<Stats, RunError>
     requires good { IsGoodRun (record { track = track.now; opening = desk.old; inputs = inputs.now }) }
     ensures { IsStretch (record { track = track.now; opening = desk.old; inputs = inputs.now }) result desk.new }
 {
-    let is_alone = gate.is_open() && pace.is_for_one();
-    pace.fade();
-    if is_alone {
-        return run_alone(alloc, track, desk, inputs, pace);
+    if gate.is_open() {
+        return run_alone(alloc, track, desk, inputs);
     }
     let Ok(log) = VersionLog::new(alloc) else {
         return Err(RunError::OutOfMemory { committed: 0 });
     };
-    run_named::<Brand, G, R>(rt, alloc, track, desk, inputs, &log, pace, gate)
+    run_named::<Brand, G, R>(rt, alloc, track, desk, inputs, &log, workers, gate)
 }
 
 /// Runs the first of some inputs in one stretch, and not too many of them.
@@ -230,16 +223,16 @@ fn run_first<G: Gate + Sync, R: Threads + Wait + Sync>(
     track: &Track,
     desk: &mut Desk,
     inputs: &[Input],
-    pace: &mut Pace,
+    workers: u8,
     gate: &G,
 ) -> Result<Stats, RunError>
     requires good { IsGoodRun (record { track = track.now; opening = desk.old; inputs = inputs.now }) }
     ensures { IsStretch (record { track = track.now; opening = desk.old; inputs = inputs.now }) result desk.new }
 {
     if inputs.len() <= MAX_STRETCH {
-        return run_stretch(rt, alloc, track, desk, inputs, pace, gate);
+        return run_stretch(rt, alloc, track, desk, inputs, workers, gate);
     }
-    run_stretch(rt, alloc, track, desk, &inputs[..MAX_STRETCH], pace, gate)
+    run_stretch(rt, alloc, track, desk, &inputs[..MAX_STRETCH], workers, gate)
 }
 
 /// Runs a stretch of a run, of which so many inputs are done.
@@ -250,7 +243,7 @@ fn run_behind<G: Gate + Sync, R: Threads + Wait + Sync>(
     desk: &mut Desk,
     inputs: &[Input],
     before: u32,
-    pace: &mut Pace,
+    workers: u8,
     gate: &G,
 ) -> Result<Stats, RunError>
     requires within { before ≤ length inputs.now }
@@ -260,7 +253,7 @@ fn run_behind<G: Gate + Sync, R: Threads + Wait + Sync>(
 {
     let behind = Behind { gate, before };
     let rest = &inputs[before as usize..];
-    run_first(rt, alloc, track, desk, rest, pace, &behind)
+    run_first(rt, alloc, track, desk, rest, workers, &behind)
 }
 
 /// Runs the next stretch of a run, behind those with these counts, and adds its counts to theirs.
@@ -271,7 +264,7 @@ fn run_next<G: Gate + Sync, R: Threads + Wait + Sync>(
     desk: &mut Desk,
     inputs: &[Input],
     all: Stats,
-    pace: &mut Pace,
+    workers: u8,
     gate: &G,
 ) -> Result<Stats, RunError>
     requires within { (all.recomputed ≤ all.taken) × (all.taken ≤ length inputs.now) }
@@ -279,7 +272,7 @@ fn run_next<G: Gate + Sync, R: Threads + Wait + Sync>(
     requires good { IsGoodRun (record { track = track.now; opening = desk.old; inputs = drop all.taken inputs.now }) }
     ensures { IsNextStretch (record { track = track.now; opening = desk.old; inputs = inputs.now }) all result desk.new }
 {
-    match run_behind(rt, alloc, track, desk, inputs, all.taken, pace, gate) {
+    match run_behind(rt, alloc, track, desk, inputs, all.taken, workers, gate) {
         Ok(stats) => Ok(Stats {
             taken: all.taken + stats.taken,
             recomputed: all.recomputed + stats.recomputed,
@@ -312,14 +305,13 @@ fn run_stretches<G: Gate + Sync, R: Threads + Wait + Sync>(
     requires few { length inputs.now ≤ MAX_INPUTS }
     ensures { IsFinished (record { track = track.now; opening = desk.old; inputs = inputs.now }) result desk.new }
 {
-    let mut pace = Pace::new(workers);
     let mut all = Stats {
         taken: 0,
         recomputed: 0,
     };
     while (all.taken as usize) < inputs.len() {
         keeps_order(desk);
-        all = run_next(rt, alloc, track, desk, inputs, all, &mut pace, gate)?;
+        all = run_next(rt, alloc, track, desk, inputs, all, workers, gate)?;
     }
     Ok(all)
 }

@@ -35,8 +35,6 @@ pub(crate) enum Call {
     Void(u32, bool),
     /// The next input is committed.
     Commit(Commit),
-    /// What commits have no more use for is taken: whether there is anything.
-    TakeSpent(bool),
 }
 
 /// What is kept from one call to the next: what was read for an attempt that is made later, and the numbers that are
@@ -102,14 +100,6 @@ fn assert_origin<N: RunName, R: Abort>(
     same(scene.rt, origin, wanted);
 }
 
-/// Takes what commits have no more use for, which is not counted. Tells whether there was anything.
-fn take_spent<N: RunName>(rt: &impl Abort, book: &mut Book<'_, N>) -> bool {
-    let stats = book.stats();
-    let spent = book.take_spent();
-    same(rt, book.stats(), stats);
-    !spent.is_empty()
-}
-
 /// Makes a call, and asserts its answer.
 fn make_call<N: RunName, R: Abort + Wait>(
     scene: &Scene<'_, N, R>,
@@ -126,7 +116,6 @@ fn make_call<N: RunName, R: Abort + Wait>(
         Call::Deposit(number, wanted) => same(rt, deposit(scene, book, kept, number), wanted),
         Call::Void(number, wanted) => same(rt, book.void(number), wanted),
         Call::Commit(wanted) => same(rt, book.commit(rt, scene.alloc, scene.track), wanted),
-        Call::TakeSpent(wanted) => same(rt, take_spent(rt, book), wanted),
     }
 }
 

@@ -66,14 +66,9 @@ const SECOND_FIRST: &[Call] = &[
     Call::Void(3, false),
     Call::Void(0, false),
     Call::Deposit(1, true),
-    Call::TakeSpent(false),
     APPLIED,
-    Call::TakeSpent(true),
-    Call::TakeSpent(false),
     RECOMPUTED,
     AT_END,
-    Call::TakeSpent(true),
-    Call::TakeSpent(false),
 ];
 
 /// The second input is attempted after the first is, and before that one is committed.

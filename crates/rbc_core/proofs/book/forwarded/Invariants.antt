@@ -1,5 +1,5 @@
 use Rattle.std.proofs.Common.{◌≤◌}
-use Rattle.rbc_core.specs.Reaches.{NoneWritesIn}
+use Rattle.rbc_core.specs.Searches.{NoneWritesIn}
 use Rattle.rbc_core.proofs.book.forwarded.Given as goal
 
 -- from here on none writes the key

@@ -20,8 +20,8 @@ returns-then-is_fresh-clause-outcome g c =
     let j = c.requires.judged in
     let log : c.args.log.now ≡ g.N.RunName.log = c.requires.run.2 in
     let present : ArePresent g.N.RunName.log j.0 records = subst (λ (l : LogName). ArePresent l j.0 records) log j.1 in
-    let parts = c.into_parts-notes.ensures in
-    fresh_outcome g.N.RunName.run g.N.RunName.log turn.stage c.in-Tried.attempt turn.front turn.is_fresh j.0 records c.into_parts-notes.result.1 c.into_parts-notes.result.2 c.in-Tried.is c.if-is_fresh.true present j.2 parts.right
+    let parts = c.into_parts-outcome.ensures in
+    fresh_outcome g.N.RunName.run g.N.RunName.log turn.stage c.in-Tried.attempt turn.front turn.is_fresh j.0 records c.into_parts-outcome.result.0 c.into_parts-outcome.result.1 c.in-Tried.is c.if-is_fresh.true present j.2 parts.right
     (c.requires.number c.in-Tried.attempt c.in-Tried.is) parts.outcome parts.writes parts.published
 
 pub returns-in-Ok-clause-outcome : goal.returns-in-Ok-clause-outcome

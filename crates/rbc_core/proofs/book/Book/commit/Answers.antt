@@ -5,7 +5,6 @@ use Rattle.rbc_core.specs.declared.stage.Stage.TheVariants.{Tried}
 use Rattle.rbc_core.specs.Books.{IsJudged, IsCarriedOut, ArePresent, state_of, number_now}
 use Rattle.rbc_core.proofs.Books.{fails, fails_kept, commits_kept, applies, recomputes}
 use Rattle.rbc_core.proofs.Presents.{present_after, present_still}
-use Rattle.rbc_core.proofs.Reaching.{within_lost, within_freed}
 use Rattle.rbc_core.proofs.book.Book.commit.Goals as goal
 
 pub carry_out-requires-clause-number : goal.carry_out-requires-clause-number
@@ -23,7 +22,6 @@ invariant_of-self g c =
         kept = fails_kept _ _ _ _ _ _ _ i.2.kept c.in-Some.ensures same c.taken_out-stage.ensures.void;
         present = present_still _ _ _ c.self.inside.desk c.carry_out.new.desk same tickets i.2.present;
       },
-      within_lost _ _ c.self.inside.reach c.self.inside.committed i.3 c.taken_out-stage.ensures.void,
     )
 
 pub returns-then-is_err : goal.returns-then-is_err
@@ -42,7 +40,6 @@ invariant_of-self-then-is_fresh g c =
         kept = commits_kept _ _ _ _ _ _ _ _ _ _ i.2.kept c.in-Some.ensures done c.taken_out-stage.ensures.void (let n = i.2.kept.counted in omega (arith, n));
         present = present_after _ _ _ _ _ _ _ _ _ i.2.present done;
       },
-      within_freed _ _ c.self.inside.reach c.self.inside.committed i.3 c.taken_out-stage.ensures.void,
     )
 
 pub invariant_of-self-2 : goal.invariant_of-self-2
@@ -55,7 +52,6 @@ invariant_of-self-2 g c =
         kept = commits_kept _ _ _ _ _ _ _ _ _ _ i.2.kept c.in-Some.ensures done c.taken_out-stage.ensures.void (let n = i.2.kept.counted in omega (arith, n));
         present = present_after _ _ _ _ _ _ _ _ _ i.2.present done;
       },
-      within_freed _ _ c.self.inside.reach c.self.inside.committed i.3 c.taken_out-stage.ensures.void,
     )
 
 pub returns-then-is_fresh : goal.returns-then-is_fresh

@@ -2,7 +2,6 @@ use Rattle.std.proofs.Common.{◌≡◌, ◌+◌, ◌-◌, ◌∙◌, refl, sym,
 use Rattle.rbc_core.specs.declared.stage.Stage.TheVariants.{Tried}
 use Rattle.rbc_core.specs.Books.{IsOutIn, state_of}
 use Rattle.rbc_core.proofs.Books.{keeps, deposits}
-use Rattle.rbc_core.proofs.Reaching.{within_put}
 use Rattle.rbc_core.proofs.book.Book.deposit.Goals as goal
 
 pub invariant_of-self : goal.invariant_of-self
@@ -15,7 +14,6 @@ invariant_of-self g c =
       i.0,
       i.1,
       record { kept = keeps _ _ _ (Tried c.args.attempt) i.2.kept (turn.0, turn.1, number); present = i.2.present },
-      within_put c.self.inside.stages.items c.self.inside.reach c.raise.new.reach (c.number-number.result - 1) c.args.attempt i.3 number c.raise.ensures.here c.raise.ensures.more,
     )
 
 pub returns-clause-event : goal.returns-clause-event

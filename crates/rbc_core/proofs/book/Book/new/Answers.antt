@@ -9,7 +9,6 @@ use Rattle.rbc_versions.specs.Entries.{StandIn}
 use Rattle.rbc_core.specs.declared.stage.Stage.TheVariants.{Free}
 use Rattle.rbc_core.specs.Books.{IsBook, record_now}
 use Rattle.rbc_core.proofs.Presents.{opens_book}
-use Rattle.rbc_core.proofs.Reaching.{within_opening}
 use Rattle.rbc_core.proofs.book.Book.new.Goals as goal
 
 pub invariant_of-result : goal.invariant_of-result
@@ -22,7 +21,6 @@ invariant_of-result g c =
       c.requires.log,
       c.requires.inputs,
       opens_book run g.N.RunName.log c.args.desk tickets c.in-Ok.stages.items c.requires.good c.requires.desk stages stand show,
-      within_opening c.in-Ok.stages.items c.in-Ok-new.reach (length run.inputs) stages,
     )
 
 pub returns-clause-book : goal.returns-clause-book

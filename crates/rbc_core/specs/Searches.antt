@@ -1,28 +1,10 @@
--- Bounds on the attempts that write a key (own rule).
-use Rattle.std.specs.Prelude.{◌≡◌, ℕ, ◌+◌, ◌<◌, ◌≤◌, ◌%◌, List, length, Option, Some, None, slice_get, slice_index}
+-- The latest attempt that writes a key (own rule).
+use Rattle.std.specs.Prelude.{◌≡◌, ℕ, ◌+◌, ◌<◌, ◌≤◌, List, Option, Some, None, slice_get}
 use Rattle.rbc_records.specs.declared.record.Key.{Key}
-use Rattle.rbc_records.specs.declared.record.Key.TheVariants as key
 use Rattle.rbc_versions.specs.Entries.{number_for}
 use Rattle.rbc_core.specs.declared.stage.Stage.{Stage}
 use Rattle.rbc_core.specs.declared.stage.Stage.TheVariants.{Free, Out, Tried, Void}
 use Rattle.rbc_core.specs.Core.{Try}
-
--- where a key stands among buckets: the trains behind all others
-abbrev pub place_of : Key → ℕ
-place_of key.Roster = 0
-place_of (key.Train engine) = 260 + engine
-place_of key.Stops = 1
-place_of key.Limits = 2
-place_of (key.Line line) = 4 + line
-place_of key.Unplaced = 3
-
--- the bound of a key's bucket
-abbrev pub reached : List ℕ → Key → ℕ
-reached bounds k = slice_index bounds (place_of k % length bounds)
-
--- no attempt at an input above a key's bound writes the key
-abbrev pub AreWithin : List (Stage Try) → List ℕ → Type 0
-AreWithin stages bounds = (i : ℕ) (a : Try) (k : Key) (n : ℕ) → slice_get stages i ≡ Some (Tried a) → number_for a.writes k ≡ Some n → i + 1 ≤ reached bounds k
 
 -- the number that the attempt of a stage puts under a key
 abbrev pub number_put : Stage Try → Key → Option ℕ
