@@ -3,7 +3,7 @@ use Rattle.std.specs.Option.{option_map}
 use Rattle.rbc_ids.specs.declared.slot.Slot.{Slot}
 use Rattle.rbc_ids.specs.Table.{IsTable, is_freed_by, is_marked_by, acked_slot, acked_slots}
 use Rattle.rbc_ids.proofs.Tables.{stays_acked}
-use Rattle.rbc_ids.proofs.Acked.{retained, counted, answered}
+use Rattle.rbc_ids.proofs.Acked.{retained, counted, answered, none_answered}
 use Rattle.rbc_ids.proofs.identifier_table.IdTable.ack_stamp.Given as given
 use Rattle.rbc_ids.proofs.identifier_table.IdTable.ack_stamp.Goals as goal
 
@@ -26,7 +26,16 @@ left g c =
 pub invariant_of-self : goal.invariant_of-self
 invariant_of-self g c = subst (IsTable g.row.N) (sym (left g c)) (stays_acked g.row.N c.self.inside.held.items c.self.invariant c.args.stamp)
 
-pub returns : goal.returns
-returns g c =
-    answered c.args.stamp c.args.self.now c.freed_by-freed.result c.marked_by-marked.result c.retain_mut.new.self.items (search rules) (search rules)
-    (left g c ∙ ap (acked_slots c.args.stamp) c.self.view_is) c.else-freed-eq0.either
+pub returns-clause-answer : goal.returns-clause-answer
+returns-clause-answer g c =
+    (answered c.args.stamp c.args.self.now c.freed_by-freed.result c.marked_by-marked.result c.retain_mut.new.self.items (search rules) (search rules)
+    (left g c ∙ ap (acked_slots c.args.stamp) c.self.view_is) c.else-freed-eq0.either).0
+
+pub returns-clause-after : goal.returns-clause-after
+returns-clause-after g c =
+    (answered c.args.stamp c.args.self.now c.freed_by-freed.result c.marked_by-marked.result c.retain_mut.new.self.items (search rules) (search rules)
+    (left g c ∙ ap (acked_slots c.args.stamp) c.self.view_is) c.else-freed-eq0.either).1
+
+pub returns-then-marked-eq0-clause-after : goal.returns-then-marked-eq0-clause-after
+returns-then-marked-eq0-clause-after g c =
+    (none_answered c.args.stamp c.args.self.now c.freed_by-freed.result c.marked_by-marked.result (search rules) (search rules) (search rules) (search rules)).1
