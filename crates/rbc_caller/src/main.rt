@@ -8,14 +8,12 @@
 
 mod office;
 
-ghost use Rattle.std.specs.Prelude.{All};
-ghost use Rattle.rbc_rule.specs.Inputs.{Fits};
-
 use anyhow::{Context, Result, bail};
 use office::{Office, sent_line};
-use rbc_batch::parse_batch;
-use rbc_rule::{Input, Reply};
+use rbc_rule::Reply;
+use rbc_text::{first_line, parse_line};
 use rbc_track::track_from_toml;
+use std::alloc::{AllocError, Global};
 use std::fs;
 use std::io::Read;
 use std::rt::Files;
@@ -23,16 +21,26 @@ use std::rt::Files;
 /// The track of this example.
 const TRACK: &str = "main_line.toml";
 
-/// Takes an input, and prints its result and sends its messages: here, they are printed.
+/// The lines of a batch.
+fn lines_of(alloc: Global, batch: &[u8]) -> Result<Vec<&[u8]>, AllocError> {
+    let mut lines = Vec::new(alloc);
+    let mut rest = batch;
+    while !rest.is_empty() {
+        let (line, behind) = first_line(rest);
+        lines.push(line)?;
+        rest = behind;
+    }
+    Ok(lines)
+}
+
+/// Takes the input of a line, and prints its result and sends its messages: here, they are printed.
 fn take_and_send<R: AllocGlobal + Print>(
     rt: &R,
     office: &mut Office,
     number: usize,
-    input: &Input,
-) -> Result<()>
-    requires { Fits input.now }
-{
-    let Ok(done) = office.take_again(input) else {
+    line: &[u8],
+) -> Result<()> {
+    let Ok(done) = office.take_again(&parse_line(rt.alloc(), line)?) else {
         bail!("input {number} could not be decided");
     };
     match done.result {
@@ -46,29 +54,25 @@ fn take_and_send<R: AllocGlobal + Print>(
     Ok(())
 }
 
-/// Takes inputs that were taken before, after a restart. Their messages went out then.
-fn replay(office: &mut Office, log: &[Input]) -> Result<()>
-    requires { All Fits log.now }
-{
-    for input in log {
-        if office.take_again(input).is_err() {
+/// Takes the inputs of lines that were taken before, after a restart. Their messages went out then.
+fn replay(alloc: Global, office: &mut Office, log: &[&[u8]]) -> Result<()> {
+    for line in log {
+        if office.take_again(&parse_line(alloc, line)?).is_err() {
             bail!("the log could not be replayed");
         }
     }
     Ok(())
 }
 
-/// Takes inputs for the first time; the first of them has this number.
+/// Takes the inputs of lines for the first time; the first of them has this number.
 fn go_on<R: AllocGlobal + Print>(
     rt: &R,
     office: &mut Office,
     first: usize,
-    inputs: &[Input],
-) -> Result<()>
-    requires { All Fits inputs.now }
-{
-    for (index, input) in inputs.iter().enumerate() {
-        take_and_send(rt, office, first.saturating_add(index), input)?;
+    lines: &[&[u8]],
+) -> Result<()> {
+    for (index, line) in lines.iter().enumerate() {
+        take_and_send(rt, office, first.saturating_add(index), line)?;
     }
     Ok(())
 }
@@ -78,9 +82,9 @@ fn main(rt: HostRuntime) -> Result<()> {
     let track = track_from_toml(rt.alloc(), text.as_str())?;
     let mut batch = Vec::new(rt.alloc());
     rt.stdin().read_to_end(&mut batch)?;
-    let inputs = parse_batch(&rt, batch.as_slice())?;
-    let half = inputs.len() / 2;
-    let (log, rest) = inputs.split_at(half);
+    let lines = lines_of(rt.alloc(), batch.as_slice())?;
+    let half = lines.len() / 2;
+    let (log, rest) = lines.split_at(half);
 
     let mut office = Office::new(rt.alloc(), &track);
     go_on(&rt, &mut office, 1, log)?;
@@ -88,6 +92,6 @@ fn main(rt: HostRuntime) -> Result<()> {
 
     println!(rt; "restart after {half} inputs")?;
     let mut office = Office::new(rt.alloc(), &track);
-    replay(&mut office, log)?;
+    replay(rt.alloc(), &mut office, log)?;
     go_on(&rt, &mut office, half.saturating_add(1), rest)
 }
