@@ -24,8 +24,8 @@ invariant_of-self g c =
       },
     )
 
-pub returns-then-is_err : goal.returns-then-is_err
-returns-then-is_err g c =
+pub returns-in_default-carry_out : goal.returns-in_default-carry_out
+returns-in_default-carry_out g c =
     let same : standing c.carry_out.new.desk ≡ standing c.self.inside.desk = search rules in
     let tickets : c.carry_out.new.present.tickets ≡ c.self.inside.present.tickets = search rules in
     record { event = fails g.N.RunName.run _ _ _ _ _ _ _ (ap state_of c.self.view_is) c.self.invariant.2.kept c.if-self.false c.in-Some.ensures same (ap number_now tickets) c.taken_out-stage.ensures.void }
