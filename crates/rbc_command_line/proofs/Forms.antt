@@ -1,4 +1,4 @@
--- What clap finds in each form of `run`.
+-- What clap finds in each form of `run`, and in those of `live`, `explain` and `picture` without a number.
 use Rattle.std.proofs.Common.{refl, sym, ap, arith, ◌∙◌, ◌≡◌, ◌≢◌, ℕ, [], ◌∷◌, ◌++◌, List, Some, true, false, Ok, ◌==◌, codes, option_and_then}
 use Rattle.std.specs.Prelude.{find, pos, unwrap_or}
 use Rattle.std.specs.Option.{option_map_or}
@@ -19,8 +19,8 @@ use Rattle.clap.specs.declared.builder.value_parser.ValueParser.TheVariants as v
 use Rattle.clap.proofs.OnLiterals.{clap_on_literals}
 use Rattle.clap.proofs.ValueTestLemmas.{Accepts-accepts}
 use Rattle.clap.proofs.WalkLemmas.{byte_read}
-use Rattle.rbc_command_line.specs.Forms.{AsManyAsNamed, FromOneByDefault, OneByDefault, WritesByte}
-use Rattle.rbc_command_line.specs.Words.{AsksToRun, check_shape, codes_shape, decode_shape, found_after, live_shape, track_rule, word_after, workers_rule}
+use Rattle.rbc_command_line.specs.Forms.{AfterAllByDefault, AsManyAsNamed, BeginAtOneByDefault, FromOneByDefault, OneByDefault, WritesByte}
+use Rattle.rbc_command_line.specs.Words.{AsksToRun, check_shape, codes_shape, decode_shape, explain_shape, found_after, live_shape, picture_shape, track_rule, word_after, workers_rule}
 
 no_hyphen : (c : ℕ) → c ≢ 45 → (c == 45) ≡ false
 no_hyphen c plain = ne_eqb c 45 plain
@@ -35,12 +35,23 @@ unfolding clap_on_literals
 from_one_by_default [] plain = absurd plain
 from_one_by_default (c ∷ rest) plain = let e = no_hyphen c plain in (simp e, simp e, simp e)
 
+pub begin_at_one_by_default : BeginAtOneByDefault
+unfolding clap_on_literals
+begin_at_one_by_default [] plain = absurd plain
+begin_at_one_by_default (c ∷ rest) plain = let e = no_hyphen c plain in (simp e, simp e, simp e)
+
+pub after_all_by_default : AfterAllByDefault
+unfolding clap_on_literals
+after_all_by_default [] plain = absurd plain
+after_all_by_default (c ∷ rest) plain = let e = no_hyphen c plain in (simp e, simp e, simp e)
+
 -- the command line, with any parser of the number of workers
 abbrev line_with : ValueParser → App
 line_with q =
     let run = (with_rule (with_rule (new_app (codes "run")) track_rule) (record workers_rule { parser = Some q })).top in
     let without_name = on_top (λ top. record top { no_binary_name = true; subcommand_required = true; has_version = true }) in
-    with_subcommand (with_subcommand (with_subcommand (with_subcommand (with_subcommand (without_name (new_app (codes "dispatch"))) run) live_shape) check_shape) decode_shape) codes_shape
+    let inputs = with_subcommand (with_subcommand (with_subcommand (with_subcommand (without_name (new_app (codes "dispatch"))) run) live_shape) explain_shape) picture_shape in
+    with_subcommand (with_subcommand (with_subcommand inputs check_shape) decode_shape) codes_shape
 
 -- words without a fault name the file, and this word as the number of workers
 abbrev Finds : ValueParser → Text → Text → List Text → Type 0

@@ -1,10 +1,10 @@
 -- What clap finds in the words of the worked cases.
-use Rattle.std.proofs.Common.{refl, ◌≡◌, ℕ, [], ◌∷◌, codes}
+use Rattle.std.proofs.Common.{refl, ◌≡◌, ℕ, [], ◌∷◌, Some, codes}
 use Rattle.clap.specs.Kinds.{Kinds}
 use Rattle.clap.specs.declared.error.kind.ErrorKind.{ErrorKind}
 use Rattle.clap.specs.declared.error.kind.ErrorKind.TheVariants as kind
 use Rattle.clap.proofs.OnLiterals.{clap_on_literals}
-use Rattle.rbc_command_line.specs.Witnesses.{AskFor, AskForNone, AskFrom, AskFromNone}
+use Rattle.rbc_command_line.specs.Witnesses.{AskFor, AskForNone, AskFrom, AskFromNone, AskToDraw, AskToDrawNone, AskToExplain, AskToExplainNone}
 
 pub one : AskFor 1 []
 unfolding clap_on_literals
@@ -62,3 +62,19 @@ from_seven = (refl, refl, refl)
 pub from_zero : AskFromNone (codes "--from" ∷ codes "0" ∷ [])
 unfolding clap_on_literals
 from_zero from asked = faulty _ kind.ValueValidation refl asked.0
+
+pub log_from_last : AskToExplain 4294967295 (codes "--from" ∷ codes "4294967295" ∷ [])
+unfolding clap_on_literals
+log_from_last = (refl, refl, refl)
+
+pub log_from_zero : AskToExplainNone (codes "--from" ∷ codes "0" ∷ [])
+unfolding clap_on_literals
+log_from_zero from asked = faulty _ kind.ValueValidation refl asked.0
+
+pub drawn_at_first : AskToDraw (Some 0) (codes "--after" ∷ codes "0" ∷ [])
+unfolding clap_on_literals
+drawn_at_first = (refl, refl, refl)
+
+pub drawn_too_late : AskToDrawNone (codes "--after" ∷ codes "4294967296" ∷ [])
+unfolding clap_on_literals
+drawn_too_late after asked = faulty _ kind.ValueValidation refl asked.0

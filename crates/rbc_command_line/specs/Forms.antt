@@ -1,9 +1,9 @@
--- The forms of `run` and `live`, and what they ask for.
-use Rattle.std.specs.Prelude.{◌≡◌, ◌≢◌, ◌<◌, ℕ, List, [], ◌∷◌, ◌++◌, codes}
+-- The forms of `run`, `live`, `explain` and `picture`, and what they ask for.
+use Rattle.std.specs.Prelude.{◌≡◌, ◌≢◌, ◌<◌, ℕ, List, [], ◌∷◌, ◌++◌, None, codes}
 use Rattle.std.specs.List.{AllByRecursion}
 use Rattle.std.specs.Str.Parse.{IsNumeral, digits_value}
 use Rattle.clap.specs.Walk.{Text}
-use Rattle.rbc_command_line.specs.Words.{AsksToLive, AsksToRun}
+use Rattle.rbc_command_line.specs.Words.{AsksToDraw, AsksToExplain, AsksToLive, AsksToRun}
 
 -- the word has a first byte, which is no hyphen
 abbrev pub IsPlain : Text → Type 0
@@ -29,6 +29,14 @@ OneByDefault = (file : Text) → IsPlain file → AsksToRun file 1 (codes "run" 
 -- without a number answers are written from the first one on
 abbrev pub FromOneByDefault : Type 0
 FromOneByDefault = (file : Text) → IsPlain file → AsksToLive file 1 (codes "live" ∷ codes "--track" ∷ file ∷ [])
+
+-- without a number the log begins at the first input
+abbrev pub BeginAtOneByDefault : Type 0
+BeginAtOneByDefault = (file : Text) → IsPlain file → AsksToExplain file 1 (codes "explain" ∷ codes "--track" ∷ file ∷ [])
+
+-- without a number the picture is drawn after all inputs
+abbrev pub AfterAllByDefault : Type 0
+AfterAllByDefault = (file : Text) → IsPlain file → AsksToDraw file None (codes "picture" ∷ codes "--track" ∷ file ∷ [])
 
 -- with a number there are so many workers
 abbrev pub AsManyAsNamed : Type 0

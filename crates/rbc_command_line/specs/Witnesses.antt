@@ -1,7 +1,7 @@
--- Worked cases of what words ask for: `run` and `live`, on the track in the file `t`.
-use Rattle.std.specs.Prelude.{ℕ, List, ◌∷◌, codes}
+-- Worked cases of what words ask for: `run`, `live`, `explain` and `picture`, on the track in the file `t`.
+use Rattle.std.specs.Prelude.{ℕ, List, Option, ◌∷◌, codes}
 use Rattle.clap.specs.Walk.{Text}
-use Rattle.rbc_command_line.specs.Words.{AsksToLive, AsksToRun}
+use Rattle.rbc_command_line.specs.Words.{AsksToDraw, AsksToExplain, AsksToLive, AsksToRun}
 
 -- the words that name the track, and more words
 abbrev pub run_with : List Text → List Text
@@ -22,3 +22,19 @@ AskFrom from more = AsksToLive (codes "t") from (codes "live" ∷ codes "--track
 -- they ask for no answers, from any number on
 abbrev pub AskFromNone : List Text → Type 0
 AskFromNone more = (from : ℕ) → AskFrom from more → ⊥
+
+-- the same behind `explain`: they ask for the log from this input on
+abbrev pub AskToExplain : ℕ → List Text → Type 0
+AskToExplain from more = AsksToExplain (codes "t") from (codes "explain" ∷ codes "--track" ∷ codes "t" ∷ more)
+
+-- they ask for no log, from any input on
+abbrev pub AskToExplainNone : List Text → Type 0
+AskToExplainNone more = (from : ℕ) → AskToExplain from more → ⊥
+
+-- the same behind `picture`: they ask for the picture after so many inputs
+abbrev pub AskToDraw : Option ℕ → List Text → Type 0
+AskToDraw after more = AsksToDraw (codes "t") after (codes "picture" ∷ codes "--track" ∷ codes "t" ∷ more)
+
+-- they ask for no picture, after any inputs
+abbrev pub AskToDrawNone : List Text → Type 0
+AskToDrawNone more = (after : Option ℕ) → AskToDraw after more → ⊥

@@ -1,5 +1,5 @@
 -- What the words ask for.
-use Rattle.std.specs.Prelude.{◌≡◌, ℕ, List, [], ◌∷◌, Option, Some, None, Result, MatchResult, option_and_then, if◌then◌else◌, ◌&&◌, nat_lt, length, pos, true, codes}
+use Rattle.std.specs.Prelude.{◌≡◌, ℕ, List, [], ◌∷◌, Option, Some, None, Result, MatchResult, option_and_then, unwrap_or, if◌then◌else◌, ◌&&◌, nat_lt, length, pos, true, codes}
 use Rattle.std.specs.Option.{option_map_or}
 use Rattle.std.specs.List.{list_all}
 use Rattle.std.specs.Char.{digit_value}
@@ -13,7 +13,7 @@ use Rattle.clap.specs.declared.builder.value_parser.ValueParser.TheVariants as v
 use Rattle.rbc_command_line.specs.declared.no_task.NoTask.{NoTask}
 use Rattle.rbc_command_line.specs.declared.no_task.NoTask.TheVariants.{OutOfMemory}
 use Rattle.rbc_command_line.specs.declared.words.Task.{Task}
-use Rattle.rbc_command_line.specs.declared.words.Task.TheVariants.{Run, Live, Check, Decode, Codes}
+use Rattle.rbc_command_line.specs.declared.words.Task.TheVariants.{Run, Live, Explain, Picture, Check, Decode, Codes}
 
 -- the option that names the track file
 abbrev pub track_rule : Rule
@@ -45,6 +45,30 @@ from_rule = record (new_rule (codes "from")) {
 abbrev pub live_shape : Shape
 live_shape = (with_rule (with_rule (new_app (codes "live")) track_rule) from_rule).top
 
+-- the option that says at which input the log begins: a number of 32 bits, from 1 on
+abbrev pub begin_rule : Rule
+begin_rule = record (new_rule (codes "from")) {
+  long = Some (codes "from");
+  value_names = 1;
+  parser = Some (vp.Signed (pos 1) (pos 4294967295));
+}
+
+-- `explain`, with both options
+abbrev pub explain_shape : Shape
+explain_shape = (with_rule (with_rule (new_app (codes "explain")) track_rule) begin_rule).top
+
+-- the option that says after how many inputs the picture is drawn: a number of 32 bits
+abbrev pub after_rule : Rule
+after_rule = record (new_rule (codes "after")) {
+  long = Some (codes "after");
+  value_names = 1;
+  parser = Some (vp.Signed (pos 0) (pos 4294967295));
+}
+
+-- `picture`, with both options
+abbrev pub picture_shape : Shape
+picture_shape = (with_rule (with_rule (new_app (codes "picture")) track_rule) after_rule).top
+
 -- the option by which unknown keys are notes
 abbrev pub other_keys_rule : Rule
 other_keys_rule = record (new_rule (codes "other-keys")) { long = Some (codes "other-keys"); action = Some SetTrue }
@@ -65,11 +89,15 @@ decode_shape = (with_rule (new_app (codes "decode")) (record (new_rule (codes "H
 abbrev pub bare_line : App
 bare_line = on_top (λ top. record top { no_binary_name = true; subcommand_required = true; has_version = true }) (new_app (codes "dispatch"))
 
+-- the command line with those subcommands alone that take a track and inputs
+abbrev pub input_line : App
+input_line = with_subcommand (with_subcommand (with_subcommand (with_subcommand bare_line run_shape) live_shape) explain_shape) picture_shape
+
 -- the command line with those subcommands alone that take a track
 abbrev pub track_line : App
-track_line = with_subcommand (with_subcommand (with_subcommand bare_line run_shape) live_shape) check_shape
+track_line = with_subcommand input_line check_shape
 
--- the command line that the program takes: `run`, `live`, `check`, `decode` or `codes`
+-- the command line that the program takes: `run`, `live`, `explain`, `picture`, `check`, `decode` or `codes`
 abbrev pub command_line : App
 command_line = with_subcommand (with_subcommand track_line decode_shape) codes_shape
 
@@ -109,6 +137,17 @@ count_or_one text =
 abbrev pub count_after : Text → Text → Finding → ℕ
 count_after name id found = option_map_or count_or_one (option_and_then (one_of id) (found_after name found)) 1
 
+-- `text.parse::<u32>().ok()`
+abbrev pub number_in : Text → Option ℕ
+number_in text =
+    let digits = without_leading_plus text in
+    if nat_lt 0 (length digits) && list_all (λ digit. nat_lt (digit_value digit) 10) digits && nat_lt (digits_value 10 digits) 4294967296
+    then Some (digits_value 10 digits) else None
+
+-- the number of an input that an argument was given after the subcommand of this name, if it was given one
+abbrev pub input_after : Text → Text → Finding → Option ℕ
+input_after name id found = option_and_then number_in (option_and_then (one_of id) (found_after name found))
+
 -- words without a fault that ask for the batch, on the track in the file of this name, with so many workers
 abbrev pub AsksToRun : Text → ℕ → List Text → Type 0
 AsksToRun file workers words = (fault_of command_line words ≡ [])
@@ -121,6 +160,18 @@ AsksToLive file from words = (fault_of command_line words ≡ [])
     × (word_after (codes "live") (codes "track") (finding_in words) ≡ Some file)
     × (count_after (codes "live") (codes "from") (finding_in words) ≡ from)
 
+-- words without a fault that ask for the log of the batch, on the track in the file of this name, from this input on
+abbrev pub AsksToExplain : Text → ℕ → List Text → Type 0
+AsksToExplain file from words = (fault_of command_line words ≡ [])
+    × (word_after (codes "explain") (codes "track") (finding_in words) ≡ Some file)
+    × (unwrap_or (input_after (codes "explain") (codes "from") (finding_in words)) 1 ≡ from)
+
+-- words without a fault that ask for the picture of the track in the file of this name, after so many inputs of the batch, or after all
+abbrev pub AsksToDraw : Text → Option ℕ → List Text → Type 0
+AsksToDraw file after words = (fault_of command_line words ≡ [])
+    × (word_after (codes "picture") (codes "track") (finding_in words) ≡ Some file)
+    × (input_after (codes "picture") (codes "after") (finding_in words) ≡ after)
+
 -- words without a fault that ask for the text of the message that this word stands for
 abbrev pub AsksToDecode : Text → List Text → Type 0
 AsksToDecode word words = (fault_of command_line words ≡ []) × (word_after (codes "decode") (codes "HEX") (finding_in words) ≡ Some word)
@@ -129,11 +180,13 @@ AsksToDecode word words = (fault_of command_line words ≡ []) × (word_after (c
 abbrev pub AsksToCheck : Text → List Text → Type 0
 AsksToCheck file words = (fault_of command_line words ≡ []) × (word_after (codes "check") (codes "track") (finding_in words) ≡ Some file)
 
--- no word was found for a run, for lines as they come or for a message
+-- no word was found for a run, for lines as they come, for a message, for a log or for a picture
 abbrev pub IsNeither : Finding → Type 0
 IsNeither found = (word_after (codes "run") (codes "track") found ≡ None)
     × (word_after (codes "live") (codes "track") found ≡ None)
     × (word_after (codes "decode") (codes "HEX") found ≡ None)
+    × (word_after (codes "explain") (codes "track") found ≡ None)
+    × (word_after (codes "picture") (codes "track") found ≡ None)
 
 -- the task is what was found
 abbrev pub IsFound : Finding → Task → Type 0
@@ -141,6 +194,10 @@ IsFound found (Run track workers) = (word_after (codes "run") (codes "track") fo
     × (number_after (codes "run") (codes "workers") found ≡ workers)
 IsFound found (Live track from) = (word_after (codes "live") (codes "track") found ≡ Some track.now)
     × (count_after (codes "live") (codes "from") found ≡ from)
+IsFound found (Explain track from) = (word_after (codes "explain") (codes "track") found ≡ Some track.now)
+    × (unwrap_or (input_after (codes "explain") (codes "from") found) 1 ≡ from)
+IsFound found (Picture track after) = (word_after (codes "picture") (codes "track") found ≡ Some track.now)
+    × (input_after (codes "picture") (codes "after") found ≡ after)
 IsFound found (Check track other) = IsNeither found × (word_after (codes "check") (codes "track") found ≡ Some track.now)
 IsFound found Codes = IsNeither found × (word_after (codes "check") (codes "track") found ≡ None)
 IsFound found (Decode hex) = word_after (codes "decode") (codes "HEX") found ≡ Some hex.now
@@ -155,6 +212,8 @@ IsRunOn file workers (Run track number) = (track.now ≡ file) × (number ≡ wo
 IsRunOn file workers (Live track from) = ⊥
 IsRunOn file workers (Check track other) = ⊥
 IsRunOn file workers (Decode hex) = ⊥
+IsRunOn file workers (Explain track first) = ⊥
+IsRunOn file workers (Picture track after) = ⊥
 IsRunOn file workers Codes = ⊥
 
 -- the task is lines as they come, on the track in the file of this name, from this number on
@@ -163,13 +222,37 @@ IsLiveOn file from (Live track first) = (track.now ≡ file) × (first ≡ from)
 IsLiveOn file from (Run track number) = ⊥
 IsLiveOn file from (Check track other) = ⊥
 IsLiveOn file from (Decode hex) = ⊥
+IsLiveOn file from (Explain track first) = ⊥
+IsLiveOn file from (Picture track after) = ⊥
 IsLiveOn file from Codes = ⊥
+
+-- the task is the log of the batch, on the track in the file of this name, from this input on
+abbrev pub IsExplainOn : Text → ℕ → Task → Type 0
+IsExplainOn file from (Explain track first) = (track.now ≡ file) × (first ≡ from)
+IsExplainOn file from (Run track number) = ⊥
+IsExplainOn file from (Live track first) = ⊥
+IsExplainOn file from (Picture track after) = ⊥
+IsExplainOn file from (Check track other) = ⊥
+IsExplainOn file from (Decode hex) = ⊥
+IsExplainOn file from Codes = ⊥
+
+-- the task is the picture of the track in the file of this name, after so many inputs of the batch, or after all
+abbrev pub IsPictureOn : Text → Option ℕ → Task → Type 0
+IsPictureOn file after (Picture track count) = (track.now ≡ file) × (count ≡ after)
+IsPictureOn file after (Run track number) = ⊥
+IsPictureOn file after (Live track from) = ⊥
+IsPictureOn file after (Explain track from) = ⊥
+IsPictureOn file after (Check track other) = ⊥
+IsPictureOn file after (Decode hex) = ⊥
+IsPictureOn file after Codes = ⊥
 
 -- the task is the text of the message that this word stands for
 abbrev pub IsDecode : Text → Task → Type 0
 IsDecode word (Run track number) = ⊥
 IsDecode word (Live track from) = ⊥
 IsDecode word (Check track other) = ⊥
+IsDecode word (Explain track first) = ⊥
+IsDecode word (Picture track after) = ⊥
 IsDecode word Codes = ⊥
 IsDecode word (Decode hex) = hex.now ≡ word
 
@@ -179,6 +262,8 @@ IsCheckOf file (Check track other) = track.now ≡ file
 IsCheckOf file (Run track number) = ⊥
 IsCheckOf file (Live track from) = ⊥
 IsCheckOf file (Decode hex) = ⊥
+IsCheckOf file (Explain track first) = ⊥
+IsCheckOf file (Picture track after) = ⊥
 IsCheckOf file Codes = ⊥
 
 -- the words are taken for a task, unless memory runs out

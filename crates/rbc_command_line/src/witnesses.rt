@@ -1,7 +1,8 @@
 //! Worked cases of the law of forms, right ones and wrong ones.
 
-ghost use Rattle.std.specs.Prelude.{[], ◌∷◌, codes};
-ghost use Rattle.rbc_command_line.specs.Witnesses.{AskFor, AskForNone, AskFrom, AskFromNone};
+ghost use Rattle.std.specs.Prelude.{[], ◌∷◌, Some, codes};
+ghost use Rattle.rbc_command_line.specs.Witnesses.{AskFor, AskForNone, AskFrom, AskFromNone, AskToDraw, AskToDrawNone};
+ghost use Rattle.rbc_command_line.specs.Witnesses.{AskToExplain, AskToExplainNone};
 
 /// What words behind `run --track t` ask for.
 ///
@@ -9,7 +10,9 @@ ghost use Rattle.rbc_command_line.specs.Witnesses.{AskFor, AskForNone, AskFrom, 
 /// - `--workers 0` asks for none, which the run refuses. `--workers 2` does not ask for one.
 /// - `--workers 256`, `--workers -1`, `--workers x` and a number that is named twice ask for no run.
 ///
-/// Behind `live --track t`, `--from 7` asks for the answers from number 7 on, and `--from 0` for none.
+/// Behind `live --track t`, `--from 7` asks for the answers from number 7 on, and `--from 0` for none. Behind
+/// `explain --track t`, `--from 4294967295` asks for the log from that input on, and `--from 0` for none. Behind
+/// `picture --track t`, `--after 0` asks for the picture before all inputs, and `--after 4294967296` for none.
 pub fn forms_law_witnesses()
     ensures one { AskFor 1 [] }
     ensures sixteen { AskFor 16 (codes "--workers" ∷ codes "16" ∷ []) }
@@ -23,4 +26,8 @@ pub fn forms_law_witnesses()
     ensures twice { AskForNone (codes "--workers" ∷ codes "1" ∷ codes "--workers" ∷ codes "1" ∷ []) }
     ensures from_seven { AskFrom 7 (codes "--from" ∷ codes "7" ∷ []) }
     ensures from_zero { AskFromNone (codes "--from" ∷ codes "0" ∷ []) }
+    ensures log_from_last { AskToExplain 4294967295 (codes "--from" ∷ codes "4294967295" ∷ []) }
+    ensures log_from_zero { AskToExplainNone (codes "--from" ∷ codes "0" ∷ []) }
+    ensures drawn_at_first { AskToDraw (Some 0) (codes "--after" ∷ codes "0" ∷ []) }
+    ensures drawn_too_late { AskToDrawNone (codes "--after" ∷ codes "4294967296" ∷ []) }
 {}

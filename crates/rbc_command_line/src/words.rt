@@ -1,15 +1,17 @@
 //! The arguments that the program takes.
-ghost use Rattle.std.specs.Prelude.{◌≡◌, ◌⊎◌, ℕ, List, [], codes, false, IfErr, IfNone, IfOk, IfSome, OnOk, map};
-ghost use Rattle.std.specs.Prelude.{option_map, string_bytes, true};
+ghost use Rattle.std.specs.Prelude.{◌≡◌, ◌⊎◌, ℕ, List, Option, [], codes, false, IfErr, IfNone, IfOk, IfSome, OnOk};
+ghost use Rattle.std.specs.Prelude.{map, option_map, string_bytes, true};
 ghost use Rattle.clap.specs.Simple.{App, Shape, new_rule, with_subcommand};
 ghost use Rattle.clap.specs.Words.{app_of, fault_of, rule_of, shape_of, subcommand_rows_of};
 ghost use Rattle.clap.specs.declared.builder.command.Command.TheViews.{out-Command as fields_of};
 ghost use Rattle.rbc_command_line.specs.NoTask.{status_of, status_of_kind};
-ghost use Rattle.rbc_command_line.specs.Words.{AsksToCheck, AsksToDecode, AsksToLive, AsksToRun, IsCheckOf, IsDecode};
-ghost use Rattle.rbc_command_line.specs.Words.{IsFound, IsLiveOn, IsNoTask, IsRunOn, IsTakenFor, IsWantOfMemory};
-ghost use Rattle.rbc_command_line.specs.Words.{bare_line, check_shape, codes_shape, command_line, count_after};
-ghost use Rattle.rbc_command_line.specs.Words.{decode_shape, finding_in, from_rule, live_shape, number_after};
-ghost use Rattle.rbc_command_line.specs.Words.{other_keys_rule, run_shape, track_rule, word_after, workers_rule};
+ghost use Rattle.rbc_command_line.specs.Words.{AsksToCheck, AsksToDecode, AsksToDraw, AsksToExplain, AsksToLive};
+ghost use Rattle.rbc_command_line.specs.Words.{AsksToRun, IsCheckOf, IsDecode, IsExplainOn, IsFound, IsLiveOn};
+ghost use Rattle.rbc_command_line.specs.Words.{IsNoTask, IsPictureOn, IsRunOn, IsTakenFor, IsWantOfMemory, after_rule};
+ghost use Rattle.rbc_command_line.specs.Words.{bare_line, begin_rule, check_shape, codes_shape, command_line};
+ghost use Rattle.rbc_command_line.specs.Words.{count_after, decode_shape, explain_shape, finding_in, from_rule};
+ghost use Rattle.rbc_command_line.specs.Words.{input_after, live_shape, number_after, other_keys_rule, picture_shape};
+ghost use Rattle.rbc_command_line.specs.Words.{run_shape, track_rule, word_after, workers_rule};
 
 use crate::no_task::NoTask;
 use clap::error::ErrorKind;
@@ -27,6 +29,12 @@ pub enum Task<'a> {
     /// `dispatch live --track FILE --from N`: answer the lines on standard input as they come, on the track in
     /// the file of this name, and write the answers from this number on, or from 1 where the arguments name none.
     Live { track: &'a str, from: u64 },
+    /// `dispatch explain --track FILE --from N`: tell the batch on standard input in words, on the track in the file of
+    /// this name, from this input on, 1 or more, or from 1 where the arguments name none.
+    Explain { track: &'a str, from: u32 },
+    /// `dispatch picture --track FILE --after N`: draw what stands after so many inputs of the batch on standard input,
+    /// on the track in the file of this name, or after all where the arguments name no number.
+    Picture { track: &'a str, after: Option<u32> },
     /// `dispatch check --track FILE --other-keys`: report on the track in the file of this name, with
     /// or without the option.
     Check { track: &'a str, other_keys: bool },
@@ -40,6 +48,8 @@ const AFTER_HELP: &str = "\
 First:    dispatch check --track FILE                 what the track file says
 Then:     dispatch run --track FILE < BATCH           results and messages, as bytes
 Or:       dispatch live --track FILE                  the same, an answer as each line comes
+To read:  dispatch explain --track FILE < BATCH       the same run in words
+          dispatch picture --track FILE < BATCH > out.svg
 More:     README.md, docs/GUIDE.md; `dispatch help COMMAND` for one command.";
 
 const AFTER_RUN: &str = "\
@@ -50,7 +60,7 @@ Reads a batch from standard input, to its end, and writes one line for each inpu
 Workers are threads that work on several inputs at once. The output is the same for every number.
 
 Exit status: 0 done; 1 a fault, one line on standard error; 2 bad arguments.
-`dispatch codes` says what each code and each fault means.";
+`dispatch codes` says what each code and each fault means, `dispatch explain` tells a run in words.";
 
 const AFTER_LIVE: &str = "\
 Reads inputs from standard input, a line each, and answers each before it waits for the next one:
@@ -62,6 +72,20 @@ first, and name in --from the first input whose answer you do not have.
 
 Exit status: 0 done; 1 a fault, one line on standard error; 2 bad arguments. What was written before
 a fault stands.";
+
+const AFTER_EXPLAIN: &str = "\
+Reads a batch from standard input, as `run` does, and tells for each input what came of it and each
+message with its reason; then what is active, told, not told and not acknowledged at the end. The
+lines that begin with \"= \" are those of `run`. Places are in km from the beginning of their line.
+
+Exit status: 0 done; 1 a fault, one line on standard error; 2 bad arguments.";
+
+const AFTER_PICTURE: &str = "\
+Reads a batch from standard input, as `run` does, and writes one SVG document: for each line its
+balise groups, the stops and restrictions that are active, and each train where it may be, with the
+places before which it is told to stop. Trains without a place are listed below.
+
+Exit status: 0 done; 1 a fault, one line on standard error; 2 bad arguments.";
 
 const AFTER_CHECK: &str = "\
 Writes the lines with their balise groups in order, then warnings and notes. Where the file is
@@ -91,7 +115,9 @@ fn command<'a>(alloc: Global) -> Result<Command<'a>, AllocError>
 {
     let with_run = with_subcommand(bare_command(alloc), run_command(alloc));
     let with_live = with_subcommand(with_run, live_command(alloc));
-    let with_check = with_subcommand(with_live, check_command(alloc));
+    let with_explain = with_subcommand(with_live, explain_command(alloc));
+    let with_picture = with_subcommand(with_explain, picture_command(alloc));
+    let with_check = with_subcommand(with_picture, check_command(alloc));
     let with_decode = with_subcommand(with_check, decode_command(alloc));
     with_subcommand(with_decode, Ok(codes_command(alloc)))
 }
@@ -115,7 +141,7 @@ fn bare_command<'a>(alloc: Global) -> Result<Command<'a>, AllocError>
 {
     Command::new(alloc, "dispatch")
         .no_binary_name(true)
-        .version("3.1.0, rules 3")
+        .version("3.2.0, rules 3")
         .about(
             "Emergency stops and speed restrictions, from a signaller's batch to each train's messages",
         )
@@ -179,6 +205,50 @@ fn from_option<'a>(alloc: Global) -> Arg<'a>
         .value_parser(value_parser!(u64).range(1..))
         .default_value("1")
         .help("The first input whose answer is written, 1 or more")
+}
+
+fn explain_command<'a>(alloc: Global) -> Result<Command<'a>, AllocError>
+    ensures shape { IfOk result (λ command. shape_of command ≡ explain_shape) }
+    ensures local { IfOk result (λ command. (fields_of command).has_globals ≡ false) }
+{
+    Command::new(alloc, "explain")
+        .about("Tell a run in words, as a log")
+        .after_help(AFTER_EXPLAIN)
+        .arg(track_option(alloc))?
+        .arg(begin_option(alloc))
+}
+
+fn begin_option<'a>(alloc: Global) -> Arg<'a>
+    ensures rule { rule_of result ≡ begin_rule }
+    ensures local { result.global ≡ false }
+{
+    Arg::new(alloc, "from")
+        .long("from")
+        .value_name("N")
+        .value_parser(value_parser!(u32).range(1..))
+        .help("Begin the log at input N; earlier inputs are run all the same")
+}
+
+fn picture_command<'a>(alloc: Global) -> Result<Command<'a>, AllocError>
+    ensures shape { IfOk result (λ command. shape_of command ≡ picture_shape) }
+    ensures local { IfOk result (λ command. (fields_of command).has_globals ≡ false) }
+{
+    Command::new(alloc, "picture")
+        .about("Draw the track with its trains, stops and restrictions, as SVG")
+        .after_help(AFTER_PICTURE)
+        .arg(track_option(alloc))?
+        .arg(after_option(alloc))
+}
+
+fn after_option<'a>(alloc: Global) -> Arg<'a>
+    ensures rule { rule_of result ≡ after_rule }
+    ensures local { result.global ≡ false }
+{
+    Arg::new(alloc, "after")
+        .long("after")
+        .value_name("N")
+        .value_parser(value_parser!(u32))
+        .help("Draw what stands after the first N inputs; without it, after all")
 }
 
 fn check_command<'a>(alloc: Global) -> Result<Command<'a>, AllocError>
@@ -260,6 +330,10 @@ pub fn parse<'a>(alloc: Global, words: &'a [String]) -> Result<Task<'a>, NoTask>
         → IsTakenFor (IsRunOn file workers) result }
     ensures live { (file : List ℕ) (from : ℕ) → AsksToLive file from (map string_bytes words.now)
         → IsTakenFor (IsLiveOn file from) result }
+    ensures explain { (file : List ℕ) (from : ℕ) → AsksToExplain file from (map string_bytes words.now)
+        → IsTakenFor (IsExplainOn file from) result }
+    ensures picture { (file : List ℕ) (after : Option ℕ) → AsksToDraw file after (map string_bytes words.now)
+        → IsTakenFor (IsPictureOn file after) result }
     ensures decode { (word : List ℕ) → AsksToDecode word (map string_bytes words.now)
         → IsTakenFor (IsDecode word) result }
     ensures check { (file : List ℕ) → AsksToCheck file (map string_bytes words.now)
@@ -287,6 +361,14 @@ fn task_of<'a>(matches: &ArgMatches<'a>) -> Option<Task<'a>>
     if let Some(track) = word_after(matches, "live", "track") {
         let from = count_after(matches, "live", "from");
         return Some(Task::Live { track, from });
+    }
+    if let Some(track) = word_after(matches, "explain", "track") {
+        let from = input_after(matches, "explain", "from").unwrap_or(1);
+        return Some(Task::Explain { track, from });
+    }
+    if let Some(track) = word_after(matches, "picture", "track") {
+        let after = input_after(matches, "picture", "after");
+        return Some(Task::Picture { track, after });
     }
     if let Some(hex) = word_after(matches, "decode", "HEX") {
         return Some(Task::Decode(hex));
@@ -327,6 +409,16 @@ fn count_after<'a>(matches: &ArgMatches<'a>, name: &str, id: &str) -> u64
     match matches.subcommand_matches(name) {
         Some(found) => found.get_one::<u64>(id).unwrap_or(1),
         None => 1,
+    }
+}
+
+// The number of an input that an argument was given after the subcommand of this name, if it was given one.
+fn input_after<'a>(matches: &ArgMatches<'a>, name: &str, id: &str) -> Option<u32>
+    ensures { result ≡ input_after name.now id.now (subcommand_rows_of matches.now) }
+{
+    match matches.subcommand_matches(name) {
+        Some(found) => found.get_one::<u32>(id),
+        None => None,
     }
 }
 

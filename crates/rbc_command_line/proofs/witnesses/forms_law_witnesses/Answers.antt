@@ -1,4 +1,4 @@
-use Rattle.rbc_command_line.proofs.WitnessWords.{below_zero, from_seven, from_zero, leading_zeros, no_number, one, one_whatever_is_named, sixteen, too_great, twice, two_by_default, zero}
+use Rattle.rbc_command_line.proofs.WitnessWords.{below_zero, drawn_at_first, drawn_too_late, from_seven, from_zero, leading_zeros, log_from_last, log_from_zero, no_number, one, one_whatever_is_named, sixteen, too_great, twice, two_by_default, zero}
 use Rattle.rbc_command_line.proofs.witnesses.forms_law_witnesses.Goals as goal
 
 pub returns-clause-one : goal.returns-clause-one
@@ -36,3 +36,15 @@ returns-clause-from_seven c = from_seven
 
 pub returns-clause-from_zero : goal.returns-clause-from_zero
 returns-clause-from_zero c = from_zero
+
+pub returns-clause-log_from_last : goal.returns-clause-log_from_last
+returns-clause-log_from_last c = log_from_last
+
+pub returns-clause-log_from_zero : goal.returns-clause-log_from_zero
+returns-clause-log_from_zero c = log_from_zero
+
+pub returns-clause-drawn_at_first : goal.returns-clause-drawn_at_first
+returns-clause-drawn_at_first c = drawn_at_first
+
+pub returns-clause-drawn_too_late : goal.returns-clause-drawn_too_late
+returns-clause-drawn_too_late c = drawn_too_late

@@ -12,10 +12,10 @@ use Rattle.clap.specs.declared.error.kind.ErrorKind.{ErrorKind}
 use Rattle.clap.specs.declared.parser.matches.ArgMatches.{ArgMatches}
 use Rattle.clap.proofs.OnLiterals.{clap_on_literals}
 use Rattle.rbc_command_line.specs.NoTask.{no_task_of}
-use Rattle.rbc_command_line.specs.Words.{Finding, IsCheckOf, IsDecode, IsFound, IsLiveOn, IsRunOn, IsTakenFor, IsWantOfMemory, command_line, count_after, finding_in, number_after, word_after}
+use Rattle.rbc_command_line.specs.Words.{Finding, IsCheckOf, IsDecode, IsExplainOn, IsFound, IsLiveOn, IsPictureOn, IsRunOn, IsTakenFor, IsWantOfMemory, command_line, count_after, finding_in, input_after, number_after, word_after}
 use Rattle.rbc_command_line.specs.declared.no_task.NoTask.{NoTask}
 use Rattle.rbc_command_line.specs.declared.words.Task.{Task}
-use Rattle.rbc_command_line.specs.declared.words.Task.TheVariants.{Run, Live, Check, Decode, Codes}
+use Rattle.rbc_command_line.specs.declared.words.Task.TheVariants.{Run, Live, Explain, Picture, Check, Decode, Codes}
 use Rattle.rbc_command_line.proofs.words.parse.Goals as goal
 
 line_is_simple_and_free : is_simple_and_free command_line ≡ true
@@ -62,6 +62,8 @@ run_found : (found : Finding) (task : Task) → IsFound found task → (file : T
     → word_after (codes "run") (codes "track") found ≡ Some file → number_after (codes "run") (codes "workers") found ≡ workers → IsRunOn file workers task
 run_found found (Run track number) is file workers asked count = (some_now _ _ (sym is.0 ∙ asked), sym is.1 ∙ count)
 run_found found (Live track from) is file workers asked count = not_both (codes "run") (codes "live") (codes "track") (codes "track") found file track.now refl asked is.0
+run_found found (Explain track first) is file workers asked count = not_both (codes "run") (codes "explain") (codes "track") (codes "track") found file track.now refl asked is.0
+run_found found (Picture track after) is file workers asked count = not_both (codes "run") (codes "picture") (codes "track") (codes "track") found file track.now refl asked is.0
 run_found found (Check track other) is file workers asked count = not_found _ file is.0.0 asked
 run_found found (Decode hex) is file workers asked count = not_both (codes "run") (codes "decode") (codes "track") (codes "HEX") found file hex.now refl asked is
 run_found found Codes is file workers asked count = not_found _ file is.0.0 asked
@@ -70,14 +72,38 @@ live_found : (found : Finding) (task : Task) → IsFound found task → (file : 
     → word_after (codes "live") (codes "track") found ≡ Some file → count_after (codes "live") (codes "from") found ≡ from → IsLiveOn file from task
 live_found found (Run track number) is file from asked count = not_both (codes "run") (codes "live") (codes "track") (codes "track") found track.now file refl is.0 asked
 live_found found (Live track first) is file from asked count = (some_now _ _ (sym is.0 ∙ asked), sym is.1 ∙ count)
+live_found found (Explain track first) is file from asked count = not_both (codes "live") (codes "explain") (codes "track") (codes "track") found file track.now refl asked is.0
+live_found found (Picture track after) is file from asked count = not_both (codes "live") (codes "picture") (codes "track") (codes "track") found file track.now refl asked is.0
 live_found found (Check track other) is file from asked count = not_found _ file is.0.1 asked
 live_found found (Decode hex) is file from asked count = not_both (codes "live") (codes "decode") (codes "track") (codes "HEX") found file hex.now refl asked is
 live_found found Codes is file from asked count = not_found _ file is.0.1 asked
+
+explain_found : (found : Finding) (task : Task) → IsFound found task → (file : Text) (from : ℕ)
+    → word_after (codes "explain") (codes "track") found ≡ Some file → unwrap_or (input_after (codes "explain") (codes "from") found) 1 ≡ from → IsExplainOn file from task
+explain_found found (Run track number) is file from asked count = not_both (codes "run") (codes "explain") (codes "track") (codes "track") found track.now file refl is.0 asked
+explain_found found (Live track first) is file from asked count = not_both (codes "live") (codes "explain") (codes "track") (codes "track") found track.now file refl is.0 asked
+explain_found found (Explain track first) is file from asked count = (some_now _ _ (sym is.0 ∙ asked), sym is.1 ∙ count)
+explain_found found (Picture track after) is file from asked count = not_both (codes "explain") (codes "picture") (codes "track") (codes "track") found file track.now refl asked is.0
+explain_found found (Check track other) is file from asked count = not_found _ file is.0.3 asked
+explain_found found (Decode hex) is file from asked count = not_both (codes "explain") (codes "decode") (codes "track") (codes "HEX") found file hex.now refl asked is
+explain_found found Codes is file from asked count = not_found _ file is.0.3 asked
+
+picture_found : (found : Finding) (task : Task) → IsFound found task → (file : Text) (after : Option ℕ)
+    → word_after (codes "picture") (codes "track") found ≡ Some file → input_after (codes "picture") (codes "after") found ≡ after → IsPictureOn file after task
+picture_found found (Run track number) is file after asked count = not_both (codes "run") (codes "picture") (codes "track") (codes "track") found track.now file refl is.0 asked
+picture_found found (Live track from) is file after asked count = not_both (codes "live") (codes "picture") (codes "track") (codes "track") found track.now file refl is.0 asked
+picture_found found (Explain track from) is file after asked count = not_both (codes "explain") (codes "picture") (codes "track") (codes "track") found track.now file refl is.0 asked
+picture_found found (Picture track inputs) is file after asked count = (some_now _ _ (sym is.0 ∙ asked), sym is.1 ∙ count)
+picture_found found (Check track other) is file after asked count = not_found _ file is.0.4 asked
+picture_found found (Decode hex) is file after asked count = not_both (codes "picture") (codes "decode") (codes "track") (codes "HEX") found file hex.now refl asked is
+picture_found found Codes is file after asked count = not_found _ file is.0.4 asked
 
 decode_found : (found : Finding) (task : Task) → IsFound found task → (word : Text)
     → word_after (codes "decode") (codes "HEX") found ≡ Some word → IsDecode word task
 decode_found found (Run track number) is word asked = not_both (codes "run") (codes "decode") (codes "track") (codes "HEX") found track.now word refl is.0 asked
 decode_found found (Live track from) is word asked = not_both (codes "live") (codes "decode") (codes "track") (codes "HEX") found track.now word refl is.0 asked
+decode_found found (Explain track first) is word asked = not_both (codes "explain") (codes "decode") (codes "track") (codes "HEX") found track.now word refl is.0 asked
+decode_found found (Picture track after) is word asked = not_both (codes "picture") (codes "decode") (codes "track") (codes "HEX") found track.now word refl is.0 asked
 decode_found found (Check track other) is word asked = not_found _ word is.0.2 asked
 decode_found found (Decode hex) is word asked = some_now _ _ (sym is ∙ asked)
 decode_found found Codes is word asked = not_found _ word is.0.2 asked
@@ -86,6 +112,8 @@ check_found : (found : Finding) (task : Task) → IsFound found task → (file :
     → word_after (codes "check") (codes "track") found ≡ Some file → IsCheckOf file task
 check_found found (Run track number) is file asked = not_both (codes "run") (codes "check") (codes "track") (codes "track") found track.now file refl is.0 asked
 check_found found (Live track from) is file asked = not_both (codes "live") (codes "check") (codes "track") (codes "track") found track.now file refl is.0 asked
+check_found found (Explain track first) is file asked = not_both (codes "explain") (codes "check") (codes "track") (codes "track") found track.now file refl is.0 asked
+check_found found (Picture track after) is file asked = not_both (codes "picture") (codes "check") (codes "track") (codes "track") found track.now file refl is.0 asked
 check_found found (Check track other) is file asked = some_now _ _ (sym is.1 ∙ asked)
 check_found found (Decode hex) is file asked = not_both (codes "decode") (codes "check") (codes "HEX") (codes "track") found hex.now file refl is asked
 check_found found Codes is file asked = not_found _ file is.1 asked
@@ -118,6 +146,18 @@ returns-in-Some-clause-live c = λ file from asked.
     let words = map string_bytes c.args.words.now in
     let found = found_here _ words _ c.in_ok-command.ensures c.in_ok-matches.ensures.matches in
     live_found (finding_in words) _ (subst (λ (f : Finding). IsFound f c.in-Some.task) found c.in-Some.ensures.found) file from asked.1 asked.2
+
+pub returns-in-Some-clause-explain : goal.returns-in-Some-clause-explain
+returns-in-Some-clause-explain c = λ file from asked.
+    let words = map string_bytes c.args.words.now in
+    let found = found_here _ words _ c.in_ok-command.ensures c.in_ok-matches.ensures.matches in
+    explain_found (finding_in words) _ (subst (λ (f : Finding). IsFound f c.in-Some.task) found c.in-Some.ensures.found) file from asked.1 asked.2
+
+pub returns-in-Some-clause-picture : goal.returns-in-Some-clause-picture
+returns-in-Some-clause-picture c = λ file after asked.
+    let words = map string_bytes c.args.words.now in
+    let found = found_here _ words _ c.in_ok-command.ensures c.in_ok-matches.ensures.matches in
+    picture_found (finding_in words) _ (subst (λ (f : Finding). IsFound f c.in-Some.task) found c.in-Some.ensures.found) file after asked.1 asked.2
 
 pub returns-in-Some-clause-decode : goal.returns-in-Some-clause-decode
 returns-in-Some-clause-decode c = λ word asked.
@@ -154,3 +194,15 @@ returns-in_err-matches-clause-decode c = λ word asked.
     let e = c.in_err-matches.field-0.0 in
     let kinds = kinds_here _ (map string_bytes c.args.words.now) (λ ks. HasKind ks e) c.in_ok-command.ensures c.in_err-matches.ensures.kinds in
     only_memory _ (IsDecode word) (no_task_of e) c.from_residual-in_err-matches.ensures.1 (memory_alone e (subst (λ (ks : List ErrorKind). HasKind ks e) asked.0 kinds))
+
+pub returns-in_err-matches-clause-explain : goal.returns-in_err-matches-clause-explain
+returns-in_err-matches-clause-explain c = λ file from asked.
+    let e = c.in_err-matches.field-0.0 in
+    let kinds = kinds_here _ (map string_bytes c.args.words.now) (λ ks. HasKind ks e) c.in_ok-command.ensures c.in_err-matches.ensures.kinds in
+    only_memory _ (IsExplainOn file from) (no_task_of e) c.from_residual-in_err-matches.ensures.1 (memory_alone e (subst (λ (ks : List ErrorKind). HasKind ks e) asked.0 kinds))
+
+pub returns-in_err-matches-clause-picture : goal.returns-in_err-matches-clause-picture
+returns-in_err-matches-clause-picture c = λ file after asked.
+    let e = c.in_err-matches.field-0.0 in
+    let kinds = kinds_here _ (map string_bytes c.args.words.now) (λ ks. HasKind ks e) c.in_ok-command.ensures c.in_err-matches.ensures.kinds in
+    only_memory _ (IsPictureOn file after) (no_task_of e) c.from_residual-in_err-matches.ensures.1 (memory_alone e (subst (λ (ks : List ErrorKind). HasKind ks e) asked.0 kinds))
