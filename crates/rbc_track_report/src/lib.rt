@@ -7,9 +7,12 @@ mod keys;
 mod line_table;
 mod named_document;
 mod names;
+mod naming;
 mod place;
 mod remark;
 mod report;
 mod report_text;
 
+pub use naming::{NamedGroup, NamedLine, NamedTrack, named_track};
 pub use report::{Report, Verdict, check};
+pub use report_text::Sheet;

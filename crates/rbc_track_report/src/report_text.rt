@@ -4,7 +4,7 @@ ghost use Rattle.std.specs.Prelude.{◌≡◌, [], false, IfOk, OnOk, string_byt
 ghost use Rattle.rbc_track_report.specs.Growth.{IsWrittenOn};
 
 use crate::names::{MAX_SHOWN, is_unruly};
-use rbc_words::{Count, Km};
+use rbc_words::{Count, Km, Metres};
 use std::alloc::{AllocError, Global};
 use std::fmt::Write;
 
@@ -90,6 +90,18 @@ impl Sheet {
     {
         let km = Km(units);
         if write!(self.text, "{km}").is_err() {
+            self.is_cut = true;
+        }
+        self
+    }
+
+    /// Adds a length in units of 10 cm, in metres.
+    pub fn metres(&mut self, units: u32) -> &mut Self
+        ensures same { result.ghost_name ≡ self.entry.ghost_name }
+        ensures written { IsWrittenOn self.old result.now }
+    {
+        let metres = Metres(units);
+        if write!(self.text, "{metres}").is_err() {
             self.is_cut = true;
         }
         self

@@ -10,6 +10,10 @@ km_in_metres units = decimal (units / 10000) ++ (codes "." ++ (decimal (units / 
 abbrev pub km_text : ℕ → List ℕ
 km_text units = if units % 10 == 0 then km_in_metres units else km_in_metres units ++ decimal (units % 10)
 
+-- metres, and a tenth of them where it is not 0
+abbrev pub metres_text : ℕ → List ℕ
+metres_text units = if units % 10 == 0 then decimal (units / 10) else decimal (units / 10) ++ (codes "." ++ decimal (units % 10))
+
 -- so many of a thing: its plural ends in s
 abbrev pub count_text : ℕ → List ℕ → List ℕ
 count_text number noun = decimal number ++ (codes " " ++ (noun ++ (if number == 1 then codes "" else codes "s")))

@@ -8,4 +8,4 @@ mod units;
 
 pub use codes::{Row, other_row_of, row_of, row_of_code};
 pub use list::codes_text;
-pub use units::{Count, Km};
+pub use units::{Count, Km, Metres};

@@ -29,6 +29,26 @@ impl fmt::Display for Km {
     }
 }
 
+/// A length in units of 10 cm, shown in metres, with a tenth where it is not 0: 2000 is `200`, and 5 is `0.5`.
+#[derive(Clone, Copy, Debug, PartialEq, Eq)]
+pub struct Metres(pub u32);
+
+impl fmt::Display for Metres {
+    ghost use Rattle.std.specs.Prelude.{Some};
+    ghost use Rattle.rbc_words.specs.Units.{metres_text};
+
+    ghost output = { λ metres. Some (metres_text metres.0) };
+
+    fn fmt<W: fmt::Write>(&self, f: &mut fmt::Formatter<W>) -> fmt::Result {
+        let units = self.0;
+        let (whole, tenth) = (units / 10, units % 10);
+        if tenth == 0 {
+            return write!(f, "{whole}");
+        }
+        write!(f, "{whole}.{tenth}")
+    }
+}
+
 /// So many of a thing: `1 line`, `2 lines`. The plural of the noun ends in s.
 #[derive(Clone, Copy, Debug, PartialEq, Eq)]
 pub struct Count<'a> {
