@@ -1,0 +1,31 @@
+-- In which part of a picture a train stands.
+use Rattle.std.specs.Prelude.{◌≡◌, ℕ, Bool, true, false, ◌==◌, Option, Some, None, is_none, List, filter, map}
+use Rattle.rbc_place.specs.Placing as placing
+use Rattle.rbc_picture.specs.declared.train_state.TrainState.{TrainState}
+
+-- a place is on a line
+abbrev pub is_place_on : ℕ → Option placing.Place → Bool
+is_place_on line None = false
+is_place_on line (Some place) = place.line == line
+
+-- a train is placed on a line
+abbrev pub is_on : ℕ → TrainState → Bool
+is_on line train = is_place_on line train.place
+
+-- a train has no place
+abbrev pub is_unplaced : TrainState → Bool
+is_unplaced train = is_none train.place
+
+-- the engines of trains
+abbrev pub engines_of : List TrainState → List ℕ
+engines_of trains = map (λ train. train.engine) trains
+
+-- Each train stands in one part: in the panel of its line, or in the list of the trains without a place.
+pub record StandsOnce (train : TrainState) : Type 0 where
+  pub placed : (place : placing.Place) → train.place ≡ Some place
+      → (is_unplaced train ≡ false) × ((line : ℕ) → (is_on line train ≡ true → line ≡ place.line) × (line ≡ place.line → is_on line train ≡ true))
+  pub unplaced : train.place ≡ None → (is_unplaced train ≡ true) × ((line : ℕ) → is_on line train ≡ false)
+
+-- so with each train
+abbrev pub EachStandsOnce : Type 0
+EachStandsOnce = (train : TrainState) → StandsOnce train

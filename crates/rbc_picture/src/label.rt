@@ -1,0 +1,122 @@
+//! The label above a train: its engine, what it is not told, and what it is told.
+
+use crate::pixels::{Side, Span};
+use crate::shapes::Point;
+use crate::short_words::{bold_width, fitting_list, short_list};
+use crate::svg::Svg;
+use crate::texts::{Anchor, ENGINE, NOTE, Style, UNTOLD};
+use crate::train_state::TrainState;
+use std::alloc::{AllocError, Global};
+
+/// The widest that a label is, in tenths of a pixel.
+const WIDEST: i64 = 5_600;
+
+/// The distance between two texts of a label.
+const GAP: i64 = 60;
+
+/// A label.
+#[derive(Drop)]
+pub struct Label {
+    /// The number of the train's on-board equipment.
+    pub engine: String,
+    /// What it is not told, or no text.
+    pub untold: String,
+    /// What it is told, or no text.
+    pub told: String,
+    /// Where the label begins.
+    pub x: i64,
+    /// The side to which it goes from there.
+    pub side: Side,
+}
+
+/// The label of a train that is drawn from one place to another.
+///
+/// # Errors
+///
+/// Memory was refused.
+pub fn label_of(alloc: Global, train: &TrainState, body: Span) -> Result<Label, AllocError> {
+    let engine = engine_words(alloc, train.engine)?;
+    let untold = untold_list(alloc, train)?;
+    let room = WIDEST
+        .saturating_sub(bold_width(engine.as_str(), 13))
+        .saturating_sub(GAP)
+        .saturating_sub(need_of(untold.as_str()));
+    let told = fitting_list(alloc, "", &train.told_words(alloc)?, 6, room)?;
+    let mut label = Label {
+        engine,
+        untold,
+        told,
+        x: body.left,
+        side: Side::Right,
+    };
+    if body.left.saturating_add(label.need()) > 11_600 {
+        label.x = body.right.min(11_600);
+        label.side = Side::Left;
+    }
+    Ok(label)
+}
+
+/// The number of a train's on-board equipment, in words.
+///
+/// # Errors
+///
+/// Memory was refused.
+pub fn engine_words(alloc: Global, engine: u32) -> Result<String, AllocError> {
+    format!(in alloc; "{engine}")
+}
+
+/// What a train is not told, at most two of it.
+fn untold_list(alloc: Global, train: &TrainState) -> Result<String, AllocError> {
+    let words = train.untold_words(alloc)?;
+    if words.is_empty() {
+        return Ok(String::new(alloc));
+    }
+    short_list(alloc, "NOT TOLD ", &words, 2)
+}
+
+/// The room of a text behind another, if there is a text.
+fn need_of(words: &str) -> i64 {
+    if words.is_empty() {
+        return 0;
+    }
+    bold_width(words, 11).saturating_add(GAP)
+}
+
+impl Label {
+    /// The room of the whole label.
+    fn need(&self) -> i64 {
+        bold_width(self.engine.as_str(), 13)
+            .saturating_add(need_of(self.untold.as_str()))
+            .saturating_add(need_of(self.told.as_str()))
+    }
+
+    /// From its left end to its right end.
+    pub fn extent(&self) -> Span {
+        Span::between(self.x, self.side.from(self.x, self.need()))
+    }
+
+    /// Draws the label.
+    pub fn draw(&self, svg: &mut Svg, y: i64) {
+        let engine = self.engine.as_str();
+        let x = self.draw_text(
+            svg,
+            Point { x: self.x, y },
+            ENGINE,
+            engine,
+            bold_width(engine, 13),
+        );
+        let untold = self.untold.as_str();
+        let x = self.draw_text(svg, Point { x, y }, UNTOLD, untold, bold_width(untold, 11));
+        let told = self.told.as_str();
+        self.draw_text(svg, Point { x, y }, NOTE, told, bold_width(told, 11));
+    }
+
+    /// Draws one text of it, if it has words, and tells where the next one begins.
+    fn draw_text(&self, svg: &mut Svg, at: Point, style: Style, words: &str, width: i64) -> i64 {
+        if words.is_empty() {
+            return at.x;
+        }
+        svg.text_with_halo(at, Anchor::of(self.side), style, words);
+        self.side.from(at.x, width.saturating_add(GAP))
+    }
+}

@@ -1,0 +1,31 @@
+//! A picture of a track, of its trains, and of the stops and restrictions that stand after the inputs of a batch.
+#![tactic(auto)]
+
+mod axis;
+mod bands;
+mod colours;
+mod escape;
+mod groups;
+mod head;
+mod label;
+mod lanes;
+mod law;
+mod lost;
+mod panel;
+mod picture;
+mod pixels;
+mod plan;
+mod posts;
+mod scene;
+mod sentences;
+mod shapes;
+mod short_words;
+mod stretches;
+mod svg;
+mod texts;
+mod train_shape;
+mod train_state;
+mod window;
+
+pub use law::{order_law, part_law};
+pub use picture::picture;

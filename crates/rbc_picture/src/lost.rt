@@ -1,0 +1,145 @@
+//! The trains without a place.
+
+ghost use Rattle.std.specs.Prelude.{◌≡◌, IfOk, map, filter};
+ghost use Rattle.rbc_picture.specs.Trains.{is_unplaced};
+
+use crate::colours::{DASHED_EDGE, WHITE};
+use crate::label::engine_words;
+use crate::shapes::{Area, Point, moved};
+use crate::short_words::{bold_width, fitting_list};
+use crate::svg::Svg;
+use crate::texts::{Anchor, ENGINE, HEADING, NOTE, UNTOLD};
+use crate::train_state::TrainState;
+use std::alloc::{AllocError, Global};
+
+/// How many boxes stand in a row.
+const IN_A_ROW: usize = 4;
+
+/// A train without a place, in a box.
+#[derive(Drop)]
+pub struct LostTrain<'a> {
+    pub train: &'a TrainState,
+    engine: String,
+    /// What it is not told, or no text.
+    untold: String,
+    /// What it is told, or no text.
+    told: String,
+    /// Whether it has answered all stops that it is told by message 16, if there are any.
+    at_once: Option<bool>,
+}
+
+/// The trains without a place, in their order.
+///
+/// # Errors
+///
+/// Memory was refused.
+pub fn lost_of<'a>(
+    alloc: Global,
+    trains: &'a [TrainState],
+) -> Result<Vec<LostTrain<'a>>, AllocError>
+    ensures { IfOk result (λ lost. map (λ train. train.train.now) lost.items ≡ filter is_unplaced trains.now) }
+{
+    let mut lost = Vec::new(alloc);
+    for train in trains {
+        if train.is_unplaced() {
+            lost.push(lost_train(alloc, train)?)?;
+        }
+    }
+    Ok(lost)
+}
+
+/// A train without a place.
+fn lost_train<'a>(alloc: Global, train: &'a TrainState) -> Result<LostTrain<'a>, AllocError>
+    ensures { IfOk result (λ lost. lost.train.now ≡ train.now) }
+{
+    let engine = engine_words(alloc, train.engine)?;
+    let room = 2_340i64.saturating_sub(bold_width(engine.as_str(), 13));
+    let untold = fitting_list(alloc, "NOT TOLD ", &train.untold_words(alloc)?, 2, room)?;
+    let told = fitting_list(alloc, "", &train.told_words(alloc)?, 4, room)?;
+    let at_once = match train.at_once(alloc)? {
+        Some(stops) => Some(stops.is_answered),
+        None => None,
+    };
+    Ok(LostTrain {
+        train,
+        engine,
+        untold,
+        told,
+        at_once,
+    })
+}
+
+/// Where the part with the trains without a place ends, if it begins at `top`.
+pub fn lost_end(top: i64, trains: usize) -> i64 {
+    row_top(top, trains.div_ceil(IN_A_ROW)).saturating_add(60)
+}
+
+/// Where a row of boxes begins.
+fn row_top(top: i64, row: usize) -> i64 {
+    let rows = i64::try_from(row).unwrap_or(i64::MAX);
+    top.saturating_add(260)
+        .saturating_add(rows.saturating_mul(300))
+}
+
+/// Where a box stands, by its index.
+fn box_corner(top: i64, index: usize) -> Point {
+    let column = i64::try_from(index % IN_A_ROW).unwrap_or(0);
+    Point {
+        x: column.saturating_mul(2_800).saturating_add(400),
+        y: row_top(top, index / IN_A_ROW),
+    }
+}
+
+/// Draws the trains without a place, from a place downwards.
+pub fn draw_lost(svg: &mut Svg, lost: &[LostTrain<'_>], top: i64) {
+    let y = top.saturating_add(160);
+    svg.begin_group();
+    svg.text(
+        Point { x: 400, y },
+        Anchor::Start,
+        HEADING,
+        "Trains without a place",
+    );
+    svg.text(
+        Point { x: 11_600, y },
+        Anchor::End,
+        NOTE,
+        "they may be anywhere, so each is stopped at once by every stop",
+    );
+    for (index, train) in lost.iter().enumerate() {
+        train.draw(svg, box_corner(top, index));
+    }
+    svg.end_group();
+}
+
+impl LostTrain<'_> {
+    /// Draws the box of the train.
+    fn draw(&self, svg: &mut Svg, corner: Point) {
+        let area = Area {
+            x: corner.x,
+            y: corner.y,
+            width: 2_700,
+            height: 240,
+        };
+        svg.begin_group();
+        svg.train_title(self.train);
+        svg.filled_box(area, WHITE, DASHED_EDGE);
+        if let Some(is_answered) = self.at_once {
+            svg.octagon(moved(corner, 130, 120), 70, is_answered);
+        }
+        self.draw_words(svg, corner);
+        svg.end_group();
+    }
+
+    /// Writes its engine, and what it is not told, or else what it is told.
+    fn draw_words(&self, svg: &mut Svg, corner: Point) {
+        let engine = self.engine.as_str();
+        svg.text(moved(corner, 260, 165), Anchor::Start, ENGINE, engine);
+        let behind = moved(corner, bold_width(engine, 13).saturating_add(320), 165);
+        if !self.untold.is_empty() {
+            svg.text(behind, Anchor::Start, UNTOLD, self.untold.as_str());
+        } else if !self.told.is_empty() {
+            svg.text(behind, Anchor::Start, NOTE, self.told.as_str());
+        }
+    }
+}

@@ -1,0 +1,142 @@
+//! What a picture shows, and which part of each line.
+
+use crate::train_state::TrainState;
+use crate::window::{Reach, Window};
+use rbc_track_report::{NamedLine, NamedTrack};
+use rbc_zones::{Area, Limit, Segment};
+use std::alloc::{AllocError, Global};
+
+/// A track, and what stands on it after some inputs.
+#[derive(Drop)]
+pub struct Scene<'a> {
+    /// The track, with its names.
+    pub track: &'a NamedTrack,
+    /// The active stops, ascending.
+    pub stops: &'a [(u32, Area)],
+    /// The active restrictions, ascending.
+    pub limits: &'a [(u32, Limit)],
+    /// The trains, ascending.
+    pub trains: &'a [TrainState],
+    /// What is counted.
+    pub sums: Sums,
+}
+
+/// What a picture counts.
+#[derive(Clone, Copy, Debug, PartialEq, Eq)]
+pub struct Sums {
+    /// The inputs that were taken.
+    pub taken: u64,
+    /// The inputs of the batch.
+    pub inputs: usize,
+    /// The messages that are not acknowledged.
+    pub acknowledgements: usize,
+    /// The stops and restrictions that trains are not told.
+    pub untold: usize,
+    /// The stops that trains are not told again.
+    pub untold_again: usize,
+}
+
+/// What is to be seen of each line: the places of its trains, their balise groups, the places before which they are
+/// told to stop, and the active stretches.
+///
+/// # Errors
+///
+/// Memory was refused.
+pub fn reaches_of(alloc: Global, scene: &Scene<'_>) -> Result<Vec<Reach>, AllocError> {
+    let mut reaches = Vec::new(alloc);
+    for line in 0..scene.track.lines.len() {
+        let reach = stops_reach(scene.stops, line)
+            .and(limits_reach(scene.limits, line))
+            .and(trains_reach(scene.trains, line));
+        reaches.push(reach)?;
+    }
+    Ok(reaches)
+}
+
+/// The stretches of a line that stops close.
+fn stops_reach(stops: &[(u32, Area)], line: usize) -> Reach {
+    let mut reach = Reach::NONE;
+    for (_number, area) in stops {
+        reach = reach.and(area_reach(area.segments(), line));
+    }
+    reach
+}
+
+/// The segments of a line.
+fn area_reach(segments: &[Segment], line: usize) -> Reach {
+    let mut reach = Reach::NONE;
+    for segment in segments {
+        reach = reach.and(segment_reach(segment, line));
+    }
+    reach
+}
+
+/// A segment, if it is on a line.
+fn segment_reach(segment: &Segment, line: usize) -> Reach {
+    if segment.line as usize == line {
+        Reach::NONE.with(segment.from).with(segment.to)
+    } else {
+        Reach::NONE
+    }
+}
+
+/// The stretches of a line on which restrictions apply.
+fn limits_reach(limits: &[(u32, Limit)], line: usize) -> Reach {
+    let mut reach = Reach::NONE;
+    for (_number, limit) in limits {
+        reach = reach.and(segment_reach(&limit.segment(), line));
+    }
+    reach
+}
+
+/// The places of the trains of a line, with their balise groups and the places before which they are told to stop.
+fn trains_reach(trains: &[TrainState], line: usize) -> Reach {
+    let mut reach = Reach::NONE;
+    for train in trains {
+        reach = reach.and(train_reach(train, line));
+    }
+    reach
+}
+
+/// The place of a train, if it is on a line, with its balise group and the places before which it is told to stop
+/// there.
+fn train_reach(train: &TrainState, line: usize) -> Reach {
+    let Some(place) = train.place_on(line) else {
+        return Reach::NONE;
+    };
+    let mut reach = Reach::NONE
+        .with(place.lo())
+        .with(place.hi())
+        .with(place.at());
+    for stop in &train.stops {
+        if let Some(told) = stop.told
+            && told.line as usize == line
+        {
+            reach = reach.with(told.at);
+        }
+    }
+    reach
+}
+
+/// The part of a line that is shown. Lines of one length show the same part, what is to be seen of all of them, unless
+/// that is all: then each shows its own.
+pub fn window_of(lines: &[NamedLine], reaches: &[Reach], line: usize) -> Window {
+    let length = lines.get(line).map_or(1, |line| line.length);
+    let common = Window::of(length, common_reach(lines, reaches, length));
+    if !common.is_whole(length) {
+        return common;
+    }
+    let own = reaches.get(line).copied().unwrap_or(Reach::NONE);
+    Window::of(length, own)
+}
+
+/// What is to be seen of all lines of one length.
+fn common_reach(lines: &[NamedLine], reaches: &[Reach], length: u32) -> Reach {
+    let mut common = Reach::NONE;
+    for (line, reach) in lines.iter().zip(reaches.iter()) {
+        if line.length == length {
+            common = common.and(*reach);
+        }
+    }
+    common
+}

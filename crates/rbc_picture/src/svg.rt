@@ -1,0 +1,127 @@
+//! The text of an SVG document while it is written.
+
+use crate::escape::push_escaped;
+use crate::pixels::Pixels;
+use crate::short_words::ShortWord;
+use rbc_words::{Count, Km};
+use std::alloc::{AllocError, Global};
+use std::fmt::Write;
+
+/// A document that is written piece by piece. Where memory is refused a piece is missing, and the end of the document
+/// tells so: a piece that is added has no result of its own. All lengths and coordinates are in tenths of a pixel.
+#[derive(Drop)]
+pub struct Svg {
+    text: String,
+    is_cut: bool,
+}
+
+impl Svg {
+    /// An empty document.
+    pub fn new(alloc: Global) -> Self {
+        Svg {
+            text: String::new(alloc),
+            is_cut: false,
+        }
+    }
+
+    /// The whole text.
+    ///
+    /// # Errors
+    ///
+    /// Memory was refused to a piece of it.
+    pub fn ended(self) -> Result<String, AllocError> {
+        if self.is_cut {
+            return Err(AllocError);
+        }
+        Ok(self.text)
+    }
+
+    /// Adds words as they are.
+    pub fn words(&mut self, words: &str) {
+        if self.text.push_str(words).is_err() {
+            self.is_cut = true;
+        }
+    }
+
+    /// Adds a number in decimal.
+    pub fn number(&mut self, number: u64) {
+        if write!(self.text, "{number}").is_err() {
+            self.is_cut = true;
+        }
+    }
+
+    /// Adds a place or a length on a line, in units of 10 cm, in kilometres.
+    pub fn km(&mut self, units: u32) {
+        let km = Km(units);
+        if write!(self.text, "{km}").is_err() {
+            self.is_cut = true;
+        }
+    }
+
+    /// Adds so many of a thing.
+    pub fn count(&mut self, number: usize, noun: &str) {
+        let count = Count { number, noun };
+        if write!(self.text, "{count}").is_err() {
+            self.is_cut = true;
+        }
+    }
+
+    /// Adds a stop or a restriction, in short.
+    pub fn short_word(&mut self, word: ShortWord) {
+        if write!(self.text, "{word}").is_err() {
+            self.is_cut = true;
+        }
+    }
+
+    /// Adds a name between quotation marks, escaped and with a space before it, or nothing.
+    pub fn name(&mut self, name: &Option<String>) {
+        if let Some(name) = name {
+            self.words(" \"");
+            self.escaped(name.as_str());
+            self.words("\"");
+        }
+    }
+
+    /// Adds a text from outside, escaped.
+    fn escaped(&mut self, text: &str) {
+        if push_escaped(&mut self.text, text).is_err() {
+            self.is_cut = true;
+        }
+    }
+
+    /// Adds a length or a coordinate in pixels. One below 0 counts as 0.
+    pub fn pixels(&mut self, tenths: i64) {
+        let pixels = Pixels(u32::try_from(tenths.max(0)).unwrap_or(u32::MAX));
+        if write!(self.text, "{pixels}").is_err() {
+            self.is_cut = true;
+        }
+    }
+
+    /// Adds an attribute, with a space before it.
+    pub fn attribute(&mut self, key: &str, value: &str) {
+        self.words(" ");
+        self.words(key);
+        self.words("=\"");
+        self.words(value);
+        self.words("\"");
+    }
+
+    /// Adds an attribute that is a length or a coordinate, with a space before it.
+    pub fn length(&mut self, key: &str, tenths: i64) {
+        self.words(" ");
+        self.words(key);
+        self.words("=\"");
+        self.pixels(tenths);
+        self.words("\"");
+    }
+
+    /// Begins a group of elements.
+    pub fn begin_group(&mut self) {
+        self.words("<g>\n");
+    }
+
+    /// Ends a group of elements.
+    pub fn end_group(&mut self) {
+        self.words("</g>\n");
+    }
+}

@@ -1,0 +1,164 @@
+//! Words on the picture.
+
+use crate::colours::{BROWN, DARK, GREY, RED};
+use crate::pixels::Side;
+use crate::shapes::Point;
+use crate::svg::Svg;
+
+/// How words look.
+#[derive(Clone, Copy, Debug, PartialEq, Eq)]
+pub struct Style {
+    /// Their size in pixels.
+    pub size: &'static str,
+    pub is_bold: bool,
+    pub colour: &'static str,
+}
+
+/// The title above the picture.
+pub const TITLE: Style = Style {
+    size: "20",
+    is_bold: true,
+    colour: DARK,
+};
+
+/// The summary below the title.
+pub const SUMMARY: Style = Style {
+    size: "13",
+    is_bold: false,
+    colour: DARK,
+};
+
+/// What is not told, below the summary.
+pub const LACK: Style = Style {
+    size: "13",
+    is_bold: true,
+    colour: RED,
+};
+
+/// The heading of a part.
+pub const HEADING: Style = Style {
+    size: "15",
+    is_bold: true,
+    colour: DARK,
+};
+
+/// The words of the legend and of an axis.
+pub const SMALL: Style = Style {
+    size: "11",
+    is_bold: false,
+    colour: DARK,
+};
+
+/// What a train is told, and remarks.
+pub const NOTE: Style = Style {
+    size: "11",
+    is_bold: false,
+    colour: GREY,
+};
+
+/// What a train is not told.
+pub const UNTOLD: Style = Style {
+    size: "11",
+    is_bold: true,
+    colour: RED,
+};
+
+/// The number of a train's on-board equipment.
+pub const ENGINE: Style = Style {
+    size: "13",
+    is_bold: true,
+    colour: DARK,
+};
+
+/// The words at a band.
+pub const BAND: Style = Style {
+    size: "11",
+    is_bold: true,
+    colour: DARK,
+};
+
+/// The words beside the sign of a stop.
+pub const SIGN: Style = Style {
+    size: "11",
+    is_bold: true,
+    colour: BROWN,
+};
+
+/// The number of a balise group.
+pub const GROUP: Style = Style {
+    size: "10",
+    is_bold: false,
+    colour: GREY,
+};
+
+/// The white edge behind words that may lie over something else.
+const HALO: &str =
+    " fill=\"#FFFFFF\" stroke=\"#FFFFFF\" stroke-width=\"4\" stroke-linejoin=\"round\" aria-hidden=\"true\">";
+
+/// Which part of words stands at their place.
+#[derive(Clone, Copy, Debug, PartialEq, Eq)]
+pub enum Anchor {
+    Start,
+    Middle,
+    End,
+}
+
+impl Anchor {
+    /// The anchor of words that go to a side.
+    pub fn of(side: Side) -> Anchor {
+        match side {
+            Side::Right => Anchor::Start,
+            Side::Left => Anchor::End,
+        }
+    }
+
+    fn word(self) -> &'static str {
+        match self {
+            Anchor::Start => "start",
+            Anchor::Middle => "middle",
+            Anchor::End => "end",
+        }
+    }
+}
+
+impl Svg {
+    /// Begins a text, up to what fills it.
+    fn begin_text(&mut self, at: Point, anchor: Anchor, style: Style) {
+        self.words("<text");
+        self.length("x", at.x);
+        self.length("y", at.y);
+        self.attribute("font-size", style.size);
+        self.attribute("text-anchor", anchor.word());
+        if style.is_bold {
+            self.attribute("font-weight", "bold");
+        }
+    }
+
+    /// Begins a text; its words follow.
+    pub fn begin_words(&mut self, at: Point, anchor: Anchor, style: Style) {
+        self.begin_text(at, anchor, style);
+        self.attribute("fill", style.colour);
+        self.words(">");
+    }
+
+    /// Ends a text.
+    pub fn end_words(&mut self) {
+        self.words("</text>\n");
+    }
+
+    /// Writes words as they are.
+    pub fn text(&mut self, at: Point, anchor: Anchor, style: Style, words: &str) {
+        self.begin_words(at, anchor, style);
+        self.words(words);
+        self.end_words();
+    }
+
+    /// Writes words as they are, with a white edge behind them.
+    pub fn text_with_halo(&mut self, at: Point, anchor: Anchor, style: Style, words: &str) {
+        self.begin_text(at, anchor, style);
+        self.words(HALO);
+        self.words(words);
+        self.end_words();
+        self.text(at, anchor, style, words);
+    }
+}

@@ -1,0 +1,259 @@
+//! How a train is drawn on its line.
+
+ghost use Rattle.std.specs.Prelude.{◌≡◌, IfOk};
+
+use crate::colours::DARK;
+use crate::label::{Label, label_of};
+use crate::pixels::{Side, Span};
+use crate::posts::{Post, Taken, place_words, posts_of};
+use crate::shapes::{Point, Stroke, moved};
+use crate::short_words::{bold_width, short_list};
+use crate::svg::Svg;
+use crate::texts::{Anchor, SIGN};
+use crate::train_state::TrainState;
+use crate::window::Window;
+use rbc_place::Place;
+use rbc_track::Way;
+use std::alloc::{AllocError, Global};
+
+/// The least length of a train on the picture.
+const LEAST_LENGTH: i64 = 120;
+
+/// The line from a train to the place before which it is told to stop.
+pub const TOLD: Stroke = Stroke {
+    colour: "#D55E00",
+    width: "2",
+    dashes: Some("6 4"),
+};
+
+/// The post at such a place.
+pub const POST: Stroke = Stroke {
+    colour: "#D55E00",
+    width: "3",
+    dashes: None,
+};
+
+/// The sign of the stops that a train is told by message 16.
+#[derive(Drop)]
+pub struct NowSign {
+    pub words: String,
+    pub is_answered: bool,
+}
+
+/// A train on its line.
+#[derive(Drop)]
+pub struct TrainShape<'a> {
+    /// The train.
+    pub train: &'a TrainState,
+    /// From its left end to its right end.
+    body: Span,
+    /// The side to which it faces.
+    side: Side,
+    label: Label,
+    now: Option<NowSign>,
+    posts: Vec<Post>,
+}
+
+/// A train at its place on a line, of which a part is shown.
+///
+/// # Errors
+///
+/// Memory was refused.
+pub fn shape_of<'a>(
+    alloc: Global,
+    train: &'a TrainState,
+    place: Place,
+    window: Window,
+) -> Result<TrainShape<'a>, AllocError>
+    ensures { IfOk result (λ shape. shape.train.now ≡ train.now) }
+{
+    let (body, side) = body_of(place, window);
+    let now = now_sign(alloc, train)?;
+    let mut posts = posts_of(alloc, train, place.line() as usize, window)?;
+    let others = parts_of(alloc, body, side, now.is_some())?;
+    let mut taken = Taken::by(alloc, &posts, others)?;
+    place_words(&mut posts, &mut taken, side)?;
+    Ok(TrainShape {
+        train,
+        body,
+        side,
+        label: label_of(alloc, train, body)?,
+        now,
+        posts,
+    })
+}
+
+/// Where a train stands on the picture, and the side to which it faces. Its front is exact; a train that would be too
+/// short is drawn longer at its rear.
+fn body_of(place: Place, window: Window) -> (Span, Side) {
+    let (left, right) = (window.x(place.lo()), window.x(place.hi()));
+    match place.facing() {
+        Way::Up => {
+            let rear = left.min(right.saturating_sub(LEAST_LENGTH));
+            (Span { left: rear, right }, Side::Right)
+        }
+        Way::Down => {
+            let rear = right.max(left.saturating_add(LEAST_LENGTH));
+            (Span { left, right: rear }, Side::Left)
+        }
+    }
+}
+
+/// The sign of the stops that a train is told by message 16, if there are any.
+fn now_sign(alloc: Global, train: &TrainState) -> Result<Option<NowSign>, AllocError> {
+    match train.at_once(alloc)? {
+        Some(stops) => Ok(Some(NowSign {
+            words: short_list(alloc, "", &stops.words, 2)?,
+            is_answered: stops.is_answered,
+        })),
+        None => Ok(None),
+    }
+}
+
+/// The end of a train at its front.
+fn front_of(body: Span, side: Side) -> i64 {
+    match side {
+        Side::Right => body.right,
+        Side::Left => body.left,
+    }
+}
+
+/// What a train itself takes: the sign before its front, if there is one, and the train where it is short.
+fn parts_of(
+    alloc: Global,
+    body: Span,
+    side: Side,
+    has_sign: bool,
+) -> Result<Vec<Span>, AllocError> {
+    let mut parts = Vec::new(alloc);
+    if has_sign {
+        let front = front_of(body, side);
+        parts.push(Span::between(side.from(front, 10), side.from(front, 170)))?;
+    }
+    if body.right.saturating_sub(body.left) <= 400 {
+        parts.push(body)?;
+    }
+    Ok(parts)
+}
+
+impl TrainShape<'_> {
+    /// The room of the train with its label, its signs and their words.
+    pub fn extent(&self) -> Span {
+        let label = self.label.extent();
+        let mut extent = self.body.with(label.left).with(label.right);
+        if let Some(sign) = &self.now {
+            let front = front_of(self.body, self.side);
+            extent = extent
+                .with(self.side.from(front, 160))
+                .with(self.side.from(front, sign.reach()));
+        }
+        for post in &self.posts {
+            extent = extent.with(post.x);
+            if let Some(side) = post.side {
+                let room = post.room(side);
+                extent = extent.with(room.left).with(room.right);
+            }
+        }
+        extent
+    }
+
+    /// Draws the train in a row.
+    pub fn draw(&self, svg: &mut Svg, y: i64) {
+        svg.begin_group();
+        svg.train_title(self.train);
+        self.label.draw(svg, y.saturating_sub(110));
+        self.draw_ways(svg, y);
+        self.draw_arrow(svg, y);
+        self.draw_posts(svg, y);
+        self.draw_now(svg, y);
+        svg.end_group();
+    }
+
+    /// Draws a line to each post.
+    fn draw_ways(&self, svg: &mut Svg, y: i64) {
+        let front = front_of(self.body, self.side);
+        for post in &self.posts {
+            svg.line(Point { x: front, y }, Point { x: post.x, y }, TOLD);
+        }
+    }
+
+    /// Draws the train itself.
+    fn draw_arrow(&self, svg: &mut Svg, y: i64) {
+        let length = self.body.right.saturating_sub(self.body.left);
+        let nose = (length.saturating_mul(6) / 10).min(90);
+        let (front, rear) = match self.side {
+            Side::Right => (self.body.right, self.body.left),
+            Side::Left => (self.body.left, self.body.right),
+        };
+        let tip = Point { x: front, y };
+        let shoulder = Point {
+            x: self.side.other().from(front, nose),
+            y,
+        };
+        let tail = Point { x: rear, y };
+        let corners = [
+            moved(tail, 0, -60),
+            moved(shoulder, 0, -60),
+            tip,
+            moved(shoulder, 0, 60),
+            moved(tail, 0, 60),
+        ];
+        svg.polygon(&corners, DARK, "");
+    }
+
+    /// Draws each post with its sign and its words.
+    fn draw_posts(&self, svg: &mut Svg, y: i64) {
+        for post in &self.posts {
+            let at = Point { x: post.x, y };
+            svg.line(moved(at, 0, -110), moved(at, 0, 110), POST);
+            svg.octagon(at, 60, post.is_answered);
+            if let Some(side) = post.side {
+                draw_sign_words(
+                    svg,
+                    side,
+                    Point {
+                        x: side.from(post.x, 100),
+                        y,
+                    },
+                    post.words.as_str(),
+                );
+            }
+        }
+    }
+
+    /// Draws the sign of the stops that the train is told by message 16, and its words where there is room for them.
+    fn draw_now(&self, svg: &mut Svg, y: i64) {
+        if let Some(sign) = &self.now {
+            let front = front_of(self.body, self.side);
+            let centre = Point {
+                x: self.side.from(front, 90),
+                y,
+            };
+            svg.octagon(centre, 70, sign.is_answered);
+            if self.has_room(front, sign) {
+                let x = self.side.from(front, 190);
+                draw_sign_words(svg, self.side, Point { x, y }, sign.words.as_str());
+            }
+        }
+    }
+
+    /// Whether there is room for the words of the sign before the front.
+    fn has_room(&self, front: i64, sign: &NowSign) -> bool {
+        let end = self.side.from(front, sign.reach());
+        let need = u64::try_from(sign.reach().saturating_add(100)).unwrap_or(u64::MAX);
+        Span::between(end, end).is_inside()
+            && self.posts.iter().all(|post| post.x.abs_diff(front) > need)
+    }
+}
+
+impl NowSign {
+    /// How far from the front its words end.
+    fn reach(&self) -> i64 {
+        bold_width(self.words.as_str(), 11).saturating_add(200)
+    }
+}
+
+/// Writes the words beside a sign.
+fn draw_sign_words(svg: &mut Svg, side: Side, at: Point, words: &str) {
+    svg.text_with_halo(moved(at, 0, 40), Anchor::of(side), SIGN, words);
+}

@@ -1,0 +1,211 @@
+//! The trains, as a picture shows them.
+
+ghost use Rattle.std.specs.Prelude.{◌≡◌, is_some};
+ghost use Rattle.rbc_picture.specs.Trains.{is_on, is_unplaced};
+
+use crate::short_words::{Remark, ShortWord};
+use rbc_account::{Account, ToldPlace, TrainStanding, Waiting, Waits};
+use rbc_ids::{Kind, Slot, UsedSlot};
+use rbc_place::Place;
+use rbc_settle::TrainRec;
+use std::alloc::{AllocError, Global};
+
+/// What a stop identifier of a train is held for.
+#[derive(Clone, Copy)]
+pub struct StopSlot {
+    /// The identifier (NID_EM).
+    pub id: u8,
+    /// What it is held for.
+    pub slot: Slot,
+    /// The place before which the train is told to stop, where it was told by message 15.
+    pub told: Option<ToldPlace>,
+}
+
+/// A train: where it may be, what it is told, and what it is not told.
+#[derive(Drop)]
+pub struct TrainState {
+    /// The number of its on-board equipment (NID_ENGINE).
+    pub engine: u32,
+    /// Where it may be, if that is known.
+    pub place: Option<Place>,
+    /// Its stop identifiers, ascending.
+    pub stops: Vec<StopSlot>,
+    /// Its restriction identifiers (NID_TSR) with what they are held for, ascending.
+    pub limits: Vec<(u8, Slot)>,
+    /// What waits at it: stops and restrictions that it is not told, and stops that it is not told again.
+    pub waiting: Vec<Waiting>,
+}
+
+/// The stops that a train is told by message 16.
+#[derive(Drop)]
+pub struct AtOnce {
+    /// The stops, by identifier.
+    pub words: Vec<ShortWord>,
+    /// Whether the train has answered all of them.
+    pub is_answered: bool,
+}
+
+/// The trains of a run in ascending order.
+///
+/// # Errors
+///
+/// Memory was refused.
+pub fn trains_of(
+    alloc: Global,
+    account: &Account,
+    standing: Vec<TrainStanding>,
+) -> Result<Vec<TrainState>, AllocError> {
+    let mut trains = Vec::new(alloc);
+    for at_train in standing {
+        if let Some(train) = account.train(at_train.engine) {
+            trains.push(state_of(alloc, account, train, at_train.waiting)?)?;
+        }
+    }
+    Ok(trains)
+}
+
+/// A train by its record and what waits at it.
+fn state_of(
+    alloc: Global,
+    account: &Account,
+    train: &TrainRec,
+    waiting: Vec<Waiting>,
+) -> Result<TrainState, AllocError> {
+    Ok(TrainState {
+        engine: train.engine,
+        place: train.place,
+        stops: stop_slots_of(alloc, account, train)?,
+        limits: Vec::from_slice(alloc, train.limits.slots())?,
+        waiting,
+    })
+}
+
+/// The stop identifiers of a train.
+fn stop_slots_of(
+    alloc: Global,
+    account: &Account,
+    train: &TrainRec,
+) -> Result<Vec<StopSlot>, AllocError> {
+    let mut slots = Vec::new(alloc);
+    for (id, slot) in train.stops.slots() {
+        slots.push(StopSlot {
+            id: *id,
+            slot: *slot,
+            told: told_place_of(account, train.engine, *id, slot),
+        })?;
+    }
+    Ok(slots)
+}
+
+/// The place before which a train is told to stop under an identifier, where it was told by message 15.
+fn told_place_of(account: &Account, engine: u32, id: u8, slot: &Slot) -> Option<ToldPlace> {
+    match slot {
+        Slot::Used(used) if used.kind == Kind::Conditional => {
+            account.told_place(engine, id, used.stamp)
+        }
+        _ => None,
+    }
+}
+
+impl TrainState {
+    /// The place of the train, if it is placed on this line.
+    pub fn place_on(&self, line: usize) -> Option<Place>
+        ensures { is_some result ≡ is_on line self.now }
+    {
+        match self.place {
+            Some(place) if place.line() as usize == line => Some(place),
+            _ => None,
+        }
+    }
+
+    /// Whether it has no place.
+    pub fn is_unplaced(&self) -> bool
+        ensures { result ≡ is_unplaced self.now }
+    {
+        self.place.is_none()
+    }
+
+    /// Whether a stop is due at it and not told again.
+    pub fn is_due(&self, number: u32) -> bool {
+        self.waiting
+            .iter()
+            .any(|waiting| waiting.what == Waits::Again(number))
+    }
+
+    /// A stop or a restriction that it is told, with what is said of it.
+    fn told_word(&self, used: &UsedSlot) -> ShortWord {
+        let is_stop = used.kind != Kind::Restriction;
+        let remark = if used.acked {
+            Remark::Nothing
+        } else if is_stop && self.is_due(used.number) {
+            Remark::Due
+        } else {
+            Remark::Unanswered
+        };
+        ShortWord {
+            is_stop,
+            number: used.number,
+            remark,
+        }
+    }
+
+    /// What it is told: stops by number, then restrictions by number.
+    ///
+    /// # Errors
+    ///
+    /// Memory was refused.
+    pub fn told_words(&self, alloc: Global) -> Result<Vec<ShortWord>, AllocError> {
+        let mut words = Vec::new(alloc);
+        for stop in &self.stops {
+            if let Slot::Used(used) = &stop.slot {
+                words.push(self.told_word(used))?;
+            }
+        }
+        for (_id, slot) in &self.limits {
+            if let Slot::Used(used) = slot {
+                words.push(self.told_word(used))?;
+            }
+        }
+        words.sort_by_key(|word| (!word.is_stop, word.number))?;
+        Ok(words)
+    }
+
+    /// What concerns it and is not told to it: stops by number, then restrictions by number.
+    ///
+    /// # Errors
+    ///
+    /// Memory was refused.
+    pub fn untold_words(&self, alloc: Global) -> Result<Vec<ShortWord>, AllocError> {
+        let mut words = Vec::new(alloc);
+        for waiting in &self.waiting {
+            match waiting.what {
+                Waits::Stop(number) => words.push(ShortWord::stop(number))?,
+                Waits::Restriction(number) => words.push(ShortWord::restriction(number))?,
+                Waits::Again(_) => {}
+            }
+        }
+        Ok(words)
+    }
+
+    /// The stops that it is told by message 16, if there are any.
+    ///
+    /// # Errors
+    ///
+    /// Memory was refused.
+    pub fn at_once(&self, alloc: Global) -> Result<Option<AtOnce>, AllocError> {
+        let mut words = Vec::new(alloc);
+        let mut is_answered = true;
+        for stop in &self.stops {
+            if let Slot::Used(used) = &stop.slot
+                && used.kind == Kind::Unconditional
+            {
+                words.push(ShortWord::stop(used.number))?;
+                is_answered = is_answered && used.acked;
+            }
+        }
+        if words.is_empty() {
+            return Ok(None);
+        }
+        Ok(Some(AtOnce { words, is_answered }))
+    }
+}
