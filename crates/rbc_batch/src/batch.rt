@@ -1,7 +1,8 @@
 //! Processing a batch, from a reader to a writer.
 
-ghost use Rattle.std.specs.Prelude.{◌≡◌, ◌<◌, length, IfOk, IfErr, IfSome, IsErrOf};
+ghost use Rattle.std.specs.Prelude.{◌≡◌, ◌<◌, ◌≤◌, length, IfOk, IfErr, IfSome, IsErrOf};
 ghost use Rattle.std.specs.List.{All};
+ghost use Rattle.rbc_engine.specs.Answers.{max_inputs};
 ghost use Rattle.rbc_rule.specs.Inputs.{Fits};
 ghost use Rattle.rbc_text.specs.BatchText.{lines_of};
 ghost use Rattle.rbc_text.specs.Pieces.{texts_of};
@@ -82,6 +83,7 @@ impl From<RunError> for ProcessError {
 /// the number of its lines.
 fn admit(alloc: Global, batch: &[u8], workers: u8) -> Result<Vec<&[u8]>, ProcessError>
     ensures lines { IfOk result (λ lines. texts_of lines.items ≡ lines_of batch.now) }
+    ensures few { IfOk result (λ lines. length lines.items ≤ max_inputs) }
     ensures refused { IfErr result (IsRefused workers batch.now) }
 {
     if workers == 0 || workers > MAX_WORKERS {
@@ -92,6 +94,19 @@ fn admit(alloc: Global, batch: &[u8], workers: u8) -> Result<Vec<&[u8]>, Process
         return Err(ProcessError::Run(RunError::TooManyInputs));
     }
     Ok(lines)
+}
+
+/// The lines of a batch, each without its line feed, for a run that takes one after another.
+///
+/// # Errors
+///
+/// `Run(TooManyInputs)` if there are more than 100,000 lines; `Memory`.
+pub fn lines_of_batch(alloc: Global, batch: &[u8]) -> Result<Vec<&[u8]>, ProcessError>
+    ensures lines { IfOk result (λ lines. texts_of lines.items ≡ lines_of batch.now) }
+    ensures few { IfOk result (λ lines. length lines.items ≤ max_inputs) }
+    ensures refused { IfErr result (IsRefused 1 batch.now) }
+{
+    admit(alloc, batch, 1)
 }
 
 /// Reads a batch to its end, and returns the inputs of its lines, if so many workers can run them: what is refused is

@@ -5,7 +5,7 @@ mod batch;
 mod inputs;
 mod streams;
 
-pub use batch::{ProcessError, process};
+pub use batch::{ProcessError, lines_of_batch, process};
 pub use inputs::parse_batch;
 pub use rbc_text::{parse_line, render};
-pub use streams::write_text;
+pub use streams::{read_batch, write_text};
