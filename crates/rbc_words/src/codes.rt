@@ -158,7 +158,7 @@ fn to_do_of(refusal: Refusal) -> &'static str {
         Refusal::BadArea =>
             "Look at the line with `dispatch check`, and append the command again, corrected.",
         Refusal::TooManyActive => "Release stops, or lift restrictions, that are no longer needed.",
-        Refusal::NoSuchNumber => "Look in the batch for the numbers that were given and not ended.",
+        Refusal::NoSuchNumber => "Look at what is active: the end of `dispatch explain`.",
         Refusal::StampTooHigh =>
             "The old place of the train still counts. Its clock is wrong: tell the operator of the
              radio.",

@@ -49,6 +49,11 @@ pub const FAULTS: &[FaultRow] = &[
         to_do: "Nothing was written. See docs/GUIDE.md, \"Limits\".",
     },
     FaultRow {
+        line: "only N inputs",
+        sentence: "explain --from and picture --after: the batch has fewer inputs than this number.",
+        to_do: "Nothing was written. Take a smaller number.",
+    },
+    FaultRow {
         line: "out of memory",
         sentence: "Memory was refused.",
         to_do: "Run again with more memory. Nothing was written, but what `live` wrote stands.",
