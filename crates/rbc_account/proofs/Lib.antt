@@ -1,0 +1,6 @@
+pub mod Openings
+pub mod Adding
+pub mod Nearest
+pub mod Meetings
+pub mod Shares
+pub mod Feeding

@@ -1,0 +1,10 @@
+pub mod Known
+pub mod Placed
+pub mod Reasons
+pub mod Waits
+pub mod Coming
+pub mod Counting
+pub mod Owed
+pub mod Sums
+pub mod Runs
+pub mod Telling

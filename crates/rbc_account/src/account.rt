@@ -1,0 +1,220 @@
+//! A run under way.
+
+ghost use Rattle.std.specs.Prelude.{◌≡◌, ◌⊎◌, [], length, IfOk, IfErr, OnOk, option_copied};
+ghost use Rattle.rbc_track.specs.Reading.{IsTrackOf, RefusesTrack};
+ghost use Rattle.rbc_rule.specs.Gathered.{AreSendable};
+ghost use Rattle.rbc_text.specs.BatchText.{line_of, IsInput};
+ghost use Rattle.rbc_live.specs.History.{IsFed};
+ghost use Rattle.rbc_account.specs.Sums.{no_sums, counted, input_count};
+ghost use Rattle.rbc_account.specs.Known.{train_in, active_stops, active_limits, last_stop, last_limit, engines_in};
+
+use crate::block::{Block, block_of};
+use crate::lookup;
+use crate::standing::{Standing, standing_on};
+use crate::told_place::{ToldPlace, ToldPlaces};
+use rbc_live::{Answer, LiveDesk};
+use rbc_rule::{Input, Reply};
+use rbc_settle::TrainRec;
+use rbc_text::parse_line;
+use rbc_track::{Track, TrackError};
+use rbc_zones::{Area, Limit};
+use std::alloc::{AllocError, Global};
+
+/// How many inputs were taken, and how many messages they sent. Each sum stays at 2^64 - 1 where it has come there,
+/// which none does in a batch.
+#[derive(Clone, Copy, Debug, PartialEq, Eq)]
+pub struct Sums {
+    /// The inputs that were accepted.
+    pub accepted: u64,
+    /// The inputs that were refused.
+    pub refused: u64,
+    /// The messages that were sent, to all trains together.
+    pub messages: u64,
+}
+
+impl Sums {
+    /// The sums after one more input with this reply.
+    fn with(self, reply: Reply) -> Sums
+        ensures { result ≡ counted reply self }
+    {
+        match reply {
+            Reply::Done(sent) => Sums {
+                accepted: self.accepted.saturating_add(1),
+                refused: self.refused,
+                messages: self.messages.saturating_add(u64::from(sent)),
+            },
+            Reply::Refused(_) => Sums {
+                accepted: self.accepted,
+                refused: self.refused.saturating_add(1),
+                messages: self.messages,
+            },
+        }
+    }
+}
+
+/// A run under way: lines are taken one after another, from the empty state, and what each led to is told or not.
+#[derive(Drop)]
+pub struct Account {
+    pub desk: LiveDesk,
+    pub sums: Sums,
+    told_places: ToldPlaces,
+}
+
+impl Account {
+    /// Begins a run on the track that a text in TOML writes.
+    ///
+    /// # Errors
+    ///
+    /// Those of `track_from_toml`.
+    pub fn open(alloc: Global, text: &str) -> Result<Account, TrackError>
+        ensures track { IfOk result (λ account. IsTrackOf text.now account.desk.track) }
+        ensures empty { IfOk result (λ account. account.desk.records ≡ []) }
+        ensures sums { IfOk result (λ account. account.sums ≡ no_sums) }
+        ensures refused { IfErr result (λ e. (e ≡ TrackError.OutOfMemory) ⊎ RefusesTrack text.now e) }
+    {
+        let desk = LiveDesk::open(alloc, text)?;
+        let sums = Sums {
+            accepted: 0,
+            refused: 0,
+            messages: 0,
+        };
+        let told_places = ToldPlaces::new(alloc);
+        Ok(Account {
+            desk,
+            sums,
+            told_places,
+        })
+    }
+
+    /// Takes a line, without its line feed, and says only what the desk answers. Fails only for lack of memory, and
+    /// then the account is of no further use.
+    fn feed(&mut self, alloc: Global, line: &[u8]) -> Result<Answer, AllocError>
+        ensures fed { IfOk result (λ answer. IsFed self.old.desk.track line.now self.old.desk.records
+            self.new.desk.records answer.reply answer.messages) }
+        ensures fit { IfOk result (λ answer. AreSendable answer.messages) }
+        ensures sums { IfOk result (λ answer. self.new.sums ≡ counted answer.reply self.old.sums) }
+        ensures track { self.new.desk.track ≡ self.old.desk.track }
+    {
+        let Ok(answer) = self.desk.feed(alloc, line, usize::MAX) else {
+            // No line sends more messages than can be counted, so memory was refused.
+            return Err(AllocError);
+        };
+        self.sums = self.sums.with(answer.reply);
+        self.told_places.note(&self.desk.track, &answer.messages)?;
+        Ok(answer)
+    }
+
+    /// Takes a line, without its line feed, and tells nothing of it. Fails only for lack of memory, and then the
+    /// account is of no further use.
+    pub fn pass(&mut self, alloc: Global, line: &[u8]) -> Result<Answer, AllocError>
+        ensures fed { IfOk result (λ answer. IsFed self.old.desk.track line.now self.old.desk.records
+            self.new.desk.records answer.reply answer.messages) }
+        ensures sums { IfOk result (λ answer. self.new.sums ≡ counted answer.reply self.old.sums) }
+        ensures track { self.new.desk.track ≡ self.old.desk.track }
+    {
+        self.feed(alloc, line)
+    }
+
+    /// Takes a line, without its line feed, and tells what came of it. Fails only for lack of memory, and then the
+    /// account is of no further use.
+    pub fn step(&mut self, alloc: Global, line: &[u8]) -> Result<Block, AllocError>
+        ensures fed { IfOk result (λ block. IsFed self.old.desk.track line.now self.old.desk.records
+            self.new.desk.records block.reply block.messages) }
+        ensures input { IfOk result (λ block. IsInput (line_of line.now) block.input) }
+        ensures fit { IfOk result (λ block. AreSendable block.messages) }
+        ensures paired { IfOk result (λ block. length block.told.items ≡ length block.messages) }
+        ensures sums { IfOk result (λ block. self.new.sums ≡ counted block.reply self.old.sums) }
+        ensures number { IfOk result (λ block. block.number ≡ input_count self.new.sums) }
+        ensures track { self.new.desk.track ≡ self.old.desk.track }
+    {
+        let input = parse_line(alloc, line)?;
+        let before = self.sender(alloc, &input)?;
+        let answer = self.feed(alloc, line)?;
+        block_of(
+            alloc,
+            &self.desk,
+            self.inputs(),
+            input,
+            before.as_ref(),
+            answer,
+        )
+    }
+
+    /// A copy of the train that sent an input, if a train did. Fails only for lack of memory.
+    fn sender(&self, alloc: Global, input: &Input) -> Result<Option<TrainRec>, AllocError> {
+        let Input::Received(message) = input else {
+            return Ok(None);
+        };
+        match self.train(lookup::engine_of(message)) {
+            Some(train) => Ok(Some(train.copy(alloc)?)),
+            None => Ok(None),
+        }
+    }
+
+    /// How many inputs were taken.
+    pub fn inputs(&self) -> u64
+        ensures { result ≡ input_count self.now.sums }
+    {
+        self.sums.accepted.saturating_add(self.sums.refused)
+    }
+
+    /// The track.
+    pub fn track(&self) -> &Track
+        ensures { result.now ≡ self.now.desk.track }
+    {
+        &self.desk.track
+    }
+
+    /// The engines of the enrolled trains, ascending.
+    pub fn engines(&self) -> &[u32]
+        ensures { result.now ≡ engines_in self.now.desk.records }
+    {
+        lookup::engines_in(&self.desk.records)
+    }
+
+    /// The train with this engine number, if it is enrolled.
+    pub fn train(&self, engine: u32) -> Option<&TrainRec>
+        ensures { option_copied result ≡ train_in self.now.desk.records engine }
+    {
+        lookup::train_in(&self.desk.records, engine)
+    }
+
+    /// The active stops with their numbers, ascending.
+    pub fn stops(&self) -> &[(u32, Area)]
+        ensures { result.now ≡ active_stops self.now.desk.records }
+    {
+        lookup::active_stops(&self.desk.records)
+    }
+
+    /// The active restrictions with their numbers, ascending.
+    pub fn limits(&self) -> &[(u32, Limit)]
+        ensures { result.now ≡ active_limits self.now.desk.records }
+    {
+        lookup::active_limits(&self.desk.records)
+    }
+
+    /// The last number that was given to a stop, or 0 where none was.
+    pub fn last_stop(&self) -> u32
+        ensures { result ≡ last_stop self.now.desk.records }
+    {
+        lookup::last_stop(&self.desk.records)
+    }
+
+    /// The last number that was given to a restriction, or 0 where none was.
+    pub fn last_limit(&self) -> u32
+        ensures { result ≡ last_limit self.now.desk.records }
+    {
+        lookup::last_limit(&self.desk.records)
+    }
+
+    /// The place before which a train was told to stop under a stop identifier, by the message 15 with this stamp.
+    /// `None` if the last message 15 under the identifier had another stamp.
+    pub fn told_place(&self, engine: u32, id: u8, stamp: u32) -> Option<ToldPlace> {
+        self.told_places.get(engine, id, stamp)
+    }
+
+    /// What stands now. Fails only for lack of memory.
+    pub fn standing(&self, alloc: Global) -> Result<Standing, AllocError> {
+        standing_on(alloc, &self.desk)
+    }
+}

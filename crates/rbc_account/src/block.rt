@@ -1,0 +1,69 @@
+//! What came of one input.
+
+ghost use Rattle.std.specs.Prelude.{◌≡◌, length, IfOk};
+
+use crate::coming::come_to_wait;
+use crate::counts::{Counts, counts_after};
+use crate::deed::{Deed, deed_of};
+use crate::told::{Told, told_by};
+use crate::waiting::Waiting;
+use rbc_live::{Answer, LiveDesk};
+use rbc_rule::{Input, Reply, SentList};
+use rbc_settle::TrainRec;
+use std::alloc::{AllocError, Global};
+
+/// What came of one input.
+#[derive(Debug, Drop)]
+pub struct Block {
+    /// The number of the input, from 1.
+    pub number: u64,
+    /// The input.
+    pub input: Input,
+    /// The answer to it.
+    pub reply: Reply,
+    /// The messages that it sent, engines ascending.
+    pub messages: SentList,
+    /// What it did, or why it was refused.
+    pub deed: Deed,
+    /// What each message tells, in the order of the messages.
+    pub told: Vec<Told>,
+    /// What a stop or a restriction that began is to the trains.
+    pub counts: Option<Counts>,
+    /// What has come to wait, with the engine at which it waits: engines ascending; of one engine stops, restrictions,
+    /// and stops that are due, each by number.
+    pub waiting: Vec<(u32, Waiting)>,
+}
+
+/// What came of an input: `number` is its number, `before` the train that sent it, as it was before, and the desk is
+/// that after it. Fails only for lack of memory.
+pub(crate) fn block_of(
+    alloc: Global,
+    desk: &LiveDesk,
+    number: u64,
+    input: Input,
+    before: Option<&TrainRec>,
+    answer: Answer,
+) -> Result<Block, AllocError>
+    ensures number { IfOk result (λ block. block.number ≡ number) }
+    ensures input { IfOk result (λ block. block.input ≡ input) }
+    ensures reply { IfOk result (λ block. block.reply ≡ answer.reply) }
+    ensures messages { IfOk result (λ block. block.messages ≡ answer.messages) }
+    ensures paired { IfOk result (λ block. length block.told.items ≡ length answer.messages) }
+{
+    let reply = answer.reply;
+    let messages = answer.messages;
+    let deed = deed_of(alloc, desk, &input, reply, before)?;
+    let told = told_by(alloc, desk, &input, before, &messages)?;
+    let counts = counts_after(alloc, desk, &input, reply)?;
+    let waiting = come_to_wait(alloc, desk, &input, reply, before)?;
+    Ok(Block {
+        number,
+        input,
+        reply,
+        messages,
+        deed,
+        told,
+        counts,
+        waiting,
+    })
+}

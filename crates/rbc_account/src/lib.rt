@@ -1,0 +1,32 @@
+//! A run told as values: what each input did, why each message was sent, what waits at which trains, and what stands
+//! after the last input. Places and lengths are in units of 10 cm, stamps (T_TRAIN) in units of 10 ms.
+#![tactic(auto)]
+
+mod account;
+mod block;
+mod coming;
+mod counts;
+mod deed;
+mod detail;
+mod fault;
+mod law;
+mod lookup;
+mod placing;
+mod reason;
+mod standing;
+mod told;
+mod told_place;
+mod waiting;
+
+pub use account::{Account, Sums};
+pub use block::Block;
+pub use counts::Counts;
+pub use deed::{Acked, Deed};
+pub use detail::Detail;
+pub use fault::TellError;
+pub use law::account_law;
+pub use placing::{NoPlace, Placing};
+pub use standing::{Sharing, Standing, TrainStanding};
+pub use told::{RestrictionTold, Told, ToldRestriction, ToldWhat, WhyAtOnce, WhyRevoked, WhyTold};
+pub use told_place::ToldPlace;
+pub use waiting::{Cause, Waiting, Waits};

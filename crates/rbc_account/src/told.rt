@@ -1,0 +1,373 @@
+//! Why a message was sent.
+
+ghost use Rattle.std.specs.Prelude.{◌≡◌, length, IfOk};
+
+use crate::lookup::{active_limit, active_stop, number_under, train_in};
+use crate::placing::unit_of;
+use crate::reason::{LimitReason, StopReason, limit_reason, stop_reason};
+use ertms_codec::{Packets, Part, ToTrain};
+use rbc_ids::Slot;
+use rbc_live::LiveDesk;
+use rbc_place::Place;
+use rbc_rule::{Input, SentList};
+use rbc_settle::{Sent, TrainRec};
+use rbc_track::Way;
+use rbc_zones::{Dirs, Limit, Segment};
+use std::alloc::{AllocError, Global};
+
+/// What one message tells its train, and why. Its engine, identifier and stamp are in the message itself.
+#[derive(Debug, Drop)]
+pub struct Told {
+    /// The place of the train after the input.
+    pub place: Option<Place>,
+    /// What it is told.
+    pub what: ToldWhat,
+}
+
+/// What a message tells, and why.
+#[derive(Debug, Drop)]
+pub enum ToldWhat {
+    /// Message 15: to stop before the place `before`, counted in units of `unit` (1, 10 or 100) from the balise group,
+    /// since `edge` is the nearest edge ahead.
+    StopBefore {
+        number: u32,
+        before: u32,
+        edge: u32,
+        unit: u32,
+    },
+    /// Message 16: to stop at once.
+    StopAtOnce {
+        number: u32,
+        why: WhyAtOnce,
+    },
+    /// Message 18: a stop is revoked, since it is released, or where `unanswered` since it was left unanswered in three
+    /// reports, and is told again.
+    StopRevoked {
+        number: u32,
+        unanswered: bool,
+    },
+    /// Message 24: what each packet tells, in their order.
+    Restrictions(Vec<ToldRestriction>),
+    /// What no record accounts for. It never comes of a message that the rules send.
+    Unknown,
+}
+
+/// Why a train is told to stop at once: the first reason that applies.
+#[derive(Clone, Copy, Debug, PartialEq, Eq)]
+pub enum WhyAtOnce {
+    /// It left the stop unanswered in three reports, under this identifier, which is revoked by the same input.
+    Unanswered { id: u8 },
+    /// It has no place.
+    NoPlace,
+    /// It rejected the stop before.
+    Rejected,
+    /// This stretch meets the place of the train: the first such stretch of the stop.
+    Overlaps(Segment),
+    /// The nearest edge ahead is behind the balise group of the train's place.
+    BehindGroup { edge: u32 },
+}
+
+/// What one packet tells of a restriction. The number is 0 where the packet is `Unknown`.
+#[derive(Clone, Copy, Debug, PartialEq, Eq)]
+pub struct ToldRestriction {
+    pub number: u32,
+    pub what: RestrictionTold,
+}
+
+/// What a packet tells, and why.
+#[derive(Clone, Copy, Debug, PartialEq, Eq)]
+pub enum RestrictionTold {
+    /// Packet 65: the restriction of this stretch is told from `begin` to `end` ahead of the balise group of the train's
+    /// place, counted in units of `unit` (1, 10 or 100).
+    Told {
+        segment: Segment,
+        begin: u32,
+        end: u32,
+        unit: u32,
+        why: WhyTold,
+    },
+    /// Packet 66: it is revoked.
+    Revoked(WhyRevoked),
+    /// What no record accounts for. It never comes of a message that the rules send.
+    Unknown,
+}
+
+/// Why a restriction is told.
+#[derive(Clone, Copy, Debug, PartialEq, Eq)]
+pub enum WhyTold {
+    /// It overlaps the place of the train.
+    Overlaps,
+    /// It begins so far ahead of the place of the train, within the horizon.
+    Ahead { distance: u32 },
+}
+
+/// Why a restriction is revoked: the first reason that applies.
+#[derive(Clone, Copy, Debug, PartialEq, Eq)]
+pub enum WhyRevoked {
+    /// It is lifted.
+    Lifted,
+    /// The train is on another line.
+    OtherLine { train: u8, restriction: u32 },
+    /// The train faces the other way.
+    OtherWay { facing: Way, dirs: Dirs },
+    /// The train has passed it.
+    Passed,
+}
+
+/// What each message of an input tells. The desk is that after the input; `before` is the train that sent the input, as
+/// it was before, if one did. Fails only for lack of memory.
+pub(crate) fn told_by(
+    alloc: Global,
+    desk: &LiveDesk,
+    input: &Input,
+    before: Option<&TrainRec>,
+    messages: &SentList,
+) -> Result<Vec<Told>, AllocError>
+    ensures { IfOk result (λ told. length told.items ≡ length messages.now) }
+{
+    let mut told = Vec::new(alloc);
+    for index in 0..messages.len() {
+        told.push(told_by_one(alloc, desk, input, before, messages.at(index))?)?;
+    }
+    Ok(told)
+}
+
+/// What one message tells.
+fn told_by_one(
+    alloc: Global,
+    desk: &LiveDesk,
+    input: &Input,
+    before: Option<&TrainRec>,
+    sent: &Sent,
+) -> Result<Told, AllocError> {
+    let Some(train) = train_in(&desk.records, sent.engine) else {
+        return Ok(Told {
+            place: None,
+            what: ToldWhat::Unknown,
+        });
+    };
+    let what = match &sent.message {
+        ToTrain::StopAt {
+            id,
+            scale,
+            distance,
+            ..
+        } => stop_before(desk, train, *id, unit_of(*scale), *distance),
+        ToTrain::Stop { id, .. } => stop_at_once(desk, before, train, *id),
+        ToTrain::Revoke { id, .. } => stop_revoked(desk, input, before, *id),
+        ToTrain::General { packets, .. } => {
+            ToldWhat::Restrictions(restrictions(alloc, desk, input, before, train, packets)?)
+        }
+    };
+    Ok(Told {
+        place: train.place,
+        what,
+    })
+}
+
+/// What message 15 tells, whose distance has this unit.
+fn stop_before(desk: &LiveDesk, train: &TrainRec, id: u8, unit: u32, distance: u16) -> ToldWhat {
+    let Some(number) = number_under(&train.stops, id) else {
+        return ToldWhat::Unknown;
+    };
+    let (Some(area), Some(place)) = (active_stop(&desk.records, number), train.place.as_ref())
+    else {
+        return ToldWhat::Unknown;
+    };
+    match stop_reason(area, train.forced.has(number), Some(place)) {
+        StopReason::Before(edge) => ToldWhat::StopBefore {
+            number,
+            before: onward(place, u32::from(distance).saturating_mul(unit)),
+            edge,
+            unit,
+        },
+        _ => ToldWhat::Unknown,
+    }
+}
+
+/// The place at a distance ahead of the balise group of a place.
+fn onward(place: &Place, distance: u32) -> u32 {
+    match place.facing() {
+        Way::Up => place.at().saturating_add(distance),
+        Way::Down => place.at().saturating_sub(distance),
+    }
+}
+
+/// What message 16 tells.
+fn stop_at_once(desk: &LiveDesk, before: Option<&TrainRec>, train: &TrainRec, id: u8) -> ToldWhat {
+    let Some(number) = number_under(&train.stops, id) else {
+        return ToldWhat::Unknown;
+    };
+    if let Some(id) = escalated_under(before, train, number) {
+        return ToldWhat::StopAtOnce {
+            number,
+            why: WhyAtOnce::Unanswered { id },
+        };
+    }
+    let Some(area) = active_stop(&desk.records, number) else {
+        return ToldWhat::Unknown;
+    };
+    match why_at_once(stop_reason(area, train.forced.has(number), train.place.as_ref())) {
+        Some(why) => ToldWhat::StopAtOnce { number, why },
+        None => ToldWhat::Unknown,
+    }
+}
+
+/// The identifier under which a train left a stop unanswered: it was used by the number before the input, and is being
+/// revoked after it.
+fn escalated_under(before: Option<&TrainRec>, after: &TrainRec, number: u32) -> Option<u8> {
+    let id = before?.stops.of_number(number)?;
+    match after.stops.slot(id)? {
+        Slot::Revoking { .. } => Some(id),
+        Slot::Used(_) => None,
+    }
+}
+
+/// Why a train stops at once for what a stop is to it, if it does.
+fn why_at_once(reason: StopReason) -> Option<WhyAtOnce> {
+    match reason {
+        StopReason::NoPlace => Some(WhyAtOnce::NoPlace),
+        StopReason::Forced => Some(WhyAtOnce::Rejected),
+        StopReason::Overlaps(segment) => Some(WhyAtOnce::Overlaps(segment)),
+        StopReason::BehindGroup(edge) => Some(WhyAtOnce::BehindGroup { edge }),
+        StopReason::Before(_) | StopReason::Nothing => None,
+    }
+}
+
+/// What message 18 tells. The stop is the one that the identifier told before the input, or that the input releases.
+fn stop_revoked(desk: &LiveDesk, input: &Input, before: Option<&TrainRec>, id: u8) -> ToldWhat {
+    let number = match (input, before) {
+        (Input::Release { number }, _) => Some(*number),
+        (_, Some(train)) => number_under(&train.stops, id),
+        (_, None) => None,
+    };
+    match number {
+        Some(number) => ToldWhat::StopRevoked {
+            number,
+            unanswered: active_stop(&desk.records, number).is_some(),
+        },
+        None => ToldWhat::Unknown,
+    }
+}
+
+/// What the packets of message 24 tell. Fails only for lack of memory.
+fn restrictions(
+    alloc: Global,
+    desk: &LiveDesk,
+    input: &Input,
+    before: Option<&TrainRec>,
+    train: &TrainRec,
+    packets: &Packets,
+) -> Result<Vec<ToldRestriction>, AllocError>
+    ensures { IfOk result (λ told. length told.items ≡ length packets.now) }
+{
+    let mut told = Vec::new(alloc);
+    for index in 0..packets.count() {
+        told.push(restriction(desk, input, before, train, packets.at(index)))?;
+    }
+    Ok(told)
+}
+
+/// What one packet of message 24 tells.
+fn restriction(
+    desk: &LiveDesk,
+    input: &Input,
+    before: Option<&TrainRec>,
+    train: &TrainRec,
+    part: Part,
+) -> ToldRestriction {
+    match part {
+        Part::Restrict {
+            scale,
+            id,
+            start,
+            length,
+            ..
+        } => limit_told(desk, train, id, unit_of(scale), start, length),
+        Part::Lift { id, .. } => limit_revoked(desk, input, before, train, id),
+    }
+}
+
+/// What no record accounts for.
+const UNKNOWN: ToldRestriction = ToldRestriction {
+    number: 0,
+    what: RestrictionTold::Unknown,
+};
+
+/// What packet 65 tells, whose start and length have this unit.
+fn limit_told(
+    desk: &LiveDesk,
+    train: &TrainRec,
+    id: u8,
+    unit: u32,
+    start: u16,
+    length: u16,
+) -> ToldRestriction {
+    let Some(number) = number_under(&train.limits, id) else {
+        return UNKNOWN;
+    };
+    let (Some(limit), Some(place)) = (active_limit(&desk.records, number), train.place.as_ref())
+    else {
+        return UNKNOWN;
+    };
+    let why = match limit_reason(limit, place) {
+        LimitReason::Overlaps => WhyTold::Overlaps,
+        LimitReason::Ahead(distance) => WhyTold::Ahead { distance },
+        LimitReason::OtherLine | LimitReason::OtherWay | LimitReason::Passed => return UNKNOWN,
+    };
+    ToldRestriction {
+        number,
+        what: RestrictionTold::Told {
+            segment: limit.segment(),
+            begin: u32::from(start).saturating_mul(unit),
+            end: (u32::from(start) + u32::from(length)).saturating_mul(unit),
+            unit,
+            why,
+        },
+    }
+}
+
+/// What packet 66 tells. The restriction is the one that the identifier told before the input, or that the input lifts.
+fn limit_revoked(
+    desk: &LiveDesk,
+    input: &Input,
+    before: Option<&TrainRec>,
+    train: &TrainRec,
+    id: u8,
+) -> ToldRestriction {
+    let number = match (input, before) {
+        (Input::Lift { number }, _) => Some(*number),
+        (_, Some(train)) => number_under(&train.limits, id),
+        (_, None) => None,
+    };
+    let Some(number) = number else {
+        return UNKNOWN;
+    };
+    match why_revoked(active_limit(&desk.records, number), train.place.as_ref()) {
+        Some(why) => ToldRestriction {
+            number,
+            what: RestrictionTold::Revoked(why),
+        },
+        None => UNKNOWN,
+    }
+}
+
+/// Why a restriction is revoked: it is not active, or is clear of the train. `None` where neither is so.
+fn why_revoked(limit: Option<&Limit>, place: Option<&Place>) -> Option<WhyRevoked> {
+    let Some(limit) = limit else {
+        return Some(WhyRevoked::Lifted);
+    };
+    let place = place?;
+    match limit_reason(limit, place) {
+        LimitReason::OtherLine => Some(WhyRevoked::OtherLine {
+            train: place.line(),
+            restriction: limit.segment().line,
+        }),
+        LimitReason::OtherWay => Some(WhyRevoked::OtherWay {
+            facing: place.facing(),
+            dirs: limit.dirs(),
+        }),
+        LimitReason::Passed => Some(WhyRevoked::Passed),
+        LimitReason::Overlaps | LimitReason::Ahead(_) => None,
+    }
+}
