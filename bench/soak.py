@@ -62,7 +62,7 @@ class Soak:
         self.counts = collections.Counter()
         self.peak = 0  # KiB
         self.growth = 0  # KiB, of one process
-        self.again = 0  # inputs that were computed again
+        self.again = 0  # inputs that were recomputed
 
     def note(self, ended, is_right, what):
         """Counts a run."""
@@ -110,7 +110,7 @@ class Soak:
         wanted = b"".join(b"%s on %s right\n" % (batch.name.encode(), batch.track.encode()) for batch in batches)
         names = " ".join(f"{batch.name} of {batch.lines} lines" for batch in batches)
         for line in ended.errors.splitlines():
-            if line.endswith(b" inputs computed again"):
+            if line.endswith(b" inputs recomputed"):
                 self.again += int(line.split()[0])
         return ended, ended.status == 0 and ended.output == wanted, f"{names}, {workers} workers, {runs} runs each"
 
@@ -152,7 +152,7 @@ class Soak:
 
 def main():
     root, seconds, seed, processes = sys.argv[1:]
-    print("| seconds | rounds | batches | lines | runs of a program | wrong | inputs computed again | most KiB | grown by at most KiB |")
+    print("| seconds | rounds | batches | lines | runs of a program | wrong | inputs recomputed | most KiB | grown by at most KiB |")
     print("|---|---|---|---|---|---|---|---|---|", flush=True)
     begun = told = time.monotonic()
     with tempfile.TemporaryDirectory() as folder:

@@ -43,7 +43,7 @@ AreSaid plan inputs = AreSaidMails plan new_desk inputs [] (serial plan new_desk
 abbrev pub AreFew : List Input → Type 0
 AreFew inputs = length inputs ≤ max_inputs
 
--- every input was taken, and no more were computed again
+-- every input was taken, and no more were recomputed
 abbrev pub IsCounted : List Input → Stats → Type 0
 IsCounted inputs stats = (stats.taken ≡ length inputs) × (stats.recomputed ≤ stats.taken)
 

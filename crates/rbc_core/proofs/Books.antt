@@ -72,7 +72,7 @@ stage_committed n t k Void ne h = (omega arith, h.1)
 
 -- ---- states
 
--- one input more is committed: with this desk, these present numbers, these stages and this count of inputs that were computed again
+-- one input more is committed: with this desk, these present numbers, these stages and this count of inputs that were recomputed
 abbrev pub committed : State → Standing → (Key → ℕ) → List (Stage Try) → ℕ → State
 committed s desk present stages recomputed = record { desk = desk; present = present; stages = stages; committed = s.committed + 1; taken = s.taken; recomputed = recomputed; closed = s.closed }
 
@@ -255,7 +255,7 @@ module _ (run : Run) (s : State) (tickets : List (Key × Shown)) (b : IsKept run
   pub ready : (fresh : Bool) → IsJudged s.stages s.committed tickets (Some fresh) → IsReady s
   ready fresh can = ready_stage can.0 fresh can.2 (front_at fresh can.0 can can.1)
 
--- an input that is computed again is stale
+-- an input that is recomputed is stale
 stale_stage : (s : State) (tickets : List (Key × Shown)) (g : Stage Try) → s.present ≡ number_now tickets → Judges tickets g (Some false) → IsAt s (front s) g → IsStale s
 stale_stage s tickets (Tried a) now h at = inr (a, at, λ current. h (subst (AreCurrent a.notes) now current))
 stale_stage s tickets Void now h at = inl at

@@ -1,4 +1,4 @@
--- Each input that is computed again was given up, or something that was read for it was overtaken or misled.
+-- Each input that is recomputed was given up, or something that was read for it was overtaken or misled.
 use Rattle.std.proofs.Common.{◌≡◌, ◌≢◌, ◌⊎◌, ℕ, ◌+◌, ◌-◌, ◌<◌, ◌≤◌, Bool, true, false, eqb, List, [], ◌∷◌, ◌++◌, length, Some, inl, inr, refl, sym, ap, ◌∙◌, subst, append_assoc, arith}
 use Rattle.std.specs.Prelude.{Contains, slice_get}
 use Rattle.std.proofs.lemmas.Bool.{eqb-true, eqb-false}
@@ -42,7 +42,7 @@ module _ (run : Run) (s : State) (since : List Event) (k : Key) (answer : ℕ) (
       by (inl same) = absurd (stale (was ∙ sym same))
       by (inr written) = written
 
-  -- after its input was computed again, or an input behind that one was committed that wrote the key
+  -- after its input was recomputed, or an input behind that one was committed that wrote the key
   abbrev IsMisledBy : ℕ → Type 0
   IsMisledBy earlier = IsComputedAgain s since earlier ⊎ ((number : ℕ) × (earlier < number) × (number ≤ (after s since).committed) × Writes s since number k)
 

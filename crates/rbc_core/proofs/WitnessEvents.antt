@@ -122,7 +122,7 @@ nothing_now =
     let P : Key × NumberedRec → Type 0 = λ entry. entry.1.number ≡ no_numbers entry.0 in
     All-cons P (key.Roster, absent) ((key.Stops, absent) ∷ (key.Limits, absent) ∷ []) refl (All-cons P (key.Stops, absent) ((key.Limits, absent) ∷ []) refl (All-cons P (key.Limits, absent) [] refl (All-nil P)))
 
--- the second is computed again in each world
+-- the second is recomputed in each world
 pub recomputes_second : (records : Key → Option Rec) → IsOutcomeOf track_a (input.Bad 1) records refused
 recomputes_second records w are = bad_step w
 
@@ -173,7 +173,7 @@ follow_overtaken =
 pub follow_given_up : Follow two_inputs start second_given_up
 follow_given_up = both_taken (Voids 2 true ∷ committing_first) (record { uncommitted = omega arith; taken = omega arith; at = refl }, first_turn 2 Void (omega arith))
 
--- then the second is computed again
+-- then the second is recomputed
 pub again : (s : State) → s.closed ≡ false → s.committed ≡ 1 → IsStale s → Follow two_inputs s (Recomputes refused [] ∷ Ends ∷ [])
 again s live one stale =
     let second : IsInput two_inputs (front s) (input.Bad 1) = subst (λ n. IsInput two_inputs n (input.Bad 1)) (ap (λ n. n + 1) (sym one)) (record { first = omega arith; there = refl }) in

@@ -94,7 +94,7 @@ IsFirst before Waits = Unit
 IsFirst before Ends = Unit
 IsFirst before (Fails keeps) = Unit
 
--- where no input is computed again, the second is not misled
+-- where no input is recomputed, the second is not misled
 pub not_misled : (events : List Event) (a : Try) (note : Key × NumberedRec) → a.number ≡ 2 → Each IsFirst [] events → IsMisled start events a note → ⊥
 not_misled events a note second each (before, between, behind, is, (earlier, other, low, at, wrote, why)) = by why
   where

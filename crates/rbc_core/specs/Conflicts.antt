@@ -1,4 +1,4 @@
--- Why an input is computed again (own rule).
+-- Why an input is recomputed (own rule).
 use Rattle.std.specs.Prelude.{◌≡◌, ◌⊎◌, ℕ, ◌<◌, Bool, true, List, [], ◌∷◌, ◌++◌, Some, Contains, IsTrue}
 use Rattle.std.specs.List.{fold, list_any}
 use Rattle.rbc_records.specs.declared.record.Key.{Key}
@@ -60,13 +60,13 @@ abbrev pub IsOvertaken : State → List Event → Try → Key × NumberedRec →
 IsOvertaken s events a note =
     IsReadOf events a note (λ before since. ((after s before).present note.0 ≡ note.1.number) × ((number : ℕ) × (number < a.number) × Writes (after s before) since number note.0))
 
--- among these events, from the state s on, the input of this number is computed again
+-- among these events, from the state s on, the input of this number is recomputed
 abbrev pub IsComputedAgain : State → List Event → ℕ → Type 0
 IsComputedAgain s events number =
     (before : List Event) × (outcome : Outcome) × (writes : List (Key × NumberedRec)) × (behind : List Event)
     × (events ≡ before ++ Recomputes outcome writes ∷ behind) × (front (after s before) ≡ number)
 
--- a note was misled: its number was what an attempt at an earlier input puts under its key, and since then that input was computed again, or
+-- a note was misled: its number was what an attempt at an earlier input puts under its key, and since then that input was recomputed, or
 -- an input between the two was committed that wrote the key
 abbrev pub IsMisled : State → List Event → Try → Key × NumberedRec → Type 0
 IsMisled s events a note =
@@ -76,7 +76,7 @@ IsMisled s events a note =
     × (IsComputedAgain (after s before) since earlier ⊎ ((number : ℕ) × (earlier < number) × (number < a.number) × Writes (after s before) since number note.0))
     )
 
--- why the next input is computed again: it was given up, or a note of its attempt was overtaken or misled
+-- why the next input is recomputed: it was given up, or a note of its attempt was overtaken or misled
 abbrev pub IsExplained : State → List Event → Type 0
 IsExplained s events =
     WasVoided events (front (after s events))
@@ -85,7 +85,7 @@ IsExplained s events =
     × ((note : Key × NumberedRec) × Contains a.notes note × (IsOvertaken s events a note ⊎ IsMisled s events a note))
     )
 
--- where what was noted was read, an input is computed again for one of these reasons alone
+-- where what was noted was read, an input is recomputed for one of these reasons alone
 abbrev pub EachIsExplained : Type 0
 EachIsExplained =
     (run : Run) (numbers : Key → ℕ) (events more : List Event) (outcome : Outcome) (writes : List (Key × NumberedRec))

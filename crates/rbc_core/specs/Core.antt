@@ -30,7 +30,7 @@ pub record IsRightTry (run : Run) (a : Try) : Type 0 where
   pub writes : AreOfWrites a.writes a.outcome.writes
 
 -- the desk now, the number of what stands under each key (0 where nothing does), how far each input is, how many inputs are committed,
--- taken and computed again, and whether it is closed to `take`
+-- taken and recomputed, and whether it is closed to `take`
 pub record State : Type 0 where
   pub desk : Standing
   pub present : Key → ℕ

@@ -17,7 +17,7 @@ use Rattle.rbc_core.specs.Core.{Try, IsRightTry, State, opening, IsAt, front, Is
 
 -- A version is published under a number. Or a call of a book, with what it answered: a number is taken, or none; the number of what stands
 -- under a key, or of what an attempt before puts there, is read for an input; an attempt is kept, or handed back; an input is given up, or not. The next input to be committed has
--- the outcome of its attempt, or is computed again, and the numbers of what it writes; it is not ready; there is none; or memory is
+-- the outcome of its attempt, or is recomputed, and the numbers of what it writes; it is not ready; there is none; or memory is
 -- refused, and it keeps its attempt or loses it.
 pub data Event : Type 0 where
   Publishes : ℕ → Version → Event

@@ -1,4 +1,4 @@
--- Where nothing is computed again: reads that give the latest of what is written before an input (own rule).
+-- Where nothing is recomputed: reads that give the latest of what is written before an input (own rule).
 use Rattle.std.specs.Prelude.{◌≡◌, ◌⊎◌, ℕ, ◌+◌, ◌<◌, ◌≤◌, true, List, ◌∷◌, ◌++◌, Some, None}
 use Rattle.rbc_records.specs.declared.record.Key.{Key}
 use Rattle.rbc_versions.specs.Entries.{NumberedRec, number_for}
@@ -43,7 +43,7 @@ NoneIsVoided events = (before behind : List Event) (number : ℕ) → events ≡
 abbrev pub IsForwarding : State → List Event → Type 0
 IsForwarding s events = AreAnswered events × NoneIsVoided events × AreLatest s events × AreAfterDeposits events
 
--- there no input is computed again
+-- there no input is recomputed
 abbrev pub NoneIsComputedAgain : Type 0
 NoneIsComputedAgain =
     (run : Run) (numbers : Key → ℕ) (events more : List Event) (outcome : Outcome) (writes : List (Key × NumberedRec))

@@ -1,4 +1,4 @@
--- Worked cases of the laws of events and of what is computed again. Lengths are in units of 10 cm.
+-- Worked cases of the laws of events and of what is recomputed. Lengths are in units of 10 cm.
 use Rattle.std.specs.Prelude.{ℕ, zero, suc, true, false, List, [], ◌∷◌, ◌++◌, Some, None, if◌then◌else◌, slice_get}
 use Rattle.rbc_maps.specs.Numbered.{none_numbered}
 use Rattle.rbc_settle.specs.Trains.{new_train}
@@ -131,7 +131,7 @@ applying = publishing ++ Takes (Some 1) ∷ committing_first ++ Takes (Some 2) �
 abbrev pub failing : List Event
 failing = publishing ++ Takes (Some 1) ∷ Takes (Some 2) ∷ reading_first ++ Deposits first_try true ∷ Fails false ∷ Voids 2 true ∷ Voids 1 false ∷ Takes None ∷ Fails true ∷ []
 
--- the first is computed again, though each number that was read for it is the present one
+-- the first is recomputed, though each number that was read for it is the present one
 abbrev pub again_for_nothing : List Event
 again_for_nothing = publishing ++ Takes (Some 1) ∷ reading_first ++ Deposits first_try true ∷ Recomputes enrolled enrolled_numbers ∷ []
 
@@ -166,11 +166,11 @@ applying_forwarded = forwarding ++ Applies refused [] ∷ Ends ∷ []
 abbrev pub passing_over : List Event
 passing_over = first_tried ++ Reads 2 (key.Train 7) 0 ∷ Deposits second_try true ∷ Applies enrolled enrolled_numbers ∷ []
 
--- and then the second is computed again
+-- and then the second is recomputed
 abbrev pub then_again : List Event → List Event
 then_again events = events ++ Recomputes refused [] ∷ Ends ∷ []
 
--- all but one of what has to hold, for nothing to be computed again: a note was not read, an input was given up, a read does not give the
+-- all but one of what has to hold, for nothing to be recomputed: a note was not read, an input was given up, a read does not give the
 -- latest, or it comes too early
 abbrev pub MissesAnswers : List Event → Type 0
 MissesAnswers events = ¬ (AreAnswered events) × NoneIsVoided events × AreLatest start events × AreAfterDeposits events

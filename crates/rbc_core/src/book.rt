@@ -32,7 +32,7 @@ use std::marker::Model;
 use std::mem;
 use std::sync::Wait;
 
-/// How many inputs were taken, and how many were computed again while they were committed.
+/// How many inputs were taken, and how many were recomputed while they were committed.
 #[derive(Clone, Copy, Debug, PartialEq, Eq)]
 pub struct Stats {
     pub taken: u32,
@@ -255,7 +255,7 @@ impl<'a, N: RunName> Book<'a, N> {
         self.weight
     }
 
-    /// How many inputs were taken, and how many were computed again.
+    /// How many inputs were taken, and how many were recomputed.
     pub fn stats(&self) -> Stats
         ensures counts { result ≡ record { taken = self.now.taken; recomputed = self.now.recomputed } }
         ensures book { IsBook N.run N.log self.now }

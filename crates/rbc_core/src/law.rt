@@ -22,16 +22,16 @@ pub fn staying_law()
     ensures closed { ClosedStays }
 {}
 
-/// Why an input is computed again, where all that is noted in an attempt was read: it was given up; or a number that
+/// Why an input is recomputed, where all that is noted in an attempt was read: it was given up; or a number that
 /// was read for its attempt was the present one when it was read, and an earlier input that was committed since then
 /// wrote that key; or that number was what an attempt at an earlier input put there, and since then that input was
-/// computed again, or one between the two was committed that wrote that key.
+/// recomputed, or one between the two was committed that wrote that key.
 pub fn conflict_law()
     ensures { EachIsExplained }
 {}
 
 /// Where besides no input is given up, and each read for an input comes after attempts at all earlier inputs were
-/// deposited and gives the latest number that is written before it, no input is computed again.
+/// deposited and gives the latest number that is written before it, no input is recomputed.
 pub fn forward_law()
     ensures { NoneIsComputedAgain }
 {}

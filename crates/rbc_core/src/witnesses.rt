@@ -24,7 +24,7 @@ ghost use Rattle.rbc_core.specs.Witnesses.{started_with_4, second_misled, start_
 /// published under the numbers 1, 2 and 3.
 ///
 /// Right: both are attempted, the second one first, from a read that does not stand any more when its turn comes, so
-/// that it is computed again, and once in all; both are attempted one after the other, and nothing is computed again;
+/// that it is recomputed, and once in all; both are attempted one after the other, and nothing is recomputed;
 /// and memory is refused as the first one is to be committed, after which nothing is committed any more, and the second
 /// one is given up.
 pub fn event_law_witnesses()
@@ -39,11 +39,11 @@ pub fn event_law_witnesses()
 /// What the numbers of those records mean, and what they decide.
 ///
 /// Right: what the first of those runs says of numbers is what they mean, and so are the numbers of its desk before;
-/// and the second input is computed again, and has no numbers, though its attempt had some.
+/// and the second input is recomputed, and has no numbers, though its attempt had some.
 ///
 /// Wrong: two versions are published under one number; number 0 means a record; an attempt is taken over of whose three
 /// numbers one is not the present one, be it that nothing stands there, or the same record under another number; an
-/// input that is computed again keeps the numbers of its attempt, which had another outcome.
+/// input that is recomputed keeps the numbers of its attempt, which had another outcome.
 pub fn event_numbers_witnesses()
     ensures meant { All (IsMeant means) computing_again }
     ensures opening_meant { IsOpeningIn means two_inputs no_numbers }
@@ -100,11 +100,11 @@ pub fn staying_law_witnesses()
 ///
 /// Right: it was read for the second that there is no train 7, and then the first was committed, which writes that
 /// record, so the attempt at the second is overtaken; and the second was given up. Each note of an attempt was read. Or
-/// train 7 was read for the second as the attempt at the first wrote it, and then the first was computed again, so that
+/// train 7 was read for the second as the attempt at the first wrote it, and then the first was recomputed, so that
 /// the attempt at the second is misled. Or the engines were read for a third as the attempt at the first wrote them,
 /// the first was committed by it, and then a second wrote them, so that the attempt at the third is misled.
 ///
-/// Wrong: the first is computed again though its attempt is fresh; a note of stops is overtaken, which nobody writes; a
+/// Wrong: the first is recomputed though its attempt is fresh; a note of stops is overtaken, which nobody writes; a
 /// note is overtaken that was never read; a note that was never read is answered; and the attempt at the second is
 /// misled where the first is committed by its attempt.
 pub fn conflict_law_witnesses()
@@ -128,9 +128,9 @@ pub fn conflict_law_witnesses()
 /// Both of those inputs are taken.
 ///
 /// Right: train 7 is read for the second after the first is attempted, as that attempt writes it and before it is
-/// committed; and nothing is computed again.
+/// committed; and nothing is recomputed.
 ///
-/// Wrong, and computed again: nothing was read for the second, though its attempt has a note; the second was given up;
+/// Wrong, and recomputed: nothing was read for the second, though its attempt has a note; the second was given up;
 /// train 7 was read for the second as it stood before, though the first was attempted; and it was read before the first
 /// was attempted. In each of these all else holds that has to.
 pub fn forward_law_witnesses()

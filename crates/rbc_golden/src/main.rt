@@ -3,7 +3,7 @@
 //!
 //! `rbc_golden RUNS WORKERS` runs each batch so many times, once if no number is given, and by so many workers; by 1, 2
 //! and 16 if no number of workers is given. If there are more runs than one, it says on standard error how many inputs
-//! of a batch were computed again.
+//! of a batch were recomputed.
 #![tactic(auto)]
 
 use anyhow::{Context, Result};
@@ -23,7 +23,7 @@ struct Case {
     wanted: Vec<u8>,
 }
 
-/// What came of several runs: whether every output was right, and how many inputs were computed again.
+/// What came of several runs: whether every output was right, and how many inputs were recomputed.
 #[derive(Clone, Copy)]
 struct Tally {
     is_right: bool,
@@ -103,7 +103,7 @@ fn main(rt: HostRuntime) -> Result<()> {
         let answer = if tally.is_right { "right" } else { "wrong" };
         println!(rt; "{name} on {track} {answer}")?;
         if runs > 1 {
-            eprintln!(rt; "{} inputs computed again", tally.recomputed)?;
+            eprintln!(rt; "{} inputs recomputed", tally.recomputed)?;
         }
     }
     Ok(())

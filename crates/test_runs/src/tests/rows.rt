@@ -82,7 +82,7 @@ const READ_BEFORE_IT_IS_COMMITTED: &[Call] = &[
     AT_END,
 ];
 
-/// The third input is attempted after the second is, which is attempted before the first and computed again.
+/// The third input is attempted after the second is, which is attempted before the first and recomputed.
 const MISLED: &[Call] = &[
     Call::Take(Some(1)),
     Call::Take(Some(2)),
@@ -221,7 +221,7 @@ fn there_and_back(rt: HostRuntime) {
     assert_left(&rt, &inputs, THERE_AND_BACK, &left);
 }
 
-/// Runs inputs of which nobody is told, all of which are accepted, and asserts how many are computed again.
+/// Runs inputs of which nobody is told, all of which are accepted, and asserts how many are recomputed.
 fn assert_silent<R: Abort + AllocGlobal + Wait>(
     rt: &R,
     inputs: &[Input],

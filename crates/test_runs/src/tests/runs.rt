@@ -62,7 +62,7 @@ fn assert_desk<R: Abort + AllocGlobal>(rt: &R, desk: &Desk, text: &str) {
     same(rt, written.as_slice(), text.as_bytes());
 }
 
-// The second input reads what the first one writes, and is deposited before it: it is computed again. Then the first
+// The second input reads what the first one writes, and is deposited before it: it is recomputed. Then the first
 // input is begun after attempts at all others are deposited, each of which has read what it writes.
 #[test]
 fn computes_again_what_went_stale(rt: HostRuntime) {
@@ -119,7 +119,7 @@ fn commits_in_the_order_of_the_inputs(rt: HostRuntime) {
     same(&rt, gate.was_passed(), true);
 }
 
-// Two trains acknowledge at once, and neither reads what the other writes: nothing is computed again. The run goes on
+// Two trains acknowledge at once, and neither reads what the other writes: nothing is recomputed. The run goes on
 // from the desk that an earlier one left.
 #[test]
 fn applies_what_is_apart(rt: HostRuntime) {
