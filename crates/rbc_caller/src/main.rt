@@ -21,11 +21,14 @@ use std::rt::Files;
 /// The track of this example.
 const TRACK: &str = "main_line.toml";
 
-/// The lines of a batch.
+/// The lines of a batch, of which there are no more than bytes.
 fn lines_of(alloc: Global, batch: &[u8]) -> Result<Vec<&[u8]>, AllocError> {
     let mut lines = Vec::new(alloc);
     let mut rest = batch;
-    while !rest.is_empty() {
+    for _ in 0..batch.len() {
+        if rest.is_empty() {
+            break;
+        }
         let (line, behind) = first_line(rest);
         lines.push(line)?;
         rest = behind;
