@@ -5,7 +5,7 @@ use Rattle.hex.specs.Hex.{decode_of}
 use Rattle.ertms_codec.specs.Texts.{HasText, IsRefused}
 use Rattle.ertms_codec.specs.declared.error.DecodeError.{DecodeError}
 use Rattle.rbc_dispatch.specs.declared.fault.Fault.{Fault}
-use Rattle.rbc_dispatch.specs.declared.fault.Fault.TheVariants.{Batch, Live, BadHex, Decode, Write, OutOfMemory, Track, TrackUnreadable, TrackWarnings}
+use Rattle.rbc_dispatch.specs.declared.fault.Fault.TheVariants.{Batch, OnlyInputs, Live, BadHex, Decode, Write, OutOfMemory, Track, TrackUnreadable, TrackWarnings}
 
 -- the word stands for bytes with this text
 abbrev pub SpellsText : List ℕ → List ℕ → Type 0
@@ -21,6 +21,7 @@ Decodes word old new (Err BadHex) = IsErr (decode_of word)
 Decodes word old new (Err (Decode e)) = (bytes : List ℕ) × (decode_of word ≡ Ok bytes) × IsRefused bytes e
 Decodes word old new (Err OutOfMemory) = ⊤
 Decodes word old new (Err (Batch e)) = ⊥
+Decodes word old new (Err (OnlyInputs count)) = ⊥
 Decodes word old new (Err (Live e)) = ⊥
 Decodes word old new (Err (Track e)) = ⊥
 Decodes word old new (Err TrackUnreadable) = ⊥
@@ -38,6 +39,7 @@ IsUntouched (Err BadHex) old new = new ≡ old
 IsUntouched (Err (Decode e)) old new = new ≡ old
 IsUntouched (Err OutOfMemory) old new = new ≡ old
 IsUntouched (Err (Batch e)) old new = new ≡ old
+IsUntouched (Err (OnlyInputs count)) old new = new ≡ old
 IsUntouched (Err (Live e)) old new = new ≡ old
 IsUntouched (Err (Track e)) old new = new ≡ old
 IsUntouched (Err TrackUnreadable) old new = new ≡ old

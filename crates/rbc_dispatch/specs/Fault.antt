@@ -8,16 +8,19 @@ use Rattle.ertms_codec.specs.declared.text.DescribeError.{DescribeError}
 use Rattle.ertms_codec.specs.declared.text.DescribeError.TheVariants as describing
 use Rattle.hex.specs.declared.error.FromHexError.{FromHexError}
 use Rattle.hex.specs.declared.error.FromHexError.TheVariants as hex
+use Rattle.rbc_account.specs.declared.fault.TellError.{TellError}
+use Rattle.rbc_account.specs.declared.fault.TellError.TheVariants as telling
 use Rattle.rbc_batch.specs.Process.{fault_text}
 use Rattle.rbc_prompt.specs.Answers as prompt
 use Rattle.rbc_track.specs.Plan.{name_of as name_of_track}
 use Rattle.rbc_words.specs.Units.{count_text}
 use Rattle.rbc_dispatch.specs.declared.fault.Fault.{Fault}
-use Rattle.rbc_dispatch.specs.declared.fault.Fault.TheVariants.{Batch, Live, BadHex, Decode, Write, OutOfMemory, Track, TrackUnreadable, TrackWarnings}
+use Rattle.rbc_dispatch.specs.declared.fault.Fault.TheVariants.{Batch, OnlyInputs, Live, BadHex, Decode, Write, OutOfMemory, Track, TrackUnreadable, TrackWarnings}
 
 -- the line of a fault, without its line feed
 abbrev pub line_of : Fault → List ℕ
 line_of (Batch error) = fault_text error
+line_of (OnlyInputs count) = codes "only " ++ count_text count (codes "input")
 line_of (Live error) = prompt.fault_text error
 line_of BadHex = codes "bad hex"
 line_of (Decode error) = codes "decode: " ++ name_of error
@@ -26,6 +29,12 @@ line_of OutOfMemory = codes "out of memory"
 line_of (Track error) = codes "track: " ++ name_of_track error
 line_of TrackUnreadable = codes "track: unreadable"
 line_of (TrackWarnings count) = codes "track: " ++ count_text count (codes "warning")
+
+-- the fault by why a run is not told
+abbrev pub fault_of_telling : TellError → Fault
+fault_of_telling (telling.Track error) = Track error
+fault_of_telling (telling.Batch error) = Batch error
+fault_of_telling (telling.OnlyInputs count) = OnlyInputs count
 
 -- the fault by what the hexadecimal decoder answers
 abbrev pub fault_of_hex : FromHexError → Fault

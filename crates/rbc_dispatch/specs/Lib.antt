@@ -4,3 +4,4 @@ pub mod Ending
 pub mod Fault
 pub mod Living
 pub mod Running
+pub mod Showing

@@ -6,7 +6,7 @@ use Rattle.rbc_track.specs.Plan.{Plan}
 use Rattle.rbc_track.specs.Reading.{IsTrackOf}
 use Rattle.rbc_dispatch.specs.Running.{IsErrUnread, IsNoTrack}
 use Rattle.rbc_dispatch.specs.declared.fault.Fault.{Fault}
-use Rattle.rbc_dispatch.specs.declared.fault.Fault.TheVariants.{Batch, Live, BadHex, Decode, Write, OutOfMemory, Track, TrackUnreadable, TrackWarnings}
+use Rattle.rbc_dispatch.specs.declared.fault.Fault.TheVariants.{Batch, OnlyInputs, Live, BadHex, Decode, Write, OutOfMemory, Track, TrackUnreadable, TrackWarnings}
 
 -- the lines are answered from this number on, on the track that the text is
 abbrev pub AnswersOn : {E : Type 0} → List ℕ → ℕ → Option (List ℕ) → Option (List ℕ) → Option (List ℕ) → Option (List ℕ) → Result E PromptError → Type 0
@@ -19,6 +19,7 @@ LivesOn {E = E} text from read_old read_new old new (Ok done) = AnswersOn {E = E
 LivesOn {E = E} text from read_old read_new old new (Err (Live error)) = AnswersOn {E = E} text from read_old read_new old new (Err error)
 LivesOn text from read_old read_new old new (Err (Track error)) = IsNoTrack text error
 LivesOn text from read_old read_new old new (Err (Batch error)) = ⊥
+LivesOn text from read_old read_new old new (Err (OnlyInputs count)) = ⊥
 LivesOn text from read_old read_new old new (Err TrackUnreadable) = ⊥
 LivesOn text from read_old read_new old new (Err (TrackWarnings count)) = ⊥
 LivesOn text from read_old read_new old new (Err OutOfMemory) = ⊥

@@ -1,4 +1,4 @@
--- What `run` does with a batch, and what `run` and `live` leave as it was.
+-- What `run` does with a batch, and what it, `live`, `explain` and `picture` leave as it was.
 use Rattle.std.specs.Prelude.{◌≡◌, ◌⊎◌, ⊤, ℕ, List, Option, Result, Ok, Err}
 use Rattle.rbc_batch.specs.Process.{Answers, IsUntouched as IsUnwritten}
 use Rattle.rbc_batch.specs.declared.batch.ProcessError.{ProcessError}
@@ -8,7 +8,7 @@ use Rattle.rbc_track.specs.Reading.{IsTrackOf, RefusesTrack}
 use Rattle.rbc_track.specs.declared.error.TrackError.{TrackError}
 use Rattle.rbc_track.specs.declared.error.TrackError.TheVariants as track
 use Rattle.rbc_dispatch.specs.declared.fault.Fault.{Fault}
-use Rattle.rbc_dispatch.specs.declared.fault.Fault.TheVariants.{Batch, Live, BadHex, Decode, Write, OutOfMemory, Track, TrackUnreadable, TrackWarnings}
+use Rattle.rbc_dispatch.specs.declared.fault.Fault.TheVariants.{Batch, OnlyInputs, Live, BadHex, Decode, Write, OutOfMemory, Track, TrackUnreadable, TrackWarnings}
 
 -- the batch is answered by so many workers, on the track that the text is
 abbrev pub AnswersOn : List ℕ → ℕ → Option (List ℕ) → Option (List ℕ) → Option (List ℕ) → Option (List ℕ) → Result Stats ProcessError → Type 0
@@ -24,6 +24,7 @@ abbrev pub RunsOn : {E : Type 0} → List ℕ → ℕ → Option (List ℕ) → 
 RunsOn text workers read_old read_new old new (Ok done) = (stats : Stats) × AnswersOn text workers read_old read_new old new (Ok stats)
 RunsOn text workers read_old read_new old new (Err (Batch error)) = AnswersOn text workers read_old read_new old new (Err error)
 RunsOn text workers read_old read_new old new (Err (Track error)) = IsNoTrack text error
+RunsOn text workers read_old read_new old new (Err (OnlyInputs count)) = ⊥
 RunsOn text workers read_old read_new old new (Err (Live error)) = ⊥
 RunsOn text workers read_old read_new old new (Err TrackUnreadable) = ⊥
 RunsOn text workers read_old read_new old new (Err (TrackWarnings count)) = ⊥
@@ -48,6 +49,7 @@ Runs {E = E} workers read_old read_new old new r = ((text : List ℕ) × RunsOn 
 abbrev pub Keeps : {E I O : Type 0} → Result E Fault → I → I → O → O → Type 0
 Keeps (Ok done) read_old read_new old new = ⊤
 Keeps {E = E} (Err (Batch error)) read_old read_new old new = IsUnwritten {E = E} (Err error) old new
+Keeps (Err (OnlyInputs count)) read_old read_new old new = new ≡ old
 Keeps (Err (Live error)) read_old read_new old new = ⊤
 Keeps (Err (Track error)) read_old read_new old new = (read_new ≡ read_old) × (new ≡ old)
 Keeps (Err TrackUnreadable) read_old read_new old new = (read_new ≡ read_old) × (new ≡ old)

@@ -1,6 +1,7 @@
 //! What can keep the program from its task.
 use ertms_codec::{DecodeError, DescribeError};
 use hex::FromHexError;
+use rbc_account::TellError;
 use rbc_batch::ProcessError;
 use rbc_prompt::PromptError;
 use rbc_track::TrackError;
@@ -19,6 +20,8 @@ pub enum Fault {
     TrackWarnings { count: usize },
     /// The batch was not done.
     Batch(ProcessError),
+    /// The batch was read, and lacks the input that was asked for: it has only so many. Nothing was written.
+    OnlyInputs { count: usize },
     /// Not all lines were answered. What was written before stands.
     Live(PromptError),
     /// The word is no hexadecimal text of whole bytes.
@@ -49,6 +52,13 @@ impl fmt::Display for Fault {
                 write!(f, "track: {warnings}")
             }
             Fault::Batch(error) => write!(f, "{error}"),
+            Fault::OnlyInputs { count } => {
+                let inputs = Count {
+                    number: *count,
+                    noun: "input",
+                };
+                write!(f, "only {inputs}")
+            }
             Fault::Live(error) => write!(f, "{error}"),
             Fault::BadHex => write!(f, "bad hex"),
             Fault::Decode(error) => write!(f, "decode: {error}"),
@@ -104,6 +114,21 @@ impl From<ProcessError> for Fault {
 
     fn from(error: ProcessError) -> Fault {
         Fault::Batch(error)
+    }
+}
+
+impl From<TellError> for Fault {
+    ghost use Rattle.std.specs.Prelude.{◌≡◌};
+    ghost use Rattle.rbc_dispatch.specs.Fault.{fault_of_telling};
+
+    ghost from_gives = { λ error fault. fault ≡ fault_of_telling error };
+
+    fn from(error: TellError) -> Fault {
+        match error {
+            TellError::Track(rule) => Fault::Track(rule),
+            TellError::Batch(error) => Fault::Batch(error),
+            TellError::OnlyInputs { count } => Fault::OnlyInputs { count },
+        }
     }
 }
 

@@ -1,6 +1,7 @@
 //! `dispatch`, the program. `dispatch run --track FILE --workers N` reads a batch from standard input
 //! and writes what the dispatcher answers on the track in the file to standard output.
 //! `dispatch live --track FILE` answers one line at a time, before it waits for the next one.
+//! `dispatch explain --track FILE` tells a batch in words, and `dispatch picture --track FILE` draws what stands after it.
 //! `dispatch check --track FILE` says what a track file says, and what is wrong with it.
 //! `dispatch decode HEX` writes the text of one message, and `dispatch codes` what each code means.
 //!
@@ -15,8 +16,10 @@ mod check;
 mod codes;
 mod decode;
 mod ending;
+mod explain;
 mod fault;
 mod live;
+mod picture;
 mod program;
 
 use std::process::ExitCode;

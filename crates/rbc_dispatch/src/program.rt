@@ -1,21 +1,26 @@
 //! The program, over any streams.
-ghost use Rattle.std.specs.Prelude.{◌≡◌, ◌≢◌, ◌≤◌, ℕ, List, [], IfErr, OnOk, map, string_bytes};
+ghost use Rattle.std.specs.Prelude.{◌≡◌, ◌≢◌, ◌≤◌, ℕ, List, Option, [], IfErr, OnOk, map, string_bytes};
 ghost use Rattle.std.specs.Process.{exit_status};
 ghost use Rattle.clap.specs.Words.{fault_of};
+ghost use Rattle.rbc_account.specs.Telling.{TooFewFor, TooLate};
 ghost use Rattle.rbc_dispatch.specs.Checking.{Checks, IsUnreported};
 ghost use Rattle.rbc_dispatch.specs.Decoding.{Decodes, IsUntouched};
 ghost use Rattle.rbc_dispatch.specs.Ending.{AtTask, status_of};
 ghost use Rattle.rbc_dispatch.specs.Living.{Lives};
 ghost use Rattle.rbc_dispatch.specs.Running.{IsUnread, Keeps, Runs, RunsOn};
-ghost use Rattle.rbc_command_line.specs.Words.{AsksToCheck, AsksToDecode, AsksToLive, AsksToRun, IsCheckOf, IsDecode};
-ghost use Rattle.rbc_command_line.specs.Words.{IsLiveOn, IsRunOn, command_line};
+ghost use Rattle.rbc_dispatch.specs.Showing.{Shows};
+ghost use Rattle.rbc_command_line.specs.Words.{AsksToCheck, AsksToDecode, AsksToDraw, AsksToExplain, AsksToLive};
+ghost use Rattle.rbc_command_line.specs.Words.{AsksToRun, IsCheckOf, IsDecode, IsExplainOn, IsLiveOn, IsPictureOn};
+ghost use Rattle.rbc_command_line.specs.Words.{IsRunOn, command_line};
 
 use crate::check::check_text;
 use crate::codes::write_codes;
 use crate::decode::decode;
 use crate::ending::Ending;
+use crate::explain::explain_text;
 use crate::fault::Fault;
 use crate::live::live_text;
+use crate::picture::picture_text;
 use rbc_batch::process;
 use rbc_command_line::Task;
 use rbc_engine::OpenGate;
@@ -80,6 +85,16 @@ where
         (O.contents output.old) (O.contents output.new)) result }
     ensures not_begun { (file : List ℕ) (from : ℕ) → AsksToLive file from (map string_bytes words.now)
         → AtTask (λ r. Keeps r input.old input.new output.old output.new) result }
+    ensures explain { (file : List ℕ) (from : ℕ) → AsksToExplain file from (map string_bytes words.now)
+        → AtTask (Shows (TooLate from) (I.remaining input.old) (I.remaining input.new)
+        (O.contents output.old) (O.contents output.new)) result }
+    ensures not_told { (file : List ℕ) (from : ℕ) → AsksToExplain file from (map string_bytes words.now)
+        → AtTask (λ r. Keeps r input.old input.new output.old output.new) result }
+    ensures picture { (file : List ℕ) (after : Option ℕ) → AsksToDraw file after (map string_bytes words.now)
+        → AtTask (Shows (TooFewFor after) (I.remaining input.old) (I.remaining input.new)
+        (O.contents output.old) (O.contents output.new)) result }
+    ensures not_drawn { (file : List ℕ) (after : Option ℕ) → AsksToDraw file after (map string_bytes words.now)
+        → AtTask (λ r. Keeps r input.old input.new output.old output.new) result }
     ensures decode { (word : List ℕ) → AsksToDecode word (map string_bytes words.now)
         → AtTask (Decodes word (O.contents output.old) (O.contents output.new)) result }
     ensures unread { (word : List ℕ) → AsksToDecode word (map string_bytes words.now)
@@ -110,6 +125,16 @@ where
         (O.contents output.old) (O.contents output.new) result }
     ensures not_begun { (file : List ℕ) (from : ℕ) → IsLiveOn file from task.entry
         → Keeps result input.old input.new output.old output.new }
+    ensures explain { (file : List ℕ) (from : ℕ) → IsExplainOn file from task.entry
+        → Shows (TooLate from) (I.remaining input.old) (I.remaining input.new)
+        (O.contents output.old) (O.contents output.new) result }
+    ensures not_told { (file : List ℕ) (from : ℕ) → IsExplainOn file from task.entry
+        → Keeps result input.old input.new output.old output.new }
+    ensures picture { (file : List ℕ) (after : Option ℕ) → IsPictureOn file after task.entry
+        → Shows (TooFewFor after) (I.remaining input.old) (I.remaining input.new)
+        (O.contents output.old) (O.contents output.new) result }
+    ensures not_drawn { (file : List ℕ) (after : Option ℕ) → IsPictureOn file after task.entry
+        → Keeps result input.old input.new output.old output.new }
     ensures decode { (word : List ℕ) → IsDecode word task.entry
         → Decodes word (O.contents output.old) (O.contents output.new) result }
     ensures unread { (word : List ℕ) → IsDecode word task.entry
@@ -119,6 +144,8 @@ where
     match task {
         Task::Run { track, workers } => run_file(rt, track, workers, input, output),
         Task::Live { track, from } => live_file(rt, track, from, input, output),
+        Task::Explain { track, from } => explain_file(rt, track, from, input, output),
+        Task::Picture { track, after } => picture_file(rt, track, after, input, output),
         Task::Check { track, other_keys } => check_file(rt, track, other_keys, output),
         Task::Decode(word) => decode(rt.alloc(), word, output),
         Task::Codes => write_codes(rt.alloc(), output),
@@ -175,6 +202,47 @@ where
 {
     let text = track_text(rt, file)?;
     live_text(rt.alloc(), text.as_str(), from, input, output)
+}
+
+/// Tells a batch in words, from this input on, on the track in a file. The track is known before anything is read.
+fn explain_file<R, I, O>(
+    rt: &R,
+    file: &str,
+    from: u32,
+    input: &mut I,
+    output: &mut O,
+) -> Result<(), Fault>
+where
+    R: AllocGlobal + Files,
+    I: Read,
+    O: Write,
+    ensures shows { Shows (TooLate from) (I.remaining input.old) (I.remaining input.new)
+        (O.contents output.old) (O.contents output.new) result }
+    ensures keeps { Keeps result input.old input.new output.old output.new }
+{
+    let text = track_text(rt, file)?;
+    explain_text(rt.alloc(), text.as_str(), from, input, output)
+}
+
+/// Draws what stands after so many inputs of a batch, or after all, on the track in a file. The track is known before
+/// anything is read.
+fn picture_file<R, I, O>(
+    rt: &R,
+    file: &str,
+    after: Option<u32>,
+    input: &mut I,
+    output: &mut O,
+) -> Result<(), Fault>
+where
+    R: AllocGlobal + Files,
+    I: Read,
+    O: Write,
+    ensures shows { Shows (TooFewFor after) (I.remaining input.old) (I.remaining input.new)
+        (O.contents output.old) (O.contents output.new) result }
+    ensures keeps { Keeps result input.old input.new output.old output.new }
+{
+    let text = track_text(rt, file)?;
+    picture_text(rt.alloc(), text.as_str(), after, input, output)
 }
 
 /// The text of a track file. The error is `OutOfMemory` or `TrackUnreadable`.

@@ -1,0 +1,28 @@
+-- What `explain` and `picture` do with a batch.
+use Rattle.std.specs.Prelude.{◌⊎◌, ◌≤◌, ℕ, List, Option, Result, Ok, Err, take, length}
+use Rattle.std.specs.Io.KnownBytes.{Appends}
+use Rattle.rbc_account.specs.Telling.{Tells}
+use Rattle.rbc_account.specs.declared.fault.TellError.TheVariants as telling
+use Rattle.rbc_dispatch.specs.Running.{IsErrUnread}
+use Rattle.rbc_dispatch.specs.declared.fault.Fault.{Fault}
+use Rattle.rbc_dispatch.specs.declared.fault.Fault.TheVariants.{Batch, OnlyInputs, Live, BadHex, Decode, Write, OutOfMemory, Track, TrackUnreadable, TrackWarnings}
+
+-- What comes of a run that is shown, on the track that a text is to be. At Ok what shows it has been written, and nothing else; at a write
+-- fault exactly its first bytes. `Missing count` says that a batch of so many inputs lacks the one that is asked for.
+abbrev pub ShowsOn : {E : Type 0} → (ℕ → Type 0) → List ℕ → Option (List ℕ) → Option (List ℕ) → Option (List ℕ) → Option (List ℕ) → Result E Fault → Type 0
+ShowsOn Missing text read_old read_new old new (Ok done) = (shown : List ℕ) × Tells {T = List ℕ} Missing text read_old read_new (Ok shown) × Appends old new shown
+ShowsOn Missing text read_old read_new old new (Err (Write sent)) =
+    (shown : List ℕ) × Tells {T = List ℕ} Missing text read_old read_new (Ok shown) × (sent ≤ length shown) × Appends old new (take sent shown)
+ShowsOn Missing text read_old read_new old new (Err (Track error)) = Tells {T = List ℕ} Missing text read_old read_new (Err (telling.Track error))
+ShowsOn Missing text read_old read_new old new (Err (Batch error)) = Tells {T = List ℕ} Missing text read_old read_new (Err (telling.Batch error))
+ShowsOn Missing text read_old read_new old new (Err (OnlyInputs count)) = Tells {T = List ℕ} Missing text read_old read_new (Err (telling.OnlyInputs count))
+ShowsOn Missing text read_old read_new old new (Err (Live error)) = ⊥
+ShowsOn Missing text read_old read_new old new (Err TrackUnreadable) = ⊥
+ShowsOn Missing text read_old read_new old new (Err (TrackWarnings count)) = ⊥
+ShowsOn Missing text read_old read_new old new (Err OutOfMemory) = ⊥
+ShowsOn Missing text read_old read_new old new (Err BadHex) = ⊥
+ShowsOn Missing text read_old read_new old new (Err (Decode e)) = ⊥
+
+-- what comes of a run that is shown, on the track in a file: the file holds some text, or it is not read
+abbrev pub Shows : {E : Type 0} → (ℕ → Type 0) → Option (List ℕ) → Option (List ℕ) → Option (List ℕ) → Option (List ℕ) → Result E Fault → Type 0
+Shows {E = E} Missing read_old read_new old new r = ((text : List ℕ) × ShowsOn {E = E} Missing text read_old read_new old new r) ⊎ IsErrUnread r
