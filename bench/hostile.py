@@ -45,7 +45,8 @@ def at_tracks(words, runs):
         ("lines", track + MIB * b"[[line]]\nlength = 1\n", b"track: TooManyLines\n"),
     ):
         words_of = at_track(runs, text)
-        runs.check(words_of, (1, b"", wanted), f"over {len(text)} bytes: {name}")
+        for task in ("run", "explain", "picture"):
+            runs.check([task, *words_of[1:]], (1, b"", wanted), f"over {len(text)} bytes: {name}")
     for name, text in (("a note", b"#" + JUNK * b"x" + b"\n"), ("line feeds", JUNK * b"\n"), ("notes", JUNK // 2 * b"#\n")):
         runs.check(at_track(runs, text + track), (0, words.ANSWER, b""), f"over {len(text)} bytes before a track: {name}")
     runs.check(["run", "--track", "/dev/null"], (1, b"", b"track: Shape\n"), "over /dev/null")
@@ -75,16 +76,27 @@ def at_batches(words, runs):
     runs.check(words.RUN, (0, b"1 refused 12\n", b""), "over good segments", batch=stops)
     for workers in ("2", "16"):
         runs.check([*words.RUN, "--workers", workers], (1, b"", b"too many inputs\n"), f"over line feeds, {workers} workers", batch=most * b"\n")
+    for told in (words.EXPLAIN, words.PICTURE):
+        runs.check(told, (1, b"", b"batch too long\n"), "over NULs, one more", batch=bytes(most + 1))
+        runs.check(told, (1, b"", b"too many inputs\n"), "over line feeds", batch=most * b"\n")
+        for name, batch in (("NULs", bytes(most)), ("two lines", two), ("a message", recv), ("segments", segments), ("good segments", stops)):
+            runs.check(told, (0, words.SOME, b""), f"over {name}", batch=batch)
 
 
 def at_streams(words, runs):
     """Standard input and output byte by byte, and standard output cut after each number of bytes."""
     words_of = ["run", "--track", f"{words.ROOT}/examples/main_line.toml"]
-    for file in sorted(glob.glob(f"{words.ROOT}/examples/*.batch")):
-        batch, output = words.read(file), words.read(f"{file.removesuffix('batch')}expected")
+    for file in sorted(glob.glob(f"{words.ROOT}/examples/*.expected")):
+        batch, output = words.read(f"{file.removesuffix('expected')}batch"), words.read(file)
         runs.compare(words_of, (0, output, b""), "byte by byte", byte_by_byte(runs, words_of, batch))
         for room in range(len(output)):
             words.at_small_file(runs, words_of, output, room, batch=batch)
+        for task in ("explain", "picture"):
+            told = [task, *words_of[1:]]
+            text = runs.end(told, batch=batch)[1]
+            runs.compare(told, (0, text, b""), "byte by byte", byte_by_byte(runs, told, batch))
+            for count in range(int(len(text) ** 0.5)):
+                words.at_small_file(runs, told, text, count * count, batch=batch)
     lines = words.MAX_INPUTS * b"\n"
     refused = b"".join(b"%d refused 1\n" % line for line in range(1, words.MAX_INPUTS + 1))
     for count in range(CUTS):

@@ -3,8 +3,9 @@
 #
 # Track files of 100 MB and more: random bytes, letters, notes, brackets ten million deep. Batches as long as they may be: NULs, line feeds,
 # one message, one stop of millions of segments. Standard input and output in pieces of one byte; standard output into a file that is full
-# after each number of bytes, and into a pipe that its reader closes after ever more bytes. Each run that ends otherwise than it has to is
-# printed; the last line counts those that ended right. It takes some minutes, 1 GB on the disk and the memory that the last line tells.
+# after each number of bytes, or for a log or a picture after each that is a square, and into a pipe that its reader closes after ever more
+# bytes. Each run that ends otherwise than it has to is printed; the last line counts those that ended right. It takes some minutes, 1 GB on
+# the disk and the memory that the last line tells.
 #
 # The program is proved and built first; with --built the one that is there is taken. It needs python3.
 set -euo pipefail

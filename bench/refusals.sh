@@ -4,8 +4,8 @@
 # Each run is refused one allocation more than the last, the Nth alone, until there is no Nth. A call, tested on worked
 # batches in the tests of its crate, must end with the right answer or with the fault for want of memory, and made
 # once more with the right answer; nothing is written unless `process` ends Ok, and what `run` has done is what a serial run gives. The program,
-# on each batch of examples/, must end with status 0 and the expected output, or with status 1, a line that tells of want of memory, and no
-# output. Then the program and that of the golden batches are run by 2, 4 and 16 workers where the Nth thread cannot be started, alone and with
+# on each batch of examples/ by `run`, `explain` and `picture`, must end with status 0 and the expected output, or with status 1, a line that
+# tells of want of memory, and no output. Then the program and that of the golden batches are run by 2, 4 and 16 workers where the Nth thread cannot be started, alone and with
 # all behind it, for each N: the output must be the right one. Whatever else comes is printed, and the script then ends with status 1.
 #
 # It prints one line a call: how many allocations were refused, one a run, and how many of these runs ended with the fault

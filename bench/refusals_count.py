@@ -158,11 +158,16 @@ def at_program(root, refuse):
     for message, text in DESCRIBED.items():
         name = f"the program on message {text.split()[0].decode()}, {len(message) // 2} bytes"
         wrong += count(name, [program, "decode", message], b"", refuse, lambda ended: end_of_program(ended, text))
-    for batch in sorted(glob.glob(f"{root}/examples/*.batch")):
-        text, expected = read(batch), read(batch.removesuffix("batch") + "expected")
+    for file in sorted(glob.glob(f"{root}/examples/*.expected")):
+        batch = file.removesuffix("expected") + "batch"
+        text, expected = read(batch), read(file)
         words = [program, "run", "--track", f"{root}/examples/main_line.toml"]
         name = f"the program on `{os.path.basename(batch)}`"
         wrong += count(name, words, text, refuse, lambda ended: end_of_program(ended, expected))
+        for task in ("explain", "picture"):
+            words = [program, task, "--track", f"{root}/examples/main_line.toml"]
+            shown = subprocess.run(words, input=text, capture_output=True, check=True).stdout
+            wrong += count(f"{name}, `{task}`", words, text, refuse, lambda ended, shown=shown: end_of_program(ended, shown))
     return wrong
 
 

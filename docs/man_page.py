@@ -8,7 +8,7 @@ import subprocess
 import sys
 from pathlib import Path
 
-COMMANDS = ("run", "live", "check", "decode", "codes")
+COMMANDS = ("run", "live", "explain", "picture", "check", "decode", "codes")
 
 
 def said(program, *words):
