@@ -29,8 +29,8 @@ bash python3 Prelude ci must-fail edits check doc fail fmt lemma must plant prog
 
 # of batches, outputs, tracks, texts of messages and command lines
 FORMATS = """
-CODE COMMAND COUNT CRATE ENGINE FILE FROM FRONT HEX INPUT LENGTH LINE MODULE NAME NAME_tests NUMBER SEGMENT SPEED TO WAYS WORD bad be both dispatch down em enrol
-fault group help horizon lift line long many memory out recv refused release restrict stop too track tsr unreadable up warning warnings withdraw write
+AGAIN CODE COMMAND COUNT CRATE ENGINE FILE FROM FRONT HEX INPUT LENGTH LINE MODULE NAME NAME_tests NOT NUMBER SEGMENT SPEED TO TOLD WAYS WORD bad be both dispatch down em enrol
+fault group halt help horizon lift line long many memory out recv refused release restrict stop too track tsr unreadable up warning warnings withdraw write zz
 """
 
 KNOWN = set(" ".join([RUST, ANTT, PORTED, TOOL, FORMATS]).split())
