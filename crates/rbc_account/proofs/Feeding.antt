@@ -1,5 +1,5 @@
--- A block has the reply and the messages of the answer that it tells of.
-use Rattle.std.proofs.Common.{◌≡◌, ℕ, List, Result, Ok, Err, subst, sym}
+-- A block has the reply and the messages of the answer that it tells of, and tells of the input by the train that sent it.
+use Rattle.std.proofs.Common.{◌≡◌, ℕ, List, Option, Result, Ok, Err, subst, sym, ap, ◌∙◌}
 use Rattle.std.specs.Prelude.{IfOk}
 use Rattle.rbc_track.specs.Plan.{Plan}
 use Rattle.rbc_settle.specs.declared.settling.Sent.{Sent}
@@ -7,7 +7,11 @@ use Rattle.rbc_records.specs.declared.record.Key.{Key}
 use Rattle.rbc_records.specs.declared.record.Rec.{Rec}
 use Rattle.rbc_rule.specs.declared.outcome.Reply.{Reply}
 use Rattle.rbc_live.specs.History.{IsFed}
+use Rattle.rbc_settle.specs.declared.train.TrainRec.{TrainRec}
+use Rattle.rbc_rule.specs.declared.input.Input.{Input}
 use Rattle.rbc_account.specs.declared.block.Block.{Block}
+use Rattle.rbc_account.specs.Blocks.{IsRightBlock}
+use Rattle.rbc_account.specs.Coming.{sender_in}
 
 pub fed_as : {E : Type 0} (plan : Plan) (line : List ℕ) (old new : List (Key × Rec)) (reply : Reply) (messages : List Sent) (r : Result Block E)
     → IfOk r (λ block. block.reply ≡ reply) → IfOk r (λ block. block.messages ≡ messages) → IsFed plan line old new reply messages
@@ -16,3 +20,10 @@ fed_as plan line old new reply messages (Ok block) is same fed =
     subst (λ (other : Reply). IsFed plan line old new other block.messages) (sym is)
     (subst (λ (others : List Sent). IsFed plan line old new reply others) (sym same) fed)
 fed_as plan line old new reply messages (Err error) is same fed = tt
+
+pub right_as : {E : Type 0} (horizon : ℕ) (old new : List (Key × Rec)) (input : Input) (before : Option TrainRec) (r : Result Block E)
+    → IfOk r (λ block. block.input ≡ input) → before ≡ sender_in old input → IfOk r (IsRightBlock horizon new before)
+    → IfOk r (λ block. IsRightBlock horizon new (sender_in old block.input) block)
+right_as horizon old new input before (Ok block) same sent right =
+    subst (λ (sender : Option TrainRec). IsRightBlock horizon new sender block) (sent ∙ ap (sender_in old) (sym same)) right
+right_as horizon old new input before (Err error) same sent right = tt

@@ -4,3 +4,5 @@ pub mod Nearest
 pub mod Meetings
 pub mod Shares
 pub mod Feeding
+pub mod Causing
+pub mod Listing

@@ -1,13 +1,12 @@
 -- What the first stretch that meets a place, and the nearest edge ahead, say of what a stop means.
-use Rattle.std.proofs.Common.{◌≡◌, ℕ, Bool, true, false, ◌==◌, ◌&&◌, ◌||◌, cond, if◌then◌else◌, List, [], ◌∷◌, Option, Some, None, is_some, refl, sym, ap, ◌∙◌}
+use Rattle.std.proofs.Common.{◌≡◌, ℕ, true, false, ◌==◌, ◌&&◌, ◌||◌, cond, if◌then◌else◌, List, [], ◌∷◌, Option, Some, None, is_some, refl, sym, ap, ◌∙◌}
 use Rattle.std.specs.List.{list_any}
 use Rattle.std.specs.Option.{unwrap_or}
 use Rattle.rbc_place.specs.Placing.{Place}
 use Rattle.rbc_zones.specs.declared.segment.Segment.{Segment}
-use Rattle.rbc_zones.specs.declared.stop_meaning.Concern.{Concern}
 use Rattle.rbc_zones.specs.declared.stop_meaning.Concern.TheVariants as concern
 use Rattle.rbc_zones.specs.Concerns.{on_its_line, meets, edges_ahead, nearest, is_behind_group, concern_by_edge, concern_at}
-use Rattle.rbc_account.specs.Reasons.{first_met, nearest_edge}
+use Rattle.rbc_account.specs.Reasons.{first_met}
 
 -- a segment on the line of the train meets its place where a first such one is found
 any_met : (p : Place) (area : List Segment) → list_any (meets p) (on_its_line p area) ≡ is_some (first_met area p)

@@ -1,7 +1,7 @@
 -- The nearest edge ahead, found one segment after another.
-use Rattle.std.proofs.Common.{◌≡◌, ℕ, ◌+◌, ◌<◌, ◌≤◌, min, max, Bool, true, false, ◌==◌, cond, if◌then◌else◌, List, [], ◌∷◌, length, get_or, drop, map, Option, Some, None, refl, sym, ap, ◌∙◌}
+use Rattle.std.proofs.Common.{◌≡◌, ℕ, ◌+◌, ◌<◌, ◌≤◌, min, max, Bool, true, false, ◌==◌, cond, List, [], ◌∷◌, length, get_or, drop, map, Option, Some, None, refl, ◌∙◌}
 use Rattle.std.specs.List.{filter, fold}
-use Rattle.std.specs.Option.{option_map_or, unwrap_or}
+use Rattle.std.specs.Option.{option_map_or}
 use Rattle.std.proofs.lemmas.List.{at_drop_more, at_drop_all}
 use Rattle.rbc_track.specs.declared.group.Way.{Way}
 use Rattle.rbc_track.specs.declared.group.Way.TheVariants.{Up, Down}
@@ -10,7 +10,7 @@ use Rattle.rbc_zones.specs.declared.segment.Segment.{Segment}
 use Rattle.rbc_zones.specs.Inside.{no_segment}
 use Rattle.rbc_zones.specs.Concerns.{on_its_line, edge_of, is_ahead, edges_ahead, nearest}
 use Rattle.rbc_zones.specs.Nearer.{first_of}
-use Rattle.rbc_account.specs.Reasons.{nearest_edge, nearer_on_line}
+use Rattle.rbc_account.specs.Reasons.{nearer_on_line}
 
 -- the nearest of one edge and of further ones
 joined : Way → Option ℕ → List ℕ → Option ℕ

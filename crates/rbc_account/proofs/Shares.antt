@@ -1,5 +1,5 @@
 -- The shares of trains add up to the trains.
-use Rattle.std.proofs.Common.{◌≡◌, ℕ, ◌+◌, List, [], ◌∷◌, length, refl, arith}
+use Rattle.std.proofs.Common.{◌≡◌, ◌+◌, List, [], ◌∷◌, length, refl, arith}
 use Rattle.rbc_account.specs.declared.counts.Share.{Share}
 use Rattle.rbc_account.specs.declared.counts.Share.TheVariants.{Told, Untold, Unplaced, Unconcerned}
 use Rattle.rbc_account.specs.Counting.{how_many}

@@ -1,10 +1,14 @@
 pub mod Known
 pub mod Placed
 pub mod Reasons
+pub mod Whys
 pub mod Waits
 pub mod Coming
+pub mod Causes
 pub mod Counting
 pub mod Owed
+pub mod Standings
+pub mod Blocks
 pub mod Sums
 pub mod Runs
 pub mod Telling

@@ -1,5 +1,5 @@
 -- Where a report places a train, and why it gives no place.
-use Rattle.std.specs.Prelude.{◌≡◌, ◌⊎◌, ℕ, ◌<◌, ◌≤◌, Option, Some, None, is_some, true}
+use Rattle.std.specs.Prelude.{◌≡◌, ◌⊎◌, ℕ, ◌<◌, ◌≤◌, Some, None, is_some, true}
 use Rattle.ertms_codec.specs.declared.from_train.Position.{Position}
 use Rattle.rbc_track.specs.Plan.{Plan, group_of}
 use Rattle.rbc_track.specs.declared.group.Group.{Group}

@@ -1,6 +1,7 @@
 //! What came of one input.
 
-ghost use Rattle.std.specs.Prelude.{◌≡◌, length, IfOk};
+ghost use Rattle.std.specs.Prelude.{◌≡◌, length, IfOk, option_copied};
+ghost use Rattle.rbc_account.specs.Blocks.{IsRightBlock};
 
 use crate::coming::come_to_wait;
 use crate::counts::{Counts, counts_after};
@@ -48,7 +49,9 @@ pub(crate) fn block_of(
     ensures input { IfOk result (λ block. block.input ≡ input) }
     ensures reply { IfOk result (λ block. block.reply ≡ answer.reply) }
     ensures messages { IfOk result (λ block. block.messages ≡ answer.messages) }
-    ensures paired { IfOk result (λ block. length block.told.items ≡ length answer.messages) }
+    ensures paired { IfOk result (λ block. length block.told.items ≡ length block.messages) }
+    ensures right { IfOk result (IsRightBlock desk.now.track.horizon desk.now.records
+        (option_copied before.entry)) }
 {
     let reply = answer.reply;
     let messages = answer.messages;

@@ -24,7 +24,7 @@ pub use counts::Counts;
 pub use deed::{Acked, Deed};
 pub use detail::Detail;
 pub use fault::TellError;
-pub use law::account_law;
+pub use law::{account_law, waiting_law};
 pub use placing::{NoPlace, Placing};
 pub use standing::{Sharing, Standing, TrainStanding};
 pub use told::{RestrictionTold, Told, ToldRestriction, ToldWhat, WhyAtOnce, WhyRevoked, WhyTold};

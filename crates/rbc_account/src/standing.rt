@@ -1,7 +1,8 @@
 //! What stands after the inputs that were taken.
 
-ghost use Rattle.std.specs.Prelude.{◌≡◌};
+ghost use Rattle.std.specs.Prelude.{◌≡◌, IfOk, option_map};
 ghost use Rattle.rbc_account.specs.Owed.{owed_stamp};
+ghost use Rattle.rbc_account.specs.Standings.{AreStandings, waiting_of, waiting_told};
 
 use crate::coming::{has, waiting_at};
 use crate::lookup::{active_limits, active_stops, engines_in, train_in};
@@ -53,7 +54,9 @@ pub struct TrainStanding {
 }
 
 /// What stands on a desk. Fails only for lack of memory.
-pub(crate) fn standing_on(alloc: Global, desk: &LiveDesk) -> Result<Standing, AllocError> {
+pub(crate) fn standing_on(alloc: Global, desk: &LiveDesk) -> Result<Standing, AllocError>
+    ensures { IfOk result (λ standing. AreStandings desk.now.track.horizon desk.now.records standing.trains.items) }
+{
     let trains = standings(alloc, desk)?;
     let stops = stop_sharings(alloc, desk, &trains)?;
     let limits = limit_sharings(alloc, desk, &trains)?;
@@ -102,18 +105,35 @@ fn is_again(what: Waits) -> bool {
 }
 
 /// What stands at each train, engines ascending. Fails only for lack of memory.
-fn standings(alloc: Global, desk: &LiveDesk) -> Result<Vec<TrainStanding>, AllocError> {
+fn standings(alloc: Global, desk: &LiveDesk) -> Result<Vec<TrainStanding>, AllocError>
+    ensures { IfOk result (λ all. AreStandings desk.now.track.horizon desk.now.records all.items) }
+{
     let mut all = Vec::new(alloc);
     for engine in engines_in(&desk.records) {
-        if let Some(train) = train_in(&desk.records, *engine) {
-            all.push(TrainStanding {
-                engine: *engine,
-                acknowledgements: owed_by(train),
-                waiting: waiting_at(alloc, desk, train)?,
-            })?;
+        if let Some(standing) = standing_at(alloc, desk, *engine)? {
+            all.push(standing)?;
         }
     }
     Ok(all)
+}
+
+/// What stands at the train with this engine number, if it is enrolled. Fails only for lack of memory.
+fn standing_at(
+    alloc: Global,
+    desk: &LiveDesk,
+    engine: u32,
+) -> Result<Option<TrainStanding>, AllocError>
+    ensures { IfOk result (λ standing. option_map waiting_told standing
+        ≡ waiting_of desk.now.track.horizon desk.now.records engine) }
+{
+    match train_in(&desk.records, engine) {
+        Some(train) => Ok(Some(TrainStanding {
+            engine,
+            acknowledgements: owed_by(train),
+            waiting: waiting_at(alloc, desk, train)?,
+        })),
+        None => Ok(None),
+    }
 }
 
 /// How many messages to a train wait for an answer or an acknowledgement. Of those to its stops each has a stamp of its

@@ -1,6 +1,10 @@
 //! Why a message was sent.
 
-ghost use Rattle.std.specs.Prelude.{◌≡◌, length, IfOk};
+ghost use Rattle.std.specs.Prelude.{◌≡◌, Option, length, map, IfOk, IfSome, option_copied};
+ghost use Rattle.std.specs.List.{All};
+ghost use Rattle.rbc_settle.specs.declared.train.TrainRec.{TrainRec};
+ghost use Rattle.rbc_account.specs.declared.told.ToldWhat.TheVariants.{StopAtOnce};
+ghost use Rattle.rbc_account.specs.Whys.{IsTold, IsWhat, IsReasonTo, IsEscalated, IsPacket, IsWhyRevoked};
 
 use crate::lookup::{active_limit, active_stop, number_under, train_in};
 use crate::placing::unit_of;
@@ -9,15 +13,18 @@ use ertms_codec::{Packets, Part, ToTrain};
 use rbc_ids::Slot;
 use rbc_live::LiveDesk;
 use rbc_place::Place;
+use rbc_records::PlainStore;
 use rbc_rule::{Input, SentList};
 use rbc_settle::{Sent, TrainRec};
 use rbc_track::Way;
 use rbc_zones::{Dirs, Limit, Segment};
 use std::alloc::{AllocError, Global};
 
-/// What one message tells its train, and why. Its engine, identifier and stamp are in the message itself.
+/// What one message tells its train, and why. Its identifier and stamp are in the message itself.
 #[derive(Debug, Drop)]
 pub struct Told {
+    /// The train to which it is sent.
+    pub engine: u32,
     /// The place of the train after the input.
     pub place: Option<Place>,
     /// What it is told.
@@ -123,7 +130,8 @@ pub(crate) fn told_by(
     before: Option<&TrainRec>,
     messages: &SentList,
 ) -> Result<Vec<Told>, AllocError>
-    ensures { IfOk result (λ told. length told.items ≡ length messages.now) }
+    ensures engines { IfOk result (λ told. map (λ one. one.engine) told.items ≡ map (λ one. one.engine) messages.now) }
+    ensures each { IfOk result (λ told. All (IsTold desk.now.records (option_copied before.entry)) told.items) }
 {
     let mut told = Vec::new(alloc);
     for index in 0..messages.len() {
@@ -139,43 +147,62 @@ fn told_by_one(
     input: &Input,
     before: Option<&TrainRec>,
     sent: &Sent,
-) -> Result<Told, AllocError> {
-    let Some(train) = train_in(&desk.records, sent.engine) else {
+) -> Result<Told, AllocError>
+    ensures engine { IfOk result (λ told. told.engine ≡ sent.now.engine) }
+    ensures is { IfOk result (IsTold desk.now.records (option_copied before.entry)) }
+{
+    let engine = sent.engine;
+    let Some(train) = train_in(&desk.records, engine) else {
         return Ok(Told {
+            engine,
             place: None,
             what: ToldWhat::Unknown,
         });
     };
-    let what = match &sent.message {
-        ToTrain::StopAt {
-            id,
-            scale,
-            distance,
-            ..
-        } => stop_before(desk, train, *id, unit_of(*scale), *distance),
-        ToTrain::Stop { id, .. } => stop_at_once(desk, before, train, *id),
-        ToTrain::Revoke { id, .. } => stop_revoked(desk, input, before, *id),
-        ToTrain::General { packets, .. } => {
-            ToldWhat::Restrictions(restrictions(alloc, desk, input, before, train, packets)?)
-        }
-    };
+    let what = what_of(alloc, desk, input, before, train, &sent.message)?;
     Ok(Told {
+        engine,
         place: train.place,
         what,
     })
 }
 
+/// What a message to a train tells.
+fn what_of(
+    alloc: Global,
+    desk: &LiveDesk,
+    input: &Input,
+    before: Option<&TrainRec>,
+    train: &TrainRec,
+    message: &ToTrain,
+) -> Result<ToldWhat, AllocError>
+    ensures { IfOk result (IsWhat desk.now.records (option_copied before.entry) train.now) }
+{
+    match message {
+        ToTrain::StopAt {
+            id,
+            scale,
+            distance,
+            ..
+        } => Ok(stop_before(desk, train, *id, unit_of(*scale), *distance)),
+        ToTrain::Stop { id, .. } => Ok(stop_at_once(desk, before, train, *id)),
+        ToTrain::Revoke { id, .. } => Ok(stop_revoked(desk, input, before, *id)),
+        ToTrain::General { packets, .. } => {
+            let all = restrictions(alloc, desk, input, before, train, packets)?;
+            Ok(ToldWhat::Restrictions(all))
+        }
+    }
+}
+
 /// What message 15 tells, whose distance has this unit.
-fn stop_before(desk: &LiveDesk, train: &TrainRec, id: u8, unit: u32, distance: u16) -> ToldWhat {
+fn stop_before(desk: &LiveDesk, train: &TrainRec, id: u8, unit: u32, distance: u16) -> ToldWhat
+    ensures { (before : Option TrainRec) → IsWhat desk.now.records before train.now result }
+{
     let Some(number) = number_under(&train.stops, id) else {
         return ToldWhat::Unknown;
     };
-    let (Some(area), Some(place)) = (active_stop(&desk.records, number), train.place.as_ref())
-    else {
-        return ToldWhat::Unknown;
-    };
-    match stop_reason(area, train.forced.has(number), Some(place)) {
-        StopReason::Before(edge) => ToldWhat::StopBefore {
+    match (reason_of(&desk.records, train, number), &train.place) {
+        (Some(StopReason::Before(edge)), Some(place)) => ToldWhat::StopBefore {
             number,
             before: onward(place, u32::from(distance).saturating_mul(unit)),
             edge,
@@ -183,6 +210,14 @@ fn stop_before(desk: &LiveDesk, train: &TrainRec, id: u8, unit: u32, distance: u
         },
         _ => ToldWhat::Unknown,
     }
+}
+
+/// What a stop is to a train. `None` if the stop is not active.
+fn reason_of(records: &PlainStore, train: &TrainRec, number: u32) -> Option<StopReason>
+    ensures { IfSome result (IsReasonTo records.now train.now number) }
+{
+    let area = active_stop(records, number)?;
+    Some(stop_reason(area, train.forced.has(number), train.place.as_ref()))
 }
 
 /// The place at a distance ahead of the balise group of a place.
@@ -194,48 +229,57 @@ fn onward(place: &Place, distance: u32) -> u32 {
 }
 
 /// What message 16 tells.
-fn stop_at_once(desk: &LiveDesk, before: Option<&TrainRec>, train: &TrainRec, id: u8) -> ToldWhat {
+fn stop_at_once(desk: &LiveDesk, before: Option<&TrainRec>, train: &TrainRec, id: u8) -> ToldWhat
+    ensures { IsWhat desk.now.records (option_copied before.entry) train.now result }
+{
     let Some(number) = number_under(&train.stops, id) else {
         return ToldWhat::Unknown;
     };
-    if let Some(id) = escalated_under(before, train, number) {
-        return ToldWhat::StopAtOnce {
+    match escalated_under(before, train, number) {
+        Some(id) => ToldWhat::StopAtOnce {
             number,
             why: WhyAtOnce::Unanswered { id },
-        };
+        },
+        None => stopped_at_once(&desk.records, train, number),
     }
-    let Some(area) = active_stop(&desk.records, number) else {
-        return ToldWhat::Unknown;
-    };
-    match why_at_once(stop_reason(area, train.forced.has(number), train.place.as_ref())) {
-        Some(why) => ToldWhat::StopAtOnce { number, why },
-        None => ToldWhat::Unknown,
+}
+
+/// What message 16 tells of a stop that is not escalated.
+fn stopped_at_once(records: &PlainStore, train: &TrainRec, number: u32) -> ToldWhat
+    ensures { (before : Option TrainRec) → IsWhat records.now before train.now result }
+{
+    match reason_of(records, train, number) {
+        Some(StopReason::NoPlace) => at_once(number, WhyAtOnce::NoPlace),
+        Some(StopReason::Forced) => at_once(number, WhyAtOnce::Rejected),
+        Some(StopReason::Overlaps(segment)) => at_once(number, WhyAtOnce::Overlaps(segment)),
+        Some(StopReason::BehindGroup(edge)) => at_once(number, WhyAtOnce::BehindGroup { edge }),
+        Some(StopReason::Before(_) | StopReason::Nothing) | None => ToldWhat::Unknown,
     }
+}
+
+/// To stop at once.
+fn at_once(number: u32, why: WhyAtOnce) -> ToldWhat
+    ensures { result ≡ StopAtOnce number why }
+{
+    ToldWhat::StopAtOnce { number, why }
 }
 
 /// The identifier under which a train left a stop unanswered: it was used by the number before the input, and is being
 /// revoked after it.
-fn escalated_under(before: Option<&TrainRec>, after: &TrainRec, number: u32) -> Option<u8> {
+fn escalated_under(before: Option<&TrainRec>, after: &TrainRec, number: u32) -> Option<u8>
+    ensures { IfSome result (IsEscalated (option_copied before.entry) after.now number) }
+{
     let id = before?.stops.of_number(number)?;
-    match after.stops.slot(id)? {
-        Slot::Revoking { .. } => Some(id),
-        Slot::Used(_) => None,
-    }
-}
-
-/// Why a train stops at once for what a stop is to it, if it does.
-fn why_at_once(reason: StopReason) -> Option<WhyAtOnce> {
-    match reason {
-        StopReason::NoPlace => Some(WhyAtOnce::NoPlace),
-        StopReason::Forced => Some(WhyAtOnce::Rejected),
-        StopReason::Overlaps(segment) => Some(WhyAtOnce::Overlaps(segment)),
-        StopReason::BehindGroup(edge) => Some(WhyAtOnce::BehindGroup { edge }),
-        StopReason::Before(_) | StopReason::Nothing => None,
+    match after.stops.slot(id) {
+        Some(Slot::Revoking { .. }) => Some(id),
+        Some(Slot::Used(_)) | None => None,
     }
 }
 
 /// What message 18 tells. The stop is the one that the identifier told before the input, or that the input releases.
-fn stop_revoked(desk: &LiveDesk, input: &Input, before: Option<&TrainRec>, id: u8) -> ToldWhat {
+fn stop_revoked(desk: &LiveDesk, input: &Input, before: Option<&TrainRec>, id: u8) -> ToldWhat
+    ensures { (old : Option TrainRec) (train : TrainRec) → IsWhat desk.now.records old train result }
+{
     let number = match (input, before) {
         (Input::Release { number }, _) => Some(*number),
         (_, Some(train)) => number_under(&train.stops, id),
@@ -259,7 +303,8 @@ fn restrictions(
     train: &TrainRec,
     packets: &Packets,
 ) -> Result<Vec<ToldRestriction>, AllocError>
-    ensures { IfOk result (λ told. length told.items ≡ length packets.now) }
+    ensures count { IfOk result (λ told. length told.items ≡ length packets.now) }
+    ensures each { IfOk result (λ told. All (IsPacket desk.now.records train.now) told.items) }
 {
     let mut told = Vec::new(alloc);
     for index in 0..packets.count() {
@@ -275,7 +320,9 @@ fn restriction(
     before: Option<&TrainRec>,
     train: &TrainRec,
     part: Part,
-) -> ToldRestriction {
+) -> ToldRestriction
+    ensures { IsPacket desk.now.records train.now result }
+{
     match part {
         Part::Restrict {
             scale,
@@ -302,7 +349,9 @@ fn limit_told(
     unit: u32,
     start: u16,
     length: u16,
-) -> ToldRestriction {
+) -> ToldRestriction
+    ensures { IsPacket desk.now.records train.now result }
+{
     let Some(number) = number_under(&train.limits, id) else {
         return UNKNOWN;
     };
@@ -334,7 +383,9 @@ fn limit_revoked(
     before: Option<&TrainRec>,
     train: &TrainRec,
     id: u8,
-) -> ToldRestriction {
+) -> ToldRestriction
+    ensures { IsPacket desk.now.records train.now result }
+{
     let number = match (input, before) {
         (Input::Lift { number }, _) => Some(*number),
         (_, Some(train)) => number_under(&train.limits, id),
@@ -353,7 +404,9 @@ fn limit_revoked(
 }
 
 /// Why a restriction is revoked: it is not active, or is clear of the train. `None` where neither is so.
-fn why_revoked(limit: Option<&Limit>, place: Option<&Place>) -> Option<WhyRevoked> {
+fn why_revoked(limit: Option<&Limit>, place: Option<&Place>) -> Option<WhyRevoked>
+    ensures { IfSome result (IsWhyRevoked (option_copied limit.entry) (option_copied place.entry)) }
+{
     let Some(limit) = limit else {
         return Some(WhyRevoked::Lifted);
     };
