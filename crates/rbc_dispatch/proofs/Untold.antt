@@ -9,16 +9,16 @@ use Rattle.rbc_batch.specs.declared.batch.ProcessError.{ProcessError}
 use Rattle.rbc_batch.specs.declared.batch.ProcessError.TheVariants as process
 use Rattle.rbc_dispatch.specs.Fault.{fault_of_telling}
 use Rattle.rbc_dispatch.specs.Running.{Keeps}
-use Rattle.rbc_dispatch.specs.Showing.{ShowsOn}
+use Rattle.rbc_dispatch.specs.Showing.{Showing, ShowsOn}
 use Rattle.rbc_dispatch.specs.declared.fault.Fault.{Fault}
 
 -- why it is not told is handed on, and nothing is written
-pub not_told : {E : Type 0} (T : Type 0) (Missing : ℕ → Type 0) (text : List ℕ) (read_old read_new old : Option (List ℕ)) (r : Result E Fault) (e : TellError)
-    → IsErrAnd r (λ x. x ≡ fault_of_telling e) → Tells {T = T} Missing text read_old read_new (Err e) → ShowsOn {E = E} Missing text read_old read_new old old r
-not_told T Missing text read_old read_new old (Ok done) e same h = absurd same
-not_told T Missing text read_old read_new old (Err fault) (telling.Track error) same h = rw same h
-not_told T Missing text read_old read_new old (Err fault) (telling.Batch error) same h = rw same h
-not_told T Missing text read_old read_new old (Err fault) (telling.OnlyInputs count) same h = rw same h
+pub not_told : {E : Type 0} (T : Type 0) (Missing : ℕ → Type 0) (IsShown : Showing) (text : List ℕ) (read_old read_new old : Option (List ℕ)) (r : Result E Fault) (e : TellError)
+    → IsErrAnd r (λ x. x ≡ fault_of_telling e) → Tells {T = T} Missing text read_old read_new (Err e) → ShowsOn {E = E} Missing IsShown text read_old read_new old old r
+not_told T Missing IsShown text read_old read_new old (Ok done) e same h = absurd same
+not_told T Missing IsShown text read_old read_new old (Err fault) (telling.Track error) same h = rw same h
+not_told T Missing IsShown text read_old read_new old (Err fault) (telling.Batch error) same h = rw same h
+not_told T Missing IsShown text read_old read_new old (Err fault) (telling.OnlyInputs count) same h = rw same h
 
 -- nothing is written at a fault of the batch
 unwritten : {W : Type 0} (E : Type 0) (old : W) (error : ProcessError) → IsUntouched {E = E} (Err error) old old

@@ -1,28 +1,42 @@
 -- What `explain` and `picture` do with a batch.
-use Rattle.std.specs.Prelude.{◌⊎◌, ◌≤◌, ℕ, List, Option, Result, Ok, Err, take, length}
+use Rattle.std.specs.Prelude.{◌⊎◌, ◌≤◌, ⊤, ℕ, List, Option, Result, Ok, Err, take, length}
 use Rattle.std.specs.Io.KnownBytes.{Appends}
 use Rattle.rbc_account.specs.Telling.{Tells}
 use Rattle.rbc_account.specs.declared.fault.TellError.TheVariants as telling
+use Rattle.rbc_explain.specs.Log.{IsLogOfRun}
 use Rattle.rbc_dispatch.specs.Running.{IsErrUnread}
 use Rattle.rbc_dispatch.specs.declared.fault.Fault.{Fault}
 use Rattle.rbc_dispatch.specs.declared.fault.Fault.TheVariants.{Batch, OnlyInputs, Live, BadHex, Decode, Write, OutOfMemory, Track, TrackUnreadable, TrackWarnings}
 
+-- what is to hold of a text that shows a run, by the text of the track and what the reader had left before and has left after
+abbrev pub Showing : Type 1
+Showing = List ℕ → Option (List ℕ) → Option (List ℕ) → List ℕ → Type 0
+
+-- the log of the run, from this input on
+abbrev pub IsLogFrom : ℕ → List ℕ → Option (List ℕ) → Option (List ℕ) → List ℕ → Type 0
+IsLogFrom from text old new log = IsLogOfRun text from old new log
+
+-- a picture of the run, of which no more is said
+abbrev pub IsPicture : List ℕ → Option (List ℕ) → Option (List ℕ) → List ℕ → Type 0
+IsPicture text old new drawn = ⊤
+
 -- What comes of a run that is shown, on the track that a text is to be. At Ok what shows it has been written, and nothing else; at a write
 -- fault exactly its first bytes. `Missing count` says that a batch of so many inputs lacks the one that is asked for.
-abbrev pub ShowsOn : {E : Type 0} → (ℕ → Type 0) → List ℕ → Option (List ℕ) → Option (List ℕ) → Option (List ℕ) → Option (List ℕ) → Result E Fault → Type 0
-ShowsOn Missing text read_old read_new old new (Ok done) = (shown : List ℕ) × Tells {T = List ℕ} Missing text read_old read_new (Ok shown) × Appends old new shown
-ShowsOn Missing text read_old read_new old new (Err (Write sent)) =
-    (shown : List ℕ) × Tells {T = List ℕ} Missing text read_old read_new (Ok shown) × (sent ≤ length shown) × Appends old new (take sent shown)
-ShowsOn Missing text read_old read_new old new (Err (Track error)) = Tells {T = List ℕ} Missing text read_old read_new (Err (telling.Track error))
-ShowsOn Missing text read_old read_new old new (Err (Batch error)) = Tells {T = List ℕ} Missing text read_old read_new (Err (telling.Batch error))
-ShowsOn Missing text read_old read_new old new (Err (OnlyInputs count)) = Tells {T = List ℕ} Missing text read_old read_new (Err (telling.OnlyInputs count))
-ShowsOn Missing text read_old read_new old new (Err (Live error)) = ⊥
-ShowsOn Missing text read_old read_new old new (Err TrackUnreadable) = ⊥
-ShowsOn Missing text read_old read_new old new (Err (TrackWarnings count)) = ⊥
-ShowsOn Missing text read_old read_new old new (Err OutOfMemory) = ⊥
-ShowsOn Missing text read_old read_new old new (Err BadHex) = ⊥
-ShowsOn Missing text read_old read_new old new (Err (Decode e)) = ⊥
+abbrev pub ShowsOn : {E : Type 0} → (ℕ → Type 0) → Showing → List ℕ → Option (List ℕ) → Option (List ℕ) → Option (List ℕ) → Option (List ℕ) → Result E Fault → Type 0
+ShowsOn Missing IsShown text read_old read_new old new (Ok done) =
+    (shown : List ℕ) × Tells {T = List ℕ} Missing text read_old read_new (Ok shown) × IsShown text read_old read_new shown × Appends old new shown
+ShowsOn Missing IsShown text read_old read_new old new (Err (Write sent)) =
+    (shown : List ℕ) × Tells {T = List ℕ} Missing text read_old read_new (Ok shown) × IsShown text read_old read_new shown × (sent ≤ length shown) × Appends old new (take sent shown)
+ShowsOn Missing IsShown text read_old read_new old new (Err (Track error)) = Tells {T = List ℕ} Missing text read_old read_new (Err (telling.Track error))
+ShowsOn Missing IsShown text read_old read_new old new (Err (Batch error)) = Tells {T = List ℕ} Missing text read_old read_new (Err (telling.Batch error))
+ShowsOn Missing IsShown text read_old read_new old new (Err (OnlyInputs count)) = Tells {T = List ℕ} Missing text read_old read_new (Err (telling.OnlyInputs count))
+ShowsOn Missing IsShown text read_old read_new old new (Err (Live error)) = ⊥
+ShowsOn Missing IsShown text read_old read_new old new (Err TrackUnreadable) = ⊥
+ShowsOn Missing IsShown text read_old read_new old new (Err (TrackWarnings count)) = ⊥
+ShowsOn Missing IsShown text read_old read_new old new (Err OutOfMemory) = ⊥
+ShowsOn Missing IsShown text read_old read_new old new (Err BadHex) = ⊥
+ShowsOn Missing IsShown text read_old read_new old new (Err (Decode e)) = ⊥
 
 -- what comes of a run that is shown, on the track in a file: the file holds some text, or it is not read
-abbrev pub Shows : {E : Type 0} → (ℕ → Type 0) → Option (List ℕ) → Option (List ℕ) → Option (List ℕ) → Option (List ℕ) → Result E Fault → Type 0
-Shows {E = E} Missing read_old read_new old new r = ((text : List ℕ) × ShowsOn {E = E} Missing text read_old read_new old new r) ⊎ IsErrUnread r
+abbrev pub Shows : {E : Type 0} → (ℕ → Type 0) → Showing → Option (List ℕ) → Option (List ℕ) → Option (List ℕ) → Option (List ℕ) → Result E Fault → Type 0
+Shows {E = E} Missing IsShown read_old read_new old new r = ((text : List ℕ) × ShowsOn {E = E} Missing IsShown text read_old read_new old new r) ⊎ IsErrUnread r
