@@ -207,7 +207,11 @@ fn numbers_of(alloc: Global, published: &Published) -> Result<Vec<(Key, u64)>, A
     let mut numbers = Vec::new(alloc);
     for index in 0..published.len() {
         let (key, ticket) = published.at(index);
-        numbers.push((key, ticket.map_or(0, Ticket::number)))?;
+        let number = match ticket {
+            Some(ticket) => ticket.number(),
+            None => 0,
+        };
+        numbers.push((key, number))?;
     }
     Ok(numbers)
 }
