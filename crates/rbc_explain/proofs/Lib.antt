@@ -1,0 +1,3 @@
+pub mod Marking
+pub mod Meaning
+pub mod OneMore

@@ -1,0 +1,80 @@
+-- What is put in words of a message is what the message says.
+use Rattle.std.proofs.Common.{◌≡◌, ℕ, ◌+◌, ◌*◌, Bool, true, false, List, [], ◌∷◌, refl, sym, subst, Option, Some, None, IfSome, ℤ, pos}
+use Rattle.ertms_codec.specs.declared.packets.Part.{Part}
+use Rattle.ertms_codec.specs.declared.packets.Part.TheVariants as packet
+use Rattle.ertms_codec.specs.declared.to_train.Head.{Head}
+use Rattle.ertms_codec.specs.declared.to_train.ToTrain.{ToTrain}
+use Rattle.ertms_codec.specs.declared.to_train.ToTrain.TheVariants as message
+use Rattle.rbc_track.specs.Plan.{Plan}
+use Rattle.rbc_track.specs.declared.group.Way.{Way}
+use Rattle.rbc_track.specs.declared.group.Way.TheVariants.{Up, Down}
+use Rattle.rbc_place.specs.Reach.{IsAhead}
+use Rattle.rbc_rule.specs.Saying as rule
+use Rattle.rbc_explain.specs.declared.said.Origin.{Origin}
+use Rattle.rbc_explain.specs.declared.said.Spot.{Spot}
+use Rattle.rbc_explain.specs.declared.said.Spoken.{Spoken}
+use Rattle.rbc_explain.specs.declared.said.Spoken.TheVariants as spoken
+use Rattle.rbc_explain.specs.Said.{IsOriginOf, IsSpotAhead, IsSpokenBy, IsSpokenByPacket, IsStopBefore, IsRestriction}
+
+-- a place that is no place before the beginning of the line lies ahead
+lies_ahead : (way : Way) (from by units : ℕ) → IsSpotAhead way from by false units → IsAhead way from by units
+lies_ahead Up from by units ahead = ahead
+lies_ahead Down from by units ahead = ahead
+
+-- to stop before the place that lies so far ahead
+pub stop_told : (plan : Plan) (lrbg dir scale distance counted : ℕ) (origin : Origin) (spot : Spot) → IsOriginOf plan lrbg dir scale origin → counted ≡ distance
+    → IsSpotAhead origin.way origin.at (counted * origin.unit) spot.is_before spot.units → spot.is_before ≡ false
+    → IsStopBefore plan lrbg dir scale distance (spoken.StopBefore origin.line spot.units)
+stop_told plan lrbg dir scale distance counted origin spot counts same ahead not_before =
+    let on_line = subst (λ (b : Bool). IsSpotAhead origin.way origin.at (counted * origin.unit) b spot.units) not_before ahead in
+    let told = subst (λ (n : ℕ). IsSpotAhead origin.way origin.at (n * origin.unit) false spot.units) same on_line in (
+      record { line = origin.line; origin = origin.at; way = origin.way; place = spot.units; unit = origin.unit },
+      record { counts = counts; ahead = lies_ahead origin.way origin.at (distance * origin.unit) spot.units told },
+      λ id. (refl, refl),
+    )
+
+-- to keep to a speed on the stretch between two places that lie so far ahead
+pub restriction_told : (plan : Plan) (lrbg dir scale start length speed begins ends told : ℕ) (origin : Origin) (from to : Spot) → IsOriginOf plan lrbg dir scale origin
+    → begins ≡ start → ends ≡ start + length → told ≡ 5 * speed
+    → IsSpotAhead origin.way origin.at (begins * origin.unit) from.is_before from.units → IsSpotAhead origin.way origin.at (ends * origin.unit) to.is_before to.units
+    → IsRestriction plan lrbg dir scale start length (5 * speed) (spoken.Restriction origin.line from to told)
+restriction_told plan lrbg dir scale start length speed begins ends told origin from to counts same_begin same_end same_speed first last = (
+  record { line = origin.line; origin = origin.at; way = origin.way; begin = start * origin.unit; end = (start + length) * origin.unit; unit = origin.unit },
+  record { counts = counts; begins = refl; ends = refl },
+  λ id front. (
+    refl,
+    same_speed,
+    subst (λ (n : ℕ). IsSpotAhead origin.way origin.at (n * origin.unit) from.is_before from.units) same_begin first,
+    subst (λ (n : ℕ). IsSpotAhead origin.way origin.at (n * origin.unit) to.is_before to.units) same_end last,
+  ),
+)
+
+-- a message 15 says it
+pub by_stop_before : (plan : Plan) (head : Head) (id scale : ℕ) (reference : ℤ) (dir distance : ℕ) (whole : ToTrain) (found : Option Spoken)
+    → whole ≡ message.StopAt head id scale reference dir distance → reference ≡ pos 0 → IfSome found (IsStopBefore plan head.lrbg dir scale distance) → IfSome found (IsSpokenBy plan whole)
+by_stop_before plan head id scale reference dir distance whole None is zero told = tt
+by_stop_before plan head id scale reference dir distance whole (Some words) is zero told =
+    subst (λ (m : ToTrain). IsSpokenBy plan m words) (sym is) (rule.StopsBefore id told.0, (zero, (told.0, (told.1, refl))), told.2 id)
+
+-- a message 16 says it
+pub by_stop : (plan : Plan) (head : Head) (id : ℕ) (whole : ToTrain) → whole ≡ message.Stop head id → IsSpokenBy plan whole spoken.StopAtOnce
+by_stop plan head id whole is = subst (λ (m : ToTrain). IsSpokenBy plan m spoken.StopAtOnce) (sym is) (rule.StopsAtOnce id, refl, tt)
+
+-- a message 18 says it
+pub by_revocation : (plan : Plan) (head : Head) (id : ℕ) (whole : ToTrain) → whole ≡ message.Revoke head id → IsSpokenBy plan whole spoken.StopRevoked
+by_revocation plan head id whole is = subst (λ (m : ToTrain). IsSpokenBy plan m spoken.StopRevoked) (sym is) (rule.RevokesStop id, refl, tt)
+
+pub by_escalation : (plan : Plan) (head : Head) (id : ℕ) (whole : ToTrain) → whole ≡ message.Revoke head id → IsSpokenBy plan whole (spoken.IdentifierRevoked id)
+by_escalation plan head id whole is = subst (λ (m : ToTrain). IsSpokenBy plan m (spoken.IdentifierRevoked id)) (sym is) (rule.RevokesStop id, refl, refl)
+
+-- a packet 65 says it
+pub by_restriction : (plan : Plan) (lrbg dir scale id start length : ℕ) (front : Bool) (speed : ℕ) (whole : Part) (found : Option Spoken)
+    → whole ≡ packet.Restrict dir scale id start length front speed → IfSome found (IsRestriction plan lrbg dir scale start length (5 * speed))
+    → IfSome found (IsSpokenByPacket plan lrbg whole)
+by_restriction plan lrbg dir scale id start length front speed whole None is told = tt
+by_restriction plan lrbg dir scale id start length front speed whole (Some words) is told =
+    subst (λ (p : Part). IsSpokenByPacket plan lrbg p words) (sym is) (rule.Restricts id told.0 front (5 * speed), (told.0, (told.1, refl)), told.2 id front)
+
+-- a packet 66 says it
+pub by_lift : (plan : Plan) (lrbg dir id : ℕ) (whole : Part) → whole ≡ packet.Lift dir id → dir ≡ 2 → IsSpokenByPacket plan lrbg whole spoken.RestrictionRevoked
+by_lift plan lrbg dir id whole is both = subst (λ (p : Part). IsSpokenByPacket plan lrbg p spoken.RestrictionRevoked) (sym is) (rule.RevokesLimit id, (both, refl), tt)

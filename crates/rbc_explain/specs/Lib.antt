@@ -1,0 +1,4 @@
+pub mod Log
+pub mod Marked
+pub mod Said
+pub mod Sentences

@@ -1,0 +1,47 @@
+-- The log of a run (own rule).
+use Rattle.std.specs.Prelude.{◌≡◌, ℕ, ◌+◌, nat_le, if◌then◌else◌, List, [], ◌∷◌, ◌++◌, map, Option}
+use Rattle.rbc_track.specs.Plan.{Plan}
+use Rattle.rbc_track.specs.Reading.{IsTrackOf}
+use Rattle.rbc_records.specs.declared.record.Key.{Key}
+use Rattle.rbc_records.specs.declared.record.Rec.{Rec}
+use Rattle.rbc_text.specs.BatchText.{lines_of}
+use Rattle.rbc_text.specs.OutputText.{answer_of}
+use Rattle.rbc_batch.specs.Process.{IsAllRead}
+use Rattle.rbc_live.specs.History.{Taken, IsSerialRunOf}
+use Rattle.rbc_account.specs.Runs.{IsAccount}
+use Rattle.rbc_account.specs.declared.account.Account.{Account}
+use Rattle.rbc_explain.specs.Marked.{Shows}
+
+-- the lines of the answer to a line of this number, where lines are told from that number on
+abbrev pub answer_told : ℕ → ℕ → Taken → List (List ℕ)
+answer_told from number taken = if nat_le from number then lines_of (answer_of number taken.reply taken.messages) else []
+
+-- those of the answers to lines, of which the first has this number
+abbrev pub answers_told : ℕ → ℕ → List Taken → List (List ℕ)
+answers_told from number [] = []
+answers_told from number (taken ∷ more) = answer_told from number taken ++ answers_told from (number + 1) more
+
+-- The log of lines, told from a number on: the answers and the messages are those of the serial run of the lines, from the empty state,
+-- and each line of an answer that is told stands in the log, in its order, with "= " before it.
+pub record IsLogOf (plan : Plan) (from : ℕ) (lines : List (List ℕ)) (log : List ℕ) : Type 0 where
+  pub taken : List Taken
+  pub records : List (Key × Rec)
+  pub fed : map (λ one. one.line) taken ≡ lines
+  pub serial : IsSerialRunOf plan taken records
+  pub shows : Shows (answers_told from 1 taken) log
+
+-- The log of all that a reader had left, on the track that a text is.
+pub record IsLogOfRun (text : List ℕ) (from : ℕ) (old new : Option (List ℕ)) (log : List ℕ) : Type 0 where
+  pub plan : Plan
+  pub batch : List ℕ
+  pub is_track : IsTrackOf text plan
+  pub read : IsAllRead old new batch
+  pub told : IsLogOf plan from (lines_of batch) log
+
+-- The log of lines that an account has taken so far.
+pub record IsUnderWay (plan : Plan) (from : ℕ) (account : Account) (lines : List (List ℕ)) (log : List ℕ) : Type 0 where
+  pub taken : List Taken
+  pub fed : map (λ one. one.line) taken ≡ lines
+  pub counted : IsAccount plan taken account.desk.records account.sums
+  pub track : account.desk.track ≡ plan
+  pub shows : Shows (answers_told from 1 taken) log

@@ -1,0 +1,170 @@
+//! One input in a log: its line, what came of it, and each message with its reason.
+
+ghost use Rattle.std.specs.Prelude.{OnOk};
+ghost use Rattle.rbc_rule.specs.Gathered.{AreSendable};
+ghost use Rattle.rbc_text.specs.BatchText.{lines_of};
+ghost use Rattle.rbc_text.specs.OutputText.{answer_of};
+ghost use Rattle.rbc_explain.specs.Marked.{IsToldOn};
+
+use crate::deed::push_deed;
+use crate::echo::push_echo;
+use crate::log::{push_line, push_words};
+use crate::message::push_message;
+use crate::refused::{RefusedInput, push_refused};
+use crate::waiting::push_waiting_at;
+use rbc_account::{Block, Counts, Deed};
+use rbc_rule::{Input, Reply};
+use rbc_text::{first_line, render_answer};
+use rbc_track::Track;
+use rbc_track_report::Sheet;
+use std::alloc::{AllocError, Global};
+
+/// The track of a run.
+#[derive(Clone, Copy)]
+pub struct TrackOfRun<'a> {
+    pub track: &'a Track,
+    /// How many lines it has.
+    pub lines: usize,
+}
+
+/// Adds what came of the input of a line. The lines of its answer stand there in their order, each with `= ` before it.
+/// Fails only for lack of memory.
+#[tactic(auto, using(crate::proofs::Marking::words_then, crate::proofs::Marking::then_words))]
+pub fn push_block(
+    alloc: Global,
+    log: &mut Vec<u8>,
+    of: TrackOfRun<'_>,
+    line: &[u8],
+    block: &Block,
+) -> Result<(), AllocError>
+    requires { AreSendable block.now.messages }
+    ensures { OnOk result (IsToldOn (lines_of (answer_of block.now.number block.now.reply block.now.messages))
+        log.old.items log.new.items) }
+{
+    let answer = render_answer(alloc, block.number, block.reply, &block.messages)?;
+    push_words(log, heading(alloc, line, block)?)?;
+    push_answer(alloc, log, of, line, block, &answer)?;
+    push_words(log, afterwards(alloc, block))
+}
+
+/// Adds each line of the answer to an input, and after it what is said of the next message. Fails only for lack of
+/// memory.
+#[tactic(auto, using(crate::proofs::Marking::begins, crate::proofs::Marking::goes_on, crate::proofs::Marking::ends))]
+fn push_answer(
+    alloc: Global,
+    log: &mut Vec<u8>,
+    of: TrackOfRun<'_>,
+    line: &[u8],
+    block: &Block,
+    answer: &[u8],
+) -> Result<(), AllocError>
+    ensures { OnOk result (IsToldOn (lines_of answer.now) log.old.items log.new.items) }
+{
+    let mut rest = answer;
+    let mut index = 0usize;
+    while !rest.is_empty() {
+        let (first, behind) = first_line(rest);
+        push_line(log, first)?;
+        push_words(log, following(alloc, of, line, block, index)?)?;
+        rest = behind;
+        index = index.saturating_add(1);
+    }
+    Ok(())
+}
+
+/// The line of an input with its number, after an empty line. Fails only for lack of memory.
+fn heading(alloc: Global, line: &[u8], block: &Block) -> Result<Sheet, AllocError> {
+    let mut sheet = Sheet::new(alloc);
+    sheet
+        .words("\nINPUT ")
+        .number(block.number as usize)
+        .words(": ");
+    push_echo(alloc, &mut sheet, line)?;
+    sheet.words("\n");
+    Ok(sheet)
+}
+
+/// What follows the line of the answer at an index: after the first one what came of the input, and after each what is
+/// said of the message at that index. Fails only for lack of memory.
+fn following(
+    alloc: Global,
+    of: TrackOfRun<'_>,
+    line: &[u8],
+    block: &Block,
+    index: usize,
+) -> Result<Sheet, AllocError> {
+    let mut sheet = Sheet::new(alloc);
+    if index == 0 {
+        push_outcome(&mut sheet, of, line, block);
+    }
+    if index < block.messages.len()
+        && let Some(told) = block.told.get(index)
+    {
+        push_message(alloc, &mut sheet, of.track, block.messages.at(index), told)?;
+    }
+    Ok(sheet)
+}
+
+/// Adds whether the input was accepted, and what it did, or why it was refused.
+fn push_outcome(sheet: &mut Sheet, of: TrackOfRun<'_>, line: &[u8], block: &Block) {
+    match (block.reply, &block.deed) {
+        (Reply::Done(sent), deed) => {
+            push_accepted(sheet, sent);
+            push_deed(sheet, deed);
+        }
+        (Reply::Refused(code), Deed::Refused(detail)) => {
+            let refused = RefusedInput {
+                line,
+                input: &block.input,
+                track_lines: of.lines,
+            };
+            push_refused(sheet, refused, code, detail);
+        }
+        (Reply::Refused(_), _) => {}
+    }
+}
+
+fn push_accepted(sheet: &mut Sheet, sent: u32) {
+    if sent == 0 {
+        sheet.words("  Accepted; nothing is sent.\n");
+    } else if sent == 1 {
+        sheet.words("  Accepted; 1 message is sent.\n");
+    } else {
+        sheet
+            .words("  Accepted; ")
+            .number(sent as usize)
+            .words(" messages are sent.\n");
+    }
+}
+
+/// What a stop or a restriction that began is to the trains, and what has come to wait.
+fn afterwards(alloc: Global, block: &Block) -> Sheet {
+    let mut sheet = Sheet::new(alloc);
+    if let Some(counts) = block.counts {
+        push_counts(&mut sheet, &counts, is_restriction(&block.input));
+    }
+    for (engine, waiting) in &block.waiting {
+        push_waiting_at(&mut sheet, *engine, waiting);
+    }
+    sheet
+}
+
+fn is_restriction(input: &Input) -> bool {
+    matches!(input, Input::Restrict { .. })
+}
+
+/// Adds how many trains were told. Only a restriction takes no notice of trains without a place.
+fn push_counts(sheet: &mut Sheet, counts: &Counts, is_restriction: bool) {
+    sheet
+        .words("  Of ")
+        .count(counts.trains, "train")
+        .words(": ")
+        .number(counts.told)
+        .words(" told, ")
+        .number(counts.untold)
+        .words(" not told though concerned, ");
+    if is_restriction {
+        sheet.number(counts.unplaced).words(" without a place, ");
+    }
+    sheet.number(counts.unconcerned).words(" not concerned.\n");
+}

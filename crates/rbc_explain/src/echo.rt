@@ -1,0 +1,50 @@
+//! A line of the batch as the log shows it.
+
+use rbc_track_report::Sheet;
+use std::alloc::{AllocError, Global};
+use std::fmt::Write;
+
+/// The most columns of a line that is shown whole. No line of more bytes has fewer columns.
+const MOST_COLUMNS: usize = 80;
+
+/// How many columns are shown of a longer line.
+const FIRST_COLUMNS: usize = 60;
+
+/// Whether a byte is shown as it is: a printable one of ASCII, but no backslash.
+fn is_plain(byte: u8) -> bool {
+    (32..=126).contains(&byte) && byte != b'\\'
+}
+
+/// The columns of bytes: a plain byte as it is, any other as `\xHH`. Fails only for lack of memory.
+fn columns_of(alloc: Global, bytes: &[u8]) -> Result<String, AllocError> {
+    let mut columns = String::new(alloc);
+    for byte in bytes {
+        if is_plain(*byte) {
+            columns.push(char::from(*byte))?;
+        } else {
+            write!(columns, "\\x{byte:02x}")?;
+        }
+    }
+    Ok(columns)
+}
+
+/// Adds a line of a batch: all of its columns where they are at most 80, and else the first 60 and the number of its
+/// bytes. Fails only for lack of memory.
+pub fn push_echo(alloc: Global, sheet: &mut Sheet, line: &[u8]) -> Result<(), AllocError> {
+    let shown = &line[..line.len().min(MOST_COLUMNS + 1)];
+    let columns = columns_of(alloc, shown)?;
+    if columns.len() <= MOST_COLUMNS {
+        sheet.words(columns.as_str());
+        return Ok(());
+    }
+    let mut first = String::new(alloc);
+    for column in columns.chars().take(FIRST_COLUMNS) {
+        first.push(column)?;
+    }
+    sheet
+        .words(first.as_str())
+        .words(" .. (")
+        .number(line.len())
+        .words(" bytes)");
+    Ok(())
+}

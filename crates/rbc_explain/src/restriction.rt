@@ -1,0 +1,316 @@
+//! A message on restrictions in words: what each packet says, and why.
+
+ghost use Rattle.std.specs.Prelude.{IfOk, IfSome, string_bytes};
+ghost use Rattle.rbc_explain.specs.Said.{IsRestrictionSentence, IsPacketSentence};
+
+use crate::figures::{push_place, push_stretch, way_word, ways_words};
+use crate::said::spoken_by_packet;
+use crate::sentence::{packet_sentence, restriction_sentence};
+use ertms_codec::{Head, Packets, Part, ToTrain};
+use rbc_account::{RestrictionTold, ToldRestriction, WhyRevoked, WhyTold};
+use rbc_place::Place;
+use rbc_settle::Sent;
+use rbc_track::{Track, Way};
+use rbc_track_report::Sheet;
+use rbc_zones::Segment;
+use std::alloc::{AllocError, Global};
+
+/// Adds what a message 24 says, and why each of its packets was sent. Fails only for lack of memory.
+pub fn push_restrictions(
+    alloc: Global,
+    sheet: &mut Sheet,
+    track: &Track,
+    sent: &Sent,
+    place: &Option<Place>,
+    all: &[ToldRestriction],
+) -> Result<(), AllocError> {
+    let ToTrain::General { head, packets } = &sent.message else {
+        return Ok(());
+    };
+    if packets.count() > 1 {
+        push_several(sheet, sent.engine, packets.count(), *head, place);
+        return push_each(alloc, sheet, track, head.lrbg, packets, place, all);
+    }
+    match all {
+        [one, ..] => {
+            let packet = packets.at(0);
+            push_single(alloc, sheet, track, sent.engine, *head, &packet, place, one)
+        }
+        [] => Ok(()),
+    }
+}
+
+/// Adds that a message has several packets, and where the train may be.
+fn push_several(sheet: &mut Sheet, engine: u32, count: usize, head: Head, place: &Option<Place>) {
+    sheet
+        .words("  To train ")
+        .number(engine as usize)
+        .words(", for ")
+        .number(count)
+        .words(" restrictions, in one message:\n    Message 24 with ")
+        .number(count)
+        .words(" packets, stamp ")
+        .number(head.stamp as usize)
+        .words("; answer: message 146.\n");
+    if let Some(place) = place {
+        sheet.words("    The train may be at ");
+        push_place(sheet, place);
+        sheet.words(".\n");
+    }
+}
+
+/// Adds what each of several packets says, and why. Fails only for lack of memory.
+fn push_each(
+    alloc: Global,
+    sheet: &mut Sheet,
+    track: &Track,
+    lrbg: u32,
+    packets: &Packets,
+    place: &Option<Place>,
+    all: &[ToldRestriction],
+) -> Result<(), AllocError> {
+    for (index, one) in all.iter().enumerate() {
+        if index < packets.count() {
+            let packet = packets.at(index);
+            push_packet(alloc, sheet, track, lrbg, &packet, one.number)?;
+            sheet.words("    Why: ");
+            push_why(sheet, place, one);
+        }
+    }
+    Ok(())
+}
+
+/// Adds what one of several packets says, with its kind and identifier. Fails only for lack of memory.
+fn push_packet(
+    alloc: Global,
+    sheet: &mut Sheet,
+    track: &Track,
+    lrbg: u32,
+    packet: &Part,
+    number: u32,
+) -> Result<(), AllocError> {
+    if let Some(sentence) = sentence_on_packet(alloc, track, lrbg, packet, number)? {
+        sheet.words(sentence.as_str());
+    }
+    sheet
+        .words("    Packet ")
+        .number(kind_of(packet))
+        .words(", identifier ")
+        .number(id_of(packet) as usize)
+        .words(".\n");
+    Ok(())
+}
+
+/// The sentence on one of several packets, on the restriction of this number, from what the packet says. Fails only for
+/// lack of memory.
+fn sentence_on_packet(
+    alloc: Global,
+    track: &Track,
+    lrbg: u32,
+    packet: &Part,
+    number: u32,
+) -> Result<Option<String>, AllocError>
+    ensures { IfOk result (λ found. IfSome found
+        (λ text. IsPacketSentence track.now lrbg number packet.now (string_bytes text))) }
+{
+    match spoken_by_packet(track, lrbg, packet) {
+        Some(said) => Ok(Some(packet_sentence(alloc, number, &said)?)),
+        None => Ok(None),
+    }
+}
+
+/// Adds what a message with one packet says, and why it was sent. Fails only for lack of memory.
+fn push_single(
+    alloc: Global,
+    sheet: &mut Sheet,
+    track: &Track,
+    engine: u32,
+    head: Head,
+    packet: &Part,
+    place: &Option<Place>,
+    one: &ToldRestriction,
+) -> Result<(), AllocError> {
+    let sentence = sentence_on_restriction(alloc, track, engine, head.lrbg, packet, one.number)?;
+    if let Some(sentence) = sentence {
+        sheet.words(sentence.as_str());
+    }
+    push_kind(sheet, packet, head.stamp);
+    sheet.words("    Why: ");
+    push_why_there(sheet, place, one);
+    push_why(sheet, place, one);
+    Ok(())
+}
+
+/// The sentence on a message of one packet, on the restriction of this number, from what the packet says. Fails only
+/// for lack of memory.
+fn sentence_on_restriction(
+    alloc: Global,
+    track: &Track,
+    engine: u32,
+    lrbg: u32,
+    packet: &Part,
+    number: u32,
+) -> Result<Option<String>, AllocError>
+    ensures { IfOk result (λ found. IfSome found
+        (λ text. IsRestrictionSentence track.now lrbg engine number packet.now (string_bytes text))) }
+{
+    match spoken_by_packet(track, lrbg, packet) {
+        Some(said) => Ok(Some(restriction_sentence(alloc, engine, number, &said)?)),
+        None => Ok(None),
+    }
+}
+
+/// Adds the kind of a message of one packet, its identifier, its stamp and what answers it.
+fn push_kind(sheet: &mut Sheet, packet: &Part, stamp: u32) {
+    sheet
+        .words("    Message 24 with packet ")
+        .number(kind_of(packet))
+        .words(", identifier ")
+        .number(id_of(packet) as usize)
+        .words(", stamp ")
+        .number(stamp as usize)
+        .words("; answer: message 146.\n");
+}
+
+/// The number of the kind of a packet (NID_PACKET).
+fn kind_of(packet: &Part) -> usize {
+    match packet {
+        Part::Restrict { .. } => 65,
+        Part::Lift { .. } => 66,
+    }
+}
+
+/// NID_TSR of a packet.
+fn id_of(packet: &Part) -> u8 {
+    match packet {
+        Part::Restrict { id, .. } | Part::Lift { id, .. } => *id,
+    }
+}
+
+/// Adds where the train may be, as the first part of the reason why it is told a restriction.
+fn push_why_there(sheet: &mut Sheet, place: &Option<Place>, one: &ToldRestriction) {
+    if let (RestrictionTold::Told { .. }, Some(place)) = (&one.what, place) {
+        sheet.words("it may be at ");
+        push_place(sheet, place);
+        sheet.words(";\n    ");
+    }
+}
+
+/// Adds why a packet was sent, and how what it tells differs from the restriction.
+fn push_why(sheet: &mut Sheet, place: &Option<Place>, one: &ToldRestriction) {
+    match &one.what {
+        RestrictionTold::Told {
+            segment,
+            begin,
+            end,
+            unit,
+            why,
+        } => {
+            push_why_told(sheet, why);
+            if let Some(place) = place {
+                push_difference(sheet, place, segment, (*begin, *end), *unit);
+            }
+        }
+        RestrictionTold::Revoked(why) => push_why_revoked(sheet, one.number, why),
+        RestrictionTold::Unknown => {}
+    }
+}
+
+fn push_why_told(sheet: &mut Sheet, why: &WhyTold) {
+    match why {
+        WhyTold::Overlaps => {
+            sheet.words("the restriction overlaps its place.\n");
+        }
+        WhyTold::Ahead { distance } => {
+            sheet
+                .words("the restriction begins ")
+                .metres(*distance)
+                .words(" m ahead of it, within the horizon.\n");
+        }
+    }
+}
+
+/// Adds how what is told differs from a stretch, if it does. What is told lies so far ahead of the balise group.
+fn push_difference(
+    sheet: &mut Sheet,
+    place: &Place,
+    segment: &Segment,
+    told: (u32, u32),
+    unit: u32,
+) {
+    if begins_behind(place, segment) {
+        sheet.words("    Only the part of ");
+        push_stretch(sheet, segment.from, segment.to);
+        sheet.words(" beyond the balise group is told, in steps of ");
+    } else if told != distances(place, segment) {
+        sheet.words("    All of ");
+        push_stretch(sheet, segment.from, segment.to);
+        sheet.words(" is told, in steps of ");
+    } else {
+        return;
+    }
+    sheet.metres(unit).words(" m.\n");
+}
+
+/// Whether a stretch begins behind the balise group of a train's place, seen as the train faces.
+fn begins_behind(place: &Place, segment: &Segment) -> bool {
+    match place.facing() {
+        Way::Up => segment.from < place.at(),
+        Way::Down => segment.to > place.at(),
+    }
+}
+
+/// How far ahead of the balise group a stretch begins and ends that does not begin behind it.
+fn distances(place: &Place, segment: &Segment) -> (u32, u32) {
+    let at = place.at();
+    (
+        at.abs_diff(first_met(place, segment)),
+        at.abs_diff(last_met(place, segment)),
+    )
+}
+
+/// The end of a stretch that a train meets first.
+fn first_met(place: &Place, segment: &Segment) -> u32 {
+    match place.facing() {
+        Way::Up => segment.from,
+        Way::Down => segment.to,
+    }
+}
+
+/// The end of a stretch that a train meets last.
+fn last_met(place: &Place, segment: &Segment) -> u32 {
+    match place.facing() {
+        Way::Up => segment.to,
+        Way::Down => segment.from,
+    }
+}
+
+fn push_why_revoked(sheet: &mut Sheet, number: u32, why: &WhyRevoked) {
+    match why {
+        WhyRevoked::Lifted => {
+            sheet
+                .words("restriction ")
+                .number(number as usize)
+                .words(" is lifted.\n");
+        }
+        WhyRevoked::OtherLine { train, restriction } => {
+            sheet
+                .words("the train is on line ")
+                .number(*train as usize)
+                .words(", and the restriction on line ")
+                .number(*restriction as usize)
+                .words(".\n");
+        }
+        WhyRevoked::OtherWay { facing, dirs } => {
+            sheet
+                .words("the train faces ")
+                .words(way_word(*facing))
+                .words(", and the restriction is for trains facing ")
+                .words(ways_words(*dirs))
+                .words(".\n");
+        }
+        WhyRevoked::Passed => {
+            sheet.words("the train has passed it.\n");
+        }
+    }
+}

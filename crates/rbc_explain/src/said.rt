@@ -1,0 +1,252 @@
+//! What a message says to a train, from its own variables back to places on the track (SUBSET-026, 7.5 and 8).
+
+ghost use Rattle.std.specs.Prelude.{◌≡◌, ◌≤◌, ◌*◌, IfSome};
+ghost use Rattle.rbc_rule.specs.Saying.{way_told, unit_told, CountsFrom};
+ghost use Rattle.rbc_explain.specs.Said.{IsSpokenBy, IsSpokenByPacket, IsSpotAhead, IsOriginOf, IsStopBefore};
+ghost use Rattle.rbc_explain.specs.Said.{IsRestriction};
+
+use ertms_codec::{Part, ToTrain};
+use rbc_track::{Track, Way};
+use rbc_words::Km;
+use std::fmt;
+
+/// Q_DIR of the revocation of a restriction: it holds both ways.
+const BOTH_WAYS: u8 = 2;
+
+/// A place on a line, or one that lies so far before its beginning, in units of 10 cm: what is told of a restriction is
+/// rounded outwards.
+#[derive(Clone, Copy, Debug, PartialEq, Eq)]
+pub struct Spot {
+    /// Whether it lies before the beginning of the line.
+    pub is_before: bool,
+    /// How far it is from the beginning.
+    pub units: u32,
+}
+
+impl fmt::Display for Spot {
+    ghost use Rattle.std.specs.Prelude.{Some};
+    ghost use Rattle.rbc_explain.specs.Sentences.{spot_text};
+
+    ghost output = { λ spot. Some (spot_text spot) };
+
+    fn fmt<W: fmt::Write>(&self, f: &mut fmt::Formatter<W>) -> fmt::Result {
+        let km = Km(self.units);
+        if self.is_before {
+            return write!(f, "-{km}");
+        }
+        write!(f, "{km}")
+    }
+}
+
+/// What a message, or a packet of one, says of a stop or a restriction. Places are in units of 10 cm.
+#[derive(Clone, Copy, Debug, PartialEq, Eq)]
+pub enum Spoken {
+    /// To stop at once.
+    StopAtOnce,
+    /// To stop before a place of a line.
+    StopBefore {
+        line: u32,
+        place: u32,
+    },
+    /// The stop is revoked.
+    StopRevoked,
+    /// An identifier is revoked, whose stop is still active.
+    IdentifierRevoked {
+        id: u8,
+    },
+    /// A speed in km/h, from a place of a line to another, in the order in which the train meets them.
+    Restriction {
+        line: u32,
+        from: Spot,
+        to: Spot,
+        speed: u32,
+    },
+    /// The restriction is revoked.
+    RestrictionRevoked,
+}
+
+impl fmt::Display for Spoken {
+    ghost use Rattle.std.specs.Prelude.{Some};
+    ghost use Rattle.rbc_explain.specs.Sentences.{spoken_text};
+
+    ghost output = { λ spoken. Some (spoken_text spoken) };
+
+    fn fmt<W: fmt::Write>(&self, f: &mut fmt::Formatter<W>) -> fmt::Result {
+        match self {
+            Spoken::StopAtOnce => write!(f, "stop at once."),
+            Spoken::StopBefore { line, place } => {
+                let km = Km(*place);
+                write!(f, "stop before km {km} of line {line}.")
+            }
+            Spoken::StopRevoked => write!(f, "the stop is revoked."),
+            Spoken::IdentifierRevoked { id } => write!(f, "identifier {id} is revoked."),
+            Spoken::Restriction {
+                line,
+                from,
+                to,
+                speed,
+            } => write!(f, "{speed} km/h, km {from} to km {to} of line {line}."),
+            Spoken::RestrictionRevoked => write!(f, "the restriction is revoked."),
+        }
+    }
+}
+
+/// What the distances of a message count from: a place of a line, one way on, in units of 10 cm, 1 m or 10 m.
+#[derive(Clone, Copy)]
+struct Origin {
+    line: u32,
+    at: u32,
+    way: Way,
+    unit: u32,
+}
+
+/// The direction that a Q_DIR gives at a balise group.
+fn way_told(nominal: Way, dir: u8) -> Option<Way>
+    ensures { result ≡ way_told nominal dir }
+{
+    match (dir, nominal) {
+        (1, _) => Some(nominal),
+        (0, Way::Up) => Some(Way::Down),
+        (0, Way::Down) => Some(Way::Up),
+        _ => None,
+    }
+}
+
+/// The unit that a Q_SCALE gives, in units of 10 cm.
+fn unit_told(scale: u8) -> Option<u32>
+    ensures unit { result ≡ unit_told scale }
+    ensures few { IfSome result (λ unit. unit ≤ 100) }
+{
+    match scale {
+        0 => Some(1),
+        1 => Some(10),
+        2 => Some(100),
+        _ => None,
+    }
+}
+
+/// What distances count from, if the message names a balise group of the track and its direction and unit are known.
+fn origin_of(track: &Track, lrbg: u32, dir: u8, scale: u8) -> Option<Origin>
+    ensures counts { IfSome result (IsOriginOf track.now lrbg dir scale) }
+    ensures few { IfSome result (λ origin. origin.unit ≤ 100) }
+{
+    let group = track.group(lrbg)?;
+    let way = way_told(group.nominal, dir)?;
+    let unit = unit_told(scale)?;
+    Some(Origin {
+        line: u32::from(group.line),
+        at: group.at,
+        way,
+        unit,
+    })
+}
+
+/// The place that lies so far ahead of another one, which may be before the beginning of the line.
+fn spot_ahead(way: Way, from: u32, by: u32) -> Option<Spot>
+    ensures { IfSome result (λ spot. IsSpotAhead way from by spot.is_before spot.units) }
+{
+    match way {
+        Way::Up => Some(Spot {
+            is_before: false,
+            units: from.checked_add(by)?,
+        }),
+        Way::Down if by <= from => Some(Spot {
+            is_before: false,
+            units: from - by,
+        }),
+        Way::Down => Some(Spot {
+            is_before: true,
+            units: by - from,
+        }),
+    }
+}
+
+/// To stop before the place that lies so many units ahead, if that is on a line.
+fn stop_before(track: &Track, lrbg: u32, dir: u8, scale: u8, distance: u16) -> Option<Spoken>
+    ensures { IfSome result (IsStopBefore track.now lrbg dir scale distance) }
+{
+    let origin = origin_of(track, lrbg, dir, scale)?;
+    let spot = spot_ahead(origin.way, origin.at, u32::from(distance) * origin.unit)?;
+    if spot.is_before {
+        return None;
+    }
+    Some(Spoken::StopBefore {
+        line: origin.line,
+        place: spot.units,
+    })
+}
+
+/// What a message on a stop says: of one that is escalated its identifier is revoked, and else the stop itself. `None`
+/// where the message is no such one, or tells no place of the track.
+pub fn spoken_by(track: &Track, message: &ToTrain, is_escalated: bool) -> Option<Spoken>
+    ensures { IfSome result (IsSpokenBy track.now message.now) }
+{
+    match message {
+        ToTrain::StopAt {
+            head,
+            scale,
+            reference,
+            dir,
+            distance,
+            ..
+        } => {
+            if *reference != 0 {
+                return None;
+            }
+            stop_before(track, head.lrbg, *dir, *scale, *distance)
+        }
+        ToTrain::Stop { .. } => Some(Spoken::StopAtOnce),
+        ToTrain::Revoke { id, .. } => Some(if is_escalated {
+            Spoken::IdentifierRevoked { id: *id }
+        } else {
+            Spoken::StopRevoked
+        }),
+        ToTrain::General { .. } => None,
+    }
+}
+
+/// The restriction that begins so many units ahead and is so many units long. The speed is in units of 5 km/h.
+fn restriction(
+    track: &Track,
+    lrbg: u32,
+    dir: u8,
+    scale: u8,
+    start: u16,
+    length: u16,
+    speed: u8,
+) -> Option<Spoken>
+    ensures { IfSome result (IsRestriction track.now lrbg dir scale start length (5 * speed)) }
+{
+    let origin = origin_of(track, lrbg, dir, scale)?;
+    let end = u32::from(start) + u32::from(length);
+    let from = spot_ahead(origin.way, origin.at, u32::from(start) * origin.unit)?;
+    let to = spot_ahead(origin.way, origin.at, end * origin.unit)?;
+    Some(Spoken::Restriction {
+        line: origin.line,
+        from,
+        to,
+        speed: 5 * u32::from(speed),
+    })
+}
+
+/// What a packet says in a message that names a balise group. `None` where it tells no place of the track.
+pub fn spoken_by_packet(track: &Track, lrbg: u32, packet: &Part) -> Option<Spoken>
+    ensures { IfSome result (IsSpokenByPacket track.now lrbg packet.now) }
+{
+    match packet {
+        Part::Restrict {
+            dir,
+            scale,
+            start,
+            length,
+            speed,
+            ..
+        } => restriction(track, lrbg, *dir, *scale, *start, *length, *speed),
+        Part::Lift { dir, .. } => {
+            if *dir != BOTH_WAYS {
+                return None;
+            }
+            Some(Spoken::RestrictionRevoked)
+        }
+    }
+}

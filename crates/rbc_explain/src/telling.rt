@@ -1,0 +1,149 @@
+//! Telling the run of a batch.
+
+ghost use Rattle.std.specs.Prelude.{◌≡◌, ◌≤◌, ◌<◌, ◌+◌, ◌^◌, ◌++◌, ◌∷◌, [], ℕ, List, length, IfOk, OnOk};
+ghost use Rattle.rbc_track.specs.Plan.{Plan};
+ghost use Rattle.rbc_engine.specs.Answers.{max_inputs};
+ghost use Rattle.rbc_text.specs.Pieces.{texts_of};
+ghost use Rattle.rbc_account.specs.Sums.{no_sums};
+ghost use Rattle.rbc_account.specs.Telling.{LeavesUnread, Tells, TooLate};
+ghost use Rattle.rbc_explain.specs.Log.{IsLogOf, IsLogOfRun, IsUnderWay};
+
+use crate::block::{TrackOfRun, push_block};
+use crate::head::push_head;
+use crate::log::push_words;
+use crate::standing::push_end;
+use rbc_account::{Account, TellError, account_law};
+use rbc_batch::{lines_of_batch, read_batch};
+use rbc_track_report::{NamedTrack, Sheet, named_track};
+use std::alloc::{AllocError, Global};
+use std::io::Read;
+
+/// Reads a batch to its end, runs its lines on the track that a text in TOML writes, one after another from the empty
+/// state, and tells the run in words: what came of each input from number `from` on, and what stands at the end. The
+/// earlier inputs are run all the same. With no input at all `from` may be 1.
+///
+/// The log is UTF-8, in lines that end with a line feed. Each line of the output of a run that is an answer to an input
+/// that is told stands in it, in its order, with `= ` before it.
+///
+/// # Errors
+///
+/// `Track` where the text is no track, as `track_from_toml` has it; nothing is read then. `Batch` where the batch
+/// cannot be read or has too many inputs, or memory was refused. `OnlyInputs` with the number of inputs where it is
+/// below `from`.
+pub fn explain<R: Read>(
+    alloc: Global,
+    text: &str,
+    input: &mut R,
+    from: u32,
+) -> Result<Vec<u8>, TellError>
+    ensures tells { Tells (TooLate from) text.now (R.remaining input.old) (R.remaining input.new) result }
+    ensures unread { LeavesUnread result input.old input.new }
+    ensures log { IfOk result (λ log. IsLogOfRun text.now from (R.remaining input.old) (R.remaining input.new)
+        log.items) }
+{
+    let account = Account::open(alloc, text)?;
+    let batch = read_batch(alloc, input)?;
+    let lines = lines_of_batch(alloc, &batch)?;
+    if lines.len().max(1) < from as usize {
+        return Err(TellError::OnlyInputs { count: lines.len() });
+    }
+    Ok(log_of(alloc, text, account, &lines, from)?)
+}
+
+/// The log of lines, on the track that a text in TOML writes. Fails only for lack of memory, and where the text is no
+/// track.
+fn log_of(
+    alloc: Global,
+    text: &str,
+    account: Account,
+    lines: &[&[u8]],
+    from: u32,
+) -> Result<Vec<u8>, AllocError>
+    requires empty { account.desk.records ≡ [] }
+    requires sums { account.sums ≡ no_sums }
+    requires few { length lines.now ≤ max_inputs }
+    ensures { IfOk result (λ log. IsLogOf account.desk.track from (texts_of lines.now) log.items) }
+{
+    account_law();
+    let named = names_of(alloc, text)?;
+    let mut account = account;
+    let mut log = Vec::new(alloc);
+    push_words(&mut log, head(alloc, &named, from))?;
+    push_inputs(
+        alloc,
+        &mut log,
+        &mut account,
+        named.lines.len(),
+        lines,
+        from,
+    )?;
+    push_words(&mut log, end(alloc, &account)?)?;
+    Ok(log)
+}
+
+/// The names of a track. Fails only for lack of memory, and where the text is no track.
+fn names_of(alloc: Global, text: &str) -> Result<NamedTrack, AllocError> {
+    match named_track(alloc, text) {
+        Ok(named) => Ok(named),
+        Err(_) => Err(AllocError),
+    }
+}
+
+/// Takes each line, and adds what came of it from an input on. Fails only for lack of memory.
+fn push_inputs(
+    alloc: Global,
+    log: &mut Vec<u8>,
+    account: &mut Account,
+    track_lines: usize,
+    lines: &[&[u8]],
+    from: u32,
+) -> Result<(), AllocError>
+    requires { length lines.now ≤ max_inputs }
+    ensures { (plan : Plan) → IsUnderWay plan from account.old [] log.old.items
+        → OnOk result (IsUnderWay plan from account.new (texts_of lines.now) log.new.items) }
+{
+    for line in lines {
+        push_input(alloc, log, account, track_lines, line, from)?;
+    }
+    Ok(())
+}
+
+/// Takes a line, and adds what came of it if it is told. Fails only for lack of memory.
+fn push_input(
+    alloc: Global,
+    log: &mut Vec<u8>,
+    account: &mut Account,
+    track_lines: usize,
+    line: &[u8],
+    from: u32,
+) -> Result<(), AllocError>
+    ensures { (plan : Plan) (lines : List (List ℕ)) → length lines + 1 < 2 ^ 64
+        → IsUnderWay plan from account.old lines log.old.items
+        → OnOk result (IsUnderWay plan from account.new (lines ++ line.now ∷ []) log.new.items) }
+{
+    if account.inputs().saturating_add(1) < u64::from(from) {
+        let _passed = account.pass(alloc, line)?;
+        return Ok(());
+    }
+    let block = account.step(alloc, line)?;
+    let of = TrackOfRun {
+        track: account.track(),
+        lines: track_lines,
+    };
+    push_block(alloc, log, of, line, &block)
+}
+
+/// The head of a log.
+fn head(alloc: Global, named: &NamedTrack, from: u32) -> Sheet {
+    let mut sheet = Sheet::new(alloc);
+    push_head(&mut sheet, named, from);
+    sheet
+}
+
+/// The end of a log. Fails only for lack of memory.
+fn end(alloc: Global, account: &Account) -> Result<Sheet, AllocError> {
+    let standing = account.standing(alloc)?;
+    let mut sheet = Sheet::new(alloc);
+    push_end(&mut sheet, account, &standing);
+    Ok(sheet)
+}
