@@ -21,9 +21,9 @@ fed_as plan line old new reply messages (Ok block) is same fed =
     (subst (λ (others : List Sent). IsFed plan line old new reply others) (sym same) fed)
 fed_as plan line old new reply messages (Err error) is same fed = tt
 
-pub right_as : {E : Type 0} (horizon : ℕ) (old new : List (Key × Rec)) (input : Input) (before : Option TrainRec) (r : Result Block E)
-    → IfOk r (λ block. block.input ≡ input) → before ≡ sender_in old input → IfOk r (IsRightBlock horizon new before)
-    → IfOk r (λ block. IsRightBlock horizon new (sender_in old block.input) block)
-right_as horizon old new input before (Ok block) same sent right =
-    subst (λ (sender : Option TrainRec). IsRightBlock horizon new sender block) (sent ∙ ap (sender_in old) (sym same)) right
-right_as horizon old new input before (Err error) same sent right = tt
+pub right_as : {E : Type 0} (plan : Plan) (old new : List (Key × Rec)) (input : Input) (before : Option TrainRec) (r : Result Block E)
+    → IfOk r (λ block. block.input ≡ input) → before ≡ sender_in old input → IfOk r (IsRightBlock plan new before)
+    → IfOk r (λ block. IsRightBlock plan new (sender_in old block.input) block)
+right_as plan old new input before (Ok block) same sent right =
+    subst (λ (sender : Option TrainRec). IsRightBlock plan new sender block) (sent ∙ ap (sender_in old) (sym same)) right
+right_as plan old new input before (Err error) same sent right = tt

@@ -1,19 +1,22 @@
 -- What a block says of an input.
-use Rattle.std.specs.Prelude.{◌≡◌, ℕ, List, map, Option, IfSome}
+use Rattle.std.specs.Prelude.{◌≡◌, List, map, Option, IfSome}
 use Rattle.std.specs.List.{All}
+use Rattle.rbc_track.specs.Plan.{Plan}
 use Rattle.rbc_settle.specs.declared.train.TrainRec.{TrainRec}
 use Rattle.rbc_records.specs.declared.record.Key.{Key}
 use Rattle.rbc_records.specs.declared.record.Rec.{Rec}
 use Rattle.rbc_account.specs.declared.block.Block.{Block}
+use Rattle.rbc_account.specs.Deeds.{IsDeed}
 use Rattle.rbc_account.specs.Counting.{counts_after, AddUp}
 use Rattle.rbc_account.specs.Coming.{come_to_wait}
 use Rattle.rbc_account.specs.Whys.{IsTold}
 
--- A block tells of each message, in order, to which train it is sent and why; of a stop or a restriction that began what it is to the
+-- A block tells what the input did; of each message, in order, to which train it is sent and why; of a stop or a restriction that began what it is to the
 -- trains; and of all that has come to wait. The records are those after the input, and a train may have sent it, which was this before.
-pub record IsRightBlock (horizon : ℕ) (records : List (Key × Rec)) (before : Option TrainRec) (block : Block) : Type 0 where
+pub record IsRightBlock (plan : Plan) (records : List (Key × Rec)) (before : Option TrainRec) (block : Block) : Type 0 where
+  pub did : IsDeed plan before block.input block.deed
   pub engines : map (λ one. one.engine) block.told.items ≡ map (λ one. one.engine) block.messages
   pub each_told : All (IsTold records before) block.told.items
-  pub counted : block.counts ≡ counts_after horizon records block.input block.reply
+  pub counted : block.counts ≡ counts_after plan.horizon records block.input block.reply
   pub add_up : IfSome block.counts AddUp
-  pub waits : block.waiting.items ≡ come_to_wait horizon records before block.input block.reply
+  pub waits : block.waiting.items ≡ come_to_wait plan.horizon records before block.input block.reply

@@ -1,5 +1,6 @@
 pub mod Known
 pub mod Placed
+pub mod Deeds
 pub mod Reasons
 pub mod Whys
 pub mod Waits

@@ -1,11 +1,22 @@
 -- What stands at the trains.
-use Rattle.std.specs.Prelude.{◌≡◌, ℕ, List, map, Option, option_map}
-use Rattle.std.specs.List.{filter_map}
+use Rattle.std.specs.Prelude.{◌≡◌, ℕ, Bool, false, List, length, map, Option, Some, None, is_some, option_map, option_and_then}
+use Rattle.std.specs.List.{filter, filter_map}
+use Rattle.std.specs.Option.{unwrap_or}
+use Rattle.rbc_maps.specs.Maps.{value_of}
+use Rattle.rbc_ids.specs.declared.slot.Slot.{Slot}
+use Rattle.rbc_ids.specs.declared.slot.Slot.TheVariants.{Used, Revoking}
+use Rattle.rbc_ids.specs.Table.{Slots, identifier_of}
+use Rattle.rbc_settle.specs.declared.train.TrainRec.{TrainRec}
 use Rattle.rbc_records.specs.declared.record.Key.{Key}
 use Rattle.rbc_records.specs.declared.record.Rec.{Rec}
 use Rattle.rbc_account.specs.declared.waiting.Waiting.{Waiting}
+use Rattle.rbc_account.specs.declared.waiting.Waits.{Waits}
+use Rattle.rbc_account.specs.declared.waiting.Waits.TheVariants.{Stop, Restriction, Again}
+use Rattle.rbc_account.specs.declared.standing.Sharing.{Sharing}
+use Rattle.rbc_account.specs.declared.standing.Standing.{Standing}
 use Rattle.rbc_account.specs.declared.standing.TrainStanding.{TrainStanding}
-use Rattle.rbc_account.specs.Known.{train_in, engines_in}
+use Rattle.rbc_account.specs.Known.{train_in, engines_in, active_stops, active_limits}
+use Rattle.rbc_account.specs.Waits.{waits_in, kind_and_number}
 use Rattle.rbc_account.specs.Coming.{waiting_at}
 
 -- what waits at the train with an engine number, if it is enrolled
@@ -23,3 +34,58 @@ waiting_told standing = (standing.engine, standing.waiting.items)
 -- what is told to wait at the trains is what waits there
 abbrev pub AreStandings : ℕ → List (Key × Rec) → List TrainStanding → Type 0
 AreStandings horizon records standings = map waiting_told standings ≡ waiting_everywhere horizon records
+
+-- ---- to how many trains a stop or a restriction is told
+
+-- whether the message that told the number of a slot is answered, if it tells one
+abbrev pub acked_in : Slot → Option Bool
+acked_in (Used used) = Some used.acked
+acked_in (Revoking stamp) = None
+
+-- the same of an identifier, and of a number
+abbrev pub acked_under : Slots → ℕ → Option Bool
+acked_under slots id = option_and_then (λ slot. acked_in slot) (value_of slots id)
+
+abbrev pub answer_in : Slots → ℕ → Option Bool
+answer_in slots number = option_and_then (acked_under slots) (identifier_of slots number)
+
+-- whether a train answered a stop or acknowledged a restriction, if that is told to it
+abbrev pub answer_of : Waits → TrainRec → Option Bool
+answer_of (Stop number) train = answer_in train.stops number
+answer_of (Restriction number) train = answer_in train.limits number
+answer_of (Again number) train = None
+
+abbrev pub answer_at : List (Key × Rec) → Waits → ℕ → Option Bool
+answer_at records what engine = option_and_then (answer_of what) (train_in records engine)
+
+abbrev pub is_told_at : List (Key × Rec) → Waits → TrainStanding → Bool
+is_told_at records what standing = is_some (answer_at records what standing.engine)
+
+abbrev pub is_answered_at : List (Key × Rec) → Waits → TrainStanding → Bool
+is_answered_at records what standing = unwrap_or (answer_at records what standing.engine) false
+
+-- whether it waits at a train
+abbrev pub waits_at : Waits → TrainStanding → Bool
+waits_at what standing = waits_in standing.waiting.items what
+
+-- to how many of the trains it is told, how many of them answered it, and at how many it waits
+abbrev pub sharing_of : List (Key × Rec) → List TrainStanding → Waits → Sharing
+sharing_of records standings what = record {
+  number = (kind_and_number what).1;
+  told = length (filter (is_told_at records what) standings);
+  answered = length (filter (is_answered_at records what) standings);
+  untold = length (filter (waits_at what) standings);
+}
+
+-- of each active stop, and of each active restriction
+abbrev pub stop_sharings : List (Key × Rec) → List TrainStanding → List Sharing
+stop_sharings records standings = map (λ stop. sharing_of records standings (Stop stop.0)) (active_stops records)
+
+abbrev pub limit_sharings : List (Key × Rec) → List TrainStanding → List Sharing
+limit_sharings records standings = map (λ limit. sharing_of records standings (Restriction limit.0)) (active_limits records)
+
+-- What stands: what waits at each train, and to how many trains each active stop and restriction is told.
+pub record IsStanding (horizon : ℕ) (records : List (Key × Rec)) (standing : Standing) : Type 0 where
+  pub waits : AreStandings horizon records standing.trains.items
+  pub of_stops : standing.stops.items ≡ stop_sharings records standing.trains.items
+  pub of_limits : standing.limits.items ≡ limit_sharings records standing.trains.items

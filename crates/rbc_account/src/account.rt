@@ -7,7 +7,7 @@ ghost use Rattle.rbc_text.specs.BatchText.{line_of, IsInput};
 ghost use Rattle.rbc_live.specs.History.{IsFed};
 ghost use Rattle.rbc_account.specs.Blocks.{IsRightBlock};
 ghost use Rattle.rbc_account.specs.Coming.{sender_in};
-ghost use Rattle.rbc_account.specs.Standings.{AreStandings};
+ghost use Rattle.rbc_account.specs.Standings.{IsStanding};
 ghost use Rattle.rbc_account.specs.Sums.{no_sums, counted, input_count};
 ghost use Rattle.rbc_account.specs.Known.{train_in, active_stops, active_limits, last_stop, last_limit, engines_in};
 
@@ -129,7 +129,7 @@ impl Account {
         ensures sums { IfOk result (λ block. self.new.sums ≡ counted block.reply self.old.sums) }
         ensures number { IfOk result (λ block. block.number ≡ input_count self.new.sums) }
         ensures track { self.new.desk.track ≡ self.old.desk.track }
-        ensures right { IfOk result (λ block. IsRightBlock self.new.desk.track.horizon self.new.desk.records
+        ensures right { IfOk result (λ block. IsRightBlock self.new.desk.track self.new.desk.records
             (sender_in self.old.desk.records block.input) block) }
     {
         let input = parse_line(alloc, line)?;
@@ -222,8 +222,7 @@ impl Account {
 
     /// What stands now. Fails only for lack of memory.
     pub fn standing(&self, alloc: Global) -> Result<Standing, AllocError>
-        ensures { IfOk result (λ standing. AreStandings self.now.desk.track.horizon self.now.desk.records
-            standing.trains.items) }
+        ensures { IfOk result (IsStanding self.now.desk.track.horizon self.now.desk.records) }
     {
         standing_on(alloc, &self.desk)
     }

@@ -50,7 +50,7 @@ pub(crate) fn block_of(
     ensures reply { IfOk result (λ block. block.reply ≡ answer.reply) }
     ensures messages { IfOk result (λ block. block.messages ≡ answer.messages) }
     ensures paired { IfOk result (λ block. length block.told.items ≡ length block.messages) }
-    ensures right { IfOk result (IsRightBlock desk.now.track.horizon desk.now.records
+    ensures right { IfOk result (IsRightBlock desk.now.track desk.now.records
         (option_copied before.entry)) }
 {
     let reply = answer.reply;

@@ -1,7 +1,10 @@
 //! What an input did.
 
-ghost use Rattle.std.specs.Prelude.{◌≡◌};
-ghost use Rattle.rbc_ids.specs.Table.{is_freed_by};
+ghost use Rattle.std.specs.Prelude.{◌≡◌, Option, Some, IfOk, option_copied};
+ghost use Rattle.std.specs.List.{filter_map};
+ghost use Rattle.rbc_track.specs.Plan.{Plan};
+ghost use Rattle.rbc_settle.specs.declared.train.TrainRec.{TrainRec};
+ghost use Rattle.rbc_account.specs.Deeds.{IsDeed, acked_by, stop_acked, limit_acked};
 
 use crate::detail::{Detail, detail_of};
 use crate::lookup::{engine_of, number_under};
@@ -95,7 +98,9 @@ pub(crate) fn deed_of(
     input: &Input,
     reply: Reply,
     before: Option<&TrainRec>,
-) -> Result<Deed, AllocError> {
+) -> Result<Deed, AllocError>
+    ensures { IfOk result (IsDeed desk.now.track (option_copied before.entry) input.now) }
+{
     match reply {
         Reply::Done(_) => done(alloc, &desk.track, input, before),
         Reply::Refused(code) => Ok(Deed::Refused(detail_of(alloc, desk, input, code)?)),
@@ -108,74 +113,113 @@ fn done(
     track: &Track,
     input: &Input,
     before: Option<&TrainRec>,
-) -> Result<Deed, AllocError> {
+) -> Result<Deed, AllocError>
+    ensures { IfOk result (IsDeed track.now (option_copied before.entry) input.now) }
+{
     match input {
-        Input::Enrol { engine, length } => Ok(Deed::Enrolled {
+        Input::Stop { number, segments } => stopped(alloc, *number, segments),
+        Input::Received(message) => heard(alloc, track, message, before),
+        Input::Enrol { .. }
+        | Input::Withdraw { .. }
+        | Input::Release { .. }
+        | Input::Restrict { .. }
+        | Input::Lift { .. }
+        | Input::Bad(_) => Ok(as_given(input)),
+    }
+}
+
+/// What an accepted input did that says it all.
+fn as_given(input: &Input) -> Deed
+    ensures { (plan : Plan) (before : Option TrainRec) → IsDeed plan before input.now result }
+{
+    match input {
+        Input::Enrol { engine, length } => Deed::Enrolled {
             engine: *engine,
             length: *length,
-        }),
-        Input::Withdraw { engine } => Ok(Deed::Withdrawn { engine: *engine }),
-        Input::Stop { number, segments } => stopped(alloc, *number, segments),
-        Input::Release { number } => Ok(Deed::Released { number: *number }),
+        },
+        Input::Withdraw { engine } => Deed::Withdrawn { engine: *engine },
+        Input::Release { number } => Deed::Released { number: *number },
         Input::Restrict {
             number,
             segment,
             dirs,
             speed,
             front,
-        } => Ok(Deed::Restricted {
+        } => Deed::Restricted {
             number: *number,
             segment: *segment,
             dirs: *dirs,
             speed: *speed,
             front: *front,
-        }),
-        Input::Lift { number } => Ok(Deed::Lifted { number: *number }),
-        Input::Received(message) => heard(alloc, track, message, before),
-        Input::Bad(_) => Ok(Deed::Refused(Detail::Nothing)),
+        },
+        Input::Lift { number } => Deed::Lifted { number: *number },
+        Input::Stop { .. } | Input::Received(_) | Input::Bad(_) => Deed::Refused(Detail::Nothing),
     }
 }
 
 /// A stop is active on these stretches.
-fn stopped(alloc: Global, number: u32, segments: &Segments) -> Result<Deed, AllocError> {
+fn stopped(alloc: Global, number: u32, segments: &Segments) -> Result<Deed, AllocError>
+    ensures { (plan : Plan) (before : Option TrainRec)
+        → IfOk result (IsDeed plan before (Input.Stop number segments.now)) }
+{
     let segments = Vec::from_slice(alloc, segments.as_slice())?;
     Ok(Deed::Stopped { number, segments })
 }
 
-/// What a message did that was accepted, by the train as it was before it.
+/// What a message did that was accepted, by the train as it was before it, if there was one.
 fn heard(
     alloc: Global,
     track: &Track,
     message: &FromTrain,
     before: Option<&TrainRec>,
-) -> Result<Deed, AllocError> {
-    let Some(train) = before else {
-        let engine = engine_of(message);
-        return Ok(Deed::Refused(Detail::NotEnrolled { engine }));
-    };
+) -> Result<Deed, AllocError>
+    ensures { IfOk result (IsDeed track.now (option_copied before.entry) (Input.Received message.now)) }
+{
+    match before {
+        Some(train) => heard_from(alloc, track, message, train),
+        None => {
+            let engine = engine_of(message);
+            Ok(Deed::Refused(Detail::NotEnrolled { engine }))
+        }
+    }
+}
+
+/// What a message did that was accepted, by the train as it was before it.
+fn heard_from(
+    alloc: Global,
+    track: &Track,
+    message: &FromTrain,
+    train: &TrainRec,
+) -> Result<Deed, AllocError>
+    ensures { IfOk result (IsDeed track.now (Some train.now) (Input.Received message.now)) }
+{
     match message {
         FromTrain::Report {
             stamp,
+            engine,
             position,
-            ..
         } => Ok(Deed::Reported {
-            engine: train.engine,
+            engine: *engine,
             stamp: *stamp,
             placing: placing_of(track, position, train.length),
         }),
-        FromTrain::Ack { stamp, acked, .. } => Ok(Deed::Acknowledged {
-            engine: train.engine,
+        FromTrain::Ack {
+            stamp,
+            engine,
+            acked,
+        } => Ok(Deed::Acknowledged {
+            engine: *engine,
             stamp: *stamp,
             acked: *acked,
             all: acked_by(alloc, train, *acked)?,
         }),
         FromTrain::StopAck {
             stamp,
+            engine,
             id,
             answer,
             position,
-            ..
-        } => Ok(answered(track, train, *stamp, *id, *answer, position)),
+        } => Ok(answered(track, train, *stamp, *engine, *id, *answer, position)),
     }
 }
 
@@ -184,11 +228,14 @@ fn answered(
     track: &Track,
     train: &TrainRec,
     stamp: u32,
+    engine: u32,
     id: u8,
     answer: u8,
     position: &Position,
-) -> Deed {
-    let engine = train.engine;
+) -> Deed
+    ensures { IsDeed track.now (Some train.now)
+        (Input.Received (FromTrain.StopAck stamp engine id answer position.now)) result }
+{
     match number_under(&train.stops, id) {
         Some(number) => Deed::Answered {
             engine,
@@ -204,39 +251,55 @@ fn answered(
 
 /// What the acknowledgement of the message with a stamp does to the identifiers of a train: stops first, each by
 /// identifier. Fails only for lack of memory.
-fn acked_by(alloc: Global, train: &TrainRec, stamp: u32) -> Result<Vec<Acked>, AllocError> {
-    let mut all = Vec::new(alloc);
-    for (id, slot) in train.stops.slots() {
-        if is_freed_by(*slot, stamp) {
-            all.push(Acked::StopFreed { id: *id })?;
-        }
-    }
-    for (id, slot) in train.limits.slots() {
-        if let Some(acked) = restriction_acked(*id, *slot, stamp) {
-            all.push(acked)?;
-        }
-    }
+fn acked_by(alloc: Global, train: &TrainRec, stamp: u32) -> Result<Vec<Acked>, AllocError>
+    ensures { IfOk result (λ all. all.items ≡ acked_by stamp train.now) }
+{
+    let mut all = stops_acked(alloc, train.stops.slots(), stamp)?;
+    all.append(&mut limits_acked(alloc, train.limits.slots(), stamp)?)?;
     Ok(all)
 }
 
-/// Whether the message with this stamp revoked the identifier of a slot.
-fn is_freed_by(slot: Slot, stamp: u32) -> bool
-    ensures { result ≡ is_freed_by stamp slot }
+/// What it does to the stop identifiers.
+fn stops_acked(alloc: Global, slots: &[(u8, Slot)], stamp: u32) -> Result<Vec<Acked>, AllocError>
+    ensures { IfOk result (λ all. all.items ≡ filter_map (stop_acked stamp) slots.now) }
+{
+    slots
+        .iter()
+        .filter_map(|held| stop_acked(held.0, held.1, stamp))
+        .collect(alloc)
+}
+
+/// What it does to the restriction identifiers.
+fn limits_acked(alloc: Global, slots: &[(u8, Slot)], stamp: u32) -> Result<Vec<Acked>, AllocError>
+    ensures { IfOk result (λ all. all.items ≡ filter_map (limit_acked stamp) slots.now) }
+{
+    slots
+        .iter()
+        .filter_map(|held| limit_acked(held.0, held.1, stamp))
+        .collect(alloc)
+}
+
+/// What it does to a stop identifier: the identifier is free if the message revoked it.
+fn stop_acked(id: u8, slot: Slot, stamp: u32) -> Option<Acked>
+    ensures { result ≡ stop_acked stamp (id, slot) }
 {
     match slot {
-        Slot::Used(_) => false,
-        Slot::Revoking { stamp: own } => own == stamp,
+        Slot::Revoking { stamp: own } if own == stamp => Some(Acked::StopFreed { id }),
+        Slot::Revoking { .. } | Slot::Used(_) => None,
     }
 }
 
-/// What the acknowledgement of the message with this stamp does to a restriction identifier.
-fn restriction_acked(id: u8, slot: Slot, stamp: u32) -> Option<Acked> {
+/// What it does to a restriction identifier: the identifier is free if the message revoked it, and the restriction is
+/// acknowledged if the message told it.
+fn limit_acked(id: u8, slot: Slot, stamp: u32) -> Option<Acked>
+    ensures { result ≡ limit_acked stamp (id, slot) }
+{
     match slot {
         Slot::Revoking { stamp: own } if own == stamp => Some(Acked::RestrictionFreed { id }),
         Slot::Used(used) if used.stamp == stamp => Some(Acked::Restriction {
             id,
             number: used.number,
         }),
-        _ => None,
+        Slot::Revoking { .. } | Slot::Used(_) => None,
     }
 }

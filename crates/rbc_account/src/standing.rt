@@ -1,14 +1,18 @@
 //! What stands after the inputs that were taken.
 
-ghost use Rattle.std.specs.Prelude.{◌≡◌, IfOk, option_map};
+ghost use Rattle.std.specs.Prelude.{◌≡◌, IfOk, option_map, length};
+ghost use Rattle.std.specs.List.{filter};
 ghost use Rattle.rbc_account.specs.Owed.{owed_stamp};
-ghost use Rattle.rbc_account.specs.Standings.{AreStandings, waiting_of, waiting_told};
+ghost use Rattle.rbc_account.specs.Standings.{AreStandings, IsStanding, waiting_of, waiting_told, stop_sharings};
+ghost use Rattle.rbc_account.specs.Standings.{limit_sharings, sharing_of, is_told_at, is_answered_at, waits_at};
+ghost use Rattle.rbc_account.specs.Standings.{answer_at, answer_of, answer_in, acked_under};
 
 use crate::coming::{has, waiting_at};
 use crate::lookup::{active_limits, active_stops, engines_in, train_in};
 use crate::waiting::{Waiting, Waits};
-use rbc_ids::Slot;
+use rbc_ids::{IdTable, Slot};
 use rbc_live::LiveDesk;
+use rbc_records::PlainStore;
 use rbc_settle::TrainRec;
 use std::alloc::{AllocError, Global};
 
@@ -55,28 +59,47 @@ pub struct TrainStanding {
 
 /// What stands on a desk. Fails only for lack of memory.
 pub(crate) fn standing_on(alloc: Global, desk: &LiveDesk) -> Result<Standing, AllocError>
-    ensures { IfOk result (λ standing. AreStandings desk.now.track.horizon desk.now.records standing.trains.items) }
+    ensures { IfOk result (IsStanding desk.now.track.horizon desk.now.records) }
 {
     let trains = standings(alloc, desk)?;
-    let stops = stop_sharings(alloc, desk, &trains)?;
-    let limits = limit_sharings(alloc, desk, &trains)?;
-    let mut standing = Standing {
+    let stops = stop_sharings(alloc, &desk.records, &trains)?;
+    let limits = limit_sharings(alloc, &desk.records, &trains)?;
+    let totals = totals_of(&trains);
+    Ok(Standing {
         stops,
         limits,
-        trains: Vec::new(alloc),
+        trains,
+        acknowledgements: totals.acknowledgements,
+        owing: totals.owing,
+        untold: totals.untold,
+        untold_again: totals.untold_again,
+    })
+}
+
+/// Sums over trains.
+#[derive(Clone, Copy)]
+struct Totals {
+    acknowledgements: usize,
+    owing: usize,
+    untold: usize,
+    untold_again: usize,
+}
+
+/// The sums over all trains.
+fn totals_of(trains: &[TrainStanding]) -> Totals {
+    let mut totals = Totals {
         acknowledgements: 0,
         owing: 0,
         untold: 0,
         untold_again: 0,
     };
-    for train in &trains {
-        standing.add(train);
+    for train in trains {
+        totals.add(train);
     }
-    standing.trains = trains;
-    Ok(standing)
+    totals
 }
 
-impl Standing {
+impl Totals {
     /// Adds to the sums what stands at a train.
     fn add(&mut self, train: &TrainStanding) {
         let again = again_in(&train.waiting);
@@ -174,85 +197,129 @@ fn owed_stamp(slot: Slot) -> Option<u32>
 /// To how many trains each active stop is told. Fails only for lack of memory.
 fn stop_sharings(
     alloc: Global,
-    desk: &LiveDesk,
+    records: &PlainStore,
     trains: &[TrainStanding],
-) -> Result<Vec<Sharing>, AllocError> {
-    let mut all = Vec::new(alloc);
-    for (number, _) in active_stops(&desk.records) {
-        let mut sharing = Sharing::of(*number);
-        for train in trains {
-            sharing.add(
-                stop_answer(desk, train.engine, *number),
-                has(&train.waiting, Waits::Stop(*number)),
-            );
-        }
-        all.push(sharing)?;
-    }
-    Ok(all)
+) -> Result<Vec<Sharing>, AllocError>
+    ensures { IfOk result (λ all. all.items ≡ stop_sharings records.now trains.now) }
+{
+    active_stops(records)
+        .iter()
+        .map(|stop| sharing_of(records, trains, Waits::Stop(stop.0)))
+        .collect(alloc)
 }
 
 /// To how many trains each active restriction is told. Fails only for lack of memory.
 fn limit_sharings(
     alloc: Global,
-    desk: &LiveDesk,
+    records: &PlainStore,
     trains: &[TrainStanding],
-) -> Result<Vec<Sharing>, AllocError> {
-    let mut all = Vec::new(alloc);
-    for (number, _) in active_limits(&desk.records) {
-        let mut sharing = Sharing::of(*number);
-        for train in trains {
-            sharing.add(
-                limit_answer(desk, train.engine, *number),
-                has(&train.waiting, Waits::Restriction(*number)),
-            );
-        }
-        all.push(sharing)?;
-    }
-    Ok(all)
+) -> Result<Vec<Sharing>, AllocError>
+    ensures { IfOk result (λ all. all.items ≡ limit_sharings records.now trains.now) }
+{
+    active_limits(records)
+        .iter()
+        .map(|limit| sharing_of(records, trains, Waits::Restriction(limit.0)))
+        .collect(alloc)
 }
 
-impl Sharing {
-    /// The number is told to none.
-    fn of(number: u32) -> Self {
-        Sharing {
-            number,
-            told: 0,
-            answered: 0,
-            untold: 0,
-        }
-    }
-
-    /// Adds one train: whether it answered what it was told, or `None` where it was not told, and whether the number
-    /// waits at it.
-    fn add(&mut self, answer: Option<bool>, waits: bool) {
-        self.told = self.told.saturating_add(usize::from(answer.is_some()));
-        self.answered = self
-            .answered
-            .saturating_add(usize::from(answer == Some(true)));
-        self.untold = self.untold.saturating_add(usize::from(waits));
+/// To how many of the trains a stop or a restriction is told.
+fn sharing_of(records: &PlainStore, trains: &[TrainStanding], what: Waits) -> Sharing
+    ensures { result ≡ sharing_of records.now trains.now what }
+{
+    Sharing {
+        number: what.number(),
+        told: told_to(records, trains, what),
+        answered: answered_by(records, trains, what),
+        untold: untold_to(trains, what),
     }
 }
 
-/// Whether a train answered a stop. `None` where the stop is not told to it.
-fn stop_answer(desk: &LiveDesk, engine: u32, number: u32) -> Option<bool> {
-    let train = train_in(&desk.records, engine)?;
-    answer_in(train.stops.slots(), number)
+/// To how many trains it is told.
+fn told_to(records: &PlainStore, trains: &[TrainStanding], what: Waits) -> usize
+    ensures { result ≡ length (filter (is_told_at records.now what) trains.now) }
+{
+    trains
+        .iter()
+        .filter(|train| is_told_at(records, train, what))
+        .count()
 }
 
-/// Whether a train acknowledged a restriction. `None` where the restriction is not told to it.
-fn limit_answer(desk: &LiveDesk, engine: u32, number: u32) -> Option<bool> {
-    let train = train_in(&desk.records, engine)?;
-    answer_in(train.limits.slots(), number)
+/// How many trains answered or acknowledged it.
+fn answered_by(records: &PlainStore, trains: &[TrainStanding], what: Waits) -> usize
+    ensures { result ≡ length (filter (is_answered_at records.now what) trains.now) }
+{
+    trains
+        .iter()
+        .filter(|train| is_answered_at(records, train, what))
+        .count()
 }
 
-/// Whether a number is answered, by the slot that tells it. `None` where none does.
-fn answer_in(slots: &[(u8, Slot)], number: u32) -> Option<bool> {
-    for (_, slot) in slots {
-        if let Slot::Used(used) = slot
-            && used.number == number
-        {
-            return Some(used.acked);
-        }
+/// At how many trains it waits.
+fn untold_to(trains: &[TrainStanding], what: Waits) -> usize
+    ensures { result ≡ length (filter (waits_at what) trains.now) }
+{
+    trains.iter().filter(|train| waits_at(train, what)).count()
+}
+
+/// Whether it is told to a train.
+fn is_told_at(records: &PlainStore, train: &TrainStanding, what: Waits) -> bool
+    ensures { result ≡ is_told_at records.now what train.now }
+{
+    answer_at(records, train.engine, what).is_some()
+}
+
+/// Whether a train answered or acknowledged it.
+fn is_answered_at(records: &PlainStore, train: &TrainStanding, what: Waits) -> bool
+    ensures { result ≡ is_answered_at records.now what train.now }
+{
+    answer_at(records, train.engine, what).unwrap_or(false)
+}
+
+/// Whether it waits at a train.
+fn waits_at(train: &TrainStanding, what: Waits) -> bool
+    ensures { result ≡ waits_at what train.now }
+{
+    has(&train.waiting, what)
+}
+
+/// Whether the train with this engine number answered a stop or acknowledged a restriction. `None` where it is not told
+/// to the train.
+fn answer_at(records: &PlainStore, engine: u32, what: Waits) -> Option<bool>
+    ensures { result ≡ answer_at records.now what engine }
+{
+    match train_in(records, engine) {
+        Some(train) => answer_of(train, what),
+        None => None,
     }
-    None
+}
+
+/// Whether a train answered a stop or acknowledged a restriction. `None` where it is not told to the train.
+fn answer_of(train: &TrainRec, what: Waits) -> Option<bool>
+    ensures { result ≡ answer_of what train.now }
+{
+    match what {
+        Waits::Stop(number) => answer_in(&train.stops, number),
+        Waits::Restriction(number) => answer_in(&train.limits, number),
+        Waits::Again(_) => None,
+    }
+}
+
+/// Whether the message that told a number is answered. `None` where no identifier tells it.
+fn answer_in<const N: usize>(table: &IdTable<N>, number: u32) -> Option<bool>
+    ensures { result ≡ answer_in table.now number }
+{
+    match table.of_number(number) {
+        Some(id) => acked_under(table, id),
+        None => None,
+    }
+}
+
+/// Whether the message that told the number of an identifier is answered. `None` where the identifier tells none.
+fn acked_under<const N: usize>(table: &IdTable<N>, id: u8) -> Option<bool>
+    ensures { result ≡ acked_under table.now id }
+{
+    match table.slot(id) {
+        Some(Slot::Used(used)) => Some(used.acked),
+        Some(Slot::Revoking { .. }) | None => None,
+    }
 }

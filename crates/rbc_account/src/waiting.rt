@@ -50,7 +50,7 @@ impl Waits {
     }
 
     /// The number of the stop or the restriction.
-    fn number(self) -> u32
+    pub(crate) fn number(self) -> u32
         ensures { result ≡ (kind_and_number self).1 }
     {
         match self {

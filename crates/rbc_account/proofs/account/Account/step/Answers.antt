@@ -9,5 +9,5 @@ returns-clause-fed c =
 
 pub returns-clause-right : goal.returns-clause-right
 returns-clause-right c =
-    right_as c.feed.new.self.desk.track.horizon c.args.self.now.desk.records c.feed.new.self.desk.records c.in_ok-input.input _
+    right_as c.feed.new.self.desk.track c.args.self.now.desk.records c.feed.new.self.desk.records c.in_ok-input.input _
     c.block_of.result c.block_of.ensures.input (c.as_ref.ensures.value ∙ c.in_ok-before.ensures) c.block_of.ensures.right
