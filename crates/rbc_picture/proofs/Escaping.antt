@@ -1,10 +1,10 @@
 -- How a text is escaped, character by character.
-use Rattle.std.proofs.Common.{◌≡◌, ◌∙◌, ℕ, Bool, true, false, ◌&&◌, ◌||◌, not, List, [], ◌∷◌, ◌++◌, Result, Ok, Err, append_assoc, append-nil, ◌==◌, ne_eqb, ap, sym, subst, refl, if◌then◌else◌, codes}
+use Rattle.std.proofs.Common.{◌≡◌, ◌∙◌, ℕ, Bool, true, false, List, [], ◌∷◌, ◌++◌, Result, Ok, Err, append_assoc, append-nil, ◌==◌, ne_eqb, ap, sym, refl, if◌then◌else◌, codes}
 use Rattle.std.specs.Result.{is_ok, OnOk}
 use Rattle.std.specs.Char.{IsScalar, encode_utf8}
 use Rattle.std.specs.Str.{IsUtf8, chars}
 use Rattle.std.proofs.lemmas.Str.{chars-append, chars-nil, chars_past_char, IsUtf8-encode}
-use Rattle.rbc_picture.specs.Escape.{escaped, spelling_of, is_inert, ends_entity}
+use Rattle.rbc_picture.specs.Escape.{escaped, spelling_of, is_inert}
 
 -- what a text has behind it
 pub added : {T E : Type 0} (r : Result T E) (old new more cs : List ℕ) → IsUtf8 old → chars more ≡ cs → new ≡ (if is_ok r then old ++ more else old)

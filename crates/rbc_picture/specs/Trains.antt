@@ -1,6 +1,8 @@
 -- In which part of a picture a train stands.
-use Rattle.std.specs.Prelude.{◌≡◌, ℕ, Bool, true, false, ◌==◌, Option, Some, None, is_none, List, filter, map}
+use Rattle.std.specs.Prelude.{◌≡◌, ℕ, Bool, true, false, ◌==◌, Option, Some, None, is_none}
 use Rattle.rbc_place.specs.Placing as placing
+use Rattle.rbc_track.specs.declared.group.Way.{Way}
+use Rattle.rbc_track.specs.declared.group.Way.TheVariants.{Up, Down}
 use Rattle.rbc_picture.specs.declared.train_state.TrainState.{TrainState}
 
 -- a place is on a line
@@ -12,13 +14,14 @@ is_place_on line (Some place) = place.line == line
 abbrev pub is_on : ℕ → TrainState → Bool
 is_on line train = is_place_on line train.place
 
+-- the end of an interval at which a train has its front, by the way it faces
+abbrev pub end_at : {A : Type 0} → Way → A → A → A
+end_at Up low high = high
+end_at Down low high = low
+
 -- a train has no place
 abbrev pub is_unplaced : TrainState → Bool
 is_unplaced train = is_none train.place
-
--- the engines of trains
-abbrev pub engines_of : List TrainState → List ℕ
-engines_of trains = map (λ train. train.engine) trains
 
 -- Each train stands in one part: in the panel of its line, or in the list of the trains without a place.
 pub record StandsOnce (train : TrainState) : Type 0 where

@@ -17,6 +17,10 @@ right_end = 11600
 abbrev pub x_at : ℕ → ℕ → ℕ → ℕ
 x_at low high place = 400 + (min place high - low) * 11200 / (high - low)
 
+-- a window shows the places of a line from the first to the second of two
+abbrev pub Shows : ℕ → ℕ × ℕ → ℕ → ℕ → Type 0
+Shows length ends low high = ends.1 ≤ length → length ≤ max_length → (low ≤ ends.0) × (ends.1 ≤ high)
+
 -- The lower end of a window is at the left, its upper end at the right, and order on the picture is order on the line.
 pub record KeepsOrder (low high : ℕ) : Type 0 where
   pub first : x_at low high low ≡ left_end

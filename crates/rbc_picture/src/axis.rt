@@ -57,7 +57,7 @@ pub fn axis_of(alloc: Global, window: Window) -> Result<Vec<Mark>, AllocError> {
     Ok(axis)
 }
 
-/// The room that words take whose middle stands at a place.
+/// The room of words whose middle stands at a place.
 fn room_of(x: i64, words: &str) -> Span {
     let half = bold_width(words, 11) / 2;
     Span {
@@ -79,8 +79,7 @@ fn km_words(alloc: Global, before: &str, mark: u32, step: u32) -> Result<String,
     Ok(words)
 }
 
-/// How many decimals places in km have that are multiples of a step, and what the last of them counts, in units of 10
-/// cm.
+/// How many decimals a multiple of a step has in km, and what the last decimal counts, in units of 10 cm.
 fn decimals_of(step: u32) -> (usize, u32)
     ensures { 0 < result.1 }
 {

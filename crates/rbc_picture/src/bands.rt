@@ -1,4 +1,4 @@
-//! Bands of stops and restrictions: where they stand, and where their words do.
+//! Bands of stops and restrictions, and their words.
 
 ghost use Rattle.std.specs.Prelude.{◌≡◌, IfOk, map};
 ghost use Rattle.rbc_picture.specs.declared.bands.Band.{Band};
@@ -24,7 +24,7 @@ const LANE: i64 = 220;
 const HEIGHT: i64 = 160;
 
 /// Where the words of a band stand.
-#[derive(Clone, Copy, Debug, PartialEq, Eq)]
+#[derive(Clone, Copy)]
 pub enum Room {
     /// In the band.
     Inside,
@@ -38,7 +38,7 @@ pub struct Band {
     pub stretch: Stretch,
     /// From its left edge to its right edge.
     pub body: Span,
-    /// What its words are.
+    /// Its words.
     pub words: String,
     /// Where they stand.
     pub room: Room,
@@ -103,7 +103,7 @@ fn band_of(alloc: Global, window: Window, stretch: Stretch) -> Result<Band, Allo
     })
 }
 
-/// Where words that need so much room stand: in the band, else behind it, else before it.
+/// Where the words of a band stand, by the room that they need: in the band, else behind it, else before it.
 fn room_of(body: Span, need: i64) -> (Room, Span) {
     if body.right.saturating_sub(body.left) >= need.saturating_add(200) {
         return (Room::Inside, body);
@@ -124,14 +124,14 @@ impl Bands {
         lane_top(0, self.lanes.count)
     }
 
-    /// Draws the bands of a line in lanes from a place downwards.
+    /// Draws the bands of a line in lanes, from `top` downwards.
     pub fn draw(&self, svg: &mut Svg, line: usize, top: i64) {
         for (band, lane) in self.all.iter().zip(self.lanes.of_items.iter()) {
             band.draw(svg, line, lane_top(top, *lane));
         }
     }
 
-    /// The stretches on the picture that the bands cover; those that meet are one.
+    /// The parts of the panel that the bands cover. Bands that meet are one part.
     ///
     /// # Errors
     ///

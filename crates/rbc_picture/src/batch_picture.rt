@@ -1,4 +1,4 @@
-//! The picture of what stands after the inputs of a batch.
+//! The picture after the inputs of a batch.
 
 ghost use Rattle.std.specs.Prelude.{IfNone, OnSome};
 ghost use Rattle.rbc_account.specs.Telling.{LeavesUnread, Tells, TooFewFor};
@@ -12,8 +12,8 @@ use rbc_track_report::{NamedTrack, named_track};
 use std::alloc::{AllocError, Global};
 use std::io::Read;
 
-/// Draws what stands after the first inputs of a batch, as many as `after` says, or after all, as an SVG document. The
-/// track is written in `text`, a TOML document, and the batch is read from `input` to its end.
+/// Draws the track with its trains, stops and restrictions after the first `after` inputs of a batch, or after all of
+/// them, as an SVG document. `text` is the track file, a TOML document. The batch is read from `input` to its end.
 ///
 /// # Errors
 ///
@@ -38,7 +38,7 @@ pub fn picture<R: Read>(
     Ok(picture)
 }
 
-/// How many of so many inputs are taken, or nothing if there are fewer than are asked for.
+/// How many inputs are taken, or `None` if there are fewer than `after`.
 fn taken_of(inputs: usize, after: Option<u32>) -> Option<usize>
     ensures few { IfNone result (TooFewFor after inputs) }
     ensures enough { OnSome result (¬ (TooFewFor after inputs)) }
@@ -50,7 +50,7 @@ fn taken_of(inputs: usize, after: Option<u32>) -> Option<usize>
     }
 }
 
-/// Takes the first lines of a batch, so many, and draws what stands then.
+/// Takes the first lines of a batch, as many as `taken`, and draws what stands after them.
 fn drawn(
     alloc: Global,
     text: &str,
@@ -68,7 +68,7 @@ fn drawn(
     }
 }
 
-/// Draws what stands after the inputs that an account has taken, of so many.
+/// Draws what stands after the inputs that an account has taken, out of so many.
 fn picture_of(
     alloc: Global,
     account: &Account,

@@ -6,8 +6,8 @@ ghost use Rattle.rbc_picture.specs.Escape.{escaped, spelling_of, is_inert};
 
 use std::alloc::AllocError;
 
-/// Adds a text in which each `&`, `<` and `>` stands as `&amp;`, `&lt;` and `&gt;`. What is added can neither begin nor
-/// end an element, nor begin another entity.
+/// Adds a text with `&amp;`, `&lt;` and `&gt;` for each `&`, `<` and `>`. What is added can neither begin nor end an
+/// element, and begins no other entity.
 ///
 /// # Errors
 ///

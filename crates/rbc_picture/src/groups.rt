@@ -20,13 +20,13 @@ const TICKS_APART: i64 = 20;
 const NUMBERS_APART: i64 = 60;
 
 /// How a balise group is drawn.
-#[derive(Clone, Copy, Debug, PartialEq, Eq)]
+#[derive(Clone, Copy)]
 pub enum Form {
     /// As a triangle towards its nominal direction.
     Triangle,
     /// As a tick.
     Tick,
-    /// Not at all, for want of room.
+    /// Not at all, since there is no room for it.
     Hidden,
 }
 
@@ -41,7 +41,7 @@ pub struct GroupSign {
     number: Option<String>,
 }
 
-/// The balise groups of a line that stand in a window, from left to right. The groups are given in order.
+/// The balise groups of a line that lie in a window, from left to right. `groups` are in ascending order.
 ///
 /// # Errors
 ///
@@ -74,7 +74,7 @@ fn places_of(alloc: Global, signs: &[GroupSign]) -> Result<Vec<i64>, AllocError>
     signs.iter().map(|sign| sign.x).collect(alloc)
 }
 
-/// Chooses how each balise group is drawn, by the places of all.
+/// Chooses how each balise group is drawn. `places` are the places of all of them.
 fn give_forms(signs: &mut [GroupSign], places: &[i64]) {
     let mut last_tick = i64::MIN;
     for (index, sign) in signs.iter_mut().enumerate() {

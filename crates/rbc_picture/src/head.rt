@@ -1,4 +1,4 @@
-//! The head of a picture: what it is called, what it sums up, and its legend.
+//! The head of a picture: its title, its summary and its legend.
 
 use crate::colours::{DARK, DARK_EDGE, DOTS, LIMIT_EDGE, STOP_EDGE, STRIPES, WHITE};
 use crate::scene::{Scene, Sums};
@@ -8,20 +8,20 @@ use crate::svg::Svg;
 use crate::texts::{Anchor, LACK, NOTE, SMALL, SUMMARY, TITLE};
 use crate::train_shape::{POST, TOLD};
 
-/// The first two lines of the words above the picture end here.
+/// Where the title and the summary end.
 const WORDS_END: i64 = 580;
 
-/// The height of a line on what is not told.
+/// The height of a line that says how much is not told.
 const LACK_HEIGHT: i64 = 220;
 
 /// The left edge of all words.
 const LEFT: i64 = 400;
 
-/// What the signs beside a number of the legend mean.
+/// What the remarks on a stop or a restriction mean.
 const REMARKS: &str =
     " With ?, and a sign that is not filled: not acknowledged yet. With !: not answered in three reports.";
 
-/// What it means that something is not told.
+/// What NOT TOLD and NOT TOLD AGAIN mean.
 const LACKS: &str = "NOT TOLD: it concerns the train, and no identifier is free. \
     NOT TOLD AGAIN: it was not answered, and no identifier is free.";
 
@@ -35,7 +35,7 @@ fn legend_top(sums: &Sums) -> i64 {
     lack_top(sums.untold_again, lack_top(sums.untold, WORDS_END)).saturating_add(60)
 }
 
-/// Where a line on what is not told ends, if there is one.
+/// Where a line that says how much is not told ends. There is none if nothing is.
 fn lack_top(number: usize, top: i64) -> i64 {
     if number == 0 {
         return top;
@@ -54,7 +54,7 @@ impl Svg {
         self.count(scene.sums.inputs, "input");
     }
 
-    /// Adds what a picture sums up.
+    /// Adds the summary of a picture.
     pub fn summary_words(&mut self, scene: &Scene<'_>) {
         let unplaced = scene.trains.iter().filter(|train| train.is_unplaced());
         self.count(scene.trains.len(), "train");
@@ -85,7 +85,7 @@ pub fn draw_head(svg: &mut Svg, scene: &Scene<'_>) {
     draw_legend(svg, legend_top(&scene.sums));
 }
 
-/// Writes how much is not told, and not told again, where there is such.
+/// Writes how much is not told, and how much is not told again, if anything is.
 fn draw_lacks(svg: &mut Svg, sums: &Sums) {
     if sums.untold > 0 {
         begin_lack(svg, WORDS_END);
@@ -108,7 +108,7 @@ fn draw_lacks(svg: &mut Svg, sums: &Sums) {
     }
 }
 
-/// Begins a line on what is not told.
+/// Begins a line that says how much is not told.
 fn begin_lack(svg: &mut Svg, top: i64) {
     let at = Point {
         x: LEFT,
@@ -117,7 +117,7 @@ fn begin_lack(svg: &mut Svg, top: i64) {
     svg.begin_words(at, Anchor::Start, LACK);
 }
 
-/// Draws the legend, from a place downwards.
+/// Draws the legend, from `top` downwards.
 fn draw_legend(svg: &mut Svg, top: i64) {
     let y = top.saturating_add(80);
     svg.begin_group();
@@ -176,7 +176,7 @@ fn draw_balise_group(svg: &mut Svg, y: i64) {
     legend_words(svg, 10_100, y, "balise group");
 }
 
-/// Writes what a sign of the legend means.
+/// Writes the meaning of a sign.
 fn legend_words(svg: &mut Svg, x: i64, y: i64, words: &str) {
     svg.text(moved(Point { x, y }, 0, 40), Anchor::Start, SMALL, words);
 }

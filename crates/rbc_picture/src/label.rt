@@ -29,7 +29,7 @@ pub struct Label {
     pub side: Side,
 }
 
-/// The label of a train that is drawn from one place to another.
+/// The label of a train whose arrow has this body.
 ///
 /// # Errors
 ///
@@ -111,7 +111,7 @@ impl Label {
         self.draw_text(svg, Point { x, y }, NOTE, told, bold_width(told, 11));
     }
 
-    /// Draws one text of it, if it has words, and tells where the next one begins.
+    /// Draws one text of the label, if it has words. Returns where the next one begins.
     fn draw_text(&self, svg: &mut Svg, at: Point, style: Style, words: &str, width: i64) -> i64 {
         if words.is_empty() {
             return at.x;

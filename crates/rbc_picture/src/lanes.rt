@@ -1,4 +1,4 @@
-//! Lanes, in which items stand beside one another without a meeting.
+//! Lanes, in which items stand beside one another and do not meet.
 
 use crate::pixels::Span;
 use std::alloc::{AllocError, Global};
@@ -15,8 +15,8 @@ pub struct Lanes {
     pub count: usize,
 }
 
-/// Puts items into lanes by their extents: from left to right, then in their order, each into the first lane that is
-/// free there.
+/// Puts items into lanes by their extents. Items are taken from left to right, then in their order, and each goes into
+/// the first lane that is free there.
 ///
 /// # Errors
 ///
@@ -40,8 +40,8 @@ pub fn lanes_of(alloc: Global, extents: &[Span]) -> Result<Lanes, AllocError> {
     })
 }
 
-/// Takes the first lane that is free for an extent, or a new one. The lanes are given by the right ends of what stands
-/// in them.
+/// Takes the first lane that is free for an extent, or a new one. `ends` has the right end of the last item in each
+/// lane.
 fn take_lane(ends: &mut Vec<i64>, extent: Span) -> Result<usize, AllocError> {
     for (lane, end) in ends.iter_mut().enumerate() {
         if end.saturating_add(GAP) <= extent.left {

@@ -3,6 +3,7 @@
 
 mod axis;
 mod bands;
+mod batch_picture;
 mod colours;
 mod escape;
 mod groups;
@@ -12,7 +13,6 @@ mod lanes;
 mod law;
 mod lost;
 mod panel;
-mod picture;
 mod pixels;
 mod plan;
 mod posts;
@@ -27,5 +27,5 @@ mod train_shape;
 mod train_state;
 mod window;
 
+pub use batch_picture::picture;
 pub use law::{order_law, part_law};
-pub use picture::picture;

@@ -20,11 +20,11 @@ const IN_A_ROW: usize = 4;
 pub struct LostTrain<'a> {
     pub train: &'a TrainState,
     engine: String,
-    /// What it is not told, or no text.
+    /// The stops and restrictions that it is not told, or no text.
     untold: String,
-    /// What it is told, or no text.
+    /// The stops and restrictions that it is told, or no text.
     told: String,
-    /// Whether it has answered all stops that it is told by message 16, if there are any.
+    /// Whether it has answered all stops that it is told by message 16, if it is told any.
     at_once: Option<bool>,
 }
 
@@ -90,7 +90,7 @@ fn box_corner(top: i64, index: usize) -> Point {
     }
 }
 
-/// Draws the trains without a place, from a place downwards.
+/// Draws the trains without a place, from `top` downwards.
 pub fn draw_lost(svg: &mut Svg, lost: &[LostTrain<'_>], top: i64) {
     let y = top.saturating_add(160);
     svg.begin_group();
@@ -131,7 +131,7 @@ impl LostTrain<'_> {
         svg.end_group();
     }
 
-    /// Writes its engine, and what it is not told, or else what it is told.
+    /// Writes its engine, and then the stops and restrictions that it is not told, or else those that it is told.
     fn draw_words(&self, svg: &mut Svg, corner: Point) {
         let engine = self.engine.as_str();
         svg.text(moved(corner, 260, 165), Anchor::Start, ENGINE, engine);

@@ -24,7 +24,7 @@ use std::alloc::{AllocError, Global};
 /// The left end of what is shown of a line.
 const LEFT: i64 = 400;
 
-/// The right end of it.
+/// The right end of what is shown of a line.
 const RIGHT: i64 = 11_600;
 
 /// The height of a row of trains.
@@ -69,7 +69,7 @@ pub struct Panel<'a> {
     axis: Vec<Mark>,
 }
 
-/// The panel of a line, from a place on the picture downwards.
+/// The panel of a line, which begins at `top`.
 ///
 /// # Errors
 ///
@@ -128,7 +128,7 @@ fn extents_of(alloc: Global, trains: &[TrainShape<'_>]) -> Result<Vec<Span>, All
 }
 
 impl Panel<'_> {
-    /// Whether a part of the line alone is shown.
+    /// Whether only a part of the line is shown.
     fn is_part(&self) -> bool {
         !self.window.is_whole(self.about.length)
     }
@@ -264,7 +264,7 @@ impl Panel<'_> {
     }
 }
 
-/// Draws an end of what is shown of a line: a bar where the line ends there, else dashes outwards.
+/// Draws an end of what is shown of a line: a bar if the line ends there, else dashes outwards.
 fn draw_end(svg: &mut Svg, at: Point, outwards: i64, is_last: bool) {
     if is_last {
         svg.line(moved(at, 0, -70), moved(at, 0, 70), TRACK);

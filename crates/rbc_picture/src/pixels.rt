@@ -3,7 +3,7 @@
 use std::fmt;
 
 /// A length or a coordinate in tenths of a pixel, shown in pixels: 400 is `40`, and 405 is `40.5`.
-#[derive(Clone, Copy, Debug, PartialEq, Eq)]
+#[derive(Clone, Copy)]
 pub struct Pixels(pub u32);
 
 impl fmt::Display for Pixels {
@@ -23,7 +23,7 @@ impl fmt::Display for Pixels {
 }
 
 /// An interval on the picture, from left to right, both ends included.
-#[derive(Clone, Copy, Debug, PartialEq, Eq)]
+#[derive(Clone, Copy)]
 pub struct Span {
     /// Its left end.
     pub left: i64,
@@ -60,7 +60,7 @@ impl Span {
 }
 
 /// A side of a place on the picture.
-#[derive(Clone, Copy, Debug, PartialEq, Eq)]
+#[derive(Clone, Copy)]
 pub enum Side {
     /// Towards rising places.
     Right,

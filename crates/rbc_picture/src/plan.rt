@@ -1,4 +1,4 @@
-//! What stands where on a picture, and the whole document.
+//! The parts of a picture, one below the other, and the whole document.
 
 ghost use Rattle.std.specs.Prelude.{IfOk, length};
 ghost use Rattle.rbc_picture.specs.Panels.{ShowEachLine, ShowsAll};
@@ -75,7 +75,7 @@ fn panels_of<'a>(alloc: Global, scene: &Scene<'a>) -> Result<Vec<Panel<'a>>, All
     Ok(panels)
 }
 
-/// Where the part after another begins, by where that one ends.
+/// Where the next part begins, by where the last one ends.
 fn next_top(end: i64) -> i64 {
     end.saturating_add(BETWEEN)
 }
@@ -153,7 +153,7 @@ fn draw_ground(svg: &mut Svg, height: u64) {
     svg.words("\" fill=\"#FFFFFF\"/>\n");
 }
 
-/// Writes the title of the document, and what it shows in words.
+/// Writes the title of the document, and its description in words.
 fn write_titles(svg: &mut Svg, scene: &Scene<'_>) {
     svg.words("<title id=\"title\">");
     svg.title_words(scene);

@@ -66,7 +66,7 @@ pub fn posts_of(
     Ok(posts)
 }
 
-/// What an identifier tells, if it tells a place on a line.
+/// The place that a stop identifier tells, if it lies on this line.
 fn told_on(stop: &StopSlot, line: usize, window: Window) -> Option<Told> {
     match (&stop.slot, stop.told) {
         (Slot::Used(used), Some(told)) if told.line as usize == line => Some(Told {
@@ -101,14 +101,14 @@ fn signs_of(alloc: Global, told: &[Told]) -> Result<Vec<Signs>, AllocError> {
 /// What words beside posts must not meet.
 #[derive(Drop)]
 pub struct Taken {
-    /// The part of each post.
+    /// The part that each post takes.
     posts: Vec<Span>,
-    /// Everything else.
+    /// The parts of the train, of its sign, and of words that were placed before.
     others: Vec<Span>,
 }
 
 impl Taken {
-    /// What posts and other parts take.
+    /// The parts that posts take, and other parts.
     ///
     /// # Errors
     ///
@@ -129,7 +129,7 @@ impl Taken {
                 .all(|(index, other)| index == own || !part.meets(*other))
     }
 
-    /// The side of a post on which there is room for its words: this one, or else the other.
+    /// The side of a post that has room for its words: this side, or else the other.
     fn side_of(&self, own: usize, post: &Post, side: Side) -> Option<Side> {
         if self.is_free(own, post.room(side)) {
             return Some(side);

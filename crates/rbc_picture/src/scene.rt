@@ -17,12 +17,12 @@ pub struct Scene<'a> {
     pub limits: &'a [(u32, Limit)],
     /// The trains, ascending.
     pub trains: &'a [TrainState],
-    /// What is counted.
+    /// What the picture counts.
     pub sums: Sums,
 }
 
 /// What a picture counts.
-#[derive(Clone, Copy, Debug, PartialEq, Eq)]
+#[derive(Clone, Copy)]
 pub struct Sums {
     /// The inputs that were taken.
     pub taken: u64,
@@ -36,8 +36,8 @@ pub struct Sums {
     pub untold_again: usize,
 }
 
-/// What is to be seen of each line: the places of its trains, their balise groups, the places before which they are
-/// told to stop, and the active stretches.
+/// The places of each line that its window has to show: those of its trains, of their balise groups, before which they
+/// are told to stop, and the ends of active stretches.
 ///
 /// # Errors
 ///
@@ -53,7 +53,7 @@ pub fn reaches_of(alloc: Global, scene: &Scene<'_>) -> Result<Vec<Reach>, AllocE
     Ok(reaches)
 }
 
-/// The stretches of a line that stops close.
+/// The ends of the stretches of a line that stops close.
 fn stops_reach(stops: &[(u32, Area)], line: usize) -> Reach {
     let mut reach = Reach::NONE;
     for (_number, area) in stops {
@@ -62,7 +62,7 @@ fn stops_reach(stops: &[(u32, Area)], line: usize) -> Reach {
     reach
 }
 
-/// The segments of a line.
+/// The ends of the segments that lie on a line.
 fn area_reach(segments: &[Segment], line: usize) -> Reach {
     let mut reach = Reach::NONE;
     for segment in segments {
@@ -71,7 +71,7 @@ fn area_reach(segments: &[Segment], line: usize) -> Reach {
     reach
 }
 
-/// A segment, if it is on a line.
+/// The ends of a segment, if it lies on a line.
 fn segment_reach(segment: &Segment, line: usize) -> Reach {
     if segment.line as usize == line {
         Reach::NONE.with(segment.from).with(segment.to)
@@ -80,7 +80,7 @@ fn segment_reach(segment: &Segment, line: usize) -> Reach {
     }
 }
 
-/// The stretches of a line on which restrictions apply.
+/// The ends of the stretches of a line on which restrictions apply.
 fn limits_reach(limits: &[(u32, Limit)], line: usize) -> Reach {
     let mut reach = Reach::NONE;
     for (_number, limit) in limits {
@@ -118,8 +118,8 @@ fn train_reach(train: &TrainState, line: usize) -> Reach {
     reach
 }
 
-/// The part of a line that is shown. Lines of one length show the same part, what is to be seen of all of them, unless
-/// that is all: then each shows its own.
+/// The window of a line. Lines of one length have the same window, which shows the places of all of them. If that is
+/// the whole line, each has a window for its own places.
 pub fn window_of(lines: &[NamedLine], reaches: &[Reach], line: usize) -> Window {
     let length = lines.get(line).map_or(1, |line| line.length);
     let common = Window::of(length, common_reach(lines, reaches, length));
@@ -130,7 +130,7 @@ pub fn window_of(lines: &[NamedLine], reaches: &[Reach], line: usize) -> Window 
     Window::of(length, own)
 }
 
-/// What is to be seen of all lines of one length.
+/// The places that the windows of all lines of one length have to show.
 fn common_reach(lines: &[NamedLine], reaches: &[Reach], length: u32) -> Reach {
     let mut common = Reach::NONE;
     for (line, reach) in lines.iter().zip(reaches.iter()) {

@@ -59,7 +59,8 @@ impl Svg {
         self.words("</title>\n");
     }
 
-    /// Adds sentences on a train: where it may be, what each of its identifiers is held for, and what it is not told.
+    /// Adds sentences on a train: where it may be, what each of its identifiers is held for, and which stops and
+    /// restrictions it is not told.
     pub fn train_sentences(&mut self, train: &TrainState) {
         self.words("Train ");
         self.number(u64::from(train.engine));
@@ -161,7 +162,7 @@ impl Svg {
         });
     }
 
-    /// Adds what is not told, or not told again.
+    /// Adds a stop or a restriction that is not told, or a stop that is not told again.
     fn waiting_sentence(&mut self, waits: Waits) {
         let (words, number) = match waits {
             Waits::Stop(number) => (" NOT TOLD: stop ", number),

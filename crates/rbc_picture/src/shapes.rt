@@ -4,14 +4,14 @@ use crate::colours::{SIGN_EDGE, STOP, WHITE};
 use crate::svg::Svg;
 
 /// A point on the picture, in tenths of a pixel from its left edge and from its upper edge.
-#[derive(Clone, Copy, Debug, PartialEq, Eq)]
+#[derive(Clone, Copy)]
 pub struct Point {
     pub x: i64,
     pub y: i64,
 }
 
 /// The area of a box, in tenths of a pixel.
-#[derive(Clone, Copy, Debug, PartialEq, Eq)]
+#[derive(Clone, Copy)]
 pub struct Area {
     /// Its left edge.
     pub x: i64,
@@ -22,12 +22,12 @@ pub struct Area {
 }
 
 /// How a line is drawn.
-#[derive(Clone, Copy, Debug, PartialEq, Eq)]
+#[derive(Clone, Copy)]
 pub struct Stroke {
     pub colour: &'static str,
     /// Its width in pixels.
     pub width: &'static str,
-    /// Its dashes and gaps in pixels, where it has any.
+    /// Its dashes and gaps in pixels, if it has any.
     pub dashes: Option<&'static str>,
 }
 
@@ -55,7 +55,7 @@ impl Svg {
         self.words("/>\n");
     }
 
-    /// Begins a box: its area and what fills it, and further attributes as they are written.
+    /// Begins a box. `more` has further attributes, each with a space before it.
     pub fn begin_box(&mut self, area: Area, fill: &str, more: &str) {
         self.words("<rect");
         self.length("x", area.x);
@@ -72,7 +72,7 @@ impl Svg {
         self.words("/>\n");
     }
 
-    /// Begins a polygon: its points and what fills it, and further attributes as they are written.
+    /// Begins a polygon. `more` has further attributes, each with a space before it.
     pub fn begin_polygon(&mut self, points: &[Point], fill: &str, more: &str) {
         self.words("<polygon points=\"");
         for (index, point) in points.iter().enumerate() {
@@ -98,8 +98,8 @@ impl Svg {
         self.words("/>\n");
     }
 
-    /// Draws the octagon of a stop that a train is told, so far to all sides of its centre. It is filled where the
-    /// train has answered.
+    /// Draws the octagon of a stop that a train is told. It reaches `radius` to all sides, and is filled if the train
+    /// has answered.
     pub fn octagon(&mut self, centre: Point, radius: i64, is_filled: bool) {
         let fill = if is_filled { STOP } else { WHITE };
         self.polygon(&corners_of(centre, radius), fill, SIGN_EDGE);

@@ -4,8 +4,8 @@ use std::alloc::{AllocError, Global};
 use std::fmt;
 use std::fmt::Write;
 
-/// What is said of a number that a train is told.
-#[derive(Clone, Copy, Debug, PartialEq, Eq)]
+/// A remark on a stop or a restriction that a train is told.
+#[derive(Clone, Copy)]
 pub enum Remark {
     /// Nothing.
     Nothing,
@@ -16,18 +16,18 @@ pub enum Remark {
 }
 
 /// A stop or a restriction, in short: `S1`, `S2?`, `S3!` or `R20`.
-#[derive(Clone, Copy, Debug, PartialEq, Eq)]
+#[derive(Clone, Copy)]
 pub struct ShortWord {
     /// Whether it is a stop.
     pub is_stop: bool,
     /// Its number.
     pub number: u32,
-    /// What is said of it.
+    /// The remark on it.
     pub remark: Remark,
 }
 
 impl ShortWord {
-    /// A stop of which nothing is said.
+    /// A stop without a remark.
     pub fn stop(number: u32) -> ShortWord {
         ShortWord {
             is_stop: true,
@@ -36,7 +36,7 @@ impl ShortWord {
         }
     }
 
-    /// A restriction of which nothing is said.
+    /// A restriction without a remark.
     pub fn restriction(number: u32) -> ShortWord {
         ShortWord {
             is_stop: false,
@@ -59,8 +59,7 @@ impl fmt::Display for ShortWord {
     }
 }
 
-/// A list of words behind what is to stand before it: the first of them, at most so many, and how many more there are,
-/// as in `S1 S2 +3`.
+/// The text `before`, then the first words of a list, at most `most`, and how many more there are, as in `S1 S2 +3`.
 ///
 /// # Errors
 ///
@@ -97,8 +96,8 @@ fn push_more(list: &mut String, shown: usize, more: usize) -> Result<(), AllocEr
     write!(list, "+{more}")
 }
 
-/// The short list with as many words, at most `most`, as fit into a room in tenths of a pixel, in size 11. No words
-/// give no text.
+/// The short list with as many words, at most `most`, as fit into a room in tenths of a pixel, in size 11. Without
+/// words it is empty.
 ///
 /// # Errors
 ///
@@ -127,13 +126,13 @@ fn count_of(words: &str) -> i64 {
     i64::try_from(words.len()).unwrap_or(i64::MAX)
 }
 
-/// A bound on how wide words in ASCII are in bold, by their size in pixels, in tenths of a pixel. The widths of all
-/// words are counted as of bold ones, unless something else is said.
+/// A bound on the width of words in ASCII, in tenths of a pixel, if they are bold. The layout takes it for all words
+/// but the numbers of balise groups.
 pub fn bold_width(words: &str, size: i64) -> i64 {
     count_of(words).saturating_mul(size).saturating_mul(14) / 2
 }
 
-/// A bound on how wide words in ASCII are that are not bold.
+/// A bound on the width of words in ASCII, in tenths of a pixel, if they are not bold.
 pub fn plain_width(words: &str, size: i64) -> i64 {
     count_of(words).saturating_mul(size).saturating_mul(13) / 2
 }

@@ -8,7 +8,7 @@ use std::alloc::{AllocError, Global};
 use std::fmt;
 
 /// What is active on a stretch.
-#[derive(Clone, Copy, Debug, PartialEq, Eq)]
+#[derive(Clone, Copy)]
 pub enum Active {
     /// A stop.
     Stop,
@@ -17,7 +17,7 @@ pub enum Active {
 }
 
 /// A stretch of a line on which a stop or a restriction is active, from one place to another, in units of 10 cm.
-#[derive(Clone, Copy, Debug, PartialEq, Eq)]
+#[derive(Clone, Copy)]
 pub struct Stretch {
     /// The number of the stop or of the restriction.
     pub number: u32,

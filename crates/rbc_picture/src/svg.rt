@@ -7,8 +7,8 @@ use rbc_words::{Count, Km};
 use std::alloc::{AllocError, Global};
 use std::fmt::Write;
 
-/// A document that is written piece by piece. Where memory is refused a piece is missing, and the end of the document
-/// tells so: a piece that is added has no result of its own. All lengths and coordinates are in tenths of a pixel.
+/// A document that is written piece by piece. If memory is refused, a piece is missing, and `ended` reports it: a
+/// method that adds a piece has no result. All lengths and coordinates are in tenths of a pixel.
 #[derive(Drop)]
 pub struct Svg {
     text: String,
@@ -73,7 +73,7 @@ impl Svg {
         }
     }
 
-    /// Adds a name between quotation marks, escaped and with a space before it, or nothing.
+    /// Adds a name between quotation marks, escaped and with a space before it. Without a name it adds nothing.
     pub fn name(&mut self, name: &Option<String>) {
         if let Some(name) = name {
             self.words(" \"");
@@ -82,7 +82,7 @@ impl Svg {
         }
     }
 
-    /// Adds a text from outside, escaped.
+    /// Adds a text from a track file, escaped.
     fn escaped(&mut self, text: &str) {
         if push_escaped(&mut self.text, text).is_err() {
             self.is_cut = true;

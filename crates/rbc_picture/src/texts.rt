@@ -6,7 +6,7 @@ use crate::shapes::Point;
 use crate::svg::Svg;
 
 /// How words look.
-#[derive(Clone, Copy, Debug, PartialEq, Eq)]
+#[derive(Clone, Copy)]
 pub struct Style {
     /// Their size in pixels.
     pub size: &'static str,
@@ -28,7 +28,7 @@ pub const SUMMARY: Style = Style {
     colour: DARK,
 };
 
-/// What is not told, below the summary.
+/// How much is not told, below the summary.
 pub const LACK: Style = Style {
     size: "13",
     is_bold: true,
@@ -49,14 +49,14 @@ pub const SMALL: Style = Style {
     colour: DARK,
 };
 
-/// What a train is told, and remarks.
+/// The stops and restrictions that a train is told, and remarks.
 pub const NOTE: Style = Style {
     size: "11",
     is_bold: false,
     colour: GREY,
 };
 
-/// What a train is not told.
+/// The stops and restrictions that a train is not told.
 pub const UNTOLD: Style = Style {
     size: "11",
     is_bold: true,
@@ -96,7 +96,7 @@ const HALO: &str =
     " fill=\"#FFFFFF\" stroke=\"#FFFFFF\" stroke-width=\"4\" stroke-linejoin=\"round\" aria-hidden=\"true\">";
 
 /// Which part of words stands at their place.
-#[derive(Clone, Copy, Debug, PartialEq, Eq)]
+#[derive(Clone, Copy)]
 pub enum Anchor {
     Start,
     Middle,
@@ -122,7 +122,7 @@ impl Anchor {
 }
 
 impl Svg {
-    /// Begins a text, up to what fills it.
+    /// Begins a text, up to its colour.
     fn begin_text(&mut self, at: Point, anchor: Anchor, style: Style) {
         self.words("<text");
         self.length("x", at.x);

@@ -1,6 +1,8 @@
 //! How a train is drawn on its line.
 
-ghost use Rattle.std.specs.Prelude.{◌≡◌, IfOk};
+ghost use Rattle.std.specs.Prelude.{◌≡◌, IfOk, pos};
+ghost use Rattle.rbc_picture.specs.Trains.{end_at};
+ghost use Rattle.rbc_picture.specs.Window.{x_at};
 
 use crate::colours::DARK;
 use crate::label::{Label, label_of};
@@ -54,7 +56,7 @@ pub struct TrainShape<'a> {
     posts: Vec<Post>,
 }
 
-/// A train at its place on a line, of which a part is shown.
+/// The shape of a train at its place on a line.
 ///
 /// # Errors
 ///
@@ -83,9 +85,12 @@ pub fn shape_of<'a>(
     })
 }
 
-/// Where a train stands on the picture, and the side to which it faces. Its front is exact; a train that would be too
+/// Where a train stands on the picture, and the side to which it faces. Its front is exact. A train that would be too
 /// short is drawn longer at its rear.
-fn body_of(place: Place, window: Window) -> (Span, Side) {
+fn body_of(place: Place, window: Window) -> (Span, Side)
+    ensures { end_at place.facing result.0.left result.0.right
+        ≡ pos (x_at window.low window.high (end_at place.facing place.lo place.hi)) }
+{
     let (left, right) = (window.x(place.lo()), window.x(place.hi()));
     match place.facing() {
         Way::Up => {
@@ -118,7 +123,7 @@ fn front_of(body: Span, side: Side) -> i64 {
     }
 }
 
-/// What a train itself takes: the sign before its front, if there is one, and the train where it is short.
+/// The parts that a train takes: the sign before its front, if there is one, and the train itself if it is short.
 fn parts_of(
     alloc: Global,
     body: Span,

@@ -17,7 +17,7 @@ pub struct StopSlot {
     pub id: u8,
     /// What it is held for.
     pub slot: Slot,
-    /// The place before which the train is told to stop, where it was told by message 15.
+    /// The place before which the train is told to stop, if it was told by message 15.
     pub told: Option<ToldPlace>,
 }
 
@@ -32,7 +32,7 @@ pub struct TrainState {
     pub stops: Vec<StopSlot>,
     /// Its restriction identifiers (NID_TSR) with what they are held for, ascending.
     pub limits: Vec<(u8, Slot)>,
-    /// What waits at it: stops and restrictions that it is not told, and stops that it is not told again.
+    /// The stops and restrictions that it is not told, and the stops that it is not told again.
     pub waiting: Vec<Waiting>,
 }
 
@@ -64,7 +64,7 @@ pub fn trains_of(
     Ok(trains)
 }
 
-/// A train by its record and what waits at it.
+/// The state of a train, by its record and by what it is not told.
 fn state_of(
     alloc: Global,
     account: &Account,
@@ -97,7 +97,7 @@ fn stop_slots_of(
     Ok(slots)
 }
 
-/// The place before which a train is told to stop under an identifier, where it was told by message 15.
+/// The place before which a train is told to stop under an identifier, if it was told by message 15.
 fn told_place_of(account: &Account, engine: u32, id: u8, slot: &Slot) -> Option<ToldPlace> {
     match slot {
         Slot::Used(used) if used.kind == Kind::Conditional => {
@@ -125,14 +125,14 @@ impl TrainState {
         self.place.is_none()
     }
 
-    /// Whether a stop is due at it and not told again.
+    /// Whether a stop was left unanswered in three reports, and is not told again.
     pub fn is_due(&self, number: u32) -> bool {
         self.waiting
             .iter()
             .any(|waiting| waiting.what == Waits::Again(number))
     }
 
-    /// A stop or a restriction that it is told, with what is said of it.
+    /// A stop or a restriction that the train is told, in short.
     fn told_word(&self, used: &UsedSlot) -> ShortWord {
         let is_stop = used.kind != Kind::Restriction;
         let remark = if used.acked {
@@ -149,7 +149,7 @@ impl TrainState {
         }
     }
 
-    /// What it is told: stops by number, then restrictions by number.
+    /// The stops that the train is told, by number, and then the restrictions, by number.
     ///
     /// # Errors
     ///
@@ -170,7 +170,7 @@ impl TrainState {
         Ok(words)
     }
 
-    /// What concerns it and is not told to it: stops by number, then restrictions by number.
+    /// The stops that concern the train and are not told to it, by number, and then the restrictions, by number.
     ///
     /// # Errors
     ///
@@ -187,7 +187,7 @@ impl TrainState {
         Ok(words)
     }
 
-    /// The stops that it is told by message 16, if there are any.
+    /// The stops that the train is told by message 16, if there are any.
     ///
     /// # Errors
     ///

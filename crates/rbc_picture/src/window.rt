@@ -1,14 +1,14 @@
 //! The part of a line that a panel shows.
 
-ghost use Rattle.std.specs.Prelude.{◌≡◌, ◌<◌, ◌≤◌, pos};
-ghost use Rattle.rbc_picture.specs.Window.{x_at, max_length, left_end, right_end};
+ghost use Rattle.std.specs.Prelude.{◌≡◌, ◌<◌, ◌≤◌, IfSome, pos};
+ghost use Rattle.rbc_picture.specs.Window.{Shows, x_at, max_length, left_end, right_end};
 
 use std::alloc::{AllocError, Global};
 
 /// The greatest length of a line, in units of 10 cm.
 const MAX_LENGTH: u32 = 3_000_000;
 
-/// The least margin on both sides of what is to be seen, in units of 10 cm.
+/// The least margin on both sides of the places that a window has to show, in units of 10 cm.
 const LEAST_MARGIN: u32 = 2_500;
 
 /// The ends of a window are multiples of this, in units of 10 cm, or the end of the line.
@@ -23,17 +23,17 @@ const STEPS: [u32; 18] = [
 /// The most marks of an axis.
 const MOST_MARKS: u32 = 13;
 
-/// The least and the greatest of the places that are to be seen, in units of 10 cm, if there are any.
-#[derive(Clone, Copy, Debug, PartialEq, Eq)]
+/// The lowest and the highest place that a window has to show, in units of 10 cm, if there is one.
+#[derive(Clone, Copy)]
 pub struct Reach {
     ends: Option<(u32, u32)>,
 }
 
 impl Reach {
-    /// No place is to be seen.
+    /// No place has to be shown.
     pub const NONE: Reach = Reach { ends: None };
 
-    /// One more place is to be seen.
+    /// One more place has to be shown.
     pub fn with(self, place: u32) -> Reach {
         let ends = match self.ends {
             Some((least, greatest)) => (least.min(place), greatest.max(place)),
@@ -42,7 +42,7 @@ impl Reach {
         Reach { ends: Some(ends) }
     }
 
-    /// The places of another reach are to be seen too.
+    /// The places of another reach have to be shown too.
     pub fn and(self, other: Reach) -> Reach {
         match other.ends {
             Some((least, greatest)) => self.with(least).with(greatest),
@@ -52,7 +52,7 @@ impl Reach {
 }
 
 /// The part of a line that a panel shows, from one place to another, in units of 10 cm.
-#[derive(Clone, Copy, Debug)]
+#[derive(Clone, Copy)]
 pub struct Window {
     /// Its lower end.
     pub low: u32,
@@ -64,16 +64,22 @@ pub struct Window {
 impl Window {
     /// The whole line, by its length in units of 10 cm, 1 to 3,000,000. Any other length counts as the nearest of
     /// these.
-    pub fn whole(length: u32) -> Window {
+    pub fn whole(length: u32) -> Window
+        ensures from_start { result.low ≡ 0 }
+        ensures to_end { length ≤ max_length → length ≤ result.high }
+    {
         Window {
             low: 0,
             high: length.clamp(1, MAX_LENGTH),
         }
     }
 
-    /// What is to be seen of a line, with a margin of a twelfth of it, at least 250 m, outwards to whole 100 m. It is
-    /// the whole line where nothing is to be seen, or where it would be three fifths of the line or more.
-    pub fn of(length: u32, reach: Reach) -> Window {
+    /// The part of a line that has all places of a reach, with a margin of a twelfth of their distance, at least 250 m,
+    /// and outwards to whole 100 m. It is the whole line if no place has to be shown, or if the part would be three
+    /// fifths of the line or more.
+    pub fn of(length: u32, reach: Reach) -> Window
+        ensures { IfSome reach.ends (λ ends. Shows length ends result.low result.high) }
+    {
         let whole = Window::whole(length);
         let Some((least, greatest)) = reach.ends else {
             return whole;
@@ -87,12 +93,12 @@ impl Window {
         whole
     }
 
-    /// Whether it is a whole line of this length.
+    /// Whether it shows the whole of a line with this length.
     pub fn is_whole(self, length: u32) -> bool {
         self.low == 0 && self.high == length
     }
 
-    /// Whether it has a place.
+    /// Whether a place lies in it.
     pub fn has(self, place: u32) -> bool {
         self.low <= place && place <= self.high
     }
@@ -150,6 +156,8 @@ impl Window {
 }
 
 /// The next multiple of the grain, or the place itself where it is one.
-fn up_to_grain(place: u32) -> u32 {
+fn up_to_grain(place: u32) -> u32
+    ensures { place ≤ result }
+{
     place.div_ceil(GRAIN).saturating_mul(GRAIN)
 }
