@@ -1,3 +1,4 @@
+pub mod Bands
 pub mod Escape
 pub mod Panels
 pub mod Pixels

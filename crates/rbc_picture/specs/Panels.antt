@@ -1,17 +1,19 @@
 -- What the parts of a picture show.
 use Rattle.std.specs.Prelude.{◌≡◌, ℕ, List, map, filter, length, IfSome, slice_get}
 use Rattle.rbc_picture.specs.Trains.{is_on, is_unplaced}
+use Rattle.rbc_picture.specs.Bands.{Covers}
 use Rattle.rbc_picture.specs.Stretches.{stop_stretches, limit_stretches}
 use Rattle.rbc_picture.specs.declared.panel.Panel.{Panel}
 use Rattle.rbc_picture.specs.declared.plan.Plan.{Plan}
 use Rattle.rbc_picture.specs.declared.scene.Scene.{Scene}
 
--- A panel shows a line: each train that is placed on it, once and in order, and each stretch of it that is active, once.
+-- A panel shows a line: each train that is placed on it, once, in order and in a row, and each stretch of it that is active, once and in a lane.
 pub record ShowsLine (scene : Scene) (number : ℕ) (panel : Panel) : Type 0 where
   pub line : panel.line ≡ number
   pub placed : map (λ shape. shape.train.now) panel.trains.items ≡ filter (is_on number) scene.trains.now
-  pub closed : map (λ band. band.stretch) panel.stops.all.items ≡ stop_stretches number scene.stops.now
-  pub restricted : map (λ band. band.stretch) panel.limits.all.items ≡ limit_stretches number scene.limits.now
+  pub in_rows : length panel.rows.of_items.items ≡ length panel.trains.items
+  pub closed : Covers (stop_stretches number scene.stops.now) panel.stops
+  pub restricted : Covers (limit_stretches number scene.limits.now) panel.limits
 
 -- so many panels, from line 0 on
 pub record ShowEachLine (scene : Scene) (count : ℕ) (panels : List Panel) : Type 0 where

@@ -1,6 +1,7 @@
 //! Bands of stops and restrictions, and their words.
 
-ghost use Rattle.std.specs.Prelude.{◌≡◌, IfOk, map};
+ghost use Rattle.std.specs.Prelude.{◌≡◌, IfOk, length, map};
+ghost use Rattle.rbc_picture.specs.Bands.{Covers};
 ghost use Rattle.rbc_picture.specs.declared.bands.Band.{Band};
 
 use crate::colours::{DOTS, LIMIT_EDGE, STOP_EDGE, STRIPES, WHITE};
@@ -59,7 +60,7 @@ pub struct Bands {
 ///
 /// Memory was refused.
 pub fn bands_of(alloc: Global, window: Window, stretches: &[Stretch]) -> Result<Bands, AllocError>
-    ensures { IfOk result (λ bands. map (λ band. band.stretch) bands.all.items ≡ stretches.now) }
+    ensures { IfOk result (Covers stretches.now) }
 {
     let all = all_bands(alloc, window, stretches)?;
     let lanes = lanes_of(alloc, &extents_of(alloc, &all)?)?;
@@ -78,7 +79,9 @@ fn all_bands(alloc: Global, window: Window, stretches: &[Stretch]) -> Result<Vec
 }
 
 /// The extents of bands.
-fn extents_of(alloc: Global, bands: &[Band]) -> Result<Vec<Span>, AllocError> {
+fn extents_of(alloc: Global, bands: &[Band]) -> Result<Vec<Span>, AllocError>
+    ensures { IfOk result (λ extents. length extents.items ≡ length bands.now) }
+{
     bands.iter().map(|band| band.extent).collect(alloc)
 }
 

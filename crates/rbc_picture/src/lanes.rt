@@ -1,5 +1,7 @@
 //! Lanes, in which items stand beside one another and do not meet.
 
+ghost use Rattle.std.specs.Prelude.{◌≡◌, IfOk, length};
+
 use crate::pixels::Span;
 use std::alloc::{AllocError, Global};
 
@@ -21,7 +23,9 @@ pub struct Lanes {
 /// # Errors
 ///
 /// Memory was refused.
-pub fn lanes_of(alloc: Global, extents: &[Span]) -> Result<Lanes, AllocError> {
+pub fn lanes_of(alloc: Global, extents: &[Span]) -> Result<Lanes, AllocError>
+    ensures { IfOk result (λ lanes. length lanes.of_items.items ≡ length extents.now) }
+{
     let mut from_left = Vec::new(alloc);
     for (item, extent) in extents.iter().enumerate() {
         from_left.push((extent.left, item, extent.right))?;
@@ -55,6 +59,8 @@ fn take_lane(ends: &mut Vec<i64>, extent: Span) -> Result<usize, AllocError> {
 }
 
 /// The lanes alone.
-fn lanes_in(alloc: Global, taken: &[(usize, usize)]) -> Result<Vec<usize>, AllocError> {
+fn lanes_in(alloc: Global, taken: &[(usize, usize)]) -> Result<Vec<usize>, AllocError>
+    ensures { IfOk result (λ lanes. length lanes.items ≡ length taken.now) }
+{
     taken.iter().map(|(_item, lane)| *lane).collect(alloc)
 }

@@ -1,6 +1,6 @@
 //! The panel of a line.
 
-ghost use Rattle.std.specs.Prelude.{◌≡◌, IfOk, map, filter};
+ghost use Rattle.std.specs.Prelude.{◌≡◌, IfOk, length, map, filter};
 ghost use Rattle.rbc_picture.specs.Trains.{is_on};
 ghost use Rattle.rbc_picture.specs.Panels.{ShowsLine};
 
@@ -123,7 +123,9 @@ fn shapes_on<'a>(
 }
 
 /// The extents of trains.
-fn extents_of(alloc: Global, trains: &[TrainShape<'_>]) -> Result<Vec<Span>, AllocError> {
+fn extents_of(alloc: Global, trains: &[TrainShape<'_>]) -> Result<Vec<Span>, AllocError>
+    ensures { IfOk result (λ extents. length extents.items ≡ length trains.now) }
+{
     trains.iter().map(|train| train.extent()).collect(alloc)
 }
 
