@@ -1,5 +1,5 @@
 -- What is put in words of a message is what the message says.
-use Rattle.std.proofs.Common.{◌≡◌, ℕ, ◌+◌, ◌*◌, Bool, true, false, List, [], ◌∷◌, refl, sym, subst, Option, Some, None, IfSome, ℤ, pos}
+use Rattle.std.proofs.Common.{◌≡◌, ℕ, ◌+◌, ◌*◌, Bool, false, refl, sym, subst, Option, Some, None, IfSome, ℤ, pos}
 use Rattle.ertms_codec.specs.declared.packets.Part.{Part}
 use Rattle.ertms_codec.specs.declared.packets.Part.TheVariants as packet
 use Rattle.ertms_codec.specs.declared.to_train.Head.{Head}

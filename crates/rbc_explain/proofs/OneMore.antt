@@ -1,5 +1,5 @@
 -- One line more in a log.
-use Rattle.std.proofs.Common.{take, get_or, Bor, Result, Ok, Err, OnOk, ◌≡◌, ℕ, suc, Bool, if◌then◌else◌, ◌+◌, ◌-◌, ◌^◌, ◌<◌, ◌≤◌, min, true, false, nat_le, List, [], ◌∷◌, ◌++◌, length, map, refl, sym, ap, ◌∙◌, subst, append_assoc, append-nil, arith}
+use Rattle.std.proofs.Common.{take, get_or, Bor, Result, Ok, Err, OnOk, ◌≡◌, ℕ, suc, Bool, if◌then◌else◌, ◌+◌, ◌^◌, ◌<◌, ◌≤◌, min, true, false, nat_le, List, [], ◌∷◌, ◌++◌, length, refl, sym, ap, ◌∙◌, subst, append_assoc, append-nil, arith}
 use Rattle.std.proofs.lemmas.List.{map-append, length-map, length-take, take_more}
 use Rattle.std.proofs.lemmas.Bool.Decides.{nat_tests}
 use Rattle.rbc_track.specs.Plan.{Plan}

@@ -1,4 +1,4 @@
-use Rattle.std.proofs.Common.{rules, ◌≡◌, ◌+◌, ◌*◌, ap, arith}
+use Rattle.std.proofs.Common.{◌≡◌, ◌+◌, ◌*◌, ap, arith}
 use Rattle.rbc_explain.proofs.Meaning.{restriction_told}
 use Rattle.rbc_explain.proofs.said.restriction.Goals as goal
 

@@ -1,4 +1,4 @@
-use Rattle.std.proofs.Common.{◌≡◌, ◌∙◌, ◌<◌, ◌≤◌, ◌+◌, ◌∷◌, ℕ, List, length, refl, sym, subst, arith}
+use Rattle.std.proofs.Common.{◌∙◌, ◌<◌, ◌≤◌, ◌+◌, ℕ, List, length, refl, sym, subst, arith}
 use Rattle.rbc_live.specs.History.{Taken}
 use Rattle.rbc_explain.specs.Marked.{IsToldOn}
 use Rattle.rbc_explain.proofs.Marking.{told_none}

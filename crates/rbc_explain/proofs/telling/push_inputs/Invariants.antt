@@ -1,4 +1,4 @@
-use Rattle.std.proofs.Common.{List, [], take}
+use Rattle.std.proofs.Common.{[], take}
 use Rattle.rbc_track.specs.Plan.{Plan}
 use Rattle.rbc_text.specs.Pieces.{texts_of}
 use Rattle.rbc_explain.specs.Log.{IsUnderWay}
