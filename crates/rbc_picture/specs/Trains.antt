@@ -1,8 +1,10 @@
 -- In which part of a picture a train stands.
-use Rattle.std.specs.Prelude.{◌≡◌, ℕ, Bool, true, false, ◌==◌, Option, Some, None, is_none}
+use Rattle.std.specs.Prelude.{◌≡◌, ℕ, Bool, true, false, ◌==◌, Option, Some, None, is_none, option_map, option_to_list, List, [], ◌∷◌, ◌++◌}
 use Rattle.rbc_place.specs.Placing as placing
 use Rattle.rbc_track.specs.declared.group.Way.{Way}
 use Rattle.rbc_track.specs.declared.group.Way.TheVariants.{Up, Down}
+use Rattle.rbc_account.specs.declared.standing.TrainStanding.{TrainStanding}
+use Rattle.rbc_settle.specs.declared.train.TrainRec.{TrainRec}
 use Rattle.rbc_picture.specs.declared.train_state.TrainState.{TrainState}
 
 -- a place is on a line
@@ -22,6 +24,16 @@ end_at Down low high = low
 -- a train has no place
 abbrev pub is_unplaced : TrainState → Bool
 is_unplaced train = is_none train.place
+
+-- a train's engine, and where the train is placed
+abbrev pub placing_of : TrainState → ℕ × Option placing.Place
+placing_of train = (train.engine, train.place)
+
+-- the engines and places of trains at which something stands, by the records of their engines
+abbrev pub known_trains : (ℕ → Option TrainRec) → List TrainStanding → List (ℕ × Option placing.Place)
+known_trains lookup [] = []
+known_trains lookup (standing ∷ rest) =
+    option_to_list (option_map {U = ℕ × Option placing.Place} (λ train. (standing.engine, train.place)) (lookup standing.engine)) ++ known_trains lookup rest
 
 -- Each train stands in one part: in the panel of its line, or in the list of the trains without a place.
 pub record StandsOnce (train : TrainState) : Type 0 where

@@ -83,7 +83,7 @@ fn picture_of(
         untold: standing.untold,
         untold_again: standing.untold_again,
     };
-    let trains = trains_of(alloc, account, standing.trains)?;
+    let trains = trains_of(alloc, account, &standing.trains)?;
     document_of(
         alloc,
         &Scene {

@@ -1,7 +1,8 @@
 //! The trains, as a picture shows them.
 
-ghost use Rattle.std.specs.Prelude.{◌≡◌, is_some};
-ghost use Rattle.rbc_picture.specs.Trains.{is_on, is_unplaced};
+ghost use Rattle.std.specs.Prelude.{◌≡◌, IfOk, is_some, map};
+ghost use Rattle.rbc_account.specs.Known.{train_in};
+ghost use Rattle.rbc_picture.specs.Trains.{is_on, is_unplaced, known_trains, placing_of};
 
 use crate::short_words::{Remark, ShortWord};
 use rbc_account::{Account, ToldPlace, TrainStanding, Waiting, Waits};
@@ -53,30 +54,35 @@ pub struct AtOnce {
 pub fn trains_of(
     alloc: Global,
     account: &Account,
-    standing: Vec<TrainStanding>,
-) -> Result<Vec<TrainState>, AllocError> {
+    standing: &[TrainStanding],
+) -> Result<Vec<TrainState>, AllocError>
+    ensures { IfOk result (λ trains. map placing_of trains.items
+        ≡ known_trains (train_in account.now.desk.records) standing.now) }
+{
     let mut trains = Vec::new(alloc);
     for at_train in standing {
         if let Some(train) = account.train(at_train.engine) {
-            trains.push(state_of(alloc, account, train, at_train.waiting)?)?;
+            trains.push(state_of(alloc, account, at_train, train)?)?;
         }
     }
     Ok(trains)
 }
 
-/// The state of a train, by its record and by what it is not told.
+/// The state of a train, by what stands at it and by its record.
 fn state_of(
     alloc: Global,
     account: &Account,
+    at_train: &TrainStanding,
     train: &TrainRec,
-    waiting: Vec<Waiting>,
-) -> Result<TrainState, AllocError> {
+) -> Result<TrainState, AllocError>
+    ensures { IfOk result (λ state. placing_of state ≡ (at_train.now.engine, train.now.place)) }
+{
     Ok(TrainState {
-        engine: train.engine,
+        engine: at_train.engine,
         place: train.place,
         stops: stop_slots_of(alloc, account, train)?,
         limits: Vec::from_slice(alloc, train.limits.slots())?,
-        waiting,
+        waiting: Vec::from_slice(alloc, &at_train.waiting)?,
     })
 }
 
