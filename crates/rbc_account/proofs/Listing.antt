@@ -1,8 +1,9 @@
 -- A list that is made one after another, of what some of the elements of another give.
-use Rattle.std.proofs.Common.{◌≡◌, ℕ, ◌+◌, ◌<◌, ◌≤◌, List, [], ◌∷◌, ◌++◌, length, get_or, take, drop, map, Option, Some, None, refl, sym, ap, ◌∙◌, append_assoc}
+use Rattle.std.proofs.Common.{◌≡◌, ℕ, ◌+◌, ◌<◌, ◌≤◌, List, [], ◌∷◌, ◌++◌, length, get_or, take, drop, map, Option, Some, None, refl, sym, ap, ◌∙◌, append_assoc, subst, suc}
 use Rattle.std.specs.Prelude.{slice_get}
 use Rattle.std.specs.List.{filter_map, cons_option}
 use Rattle.std.proofs.lemmas.List.{at_drop_more, at_drop_all, map-append, append-nil, take_more}
+use Rattle.rbc_account.specs.Subjects.{ArePaired}
 use Rattle.std.proofs.lemmas.Option.{slice_get_within, get_or_from_slice_get}
 
 module _ {A B C : Type 0} (give : A → Option C) (show : B → C) (xs : List A) (d : A) where
@@ -32,12 +33,22 @@ module _ {A B C : Type 0} (give : A → Option C) (show : B → C) (xs : List A)
   unfolding made_and_left
   all_made made i all = ap (λ (rest : List C). map show made ++ rest) (at_drop_all (filter_map give) xs i all) ∙ append-nil (map show made)
 
--- what is shown of the first elements, with one element more
-pub shown_more : {A B C : Type 0} (show : B → C) (of : A → C) (made : List B) (one : B) (xs : List A) (i : ℕ) (x : A) → slice_get xs i ≡ Some x
-    → map show made ≡ map of (take i xs) → show one ≡ of x → map show (made ++ one ∷ []) ≡ map of (take (i + 1) xs)
-shown_more {C = C} show of made one xs i x there so_far same =
-    map-append show made (one ∷ [])
-    ∙ ap (λ (shown : List C). shown ++ show one ∷ []) so_far
-    ∙ ap (λ (c : C). map of (take i xs) ++ c ∷ []) (same ∙ ap of (sym (get_or_from_slice_get xs i x x there)))
-    ∙ sym (map-append of (take i xs) (get_or xs i x ∷ []))
-    ∙ ap (map of) (sym (take_more xs i x (slice_get_within xs i x there)))
+-- two lists that go together, with one more of each
+paired_push : {A B : Type 0} (Is : A → B → Type 0) (xs : List A) (ys : List B) (x : A) (y : B) → ArePaired Is xs ys → Is x y → ArePaired Is (xs ++ x ∷ []) (ys ++ y ∷ [])
+paired_push Is [] [] x y all one = (one, tt)
+paired_push Is (first ∷ xs) (other ∷ ys) x y all one = (all.0, paired_push Is xs ys x y all.1 one)
+paired_push Is [] (other ∷ ys) x y all one = absurd all
+paired_push Is (first ∷ xs) [] x y all one = absurd all
+
+pub paired_more : {A B : Type 0} (Is : A → B → Type 0) (xs : List A) (ys : List B) (i : ℕ) (x : A) (y : B) → slice_get xs i ≡ Some x
+    → ArePaired Is (take i xs) ys → Is x y → ArePaired Is (take (i + 1) xs) (ys ++ y ∷ [])
+paired_more {A} Is xs ys i x y there all one =
+    let more : take (i + 1) xs ≡ take i xs ++ x ∷ [] =
+    take_more xs i x (slice_get_within xs i x there) ∙ ap (λ (z : A). take i xs ++ z ∷ []) (get_or_from_slice_get xs i x x there) in
+    subst (λ (zs : List A). ArePaired Is zs (ys ++ y ∷ [])) (sym more) (paired_push Is (take i xs) ys x y all one)
+
+pub paired_length : {A B : Type 0} (Is : A → B → Type 0) (xs : List A) (ys : List B) → ArePaired Is xs ys → length ys ≡ length xs
+paired_length Is [] [] all = refl
+paired_length Is (x ∷ xs) (y ∷ ys) all = ap (λ n. suc n) (paired_length Is xs ys all.1)
+paired_length Is [] (y ∷ ys) all = absurd all
+paired_length Is (x ∷ xs) [] all = absurd all

@@ -1,6 +1,5 @@
 -- What a block says of an input.
-use Rattle.std.specs.Prelude.{◌≡◌, List, map, Option, IfSome}
-use Rattle.std.specs.List.{All}
+use Rattle.std.specs.Prelude.{◌≡◌, List, Option, IfSome}
 use Rattle.rbc_track.specs.Plan.{Plan}
 use Rattle.rbc_settle.specs.declared.train.TrainRec.{TrainRec}
 use Rattle.rbc_records.specs.declared.record.Key.{Key}
@@ -9,14 +8,13 @@ use Rattle.rbc_account.specs.declared.block.Block.{Block}
 use Rattle.rbc_account.specs.Deeds.{IsDeed}
 use Rattle.rbc_account.specs.Counting.{counts_after, AddUp}
 use Rattle.rbc_account.specs.Coming.{come_to_wait}
-use Rattle.rbc_account.specs.Whys.{IsTold}
+use Rattle.rbc_account.specs.Subjects.{ArePaired, IsToldOf}
 
--- A block tells what the input did; of each message, in order, to which train it is sent and why; of a stop or a restriction that began what it is to the
+-- A block tells what the input did; of each message, in order, to which train it is sent, of what it tells and why; of a stop or a restriction that began what it is to the
 -- trains; and of all that has come to wait. The records are those after the input, and a train may have sent it, which was this before.
 pub record IsRightBlock (plan : Plan) (records : List (Key × Rec)) (before : Option TrainRec) (block : Block) : Type 0 where
   pub did : IsDeed plan before block.input block.deed
-  pub engines : map (λ one. one.engine) block.told.items ≡ map (λ one. one.engine) block.messages
-  pub each_told : All (IsTold records before) block.told.items
+  pub told : ArePaired (IsToldOf records block.input before) block.messages block.told.items
   pub counted : block.counts ≡ counts_after plan.horizon records block.input block.reply
   pub add_up : IfSome block.counts AddUp
   pub waits : block.waiting.items ≡ come_to_wait plan.horizon records before block.input block.reply

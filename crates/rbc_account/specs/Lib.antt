@@ -3,6 +3,7 @@ pub mod Placed
 pub mod Deeds
 pub mod Reasons
 pub mod Whys
+pub mod Subjects
 pub mod Waits
 pub mod Coming
 pub mod Causes
@@ -13,3 +14,4 @@ pub mod Blocks
 pub mod Sums
 pub mod Runs
 pub mod Telling
+pub mod Witnesses

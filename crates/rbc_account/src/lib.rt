@@ -17,6 +17,7 @@ mod standing;
 mod told;
 mod told_place;
 mod waiting;
+mod witnesses;
 
 pub use account::{Account, Sums};
 pub use block::Block;
@@ -30,3 +31,4 @@ pub use standing::{Sharing, Standing, TrainStanding};
 pub use told::{RestrictionTold, Told, ToldRestriction, ToldWhat, WhyAtOnce, WhyRevoked, WhyTold};
 pub use told_place::ToldPlace;
 pub use waiting::{Cause, Waiting, Waits};
+pub use witnesses::{account_law_witnesses, waiting_law_witnesses};

@@ -1,10 +1,13 @@
 //! Why a message was sent.
 
-ghost use Rattle.std.specs.Prelude.{◌≡◌, Option, length, map, IfOk, IfSome, option_copied};
+ghost use Rattle.std.specs.Prelude.{◌≡◌, Option, Some, IfOk, IfSome, option_copied};
 ghost use Rattle.std.specs.List.{All};
 ghost use Rattle.rbc_settle.specs.declared.train.TrainRec.{TrainRec};
 ghost use Rattle.rbc_account.specs.declared.told.ToldWhat.TheVariants.{StopAtOnce};
-ghost use Rattle.rbc_account.specs.Whys.{IsTold, IsWhat, IsReasonTo, IsEscalated, IsPacket, IsWhyRevoked};
+ghost use Rattle.rbc_account.specs.Known.{number_under};
+ghost use Rattle.rbc_account.specs.Subjects.{ArePaired, IsToldOf, IsOf, IsOfStop, IsOfLimit, IsOfNumber, revoked_stop};
+ghost use Rattle.rbc_account.specs.Subjects.{revoked_limit};
+ghost use Rattle.rbc_account.specs.Whys.{IsWhat, IsReasonTo, IsEscalated, IsPacket, IsWhyRevoked};
 
 use crate::lookup::{active_limit, active_stop, number_under, train_in};
 use crate::placing::unit_of;
@@ -130,8 +133,8 @@ pub(crate) fn told_by(
     before: Option<&TrainRec>,
     messages: &SentList,
 ) -> Result<Vec<Told>, AllocError>
-    ensures engines { IfOk result (λ told. map (λ one. one.engine) told.items ≡ map (λ one. one.engine) messages.now) }
-    ensures each { IfOk result (λ told. All (IsTold desk.now.records (option_copied before.entry)) told.items) }
+    ensures { IfOk result (λ told. ArePaired
+        (IsToldOf desk.now.records input.now (option_copied before.entry)) messages.now told.items) }
 {
     let mut told = Vec::new(alloc);
     for index in 0..messages.len() {
@@ -148,8 +151,7 @@ fn told_by_one(
     before: Option<&TrainRec>,
     sent: &Sent,
 ) -> Result<Told, AllocError>
-    ensures engine { IfOk result (λ told. told.engine ≡ sent.now.engine) }
-    ensures is { IfOk result (IsTold desk.now.records (option_copied before.entry)) }
+    ensures { IfOk result (IsToldOf desk.now.records input.now (option_copied before.entry) sent.now) }
 {
     let engine = sent.engine;
     let Some(train) = train_in(&desk.records, engine) else {
@@ -176,7 +178,8 @@ fn what_of(
     train: &TrainRec,
     message: &ToTrain,
 ) -> Result<ToldWhat, AllocError>
-    ensures { IfOk result (IsWhat desk.now.records (option_copied before.entry) train.now) }
+    ensures why { IfOk result (IsWhat desk.now.records (option_copied before.entry) train.now) }
+    ensures about { IfOk result (IsOf input.now (option_copied before.entry) train.now message.now) }
 {
     match message {
         ToTrain::StopAt {
@@ -196,7 +199,8 @@ fn what_of(
 
 /// What message 15 tells, whose distance has this unit.
 fn stop_before(desk: &LiveDesk, train: &TrainRec, id: u8, unit: u32, distance: u16) -> ToldWhat
-    ensures { (before : Option TrainRec) → IsWhat desk.now.records before train.now result }
+    ensures why { (before : Option TrainRec) → IsWhat desk.now.records before train.now result }
+    ensures about { IsOfStop (number_under train.now.stops id) result }
 {
     let Some(number) = number_under(&train.stops, id) else {
         return ToldWhat::Unknown;
@@ -230,7 +234,8 @@ fn onward(place: &Place, distance: u32) -> u32 {
 
 /// What message 16 tells.
 fn stop_at_once(desk: &LiveDesk, before: Option<&TrainRec>, train: &TrainRec, id: u8) -> ToldWhat
-    ensures { IsWhat desk.now.records (option_copied before.entry) train.now result }
+    ensures why { IsWhat desk.now.records (option_copied before.entry) train.now result }
+    ensures about { IsOfStop (number_under train.now.stops id) result }
 {
     let Some(number) = number_under(&train.stops, id) else {
         return ToldWhat::Unknown;
@@ -246,7 +251,8 @@ fn stop_at_once(desk: &LiveDesk, before: Option<&TrainRec>, train: &TrainRec, id
 
 /// What message 16 tells of a stop that is not escalated.
 fn stopped_at_once(records: &PlainStore, train: &TrainRec, number: u32) -> ToldWhat
-    ensures { (before : Option TrainRec) → IsWhat records.now before train.now result }
+    ensures why { (before : Option TrainRec) → IsWhat records.now before train.now result }
+    ensures about { IsOfStop (Some number) result }
 {
     match reason_of(records, train, number) {
         Some(StopReason::NoPlace) => at_once(number, WhyAtOnce::NoPlace),
@@ -276,21 +282,39 @@ fn escalated_under(before: Option<&TrainRec>, after: &TrainRec, number: u32) -> 
     }
 }
 
-/// What message 18 tells. The stop is the one that the identifier told before the input, or that the input releases.
+/// What message 18 tells.
 fn stop_revoked(desk: &LiveDesk, input: &Input, before: Option<&TrainRec>, id: u8) -> ToldWhat
-    ensures { (old : Option TrainRec) (train : TrainRec) → IsWhat desk.now.records old train result }
+    ensures why { (old : Option TrainRec) (train : TrainRec) → IsWhat desk.now.records old train result }
+    ensures about { IsOfStop (revoked_stop input.now (option_copied before.entry) id) result }
 {
-    let number = match (input, before) {
-        (Input::Release { number }, _) => Some(*number),
-        (_, Some(train)) => number_under(&train.stops, id),
-        (_, None) => None,
-    };
-    match number {
+    match revoked_stop(input, before, id) {
         Some(number) => ToldWhat::StopRevoked {
             number,
             unanswered: active_stop(&desk.records, number).is_some(),
         },
         None => ToldWhat::Unknown,
+    }
+}
+
+/// The stop that is revoked under an identifier: the one that the input releases, or else the one that the identifier
+/// told before.
+fn revoked_stop(input: &Input, before: Option<&TrainRec>, id: u8) -> Option<u32>
+    ensures { result ≡ revoked_stop input.now (option_copied before.entry) id }
+{
+    match input {
+        Input::Release { number } => Some(*number),
+        _ => number_under(&before?.stops, id),
+    }
+}
+
+/// The restriction that is revoked under an identifier: the one that the input lifts, or else the one that the
+/// identifier told before.
+fn revoked_limit(input: &Input, before: Option<&TrainRec>, id: u8) -> Option<u32>
+    ensures { result ≡ revoked_limit input.now (option_copied before.entry) id }
+{
+    match input {
+        Input::Lift { number } => Some(*number),
+        _ => number_under(&before?.limits, id),
     }
 }
 
@@ -303,8 +327,9 @@ fn restrictions(
     train: &TrainRec,
     packets: &Packets,
 ) -> Result<Vec<ToldRestriction>, AllocError>
-    ensures count { IfOk result (λ told. length told.items ≡ length packets.now) }
     ensures each { IfOk result (λ told. All (IsPacket desk.now.records train.now) told.items) }
+    ensures about { IfOk result (λ told. ArePaired
+        (IsOfLimit input.now (option_copied before.entry) train.now) packets.now told.items) }
 {
     let mut told = Vec::new(alloc);
     for index in 0..packets.count() {
@@ -321,7 +346,8 @@ fn restriction(
     train: &TrainRec,
     part: Part,
 ) -> ToldRestriction
-    ensures { IsPacket desk.now.records train.now result }
+    ensures why { IsPacket desk.now.records train.now result }
+    ensures about { IsOfLimit input.now (option_copied before.entry) train.now part result }
 {
     match part {
         Part::Restrict {
@@ -350,7 +376,8 @@ fn limit_told(
     start: u16,
     length: u16,
 ) -> ToldRestriction
-    ensures { IsPacket desk.now.records train.now result }
+    ensures why { IsPacket desk.now.records train.now result }
+    ensures about { IsOfNumber (number_under train.now.limits id) result.number result.what }
 {
     let Some(number) = number_under(&train.limits, id) else {
         return UNKNOWN;
@@ -376,7 +403,7 @@ fn limit_told(
     }
 }
 
-/// What packet 66 tells. The restriction is the one that the identifier told before the input, or that the input lifts.
+/// What packet 66 tells.
 fn limit_revoked(
     desk: &LiveDesk,
     input: &Input,
@@ -384,14 +411,11 @@ fn limit_revoked(
     train: &TrainRec,
     id: u8,
 ) -> ToldRestriction
-    ensures { IsPacket desk.now.records train.now result }
+    ensures why { IsPacket desk.now.records train.now result }
+    ensures about { IsOfNumber (revoked_limit input.now (option_copied before.entry) id)
+        result.number result.what }
 {
-    let number = match (input, before) {
-        (Input::Lift { number }, _) => Some(*number),
-        (_, Some(train)) => number_under(&train.limits, id),
-        (_, None) => None,
-    };
-    let Some(number) = number else {
+    let Some(number) = revoked_limit(input, before, id) else {
         return UNKNOWN;
     };
     match why_revoked(active_limit(&desk.records, number), train.place.as_ref()) {

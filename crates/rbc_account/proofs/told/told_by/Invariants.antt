@@ -1,11 +1,7 @@
-use Rattle.std.proofs.Common.{◌≡◌, map, take, option_copied}
-use Rattle.std.specs.List.{AllByRecursion}
-use Rattle.rbc_account.specs.Whys.{IsTold}
+use Rattle.std.proofs.Common.{take, option_copied}
+use Rattle.rbc_account.specs.Subjects.{ArePaired, IsToldOf}
 use Rattle.rbc_account.proofs.told.told_by.Given as goal
 
 -- one is told for each message that was looked at, rightly
 abbrev pub invariant-loop-index : goal.invariant-loop-index
-invariant-loop-index l = record {
-  engines : map (λ one. one.engine) l.told.items ≡ map (λ one. one.engine) (take l.index l.messages);
-  each : AllByRecursion (IsTold l.desk.records (option_copied l.before)) l.told.items;
-}
+invariant-loop-index l = ArePaired (IsToldOf l.desk.records l.input (option_copied l.before)) (take l.index l.messages) l.told.items
