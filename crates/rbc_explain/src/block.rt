@@ -29,7 +29,6 @@ pub struct TrackOfRun<'a> {
 
 /// Adds what came of the input of a line. The lines of its answer stand there in their order, each with `= ` before it.
 /// Fails only for lack of memory.
-#[tactic(auto, using(crate::proofs::Marking::words_then, crate::proofs::Marking::then_words))]
 pub fn push_block(
     alloc: Global,
     log: &mut Vec<u8>,

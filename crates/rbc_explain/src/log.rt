@@ -6,7 +6,7 @@ ghost use Rattle.rbc_explain.specs.Marked.{marked, IsToldOn};
 use rbc_track_report::Sheet;
 use std::alloc::AllocError;
 
-/// Adds words. Fails only for lack of memory, also to the words before they came here.
+/// Adds words. Fails only for lack of memory, here or while the words were written.
 #[tactic(auto, using(crate::proofs::Marking::told_words))]
 pub fn push_words(log: &mut Vec<u8>, words: Sheet) -> Result<(), AllocError>
     ensures { OnOk result (IsToldOn [] log.old.items log.new.items) }
