@@ -232,7 +232,15 @@ fn run_first<G: Gate + Sync, R: Threads + Wait + Sync>(
     if inputs.len() <= MAX_STRETCH {
         return run_stretch(rt, alloc, track, desk, inputs, workers, gate);
     }
-    run_stretch(rt, alloc, track, desk, &inputs[..MAX_STRETCH], workers, gate)
+    run_stretch(
+        rt,
+        alloc,
+        track,
+        desk,
+        &inputs[..MAX_STRETCH],
+        workers,
+        gate,
+    )
 }
 
 /// Runs a stretch of a run, of which so many inputs are done.

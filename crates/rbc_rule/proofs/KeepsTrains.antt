@@ -248,15 +248,15 @@ module _ (plan : Plan) (stops : Stops) (limits : Limits) (engine : ℕ) where
         elim (is_rejection used.kind answer) as (λ r. IfSome (cond (is_acceptance used.kind answer) (Some (with_value id (marked used) train.stops)) (cond r (Some (without id train.stops)) None))
         (λ slots. WellIfOk plan stops limits engine (Ok (record train { stops = slots; forced = and_forced (cond r (Some used.number) None) train.forced })))) [
           | true ↦ elim (is_acceptance used.kind answer) as (λ b. IfSome (cond b (Some (with_value id (marked used) train.stops)) (Some (without id train.stops)))
-          (λ slots. WellIfOk plan stops limits engine (Ok (record train { stops = slots; forced = and_number used.number train.forced })))) [
-            | true ↦ (same, both (with_value id (marked used) train.stops) accepted)
-            | false ↦ (same, both (without id train.stops) freed)
-          ]
+              (λ slots. WellIfOk plan stops limits engine (Ok (record train { stops = slots; forced = and_number used.number train.forced })))) [
+                | true ↦ (same, both (with_value id (marked used) train.stops) accepted)
+                | false ↦ (same, both (without id train.stops) freed)
+              ]
           | false ↦ elim (is_acceptance used.kind answer) as (λ b. IfSome (cond b (Some (with_value id (marked used) train.stops)) None)
-          (λ slots. WellIfOk plan stops limits engine (Ok (record train { stops = slots })))) [
-            | true ↦ (same, accepted)
-            | false ↦ tt
-          ]
+              (λ slots. WellIfOk plan stops limits engine (Ok (record train { stops = slots })))) [
+                | true ↦ (same, accepted)
+                | false ↦ tt
+              ]
         ]
 
     well_answered : (id answer : ℕ) → WellIfOk plan stops limits engine (answered id answer train)
