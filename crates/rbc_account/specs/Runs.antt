@@ -1,17 +1,12 @@
 -- What an account gives for lines that it takes one after another (own rule).
-use Rattle.std.specs.Prelude.{◌≡◌, ℕ, ◌+◌, ◌^◌, ◌<◌, List, [], length}
+use Rattle.std.specs.Prelude.{◌≡◌, ◌+◌, ◌^◌, ◌<◌, List, [], length}
 use Rattle.std.specs.List.{fold}
 use Rattle.rbc_track.specs.Plan.{Plan}
 use Rattle.rbc_records.specs.declared.record.Key.{Key}
 use Rattle.rbc_records.specs.declared.record.Rec.{Rec}
 use Rattle.rbc_live.specs.History.{Taken, IsHistory, IsSerialRunOf}
 use Rattle.rbc_account.specs.declared.account.Sums.{Sums}
-use Rattle.rbc_account.specs.declared.block.Block.{Block}
 use Rattle.rbc_account.specs.Sums.{no_sums, counted}
-
--- a line that was told of, as it was taken
-abbrev pub taken_as : List ℕ → Block → Taken
-taken_as line block = record { line = line; reply = block.reply; messages = block.messages }
 
 -- the sums after lines
 abbrev pub sums_after : Sums → List Taken → Sums
