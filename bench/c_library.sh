@@ -35,8 +35,8 @@ list() {
             printf '%s %s %s\n' "$name.toml" "$batch" "$name.expected"
         done
     else
-        for batch in "$root"/examples/*.batch; do
-            printf '%s %s %s\n' "$root/examples/main_line.toml" "$batch" "${batch%.batch}.expected"
+        for name in "$root"/examples/*.expected; do
+            printf '%s %s %s\n' "$root/examples/main_line.toml" "${name%.expected}.batch" "$name"
         done
     fi
 }
