@@ -12,9 +12,9 @@ use Rattle.rbc_records.specs.declared.record.Rec.{Rec}
 use Rattle.rbc_account.specs.declared.waiting.Waiting.{Waiting}
 use Rattle.rbc_account.specs.declared.waiting.Waits.{Waits}
 use Rattle.rbc_account.specs.declared.waiting.Waits.TheVariants.{Stop, Restriction, Again}
-use Rattle.rbc_account.specs.declared.standing.Sharing.{Sharing}
-use Rattle.rbc_account.specs.declared.standing.Standing.{Standing}
-use Rattle.rbc_account.specs.declared.standing.TrainStanding.{TrainStanding}
+use Rattle.rbc_account.specs.declared.state.Sharing.{Sharing}
+use Rattle.rbc_account.specs.declared.state.Standing.{Standing}
+use Rattle.rbc_account.specs.declared.state.TrainStanding.{TrainStanding}
 use Rattle.rbc_account.specs.Known.{train_in, engines_in, active_stops, active_limits}
 use Rattle.rbc_account.specs.Waits.{waits_in, kind_and_number}
 use Rattle.rbc_account.specs.Coming.{waiting_at}

@@ -12,8 +12,8 @@ ghost use Rattle.rbc_account.specs.Sums.{no_sums, counted, input_count};
 ghost use Rattle.rbc_account.specs.Known.{train_in, active_stops, active_limits, last_stop, last_limit, engines_in};
 
 use crate::block::{Block, block_of};
-use crate::lookup;
-use crate::standing::{Standing, standing_on};
+use crate::record_lookup;
+use crate::state::{Standing, standing_on};
 use crate::told_place::{ToldPlace, ToldPlaces};
 use rbc_live::{Answer, LiveDesk};
 use rbc_rule::{Input, Reply};
@@ -152,7 +152,7 @@ impl Account {
         let Input::Received(message) = input else {
             return Ok(None);
         };
-        match self.train(lookup::engine_of(message)) {
+        match self.train(record_lookup::engine_of(message)) {
             Some(train) => Ok(Some(train.copy(alloc)?)),
             None => Ok(None),
         }
@@ -176,42 +176,42 @@ impl Account {
     pub fn engines(&self) -> &[u32]
         ensures { result.now ≡ engines_in self.now.desk.records }
     {
-        lookup::engines_in(&self.desk.records)
+        record_lookup::engines_in(&self.desk.records)
     }
 
     /// The train with this engine number, if it is enrolled.
     pub fn train(&self, engine: u32) -> Option<&TrainRec>
         ensures { option_copied result ≡ train_in self.now.desk.records engine }
     {
-        lookup::train_in(&self.desk.records, engine)
+        record_lookup::train_in(&self.desk.records, engine)
     }
 
     /// The active stops with their numbers, ascending.
     pub fn stops(&self) -> &[(u32, Area)]
         ensures { result.now ≡ active_stops self.now.desk.records }
     {
-        lookup::active_stops(&self.desk.records)
+        record_lookup::active_stops(&self.desk.records)
     }
 
     /// The active restrictions with their numbers, ascending.
     pub fn limits(&self) -> &[(u32, Limit)]
         ensures { result.now ≡ active_limits self.now.desk.records }
     {
-        lookup::active_limits(&self.desk.records)
+        record_lookup::active_limits(&self.desk.records)
     }
 
     /// The last number that was given to a stop, or 0 where none was.
     pub fn last_stop(&self) -> u32
         ensures { result ≡ last_stop self.now.desk.records }
     {
-        lookup::last_stop(&self.desk.records)
+        record_lookup::last_stop(&self.desk.records)
     }
 
     /// The last number that was given to a restriction, or 0 where none was.
     pub fn last_limit(&self) -> u32
         ensures { result ≡ last_limit self.now.desk.records }
     {
-        lookup::last_limit(&self.desk.records)
+        record_lookup::last_limit(&self.desk.records)
     }
 
     /// The place before which a train was told to stop under a stop identifier, by the message 15 with this stamp.

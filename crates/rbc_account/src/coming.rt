@@ -8,7 +8,7 @@ ghost use Rattle.rbc_account.specs.Waits.{waits_in};
 ghost use Rattle.rbc_account.specs.Coming.{come_to_wait, come_at, waiting_at, stop_come, stop_come_at, limit_come};
 ghost use Rattle.rbc_account.specs.Coming.{limit_come_at};
 
-use crate::lookup::{
+use crate::record_lookup::{
     active_limit, active_limits, active_stop, active_stops, engine_of, engines_in, train_in,
 };
 use crate::waiting::{

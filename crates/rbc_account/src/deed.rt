@@ -7,8 +7,8 @@ ghost use Rattle.rbc_settle.specs.declared.train.TrainRec.{TrainRec};
 ghost use Rattle.rbc_account.specs.Deeds.{IsDeed, acked_by, stop_acked, limit_acked};
 
 use crate::detail::{Detail, detail_of};
-use crate::lookup::{engine_of, number_under};
 use crate::placing::{Placing, placing_of};
+use crate::record_lookup::{engine_of, number_under};
 use ertms_codec::{FromTrain, Position};
 use rbc_ids::Slot;
 use rbc_live::LiveDesk;

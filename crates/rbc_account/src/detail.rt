@@ -4,7 +4,9 @@ ghost use Rattle.std.specs.Prelude.{◌≡◌, IfOk};
 ghost use Rattle.rbc_maps.specs.Maps.{keys};
 ghost use Rattle.rbc_settle.specs.WellFormed.{number_in};
 
-use crate::lookup::{active_limits, active_stops, engine_of, last_limit, last_stop, train_in};
+use crate::record_lookup::{
+    active_limits, active_stops, engine_of, last_limit, last_stop, train_in,
+};
 use ertms_codec::FromTrain;
 use rbc_ids::{Kind, Slot};
 use rbc_live::LiveDesk;

@@ -1,4 +1,4 @@
-//! A run told as values: what each input did, why each message was sent, what waits at which trains, and what stands
+//! A run told as values: what each input did, why each message was sent, what waits at which trains, and the state
 //! after the last input. Places and lengths are in units of 10 cm, stamps (T_TRAIN) in units of 10 ms.
 #![tactic(auto)]
 
@@ -10,10 +10,10 @@ mod deed;
 mod detail;
 mod fault;
 mod law;
-mod lookup;
 mod placing;
 mod reason;
-mod standing;
+mod record_lookup;
+mod state;
 mod told;
 mod told_place;
 mod waiting;
@@ -27,7 +27,7 @@ pub use detail::Detail;
 pub use fault::TellError;
 pub use law::{account_law, waiting_law};
 pub use placing::{NoPlace, Placing};
-pub use standing::{Sharing, Standing, TrainStanding};
+pub use state::{Sharing, Standing, TrainStanding};
 pub use told::{RestrictionTold, Told, ToldRestriction, ToldWhat, WhyAtOnce, WhyRevoked, WhyTold};
 pub use told_place::ToldPlace;
 pub use waiting::{Cause, Waiting, Waits};

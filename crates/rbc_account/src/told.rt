@@ -9,9 +9,9 @@ ghost use Rattle.rbc_account.specs.Subjects.{ArePaired, IsToldOf, IsOf, IsOfStop
 ghost use Rattle.rbc_account.specs.Subjects.{revoked_limit};
 ghost use Rattle.rbc_account.specs.Whys.{IsWhat, IsReasonTo, IsEscalated, IsPacket, IsWhyRevoked};
 
-use crate::lookup::{active_limit, active_stop, number_under, train_in};
 use crate::placing::unit_of;
 use crate::reason::{LimitReason, StopReason, limit_reason, stop_reason};
+use crate::record_lookup::{active_limit, active_stop, number_under, train_in};
 use ertms_codec::{Packets, Part, ToTrain};
 use rbc_ids::Slot;
 use rbc_live::LiveDesk;

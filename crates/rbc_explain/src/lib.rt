@@ -3,19 +3,19 @@
 #![tactic(auto)]
 
 mod bad_line;
-mod block;
-mod deed;
+mod deed_in_words;
 mod echo;
 mod figures;
-mod head;
+mod input_block;
 mod log;
+mod log_end;
+mod log_head;
 mod message;
 mod refused;
 mod restriction;
 mod said;
 mod sentence;
-mod standing;
 mod telling;
-mod waiting;
+mod waiting_in_words;
 
 pub use telling::explain;

@@ -8,10 +8,10 @@ ghost use Rattle.rbc_account.specs.Sums.{no_sums};
 ghost use Rattle.rbc_account.specs.Telling.{LeavesUnread, Tells, TooLate};
 ghost use Rattle.rbc_explain.specs.Log.{IsLogOf, IsLogOfRun, IsUnderWay};
 
-use crate::block::{TrackOfRun, push_block};
-use crate::head::push_head;
+use crate::input_block::{TrackOfRun, push_block};
 use crate::log::push_words;
-use crate::standing::push_end;
+use crate::log_end::push_end;
+use crate::log_head::push_head;
 use rbc_account::{Account, TellError, account_law};
 use rbc_batch::{lines_of_batch, read_batch};
 use rbc_track_report::{NamedTrack, Sheet, named_track};

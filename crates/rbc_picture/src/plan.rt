@@ -3,12 +3,12 @@
 ghost use Rattle.std.specs.Prelude.{IfOk, length};
 ghost use Rattle.rbc_picture.specs.Panels.{ShowEachLine, ShowsAll};
 
-use crate::head::{draw_head, head_end};
 use crate::lost::{LostTrain, draw_lost, lost_end, lost_of};
 use crate::panel::{Panel, panel_of};
 use crate::scene::{Scene, reaches_of, window_of};
 use crate::shapes::{Point, Stroke};
 use crate::svg::Svg;
+use crate::title_and_legend::{draw_head, head_end};
 use std::alloc::{AllocError, Global};
 
 /// The distance from the end of a part to the next part.

@@ -1,4 +1,4 @@
-//! What stands after the inputs that were taken.
+//! The state after the inputs that were taken.
 
 ghost use Rattle.std.specs.Prelude.{◌≡◌, IfOk, option_map, length};
 ghost use Rattle.std.specs.List.{filter};
@@ -8,7 +8,7 @@ ghost use Rattle.rbc_account.specs.Standings.{limit_sharings, sharing_of, is_tol
 ghost use Rattle.rbc_account.specs.Standings.{answer_at, answer_of, answer_in, acked_under};
 
 use crate::coming::{has, waiting_at};
-use crate::lookup::{active_limits, active_stops, engines_in, train_in};
+use crate::record_lookup::{active_limits, active_stops, engines_in, train_in};
 use crate::waiting::{Waiting, Waits};
 use rbc_ids::{IdTable, Slot};
 use rbc_live::LiveDesk;

@@ -1,7 +1,7 @@
-//! What stands at the end of a log.
+//! The end of a log: the state after the last input.
 
 use crate::figures::{push_place, push_segment, push_segments};
-use crate::waiting::push_waiting;
+use crate::waiting_in_words::push_waiting;
 use rbc_account::{Account, Sharing, Standing, TrainStanding};
 use rbc_ids::{Kind, Slot, UsedSlot};
 use rbc_settle::TrainRec;

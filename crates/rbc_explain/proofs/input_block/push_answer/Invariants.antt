@@ -1,7 +1,7 @@
 use Rattle.std.proofs.Common.{length}
 use Rattle.rbc_text.specs.BatchText.{lines_of}
 use Rattle.rbc_explain.proofs.Marking.{IsGoingOn}
-use Rattle.rbc_explain.proofs.block.push_answer.Given as goal
+use Rattle.rbc_explain.proofs.input_block.push_answer.Given as goal
 
 -- the lines before those that are left stand in what was added
 abbrev pub invariant-loop-rest : goal.invariant-loop-rest

@@ -2,8 +2,8 @@ use Rattle.std.proofs.Common.{option_map, sym, ap, ◌∙◌, ◌+◌, arith}
 use Rattle.std.specs.List.{filter_map}
 use Rattle.rbc_account.specs.Standings.{waiting_of, waiting_told}
 use Rattle.rbc_account.proofs.Listing.{made_and_left, begun, none_made, one_made, all_made}
-use Rattle.rbc_account.proofs.standing.standings.Goals as goal
-use Rattle.rbc_account.proofs.standing.standings.Goals.{in-Some+in_ok-push, in_default}
+use Rattle.rbc_account.proofs.state.standings.Goals as goal
+use Rattle.rbc_account.proofs.state.standings.Goals.{in-Some+in_ok-push, in_default}
 
 pub loop-engine-init : goal.loop-engine-init
 loop-engine-init c =

@@ -2,7 +2,7 @@ use Rattle.std.proofs.Common.{ℕ, List, ◌∙◌, ap, subst}
 use Rattle.rbc_text.specs.BatchText.{lines_of}
 use Rattle.rbc_explain.specs.Marked.{IsToldOn}
 use Rattle.rbc_explain.proofs.Marking.{words_then, told_ends}
-use Rattle.rbc_explain.proofs.block.push_block.Goals as goal
+use Rattle.rbc_explain.proofs.input_block.push_block.Goals as goal
 
 pub returns : goal.returns
 returns c =

@@ -1,6 +1,6 @@
 use Rattle.rbc_text.specs.BatchText.{lines_of}
 use Rattle.rbc_explain.proofs.Marking.{goes_on}
-use Rattle.rbc_explain.proofs.block.push_answer.Goals as goal
+use Rattle.rbc_explain.proofs.input_block.push_answer.Goals as goal
 
 -- one line more, and words
 pub loop-rest-preserved : goal.loop-rest-preserved

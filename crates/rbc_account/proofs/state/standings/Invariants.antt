@@ -1,7 +1,7 @@
 use Rattle.std.proofs.Common.{◌≡◌}
 use Rattle.rbc_account.specs.Standings.{waiting_of, waiting_told, waiting_everywhere}
 use Rattle.rbc_account.proofs.Listing.{made_and_left}
-use Rattle.rbc_account.proofs.standing.standings.Given as goal
+use Rattle.rbc_account.proofs.state.standings.Given as goal
 
 -- what is told so far, with what is left, is all
 abbrev pub invariant-loop-engine : goal.invariant-loop-engine

@@ -6,12 +6,12 @@ ghost use Rattle.rbc_text.specs.BatchText.{lines_of};
 ghost use Rattle.rbc_text.specs.OutputText.{answer_of};
 ghost use Rattle.rbc_explain.specs.Marked.{IsToldOn};
 
-use crate::deed::push_deed;
+use crate::deed_in_words::push_deed;
 use crate::echo::push_echo;
 use crate::log::{push_line, push_words};
 use crate::message::push_message;
 use crate::refused::{RefusedInput, push_refused};
-use crate::waiting::push_waiting_at;
+use crate::waiting_in_words::push_waiting_at;
 use rbc_account::{Block, Counts, Deed};
 use rbc_rule::{Input, Reply};
 use rbc_text::{first_line, render_answer};
