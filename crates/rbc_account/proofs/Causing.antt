@@ -100,12 +100,12 @@ nothing_to_tell train stop none =
     ∙ ap (λ (told : Option ToldStop). if is_told train.stops stop.0 then None else option_map (λ (told : ToldStop). (stop.0, told)) told) (told_none train.place)
     ∙ both_none (is_told train.stops stop.0)
 
-no_limit_to_tell : (horizon : ℕ) (train : TrainRec) (limit : ℕ × Limit) → limit_told_to horizon train.place limit.1 ≡ None → limit_to_tell horizon train limit ≡ None
+pub no_limit_to_tell : (horizon : ℕ) (train : TrainRec) (limit : ℕ × Limit) → limit_told_to horizon train.place limit.1 ≡ None → limit_to_tell horizon train limit ≡ None
 no_limit_to_tell horizon train limit none =
     ap (λ (told : Option Part). if is_told train.limits limit.0 then None else option_map (λ (told : Part). (limit.0, told)) told) none
     ∙ both_none (is_told train.limits limit.0)
 
-none_waits : {A : Type 0} (found : Option A) → found ≡ None → is_some found ≡ true → ⊥
+pub none_waits : {A : Type 0} (found : Option A) → found ≡ None → is_some found ≡ true → ⊥
 none_waits None e waits = absurd (cc waits)
 none_waits (Some x) e waits = absurd (cc e)
 

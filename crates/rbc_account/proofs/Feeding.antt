@@ -11,6 +11,8 @@ use Rattle.rbc_settle.specs.declared.train.TrainRec.{TrainRec}
 use Rattle.rbc_rule.specs.declared.input.Input.{Input}
 use Rattle.rbc_account.specs.declared.block.Block.{Block}
 use Rattle.rbc_account.specs.Blocks.{IsRightBlock}
+use Rattle.rbc_account.specs.declared.told_place.ToldPlace.{ToldPlace}
+use Rattle.rbc_account.specs.ToldPlaces.{kept_after}
 use Rattle.rbc_account.specs.Coming.{sender_in}
 
 pub fed_as : {E : Type 0} (plan : Plan) (line : List ℕ) (old new : List (Key × Rec)) (reply : Reply) (messages : List Sent) (r : Result Block E)
@@ -27,3 +29,9 @@ pub right_as : {E : Type 0} (plan : Plan) (old new : List (Key × Rec)) (input :
 right_as plan old new input before (Ok block) same sent right =
     subst (λ (sender : Option TrainRec). IsRightBlock plan new sender block) (sent ∙ ap (sender_in old) (sym same)) right
 right_as plan old new input before (Err error) same sent right = tt
+
+pub kept_as : {E : Type 0} (plan : Plan) (old new : ℕ → Option ToldPlace) (messages : List Sent) (r : Result Block E)
+    → IfOk r (λ block. block.messages ≡ messages) → ((number : ℕ) → new number ≡ kept_after plan old messages number)
+    → IfOk r (λ block. (number : ℕ) → new number ≡ kept_after plan old block.messages number)
+kept_as plan old new messages (Ok block) same kept = λ number. kept number ∙ sym (ap (λ (all : List Sent). kept_after plan old all number) same)
+kept_as plan old new messages (Err error) same kept = tt

@@ -6,3 +6,6 @@ pub mod Shares
 pub mod Feeding
 pub mod Causing
 pub mod Listing
+pub mod NothingWaits
+pub mod NoneUntold
+pub mod Keeping

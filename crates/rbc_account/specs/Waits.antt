@@ -1,12 +1,12 @@
 -- What waits at a train: what concerns it and is not told to it, and the stops that are due and not told again.
-use Rattle.std.specs.Prelude.{ℕ, Bool, ◌==◌, ◌&&◌, if◌then◌else◌, List, ◌++◌, map, length, is_some}
+use Rattle.std.specs.Prelude.{ℕ, Bool, ◌==◌, ◌&&◌, ◌||◌, nat_le, if◌then◌else◌, List, ◌++◌, map, length, is_some}
 use Rattle.std.specs.List.{filter, list_any}
 use Rattle.rbc_ids.specs.Table.{is_ripe, tells}
 use Rattle.rbc_zones.specs.declared.segment.Segment.{Segment}
 use Rattle.rbc_zones.specs.Limits.{Limit}
 use Rattle.rbc_settle.specs.declared.train.TrainRec.{TrainRec}
 use Rattle.rbc_settle.specs.Trains.{stop_identifiers, limit_identifiers}
-use Rattle.rbc_settle.specs.Settling.{stop_to_tell, limit_to_tell}
+use Rattle.rbc_settle.specs.Settling.{stop_to_tell, limit_to_tell, last_stamp}
 use Rattle.rbc_account.specs.declared.waiting.Waiting.{Waiting}
 use Rattle.rbc_account.specs.declared.waiting.Waits.{Waits}
 use Rattle.rbc_account.specs.declared.waiting.Waits.TheVariants.{Stop, Restriction, Again}
@@ -24,6 +24,10 @@ limit_waits horizon train limit = is_some (limit_to_tell horizon train limit)
 -- a stop is due at a train: it is told conditionally, and was left unanswered in three reports
 abbrev pub is_due : TrainRec → ℕ → Bool
 is_due train number = list_any (λ held. is_ripe held.1 && tells number held.1) train.stops
+
+-- a train lacks something for a message: all identifiers of a kind are held, or no stamp is left
+abbrev pub lacks_something : TrainRec → Bool
+lacks_something train = length train.stops == stop_identifiers || (length train.limits == limit_identifiers || nat_le last_stamp train.stamp)
 
 -- Why a stop or a restriction waits: no identifier is free, and else the train has no stamp left.
 abbrev pub stop_cause : TrainRec → Cause

@@ -1,14 +1,16 @@
 //! A run under way.
 
-ghost use Rattle.std.specs.Prelude.{◌≡◌, ◌⊎◌, [], length, IfOk, IfErr, OnOk, option_copied};
+ghost use Rattle.std.specs.Prelude.{◌≡◌, ◌⊎◌, ℕ, [], length, IfOk, IfErr, OnOk, option_copied};
 ghost use Rattle.rbc_track.specs.Reading.{IsTrackOf, RefusesTrack};
 ghost use Rattle.rbc_rule.specs.Gathered.{AreSendable};
+ghost use Rattle.rbc_rule.specs.Inputs.{Fits};
 ghost use Rattle.rbc_text.specs.BatchText.{line_of, IsInput};
-ghost use Rattle.rbc_live.specs.History.{IsFed};
+ghost use Rattle.rbc_live.specs.History.{IsFed, IsStepOf};
 ghost use Rattle.rbc_account.specs.Blocks.{IsRightBlock};
 ghost use Rattle.rbc_account.specs.Coming.{sender_in};
 ghost use Rattle.rbc_account.specs.Standings.{IsStanding};
 ghost use Rattle.rbc_account.specs.Sums.{no_sums, counted, input_count};
+ghost use Rattle.rbc_account.specs.ToldPlaces.{kept_at, kept_after, number_of, of_stamp};
 ghost use Rattle.rbc_account.specs.Known.{train_in, active_stops, active_limits, last_stop, last_limit, engines_in};
 
 use crate::block::{Block, block_of};
@@ -25,7 +27,7 @@ use std::alloc::{AllocError, Global};
 
 /// How many inputs were taken, and how many messages they sent. Each sum stays at 2^64 - 1 where it has come there,
 /// which none does in a batch.
-#[derive(Clone, Copy, Debug, PartialEq, Eq)]
+#[derive(Clone, Copy)]
 pub struct Sums {
     /// The inputs that were accepted.
     pub accepted: u64,
@@ -60,7 +62,8 @@ impl Sums {
 pub struct Account {
     pub desk: LiveDesk,
     pub sums: Sums,
-    told_places: ToldPlaces,
+    /// The places before which trains were told to stop.
+    pub told_places: ToldPlaces,
 }
 
 impl Account {
@@ -73,6 +76,7 @@ impl Account {
         ensures track { IfOk result (λ account. IsTrackOf text.now account.desk.track) }
         ensures empty { IfOk result (λ account. account.desk.records ≡ []) }
         ensures sums { IfOk result (λ account. account.sums ≡ no_sums) }
+        ensures untold { IfOk result (λ account. account.told_places ≡ []) }
         ensures refused { IfErr result (λ e. (e ≡ TrackError.OutOfMemory) ⊎ RefusesTrack text.now e) }
     {
         let desk = LiveDesk::open(alloc, text)?;
@@ -89,17 +93,20 @@ impl Account {
         })
     }
 
-    /// Takes a line, without its line feed, and says only what the desk answers. Fails only for lack of memory, and
-    /// then the account is of no further use.
-    fn feed(&mut self, alloc: Global, line: &[u8]) -> Result<Answer, AllocError>
-        ensures fed { IfOk result (λ answer. IsFed self.old.desk.track line.now self.old.desk.records
+    /// Takes an input, and says only what the desk answers. Fails only for lack of memory, and then the account is of no
+    /// further use.
+    fn take(&mut self, alloc: Global, input: &Input) -> Result<Answer, AllocError>
+        requires { Fits input.now }
+        ensures steps { IfOk result (λ answer. IsStepOf self.old.desk.track input.now self.old.desk.records
             self.new.desk.records answer.reply answer.messages) }
         ensures fit { IfOk result (λ answer. AreSendable answer.messages) }
         ensures sums { IfOk result (λ answer. self.new.sums ≡ counted answer.reply self.old.sums) }
+        ensures told { IfOk result (λ answer. (number : ℕ) → kept_at self.new.told_places number
+            ≡ kept_after self.old.desk.track (kept_at self.old.told_places) answer.messages number) }
         ensures track { self.new.desk.track ≡ self.old.desk.track }
     {
-        let Ok(answer) = self.desk.feed(alloc, line, usize::MAX) else {
-            // No line sends more messages than can be counted, so memory was refused.
+        let Ok(answer) = self.desk.take(alloc, input, usize::MAX) else {
+            // No input sends more messages than can be counted, so memory was refused.
             return Err(AllocError);
         };
         self.sums = self.sums.with(answer.reply);
@@ -113,9 +120,12 @@ impl Account {
         ensures fed { IfOk result (λ answer. IsFed self.old.desk.track line.now self.old.desk.records
             self.new.desk.records answer.reply answer.messages) }
         ensures sums { IfOk result (λ answer. self.new.sums ≡ counted answer.reply self.old.sums) }
+        ensures told { IfOk result (λ answer. (number : ℕ) → kept_at self.new.told_places number
+            ≡ kept_after self.old.desk.track (kept_at self.old.told_places) answer.messages number) }
         ensures track { self.new.desk.track ≡ self.old.desk.track }
     {
-        self.feed(alloc, line)
+        let input = parse_line(alloc, line)?;
+        self.take(alloc, &input)
     }
 
     /// Takes a line, without its line feed, and tells what came of it. Fails only for lack of memory, and then the
@@ -127,6 +137,8 @@ impl Account {
         ensures fit { IfOk result (λ block. AreSendable block.messages) }
         ensures paired { IfOk result (λ block. length block.told.items ≡ length block.messages) }
         ensures sums { IfOk result (λ block. self.new.sums ≡ counted block.reply self.old.sums) }
+        ensures told { IfOk result (λ block. (number : ℕ) → kept_at self.new.told_places number
+            ≡ kept_after self.old.desk.track (kept_at self.old.told_places) block.messages number) }
         ensures number { IfOk result (λ block. block.number ≡ input_count self.new.sums) }
         ensures track { self.new.desk.track ≡ self.old.desk.track }
         ensures right { IfOk result (λ block. IsRightBlock self.new.desk.track self.new.desk.records
@@ -134,7 +146,7 @@ impl Account {
     {
         let input = parse_line(alloc, line)?;
         let before = self.sender(alloc, &input)?;
-        let answer = self.feed(alloc, line)?;
+        let answer = self.take(alloc, &input)?;
         block_of(
             alloc,
             &self.desk,
@@ -216,7 +228,9 @@ impl Account {
 
     /// The place before which a train was told to stop under a stop identifier, by the message 15 with this stamp.
     /// `None` if the last message 15 under the identifier had another stamp.
-    pub fn told_place(&self, engine: u32, id: u8, stamp: u32) -> Option<ToldPlace> {
+    pub fn told_place(&self, engine: u32, id: u8, stamp: u32) -> Option<ToldPlace>
+        ensures { result ≡ of_stamp stamp (kept_at self.now.told_places (number_of engine id)) }
+    {
         self.told_places.get(engine, id, stamp)
     }
 

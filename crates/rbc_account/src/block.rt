@@ -2,6 +2,8 @@
 
 ghost use Rattle.std.specs.Prelude.{◌≡◌, length, IfOk, option_copied};
 ghost use Rattle.rbc_account.specs.Blocks.{IsRightBlock};
+ghost use Rattle.rbc_account.specs.Coming.{come_to_wait};
+ghost use Rattle.rbc_account.specs.Counting.{counts_after};
 
 use crate::coming::come_to_wait;
 use crate::counts::{Counts, counts_after};
@@ -14,7 +16,7 @@ use rbc_settle::TrainRec;
 use std::alloc::{AllocError, Global};
 
 /// What came of one input.
-#[derive(Debug, Drop)]
+#[derive(Drop)]
 pub struct Block {
     /// The number of the input, from 1.
     pub number: u64,
@@ -58,7 +60,7 @@ pub(crate) fn block_of(
     let deed = deed_of(alloc, desk, &input, reply, before)?;
     let told = told_by(alloc, desk, &input, before, &messages)?;
     let counts = counts_after(alloc, desk, &input, reply)?;
-    let waiting = come_to_wait(alloc, desk, &input, reply, before)?;
+    let waiting = waiting_after(alloc, desk, &input, reply, before, counts)?;
     Ok(Block {
         number,
         input,
@@ -69,4 +71,26 @@ pub(crate) fn block_of(
         counts,
         waiting,
     })
+}
+
+/// What has come to wait by an input, as `come_to_wait` has it, where the trains are counted: nothing where a stop or a
+/// restriction that began is untold to none of them. Fails only for lack of memory.
+fn waiting_after(
+    alloc: Global,
+    desk: &LiveDesk,
+    input: &Input,
+    reply: Reply,
+    before: Option<&TrainRec>,
+    counts: Option<Counts>,
+) -> Result<Vec<(u32, Waiting)>, AllocError>
+    requires { counts ≡ counts_after desk.now.track.horizon desk.now.records input.now reply }
+    ensures { IfOk result (λ come. come.items ≡ come_to_wait desk.now.track.horizon
+        desk.now.records (option_copied before.entry) input.now reply) }
+{
+    if let Some(counts) = counts
+        && counts.untold == 0
+    {
+        return Ok(Vec::new(alloc));
+    }
+    come_to_wait(alloc, desk, input, reply, before)
 }

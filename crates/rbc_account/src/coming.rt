@@ -1,9 +1,9 @@
 //! What has come to wait by an input.
 
-ghost use Rattle.std.specs.Prelude.{◌≡◌, [], map, not, IfOk, option_copied};
+ghost use Rattle.std.specs.Prelude.{◌≡◌, [], map, not, Some, IfOk, option_copied};
 ghost use Rattle.std.specs.List.{filter, filter_map};
 ghost use Rattle.std.specs.Option.{option_map_or};
-ghost use Rattle.rbc_account.specs.Known.{engines_in};
+ghost use Rattle.rbc_account.specs.Known.{engines_in, train_in};
 ghost use Rattle.rbc_account.specs.Waits.{waits_in};
 ghost use Rattle.rbc_account.specs.Coming.{come_to_wait, come_at, waiting_at, stop_come, stop_come_at, limit_come};
 ghost use Rattle.rbc_account.specs.Coming.{limit_come_at};
@@ -12,7 +12,8 @@ use crate::record_lookup::{
     active_limit, active_limits, active_stop, active_stops, engine_of, engines_in, train_in,
 };
 use crate::waiting::{
-    Waiting, Waits, all_waiting, limit_waits, stop_waits, waiting_limit, waiting_stop,
+    Waiting, Waits, all_waiting, lacks_something, limit_waits, stop_waits, waiting_limit,
+    waiting_stop,
 };
 use rbc_live::LiveDesk;
 use rbc_records::PlainStore;
@@ -62,8 +63,11 @@ fn come_at(
     let Some(train) = train_in(&desk.records, engine) else {
         return Ok(Vec::new(alloc));
     };
+    let new = waiting_now(alloc, desk, engine, train)?;
+    if new.is_empty() {
+        return Ok(Vec::new(alloc));
+    }
     let old = waiting_before(alloc, desk, before)?;
-    let new = waiting_at(alloc, desk, train)?;
     added(alloc, engine, &old, &new)
 }
 
@@ -98,12 +102,27 @@ fn waiting_before(
     }
 }
 
-/// What waits at a train, by the active stops and restrictions.
-pub(crate) fn waiting_at(
+/// What waits at a train of the desk, which has this engine number. Nothing does where the train lacks nothing
+/// (`waiting_law`), and then no stop and no restriction is looked at.
+pub(crate) fn waiting_now(
     alloc: Global,
     desk: &LiveDesk,
+    engine: u32,
     train: &TrainRec,
 ) -> Result<Vec<Waiting>, AllocError>
+    requires { train_in desk.now.records engine ≡ Some train.now }
+    ensures { IfOk result (λ found. found.items
+        ≡ waiting_at desk.now.track.horizon desk.now.records train.now) }
+{
+    if lacks_something(train) {
+        waiting_at(alloc, desk, train)
+    } else {
+        Ok(Vec::new(alloc))
+    }
+}
+
+/// What waits at a train, by the active stops and restrictions.
+fn waiting_at(alloc: Global, desk: &LiveDesk, train: &TrainRec) -> Result<Vec<Waiting>, AllocError>
     ensures { IfOk result (λ found. found.items
         ≡ waiting_at desk.now.track.horizon desk.now.records train.now) }
 {

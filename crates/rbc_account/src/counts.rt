@@ -17,7 +17,7 @@ use std::cell::Cell;
 
 /// How many trains are enrolled after a stop or a restriction began, and what it is to them: `told`, `untold`,
 /// `unplaced` and `unconcerned` add up to `trains`.
-#[derive(Clone, Copy, Debug, PartialEq, Eq)]
+#[derive(Clone, Copy)]
 pub struct Counts {
     /// The enrolled trains.
     pub trains: usize,
@@ -32,7 +32,7 @@ pub struct Counts {
 }
 
 /// What a stop or a restriction is to one train.
-#[derive(Clone, Copy, Debug, PartialEq, Eq)]
+#[derive(Clone, Copy)]
 pub(crate) enum Share {
     /// It is told to the train.
     Told,

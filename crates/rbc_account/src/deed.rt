@@ -19,7 +19,7 @@ use rbc_zones::{Dirs, Segment};
 use std::alloc::{AllocError, Global};
 
 /// What an input did, or why it did nothing. A stamp of 4294967295 is unknown.
-#[derive(Debug, Drop)]
+#[derive(Drop)]
 pub enum Deed {
     /// A train is enrolled, and has no place.
     Enrolled {
@@ -80,7 +80,7 @@ pub enum Deed {
 }
 
 /// What the acknowledgement of a message did to one identifier.
-#[derive(Clone, Copy, Debug, PartialEq, Eq)]
+#[derive(Clone, Copy)]
 pub enum Acked {
     /// The stop identifier is free again.
     StopFreed { id: u8 },

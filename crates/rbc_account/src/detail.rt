@@ -21,7 +21,7 @@ use std::alloc::{AllocError, Global};
 const MAX_SEGMENTS: usize = 8;
 
 /// The figures of a refusal that its code does not tell.
-#[derive(Debug, Drop)]
+#[derive(Drop)]
 pub enum Detail {
     /// Codes 1 to 6, 9 and 13: none.
     Nothing,

@@ -8,7 +8,7 @@ use rbc_place::{Place, place_of};
 use rbc_track::{Track, Way};
 
 /// Where a report places a train.
-#[derive(Clone, Copy, Debug, PartialEq, Eq)]
+#[derive(Clone, Copy)]
 pub enum Placing {
     /// It may be at this place, and its estimated front is at `front`, on the same line.
     At { place: Place, front: u32 },
@@ -17,7 +17,7 @@ pub enum Placing {
 }
 
 /// Why a report gives no place: the first reason that applies.
-#[derive(Clone, Copy, Debug, PartialEq, Eq)]
+#[derive(Clone, Copy)]
 pub enum NoPlace {
     /// It is by two balise groups (packet 1).
     TwoGroups,

@@ -11,7 +11,7 @@ use rbc_track::Way;
 use rbc_zones::{Area, Concern, Dirs, Limit, Segment, concern};
 
 /// What a stop is to a train: the first case that applies.
-#[derive(Clone, Copy, Debug, PartialEq, Eq)]
+#[derive(Clone, Copy)]
 pub(crate) enum StopReason {
     /// The train has no place.
     NoPlace,
@@ -103,7 +103,7 @@ fn nearer(place: &Place, found: Option<u32>, segment: &Segment) -> Option<u32>
 }
 
 /// What a restriction is to a train at a place: the first case that applies.
-#[derive(Clone, Copy, Debug, PartialEq, Eq)]
+#[derive(Clone, Copy)]
 pub(crate) enum LimitReason {
     /// The restriction is on another line.
     OtherLine,

@@ -7,7 +7,7 @@ ghost use Rattle.rbc_account.specs.Standings.{AreStandings, IsStanding, waiting_
 ghost use Rattle.rbc_account.specs.Standings.{limit_sharings, sharing_of, is_told_at, is_answered_at, waits_at};
 ghost use Rattle.rbc_account.specs.Standings.{answer_at, answer_of, answer_in, acked_under};
 
-use crate::coming::{has, waiting_at};
+use crate::coming::{has, waiting_now};
 use crate::record_lookup::{active_limits, active_stops, engines_in, train_in};
 use crate::waiting::{Waiting, Waits};
 use rbc_ids::{IdTable, Slot};
@@ -17,7 +17,7 @@ use rbc_settle::TrainRec;
 use std::alloc::{AllocError, Global};
 
 /// What stands, beside the records themselves.
-#[derive(Debug, Drop)]
+#[derive(Drop)]
 pub struct Standing {
     /// To how many trains each active stop is told, in ascending order of the numbers.
     pub stops: Vec<Sharing>,
@@ -36,7 +36,7 @@ pub struct Standing {
 }
 
 /// To how many trains a stop or a restriction is told.
-#[derive(Clone, Copy, Debug, PartialEq, Eq)]
+#[derive(Clone, Copy)]
 pub struct Sharing {
     pub number: u32,
     /// The trains to which it is told.
@@ -48,7 +48,7 @@ pub struct Sharing {
 }
 
 /// What stands at one train.
-#[derive(Debug, Drop)]
+#[derive(Drop)]
 pub struct TrainStanding {
     pub engine: u32,
     /// How many messages to it wait for an answer or an acknowledgement. One with several packets counts once.
@@ -153,7 +153,7 @@ fn standing_at(
         Some(train) => Ok(Some(TrainStanding {
             engine,
             acknowledgements: owed_by(train),
-            waiting: waiting_at(alloc, desk, train)?,
+            waiting: waiting_now(alloc, desk, engine, train)?,
         })),
         None => Ok(None),
     }

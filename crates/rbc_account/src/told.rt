@@ -24,7 +24,7 @@ use rbc_zones::{Dirs, Limit, Segment};
 use std::alloc::{AllocError, Global};
 
 /// What one message tells its train, and why. Its identifier and stamp are in the message itself.
-#[derive(Debug, Drop)]
+#[derive(Drop)]
 pub struct Told {
     /// The train to which it is sent.
     pub engine: u32,
@@ -35,7 +35,7 @@ pub struct Told {
 }
 
 /// What a message tells, and why.
-#[derive(Debug, Drop)]
+#[derive(Drop)]
 pub enum ToldWhat {
     /// Message 15: to stop before the place `before`, counted in units of `unit` (1, 10 or 100) from the balise group,
     /// since `edge` is the nearest edge ahead.
@@ -63,7 +63,7 @@ pub enum ToldWhat {
 }
 
 /// Why a train is told to stop at once: the first reason that applies.
-#[derive(Clone, Copy, Debug, PartialEq, Eq)]
+#[derive(Clone, Copy)]
 pub enum WhyAtOnce {
     /// It left the stop unanswered in three reports, under this identifier, which is revoked by the same input.
     Unanswered { id: u8 },
@@ -78,14 +78,14 @@ pub enum WhyAtOnce {
 }
 
 /// What one packet tells of a restriction. The number is 0 where the packet is `Unknown`.
-#[derive(Clone, Copy, Debug, PartialEq, Eq)]
+#[derive(Clone, Copy)]
 pub struct ToldRestriction {
     pub number: u32,
     pub what: RestrictionTold,
 }
 
 /// What a packet tells, and why.
-#[derive(Clone, Copy, Debug, PartialEq, Eq)]
+#[derive(Clone, Copy)]
 pub enum RestrictionTold {
     /// Packet 65: the restriction of this stretch is told from `begin` to `end` ahead of the balise group of the train's
     /// place, counted in units of `unit` (1, 10 or 100).
@@ -103,7 +103,7 @@ pub enum RestrictionTold {
 }
 
 /// Why a restriction is told.
-#[derive(Clone, Copy, Debug, PartialEq, Eq)]
+#[derive(Clone, Copy)]
 pub enum WhyTold {
     /// It overlaps the place of the train.
     Overlaps,
@@ -112,7 +112,7 @@ pub enum WhyTold {
 }
 
 /// Why a restriction is revoked: the first reason that applies.
-#[derive(Clone, Copy, Debug, PartialEq, Eq)]
+#[derive(Clone, Copy)]
 pub enum WhyRevoked {
     /// It is lifted.
     Lifted,

@@ -1,14 +1,19 @@
 //! The places before which trains were told to stop.
 
-use crate::placing::unit_of;
-use ertms_codec::{Head, ToTrain};
+ghost use Rattle.std.specs.Prelude.{◌≡◌, ℕ, [], OnOk};
+ghost use Rattle.rbc_account.specs.ToldPlaces.{place_ahead, told_from, told_by, number_of, kept_at, kept_with, kept_after, of_stamp};
+
+use crate::distances::{unit_told, way_told};
+use ertms_codec::ToTrain;
 use indexmap::IndexMap;
 use rbc_rule::SentList;
-use rbc_track::{Track, Way};
+use rbc_settle::Sent;
+use rbc_track::{Group, Track, Way};
 use std::alloc::{AllocError, Global};
+use std::marker::Model;
 
 /// The place before which a train was told to stop, and the stamp of the message 15 that told it.
-#[derive(Clone, Copy, Debug, PartialEq, Eq)]
+#[derive(Clone, Copy)]
 pub struct ToldPlace {
     pub stamp: u32,
     /// The line on which the place lies: the line on which the train was then.
@@ -17,30 +22,37 @@ pub struct ToldPlace {
     pub at: u32,
 }
 
-/// A stop identifier of a train.
-#[derive(Clone, Copy, Debug, PartialEq, Eq, Hash)]
-struct StopIdentifier {
-    engine: u32,
-    id: u8,
+/// For each stop identifier of each train the place that the last message 15 told under it. In contracts a list of pairs
+/// of a number of engine and identifier and a place, of which the first with a number counts.
+#[derive(Drop)]
+pub struct ToldPlaces {
+    last: IndexMap<u64, ToldPlace>,
 }
 
-/// For each stop identifier of each train the place that the last message 15 told under it.
-#[derive(Debug, Drop)]
-pub(crate) struct ToldPlaces {
-    last: IndexMap<StopIdentifier, ToldPlace>,
+impl Model for ToldPlaces {
+    ghost use Rattle.std.specs.Prelude.{ℕ, List};
+    ghost use Rattle.rbc_account.specs.declared.told_place.ToldPlace.{ToldPlace};
+
+    ghost Value = { List (ℕ × ToldPlace) };
+
+    ghost view = { λ places. places.last.entries };
 }
 
 impl ToldPlaces {
     /// Nothing was told. Takes no memory.
-    pub(crate) fn new(alloc: Global) -> Self {
+    pub(crate) fn new(alloc: Global) -> Self
+        ensures { result ≡ [] }
+    {
         ToldPlaces {
             last: IndexMap::new(alloc),
         }
     }
 
     /// The place told under a stop identifier by the message with a stamp.
-    pub(crate) fn get(&self, engine: u32, id: u8, stamp: u32) -> Option<ToldPlace> {
-        let told = *self.last.get(&StopIdentifier { engine, id })?;
+    pub(crate) fn get(&self, engine: u32, id: u8, stamp: u32) -> Option<ToldPlace>
+        ensures { result ≡ of_stamp stamp (kept_at self.now (number_of engine id)) }
+    {
+        let told = *self.last.get(&number_of(engine, id))?;
         if told.stamp == stamp {
             Some(told)
         } else {
@@ -49,45 +61,77 @@ impl ToldPlaces {
     }
 
     /// Notes what messages tell. Fails only for lack of memory.
-    pub(crate) fn note(&mut self, track: &Track, messages: &SentList) -> Result<(), AllocError> {
+    pub(crate) fn note(&mut self, track: &Track, messages: &SentList) -> Result<(), AllocError>
+        ensures { OnOk result ((number : ℕ) → kept_at self.new number
+            ≡ kept_after track.now (kept_at self.old) messages.now number) }
+    {
         for index in 0..messages.len() {
-            let sent = messages.at(index);
-            if let ToTrain::StopAt { id, .. } = &sent.message
-                && let Some(told) = place_told(track, &sent.message)
-            {
-                let engine = sent.engine;
-                let _ = self.last.insert(StopIdentifier { engine, id: *id }, told)?;
-            }
+            self.note_one(track, messages.at(index))?;
+        }
+        Ok(())
+    }
+
+    /// Notes what one message tells. Fails only for lack of memory.
+    fn note_one(&mut self, track: &Track, sent: &Sent) -> Result<(), AllocError>
+        ensures { OnOk result ((number : ℕ) → kept_at self.new number
+            ≡ kept_with sent.now.engine (told_by track.now sent.now.message) (kept_at self.old) number) }
+    {
+        if let Some((id, told)) = told_by(track, &sent.message) {
+            self.last.insert(number_of(sent.engine, id), told)?;
         }
         Ok(())
     }
 }
 
-/// The place that a message 15 tells. `None` of any other message, and where the track lacks its balise group.
-fn place_told(track: &Track, message: &ToTrain) -> Option<ToldPlace> {
+/// The number of a stop identifier of an engine, which no other one has.
+fn number_of(engine: u32, id: u8) -> u64
+    ensures { result ≡ number_of engine id }
+{
+    u64::from(engine) * 256 + u64::from(id)
+}
+
+/// The stop identifier of a message 15, and the place that it tells. `None` of any other message, and where the track
+/// lacks its balise group or no place is told.
+fn told_by(track: &Track, message: &ToTrain) -> Option<(u8, ToldPlace)>
+    ensures { result ≡ told_by track.now message.now }
+{
     match message {
         ToTrain::StopAt {
             head,
+            id,
             scale,
             dir,
             distance,
             ..
-        } => place_ahead(track, *head, *dir, u32::from(*distance) * unit_of(*scale)),
+        } => {
+            let group = track.group(head.lrbg)?;
+            let told = told_from(head.stamp, *scale, *dir, *distance, &group)?;
+            Some((*id, told))
+        }
         ToTrain::Stop { .. } | ToTrain::Revoke { .. } | ToTrain::General { .. } => None,
     }
 }
 
-/// The place at a distance from the balise group of a message, in the direction of its Q_DIR.
-fn place_ahead(track: &Track, head: Head, dir: u8, distance: u32) -> Option<ToldPlace> {
-    let group = track.group(head.lrbg)?;
-    let is_up = (dir == 1) == (group.nominal == Way::Up);
+/// The place that a message tells, so many units ahead of its balise group.
+fn told_from(stamp: u32, scale: u8, dir: u8, distance: u16, group: &Group) -> Option<ToldPlace>
+    ensures { result ≡ told_from stamp scale dir distance group.now }
+{
+    let way = way_told(group.nominal, dir)?;
+    let unit = unit_told(scale)?;
+    let at = place_ahead(way, group.at, u32::from(distance) * unit)?;
     Some(ToldPlace {
-        stamp: head.stamp,
+        stamp,
         line: group.line,
-        at: if is_up {
-            group.at.saturating_add(distance)
-        } else {
-            group.at.saturating_sub(distance)
-        },
+        at,
     })
+}
+
+/// A place so far on from another one, if it is not before the line's beginning and 32 bits can count it.
+fn place_ahead(way: Way, from: u32, by: u32) -> Option<u32>
+    ensures { result ≡ place_ahead way from by }
+{
+    match way {
+        Way::Up => from.checked_add(by),
+        Way::Down => from.checked_sub(by),
+    }
 }

@@ -3,15 +3,18 @@
 ghost use Rattle.std.specs.Prelude.{◌≡◌, IfOk};
 ghost use Rattle.rbc_account.specs.Waits.{stop_waits, limit_waits, is_due, stops_waiting, limits_waiting, stops_due};
 ghost use Rattle.rbc_account.specs.Waits.{all_waiting, stop_cause, limit_cause, waiting_stop, waiting_limit};
-ghost use Rattle.rbc_account.specs.Waits.{waiting_again, same_waits, kind_and_number};
+ghost use Rattle.rbc_account.specs.Waits.{waiting_again, same_waits, kind_and_number, lacks_something};
 
 use rbc_settle::{LIMIT_IDENTIFIERS, STOP_IDENTIFIERS, TrainRec};
 use rbc_zones::{Area, Concern, Limit, concern, limit_concerns};
 use std::alloc::{AllocError, Global};
 use std::cell::Cell;
 
+/// The last stamp that a message may have (T_TRAIN).
+const LAST_STAMP: u32 = 4_294_967_294;
+
 /// Something that waits at a train.
-#[derive(Clone, Copy, Debug, PartialEq, Eq)]
+#[derive(Clone, Copy)]
 pub struct Waiting {
     /// What waits.
     pub what: Waits,
@@ -20,7 +23,7 @@ pub struct Waiting {
 }
 
 /// What waits, by its number.
-#[derive(Clone, Copy, Debug, PartialEq, Eq)]
+#[derive(Clone, Copy, PartialEq, Eq)]
 pub enum Waits {
     /// A stop that concerns the train and is not told to it.
     Stop(u32),
@@ -60,12 +63,21 @@ impl Waits {
 }
 
 /// Why something waits.
-#[derive(Clone, Copy, Debug, PartialEq, Eq)]
+#[derive(Clone, Copy)]
 pub enum Cause {
     /// None of the identifiers is free: 15 of stops, or 255 of restrictions.
     NoIdentifier,
     /// The train has no stamp left.
     NoStamp,
+}
+
+/// Whether a train lacks something for a message: all identifiers of a kind are held, or no stamp is left.
+pub(crate) fn lacks_something(train: &TrainRec) -> bool
+    ensures { result ≡ lacks_something train.now }
+{
+    train.stops.held() == STOP_IDENTIFIERS
+        || train.limits.held() == LIMIT_IDENTIFIERS
+        || train.stamp >= LAST_STAMP
 }
 
 /// What waits at a train: the stops that concern it and are not told to it, the restrictions likewise, and the stops

@@ -1,9 +1,10 @@
 -- What `explain` and `picture` do with a batch.
-use Rattle.std.specs.Prelude.{◌⊎◌, ◌≤◌, ⊤, ℕ, List, Option, Result, Ok, Err, take, length}
+use Rattle.std.specs.Prelude.{◌⊎◌, ◌≤◌, ℕ, List, Option, Result, Ok, Err, take, length}
 use Rattle.std.specs.Io.KnownBytes.{Appends}
 use Rattle.rbc_account.specs.Telling.{Tells}
 use Rattle.rbc_account.specs.declared.fault.TellError.TheVariants as telling
 use Rattle.rbc_explain.specs.Log.{IsLogOfRun}
+use Rattle.rbc_picture.specs.Drawn.{IsPictureOfRun}
 use Rattle.rbc_dispatch.specs.Running.{IsErrUnread}
 use Rattle.rbc_dispatch.specs.declared.fault.Fault.{Fault}
 use Rattle.rbc_dispatch.specs.declared.fault.Fault.TheVariants.{Batch, OnlyInputs, Live, BadHex, Decode, Write, OutOfMemory, Track, TrackUnreadable, TrackWarnings}
@@ -16,9 +17,9 @@ Showing = List ℕ → Option (List ℕ) → Option (List ℕ) → List ℕ → 
 abbrev pub IsLogFrom : ℕ → List ℕ → Option (List ℕ) → Option (List ℕ) → List ℕ → Type 0
 IsLogFrom from text old new log = IsLogOfRun text from old new log
 
--- a picture of the run, of which no more is said
-abbrev pub IsPicture : List ℕ → Option (List ℕ) → Option (List ℕ) → List ℕ → Type 0
-IsPicture text old new drawn = ⊤
+-- the picture of the run, after so many inputs or after all of them
+abbrev pub IsPictureAfter : Option ℕ → List ℕ → Option (List ℕ) → Option (List ℕ) → List ℕ → Type 0
+IsPictureAfter after text old new drawn = IsPictureOfRun text after old new drawn
 
 -- What comes of a run that is shown, on the track that a text is to be. At Ok what shows it has been written, and nothing else; at a write
 -- fault exactly its first bytes. `Missing count` says that a batch of so many inputs lacks the one that is asked for.

@@ -2,7 +2,7 @@
 
 ghost use Rattle.rbc_account.specs.Telling.{TooFewFor};
 ghost use Rattle.rbc_dispatch.specs.Running.{Keeps};
-ghost use Rattle.rbc_dispatch.specs.Showing.{IsPicture, ShowsOn};
+ghost use Rattle.rbc_dispatch.specs.Showing.{IsPictureAfter, ShowsOn};
 
 use crate::fault::Fault;
 use rbc_batch::write_text;
@@ -23,7 +23,7 @@ pub fn picture_text<I: Read, O: Write>(
     input: &mut I,
     output: &mut O,
 ) -> Result<(), Fault>
-    ensures shows { ShowsOn (TooFewFor after) IsPicture text.now (I.remaining input.old) (I.remaining input.new)
+    ensures shows { ShowsOn (TooFewFor after) (IsPictureAfter after) text.now (I.remaining input.old) (I.remaining input.new)
         (O.contents output.old) (O.contents output.new) result }
     ensures keeps { Keeps result input.old input.new output.old output.new }
 {

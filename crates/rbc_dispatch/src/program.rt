@@ -8,7 +8,7 @@ ghost use Rattle.rbc_dispatch.specs.Decoding.{Decodes, IsUntouched};
 ghost use Rattle.rbc_dispatch.specs.Ending.{AtTask, status_of};
 ghost use Rattle.rbc_dispatch.specs.Living.{Lives};
 ghost use Rattle.rbc_dispatch.specs.Running.{IsUnread, Keeps, Runs, RunsOn};
-ghost use Rattle.rbc_dispatch.specs.Showing.{IsLogFrom, IsPicture, Shows};
+ghost use Rattle.rbc_dispatch.specs.Showing.{IsLogFrom, IsPictureAfter, Shows};
 ghost use Rattle.rbc_command_line.specs.Words.{AsksToCheck, AsksToDecode, AsksToDraw, AsksToExplain, AsksToLive};
 ghost use Rattle.rbc_command_line.specs.Words.{AsksToRun, IsCheckOf, IsDecode, IsExplainOn, IsLiveOn, IsPictureOn};
 ghost use Rattle.rbc_command_line.specs.Words.{IsRunOn, command_line};
@@ -91,7 +91,7 @@ where
     ensures not_told { (file : List ℕ) (from : ℕ) → AsksToExplain file from (map string_bytes words.now)
         → AtTask (λ r. Keeps r input.old input.new output.old output.new) result }
     ensures picture { (file : List ℕ) (after : Option ℕ) → AsksToDraw file after (map string_bytes words.now)
-        → AtTask (Shows (TooFewFor after) IsPicture (I.remaining input.old) (I.remaining input.new)
+        → AtTask (Shows (TooFewFor after) (IsPictureAfter after) (I.remaining input.old) (I.remaining input.new)
         (O.contents output.old) (O.contents output.new)) result }
     ensures not_drawn { (file : List ℕ) (after : Option ℕ) → AsksToDraw file after (map string_bytes words.now)
         → AtTask (λ r. Keeps r input.old input.new output.old output.new) result }
@@ -131,7 +131,7 @@ where
     ensures not_told { (file : List ℕ) (from : ℕ) → IsExplainOn file from task.entry
         → Keeps result input.old input.new output.old output.new }
     ensures picture { (file : List ℕ) (after : Option ℕ) → IsPictureOn file after task.entry
-        → Shows (TooFewFor after) IsPicture (I.remaining input.old) (I.remaining input.new)
+        → Shows (TooFewFor after) (IsPictureAfter after) (I.remaining input.old) (I.remaining input.new)
         (O.contents output.old) (O.contents output.new) result }
     ensures not_drawn { (file : List ℕ) (after : Option ℕ) → IsPictureOn file after task.entry
         → Keeps result input.old input.new output.old output.new }
@@ -237,7 +237,7 @@ where
     R: AllocGlobal + Files,
     I: Read,
     O: Write,
-    ensures shows { Shows (TooFewFor after) IsPicture (I.remaining input.old) (I.remaining input.new)
+    ensures shows { Shows (TooFewFor after) (IsPictureAfter after) (I.remaining input.old) (I.remaining input.new)
         (O.contents output.old) (O.contents output.new) result }
     ensures keeps { Keeps result input.old input.new output.old output.new }
 {

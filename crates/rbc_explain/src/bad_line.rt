@@ -29,7 +29,7 @@ const OTHER: &str =
     "Its first word is none of enrol, withdraw, stop, release, restrict, lift and recv.";
 
 /// What is wrong with a line that is refused as a bad one: the first that applies.
-pub fn fault_of_line(line: &[u8]) -> &'static str {
+pub(crate) fn fault_of_line(line: &[u8]) -> &'static str {
     if line.contains(&b'\r') {
         RETURN
     } else if line.is_empty() {

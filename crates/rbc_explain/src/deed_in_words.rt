@@ -9,7 +9,7 @@ use rbc_zones::{Dirs, Segment};
 const REJECTED: u8 = 3;
 
 /// Adds what an accepted input did. Of one that is refused this adds nothing.
-pub fn push_deed(sheet: &mut Sheet, deed: &Deed) {
+pub(crate) fn push_deed(sheet: &mut Sheet, deed: &Deed) {
     match deed {
         Deed::Enrolled { engine, length } => push_enrolled(sheet, *engine, *length),
         Deed::Withdrawn { engine } => push_withdrawn(sheet, *engine),

@@ -28,9 +28,21 @@ fn columns_of(alloc: Global, bytes: &[u8]) -> Result<String, AllocError> {
     Ok(columns)
 }
 
+/// The text of a line that is shown whole and as it is.
+fn as_plain(line: &[u8]) -> Option<&str> {
+    if line.len() > MOST_COLUMNS || !line.iter().all(|byte| is_plain(*byte)) {
+        return None;
+    }
+    str::from_utf8(line).ok()
+}
+
 /// Adds a line of a batch: all of its columns where they are at most 80, and else the first 60 and the number of its
 /// bytes. Fails only for lack of memory.
-pub fn push_echo(alloc: Global, sheet: &mut Sheet, line: &[u8]) -> Result<(), AllocError> {
+pub(crate) fn push_echo(alloc: Global, sheet: &mut Sheet, line: &[u8]) -> Result<(), AllocError> {
+    if let Some(plain) = as_plain(line) {
+        sheet.words(plain);
+        return Ok(());
+    }
     let shown = &line[..line.len().min(MOST_COLUMNS + 1)];
     let columns = columns_of(alloc, shown)?;
     if columns.len() <= MOST_COLUMNS {

@@ -9,7 +9,7 @@ use rbc_zones::{Dirs, Segment};
 const UNKNOWN_STAMP: u32 = 4_294_967_295;
 
 /// The word for a direction.
-pub fn way_word(way: Way) -> &'static str {
+pub(crate) fn way_word(way: Way) -> &'static str {
     match way {
         Way::Up => "up",
         Way::Down => "down",
@@ -17,7 +17,7 @@ pub fn way_word(way: Way) -> &'static str {
 }
 
 /// The words for the directions of a restriction.
-pub fn ways_words(dirs: Dirs) -> &'static str {
+pub(crate) fn ways_words(dirs: Dirs) -> &'static str {
     match dirs {
         Dirs::Up => "up",
         Dirs::Down => "down",
@@ -26,12 +26,12 @@ pub fn ways_words(dirs: Dirs) -> &'static str {
 }
 
 /// Adds a stretch: `km 15.200 to km 16.850`.
-pub fn push_stretch(sheet: &mut Sheet, from: u32, to: u32) {
+pub(crate) fn push_stretch(sheet: &mut Sheet, from: u32, to: u32) {
     sheet.words("km ").length(from).words(" to km ").length(to);
 }
 
 /// Adds a stretch with its line before it: `line 0, km 15.200 to km 16.850`.
-pub fn push_segment(sheet: &mut Sheet, segment: &Segment) {
+pub(crate) fn push_segment(sheet: &mut Sheet, segment: &Segment) {
     sheet
         .words("line ")
         .number(segment.line as usize)
@@ -40,7 +40,7 @@ pub fn push_segment(sheet: &mut Sheet, segment: &Segment) {
 }
 
 /// Adds stretches: each in a line of its own, and a full stop after the last one.
-pub fn push_segments(sheet: &mut Sheet, beginning: &str, segments: &[Segment]) {
+pub(crate) fn push_segments(sheet: &mut Sheet, beginning: &str, segments: &[Segment]) {
     for (index, segment) in segments.iter().enumerate() {
         if index != 0 {
             sheet.words(",\n    and ").words(beginning);
@@ -51,7 +51,7 @@ pub fn push_segments(sheet: &mut Sheet, beginning: &str, segments: &[Segment]) {
 }
 
 /// Adds where a train may be: `km 7.9675 to km 8.1875 of line 0, facing up`.
-pub fn push_place(sheet: &mut Sheet, place: &Place) {
+pub(crate) fn push_place(sheet: &mut Sheet, place: &Place) {
     push_stretch(sheet, place.lo(), place.hi());
     sheet
         .words(" of line ")
@@ -61,7 +61,7 @@ pub fn push_place(sheet: &mut Sheet, place: &Place) {
 }
 
 /// Adds a stamp of a message from a train, which may be unknown.
-pub fn push_stamp(sheet: &mut Sheet, stamp: u32) {
+pub(crate) fn push_stamp(sheet: &mut Sheet, stamp: u32) {
     if stamp == UNKNOWN_STAMP {
         sheet.words("stamp unknown");
     } else {

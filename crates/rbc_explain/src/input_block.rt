@@ -19,9 +19,12 @@ use rbc_track::Track;
 use rbc_track_report::Sheet;
 use std::alloc::{AllocError, Global};
 
+/// Room for what is usually said at once.
+const USUAL_BYTES: usize = 256;
+
 /// The track of a run.
 #[derive(Clone, Copy)]
-pub struct TrackOfRun<'a> {
+pub(crate) struct TrackOfRun<'a> {
     pub track: &'a Track,
     /// How many lines it has.
     pub lines: usize,
@@ -29,7 +32,7 @@ pub struct TrackOfRun<'a> {
 
 /// Adds what came of the input of a line. The lines of its answer stand there in their order, each with `= ` before it.
 /// Fails only for lack of memory.
-pub fn push_block(
+pub(crate) fn push_block(
     alloc: Global,
     log: &mut Vec<u8>,
     of: TrackOfRun<'_>,
@@ -73,7 +76,7 @@ fn push_answer(
 
 /// The line of an input with its number, after an empty line. Fails only for lack of memory.
 fn heading(alloc: Global, line: &[u8], block: &Block) -> Result<Sheet, AllocError> {
-    let mut sheet = Sheet::new(alloc);
+    let mut sheet = Sheet::with_room(alloc, USUAL_BYTES);
     sheet
         .words("\nINPUT ")
         .number(block.number as usize)
@@ -92,7 +95,7 @@ fn following(
     block: &Block,
     index: usize,
 ) -> Result<Sheet, AllocError> {
-    let mut sheet = Sheet::new(alloc);
+    let mut sheet = Sheet::with_room(alloc, USUAL_BYTES);
     if index == 0 {
         push_outcome(&mut sheet, of, line, block);
     }

@@ -8,7 +8,7 @@ use std::alloc::AllocError;
 
 /// Adds words. Fails only for lack of memory, here or while the words were written.
 #[tactic(auto, using(crate::proofs::Marking::told_words))]
-pub fn push_words(log: &mut Vec<u8>, words: Sheet) -> Result<(), AllocError>
+pub(crate) fn push_words(log: &mut Vec<u8>, words: Sheet) -> Result<(), AllocError>
     ensures { OnOk result (IsToldOn [] log.old.items log.new.items) }
 {
     let words = words.ended()?;
@@ -17,7 +17,7 @@ pub fn push_words(log: &mut Vec<u8>, words: Sheet) -> Result<(), AllocError>
 
 /// Adds a line of the output, without its line feed, as it is, with `= ` before it. Fails only for lack of memory.
 #[tactic(auto, using(crate::proofs::Marking::told_line))]
-pub fn push_line(log: &mut Vec<u8>, line: &[u8]) -> Result<(), AllocError>
+pub(crate) fn push_line(log: &mut Vec<u8>, line: &[u8]) -> Result<(), AllocError>
     ensures { OnOk result (IsToldOn (line.now ∷ []) log.old.items log.new.items) }
 {
     push_marked(log, line)

@@ -12,7 +12,7 @@ use rbc_zones::{Area, Dirs, Limit};
 const MOST_REPORTS: u8 = 3;
 
 /// Adds what stands at the end.
-pub fn push_end(sheet: &mut Sheet, account: &Account, standing: &Standing) {
+pub(crate) fn push_end(sheet: &mut Sheet, account: &Account, standing: &Standing) {
     push_sums(sheet, account);
     push_stops(sheet, account, &standing.stops);
     push_limits(sheet, account, &standing.limits);

@@ -12,7 +12,7 @@ A line after \"= \" is as `dispatch run` writes it.
 ";
 
 /// Adds the head of a log that begins at an input.
-pub fn push_head(sheet: &mut Sheet, track: &NamedTrack, from: u32) {
+pub(crate) fn push_head(sheet: &mut Sheet, track: &NamedTrack, from: u32) {
     sheet.words(TITLE).number(RULES).words(LEGEND);
     push_track(sheet, track);
     for (index, line) in track.lines.iter().enumerate() {

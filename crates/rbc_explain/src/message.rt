@@ -17,7 +17,7 @@ use std::alloc::{AllocError, Global};
 
 /// Adds what a message says, and why it was sent. Of one that no record accounts for this adds nothing. Fails only for
 /// lack of memory.
-pub fn push_message(
+pub(crate) fn push_message(
     alloc: Global,
     sheet: &mut Sheet,
     track: &Track,

@@ -12,14 +12,19 @@ const MOST_NUMBERS: usize = 4;
 
 /// What is shown of a refused input: its line, what it is as an input, and how many lines the track has.
 #[derive(Clone, Copy)]
-pub struct RefusedInput<'a> {
+pub(crate) struct RefusedInput<'a> {
     pub line: &'a [u8],
     pub input: &'a Input,
     pub track_lines: usize,
 }
 
 /// Adds that an input was refused with a code, what the code means, and the figures of this refusal.
-pub fn push_refused(sheet: &mut Sheet, refused: RefusedInput<'_>, code: u8, detail: &Detail) {
+pub(crate) fn push_refused(
+    sheet: &mut Sheet,
+    refused: RefusedInput<'_>,
+    code: u8,
+    detail: &Detail,
+) {
     if let Some(row) = row_for(refused.input, code) {
         sheet
             .words("  Refused, ")

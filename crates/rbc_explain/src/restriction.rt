@@ -16,7 +16,7 @@ use rbc_zones::Segment;
 use std::alloc::{AllocError, Global};
 
 /// Adds what a message 24 says, and why each of its packets was sent. Fails only for lack of memory.
-pub fn push_restrictions(
+pub(crate) fn push_restrictions(
     alloc: Global,
     sheet: &mut Sheet,
     track: &Track,

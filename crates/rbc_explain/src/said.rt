@@ -1,11 +1,11 @@
 //! What a message says to a train, from its own variables back to places on the track (SUBSET-026, 7.5 and 8).
 
 ghost use Rattle.std.specs.Prelude.{◌≡◌, ◌≤◌, ◌*◌, IfSome};
-ghost use Rattle.rbc_rule.specs.Saying.{way_told, unit_told, CountsFrom};
 ghost use Rattle.rbc_explain.specs.Said.{IsSpokenBy, IsSpokenByPacket, IsSpotAhead, IsOriginOf, IsStopBefore};
 ghost use Rattle.rbc_explain.specs.Said.{IsRestriction};
 
 use ertms_codec::{Part, ToTrain};
+use rbc_account::{unit_told, way_told};
 use rbc_track::{Track, Way};
 use rbc_words::Km;
 use std::fmt;
@@ -15,8 +15,8 @@ const BOTH_WAYS: u8 = 2;
 
 /// A place on a line, or one that lies so far before its beginning, in units of 10 cm: what is told of a restriction is
 /// rounded outwards.
-#[derive(Clone, Copy, Debug, PartialEq, Eq)]
-pub struct Spot {
+#[derive(Clone, Copy)]
+pub(crate) struct Spot {
     /// Whether it lies before the beginning of the line.
     pub is_before: bool,
     /// How far it is from the beginning.
@@ -39,8 +39,8 @@ impl fmt::Display for Spot {
 }
 
 /// What a message, or a packet of one, says of a stop or a restriction. Places are in units of 10 cm.
-#[derive(Clone, Copy, Debug, PartialEq, Eq)]
-pub enum Spoken {
+#[derive(Clone, Copy)]
+pub(crate) enum Spoken {
     /// To stop at once.
     StopAtOnce,
     /// To stop before a place of a line.
@@ -100,31 +100,6 @@ struct Origin {
     unit: u32,
 }
 
-/// The direction that a Q_DIR gives at a balise group.
-fn way_told(nominal: Way, dir: u8) -> Option<Way>
-    ensures { result ≡ way_told nominal dir }
-{
-    match (dir, nominal) {
-        (1, _) => Some(nominal),
-        (0, Way::Up) => Some(Way::Down),
-        (0, Way::Down) => Some(Way::Up),
-        _ => None,
-    }
-}
-
-/// The unit that a Q_SCALE gives, in units of 10 cm.
-fn unit_told(scale: u8) -> Option<u32>
-    ensures unit { result ≡ unit_told scale }
-    ensures few { IfSome result (λ unit. unit ≤ 100) }
-{
-    match scale {
-        0 => Some(1),
-        1 => Some(10),
-        2 => Some(100),
-        _ => None,
-    }
-}
-
 /// What distances count from, if the message names a balise group of the track and its direction and unit are known.
 fn origin_of(track: &Track, lrbg: u32, dir: u8, scale: u8) -> Option<Origin>
     ensures counts { IfSome result (IsOriginOf track.now lrbg dir scale) }
@@ -178,7 +153,7 @@ fn stop_before(track: &Track, lrbg: u32, dir: u8, scale: u8, distance: u16) -> O
 
 /// What a message on a stop says: of one that is escalated its identifier is revoked, and else the stop itself. `None`
 /// where the message is no such one, or tells no place of the track.
-pub fn spoken_by(track: &Track, message: &ToTrain, is_escalated: bool) -> Option<Spoken>
+pub(crate) fn spoken_by(track: &Track, message: &ToTrain, is_escalated: bool) -> Option<Spoken>
     ensures { IfSome result (IsSpokenBy track.now message.now) }
 {
     match message {
@@ -230,7 +205,7 @@ fn restriction(
 }
 
 /// What a packet says in a message that names a balise group. `None` where it tells no place of the track.
-pub fn spoken_by_packet(track: &Track, lrbg: u32, packet: &Part) -> Option<Spoken>
+pub(crate) fn spoken_by_packet(track: &Track, lrbg: u32, packet: &Part) -> Option<Spoken>
     ensures { IfSome result (IsSpokenByPacket track.now lrbg packet.now) }
 {
     match packet {

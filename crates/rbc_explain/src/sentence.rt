@@ -7,7 +7,7 @@ use crate::said::Spoken;
 use std::alloc::{AllocError, Global};
 
 /// The sentence on a message to a train on a stop. Fails only for lack of memory.
-pub fn stop_sentence(
+pub(crate) fn stop_sentence(
     alloc: Global,
     engine: u32,
     number: u32,
@@ -19,7 +19,7 @@ pub fn stop_sentence(
 }
 
 /// The sentence on a message to a train on one restriction. Fails only for lack of memory.
-pub fn restriction_sentence(
+pub(crate) fn restriction_sentence(
     alloc: Global,
     engine: u32,
     number: u32,
@@ -31,7 +31,11 @@ pub fn restriction_sentence(
 }
 
 /// The sentence on one of several packets. Fails only for lack of memory.
-pub fn packet_sentence(alloc: Global, number: u32, said: &Spoken) -> Result<String, AllocError>
+pub(crate) fn packet_sentence(
+    alloc: Global,
+    number: u32,
+    said: &Spoken,
+) -> Result<String, AllocError>
     ensures { IfOk result (λ text. string_bytes text ≡ packet_sentence number said.now) }
 {
     format!(in alloc; "  For restriction {number}: {said}\n")

@@ -4,7 +4,7 @@ use rbc_account::{Cause, Waiting, Waits};
 use rbc_track_report::Sheet;
 
 /// Adds that something has come to wait at a train.
-pub fn push_waiting_at(sheet: &mut Sheet, engine: u32, waiting: &Waiting) {
+pub(crate) fn push_waiting_at(sheet: &mut Sheet, engine: u32, waiting: &Waiting) {
     sheet
         .words("  ")
         .words(heading(waiting.what))
@@ -15,7 +15,7 @@ pub fn push_waiting_at(sheet: &mut Sheet, engine: u32, waiting: &Waiting) {
 }
 
 /// Adds that something waits at the train of which the lines before speak.
-pub fn push_waiting(sheet: &mut Sheet, waiting: &Waiting) {
+pub(crate) fn push_waiting(sheet: &mut Sheet, waiting: &Waiting) {
     sheet.words("    ").words(heading(waiting.what)).words(": ");
     push_what(sheet, waiting);
 }

@@ -1,4 +1,4 @@
--- How many messages a step sends in all.
+-- How many messages a step sends in all, and what the step of a line is.
 use Rattle.std.proofs.Common.{◌≡◌, ℕ, ◌+◌, true, false, cond, not, eqb, leb, List, [], ◌∷◌, length, map, refl, sym, ap, ◌∙◌, subst, arith}
 use Rattle.std.specs.List.{filter, fold}
 use Rattle.std.proofs.lemmas.Bool.{eq-eqb, eqb-true, and_parts}
@@ -16,9 +16,12 @@ use Rattle.rbc_rule.specs.Right.{IsRight, messages_to}
 use Rattle.rbc_rule.specs.Step.{step, count_sent}
 use Rattle.rbc_desk.proofs.Sends.{sent_ascends}
 use Rattle.rbc_text.specs.BatchText.{line_of, IsInput}
-use Rattle.rbc_live.specs.History.{AreSentBy}
+use Rattle.rbc_live.specs.declared.desk.LiveFault.{LiveFault}
+use Rattle.rbc_live.specs.declared.desk.LiveFault.TheVariants.{Memory, Room}
+use Rattle.rbc_live.specs.declared.desk.Answer.{Answer}
+use Rattle.rbc_live.specs.History.{AreSentAt, IsFaultAt, IsFaultOf, IsFed, IsStepOf}
 use Rattle.rbc_live.proofs.Steps.{may_be, same_whole}
-use Rattle.std.specs.Prelude.{Option}
+use Rattle.std.specs.Prelude.{Option, Result, Ok, Err, IfOk, IfErr}
 
 -- the messages to all other engines
 abbrev others : ℕ → List Sent → List Sent
@@ -100,12 +103,26 @@ count_all least ((to, some) ∷ sent) messages rises same =
     ∙ ap (λ n. length some + n) (count_all (to + 1) sent (others to messages) parts.1 behind) ∙ one_more to some sent
 
 -- the messages of a right outcome are as many as the step sends
-pub counted : (plan : Plan) (line : List ℕ) (input : Input) (old middle : List (Key × Rec)) (reply : Reply) (writes : List (Key × Option Rec)) (messages : List Sent)
-    → IsInput (line_of line) input → Extends (Whole old) (Whole middle) → IsRight plan input (Whole middle) reply writes messages → AreSentBy plan line old (length messages)
-counted plan line input old middle reply writes messages is more right = (
-  input,
-  is,
-  λ w are.
-      let one = right w (may_be plan old middle w (same_whole old middle more) are) in
-      count_all 0 (step plan w input).sent messages (sent_ascends plan w input are.well_formed.ascending) one.sent,
-)
+pub counted : (plan : Plan) (input : Input) (old middle : List (Key × Rec)) (reply : Reply) (writes : List (Key × Option Rec)) (messages : List Sent)
+    → Extends (Whole old) (Whole middle) → IsRight plan input (Whole middle) reply writes messages → AreSentAt plan input old (length messages)
+counted plan input old middle reply writes messages more right = λ w are.
+    let one = right w (may_be plan old middle w (same_whole old middle more) are) in
+    count_all 0 (step plan w input).sent messages (sent_ascends plan w input are.well_formed.ascending) one.sent
+
+-- a fault at the input of a line is one of the line
+fault_of_line : (plan : Plan) (line : List ℕ) (input : Input) (records : List (Key × Rec)) (most : ℕ) (fault : LiveFault)
+    → IsInput (line_of line) input → IsFaultAt plan input records most fault → IsFaultOf plan line records most fault
+fault_of_line plan line input records most Memory is at = tt
+fault_of_line plan line input records most (Room count) is at = (at.0, (input, is, at.1))
+
+pub faults_of_line : {T : Type 0} (r : Result T LiveFault) (plan : Plan) (line : List ℕ) (input : Input) (records : List (Key × Rec)) (most : ℕ)
+    → IsInput (line_of line) input → IfErr r (IsFaultAt plan input records most) → IfErr r (IsFaultOf plan line records most)
+faults_of_line (Ok done) plan line input records most is at = tt
+faults_of_line (Err fault) plan line input records most is at = fault_of_line plan line input records most fault is at
+
+-- the step of the input of a line is one of the line
+pub fed_by_line : {E : Type 0} (r : Result Answer E) (plan : Plan) (line : List ℕ) (input : Input) (old new : List (Key × Rec))
+    → IsInput (line_of line) input → IfOk r (λ answer. IsStepOf plan input old new answer.reply answer.messages)
+    → IfOk r (λ answer. IsFed plan line old new answer.reply answer.messages)
+fed_by_line (Ok answer) plan line input old new is steps = (input, is, steps)
+fed_by_line (Err fault) plan line input old new is steps = tt

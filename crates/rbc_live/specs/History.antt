@@ -34,15 +34,25 @@ IsStepOf plan input old new reply messages = (w : World) → AreRecordsOf plan (
 abbrev pub IsFed : Plan → List ℕ → List (Key × Rec) → List (Key × Rec) → Reply → List Sent → Type 0
 IsFed plan line old new reply messages = (input : Input) × IsInput (line_of line) input × IsStepOf plan input old new reply messages
 
+-- so many messages are sent by the step of an input
+abbrev pub AreSentAt : Plan → Input → List (Key × Rec) → ℕ → Type 0
+AreSentAt plan input records count = (w : World) → AreRecordsOf plan (record_in records) w → count ≡ count_sent (step plan w input).sent
+
 -- so many messages are sent by the step of the line's input
 abbrev pub AreSentBy : Plan → List ℕ → List (Key × Rec) → ℕ → Type 0
-AreSentBy plan line records count =
-    (input : Input) × IsInput (line_of line) input × ((w : World) → AreRecordsOf plan (record_in records) w → count ≡ count_sent (step plan w input).sent)
+AreSentBy plan line records count = (input : Input) × IsInput (line_of line) input × AreSentAt plan input records count
 
 -- a fault for want of room says how many messages there are, and they are more than were wanted
+abbrev pub IsFaultFor : (ℕ → Type 0) → ℕ → LiveFault → Type 0
+IsFaultFor AreSent most Memory = Unit
+IsFaultFor AreSent most (Room count) = (most < count) × AreSent count
+
+-- so at a line, and at an input
 abbrev pub IsFaultOf : Plan → List ℕ → List (Key × Rec) → ℕ → LiveFault → Type 0
-IsFaultOf plan line records most Memory = Unit
-IsFaultOf plan line records most (Room count) = (most < count) × AreSentBy plan line records count
+IsFaultOf plan line records most fault = IsFaultFor (AreSentBy plan line records) most fault
+
+abbrev pub IsFaultAt : Plan → Input → List (Key × Rec) → ℕ → LiveFault → Type 0
+IsFaultAt plan input records most fault = IsFaultFor (AreSentAt plan input records) most fault
 
 -- a line that was taken, the answer to it, and its messages
 pub record Taken : Type 0 where

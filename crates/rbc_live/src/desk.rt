@@ -4,11 +4,12 @@ ghost use Rattle.std.specs.Prelude.{◌≡◌, ◌≤◌, ◌⊎◌, [], length,
 ghost use Rattle.rbc_track.specs.Plan.{IsPlan};
 ghost use Rattle.rbc_track.specs.Reading.{IsTrackOf, RefusesTrack};
 ghost use Rattle.rbc_rule.specs.Gathered.{AreSendable};
+ghost use Rattle.rbc_rule.specs.Inputs.{Fits};
 ghost use Rattle.rbc_live.specs.Serial.{IsSerial};
-ghost use Rattle.rbc_live.specs.History.{IsFed, AreSame, IsFaultOf};
+ghost use Rattle.rbc_live.specs.History.{IsFed, IsStepOf, AreSame, IsFaultAt, IsFaultOf};
 
 use rbc_records::{PlainStore, apply};
-use rbc_rule::{Reply, RuleFault, SentList, decide, step_law};
+use rbc_rule::{Input, Reply, RuleFault, SentList, decide, step_law};
 use rbc_text::parse_line;
 use rbc_track::{Track, TrackError, track_from_toml};
 use std::alloc::{AllocError, Global};
@@ -80,6 +81,7 @@ impl LiveDesk {
     ///
     /// `Memory` where memory was refused; `Room` with the number of messages where there are more than `most`. The desk
     /// is then as it was, and the line may be fed again.
+    #[tactic(auto, using(crate::proofs::Counts::faults_of_line))]
     pub fn feed(&mut self, alloc: Global, line: &[u8], most: usize) -> Result<Answer, LiveFault>
         ensures step { IfOk result (λ answer. IsFed self.old.track line.now self.old.records self.new.records
             answer.reply answer.messages) }
@@ -90,9 +92,27 @@ impl LiveDesk {
         ensures stays { OnErr result (AreSame self.old.records self.new.records) }
     {
         let input = parse_line(alloc, line)?;
+        self.take(alloc, &input, most)
+    }
+
+    /// Takes one input, which may send at most `most` messages, as `feed` takes its line.
+    ///
+    /// # Errors
+    ///
+    /// Those of `feed`.
+    pub fn take(&mut self, alloc: Global, input: &Input, most: usize) -> Result<Answer, LiveFault>
+        requires { Fits input.now }
+        ensures step { IfOk result (λ answer. IsStepOf self.old.track input.now self.old.records self.new.records
+            answer.reply answer.messages) }
+        ensures fit { IfOk result (λ answer. AreSendable answer.messages) }
+        ensures few { IfOk result (λ answer. length answer.messages ≤ most) }
+        ensures track { self.new.track ≡ self.old.track }
+        ensures fault { IfErr result (λ fault. IsFaultAt self.old.track input.now self.old.records most fault) }
+        ensures stays { OnErr result (AreSame self.old.records self.new.records) }
+    {
         is_plan(&self.track);
         step_law();
-        let outcome = match decide(alloc, &self.track, &input, &mut self.records) {
+        let outcome = match decide(alloc, &self.track, input, &mut self.records) {
             Ok(outcome) => outcome,
             Err(RuleFault::OutOfMemory) => return Err(LiveFault::Memory),
             // A desk's records are those of a world, and a store of all records never fails.

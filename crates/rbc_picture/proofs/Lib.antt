@@ -1,2 +1,7 @@
+pub mod Drawing
 pub mod Escaping
+pub mod Gathering
+pub mod Joining
+pub mod Knowing
 pub mod Showing
+pub mod Taking

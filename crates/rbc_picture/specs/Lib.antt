@@ -1,7 +1,11 @@
 pub mod Bands
+pub mod Drawn
 pub mod Escape
 pub mod Panels
 pub mod Pixels
+pub mod Shown
 pub mod Stretches
+pub mod Titles
 pub mod Trains
 pub mod Window
+pub mod Witnesses

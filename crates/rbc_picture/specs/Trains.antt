@@ -1,10 +1,12 @@
 -- In which part of a picture a train stands.
-use Rattle.std.specs.Prelude.{◌≡◌, ℕ, Bool, true, false, ◌==◌, Option, Some, None, is_none, option_map, option_to_list, List, [], ◌∷◌, ◌++◌}
+use Rattle.std.specs.Prelude.{◌≡◌, ℕ, Bool, true, false, ◌==◌, Option, Some, None, is_none, option_map}
+use Rattle.std.specs.Prelude.{option_to_list, List, [], ◌∷◌, ◌++◌}
 use Rattle.rbc_place.specs.Placing as placing
 use Rattle.rbc_track.specs.declared.group.Way.{Way}
 use Rattle.rbc_track.specs.declared.group.Way.TheVariants.{Up, Down}
 use Rattle.rbc_account.specs.declared.state.TrainStanding.{TrainStanding}
 use Rattle.rbc_settle.specs.declared.train.TrainRec.{TrainRec}
+use Rattle.rbc_picture.specs.Titles.{ShownTrain}
 use Rattle.rbc_picture.specs.declared.train_state.TrainState.{TrainState}
 
 -- a place is on a line
@@ -25,22 +27,30 @@ end_at Down low high = low
 abbrev pub is_unplaced : TrainState → Bool
 is_unplaced train = is_none train.place
 
--- a train's engine, and where the train is placed
-abbrev pub placing_of : TrainState → ℕ × Option placing.Place
-placing_of train = (train.engine, train.place)
+-- what a picture shows of a train
+abbrev pub train_shown : TrainState → ShownTrain
+train_shown train = record { engine = train.engine; place = train.place; waiting = train.waiting.items }
 
--- the engines and places of trains at which something stands, by the records of their engines
-abbrev pub known_trains : (ℕ → Option TrainRec) → List TrainStanding → List (ℕ × Option placing.Place)
+-- the same of a train at which something stands, by its record
+abbrev pub known_train : TrainStanding → TrainRec → ShownTrain
+known_train standing train =
+    record { engine = standing.engine; place = train.place; waiting = standing.waiting.items }
+
+-- the same of all trains at which something stands, by the records of their engines
+abbrev pub known_trains : (ℕ → Option TrainRec) → List TrainStanding → List ShownTrain
 known_trains lookup [] = []
 known_trains lookup (standing ∷ rest) =
-    option_to_list (option_map {U = ℕ × Option placing.Place} (λ train. (standing.engine, train.place)) (lookup standing.engine)) ++ known_trains lookup rest
+    option_to_list (option_map (known_train standing) (lookup standing.engine)) ++ known_trains lookup rest
 
--- Each train stands in one part: in the panel of its line, or in the list of the trains without a place.
-pub record StandsOnce (train : TrainState) : Type 0 where
-  pub placed : (place : placing.Place) → train.place ≡ Some place
-      → (is_unplaced train ≡ false) × ((line : ℕ) → (is_on line train ≡ true → line ≡ place.line) × (line ≡ place.line → is_on line train ≡ true))
-  pub unplaced : train.place ≡ None → (is_unplaced train ≡ true) × ((line : ℕ) → is_on line train ≡ false)
+-- A train with this place, or with none, stands in one part: in the panel of its line, or in the list of the trains
+-- without a place. Tests on the place say on which lines it is, and whether it is in that list.
+pub record StandsOnce (is_there : ℕ → Option placing.Place → Bool) (is_lost : Option placing.Place → Bool)
+    (held : Option placing.Place) : Type 0 where
+  pub placed : (place : placing.Place) → held ≡ Some place
+      → (is_lost held ≡ false)
+      × ((line : ℕ) → (is_there line held ≡ true → line ≡ place.line) × (line ≡ place.line → is_there line held ≡ true))
+  pub unplaced : held ≡ None → (is_lost held ≡ true) × ((line : ℕ) → is_there line held ≡ false)
 
 -- so with each train
 abbrev pub EachStandsOnce : Type 0
-EachStandsOnce = (train : TrainState) → StandsOnce train
+EachStandsOnce = (train : TrainState) → StandsOnce is_place_on (λ place. is_none place) train.place

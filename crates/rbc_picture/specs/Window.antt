@@ -22,11 +22,12 @@ abbrev pub Shows : ℕ → ℕ × ℕ → ℕ → ℕ → Type 0
 Shows length ends low high = ends.1 ≤ length → length ≤ max_length → (low ≤ ends.0) × (ends.1 ≤ high)
 
 -- The lower end of a window is at the left, its upper end at the right, and order on the picture is order on the line.
-pub record KeepsOrder (low high : ℕ) : Type 0 where
-  pub first : x_at low high low ≡ left_end
-  pub last : x_at low high high ≡ right_end
-  pub rises : (place next : ℕ) → place ≤ next → x_at low high place ≤ x_at low high next
+-- Each place on the line has one on the picture.
+pub record KeepsOrder (x : ℕ → ℕ) (low high : ℕ) : Type 0 where
+  pub first : x low ≡ left_end
+  pub last : x high ≡ right_end
+  pub rises : (place next : ℕ) → place ≤ next → x place ≤ x next
 
 -- so in each window
 abbrev pub EachWindowKeepsOrder : Type 0
-EachWindowKeepsOrder = (low high : ℕ) → low < high → KeepsOrder low high
+EachWindowKeepsOrder = (low high : ℕ) → low < high → KeepsOrder (x_at low high) low high

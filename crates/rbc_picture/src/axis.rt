@@ -23,7 +23,7 @@ const GAP: i64 = 80;
 
 /// A mark of the axis.
 #[derive(Drop)]
-pub struct Mark {
+pub(crate) struct Mark {
     /// Where it stands, in tenths of a pixel.
     pub x: i64,
     /// Its words, or nothing where there is no room for them.
@@ -35,7 +35,7 @@ pub struct Mark {
 /// # Errors
 ///
 /// Memory was refused.
-pub fn axis_of(alloc: Global, window: Window) -> Result<Vec<Mark>, AllocError> {
+pub(crate) fn axis_of(alloc: Global, window: Window) -> Result<Vec<Mark>, AllocError> {
     let step = window.step();
     let mut axis = Vec::new(alloc);
     let mut taken = i64::MIN;
@@ -97,7 +97,7 @@ fn decimals_of(step: u32) -> (usize, u32)
 }
 
 /// Draws the lines of the grid, from above to below.
-pub fn draw_grid(svg: &mut Svg, axis: &[Mark], top: i64, bottom: i64) {
+pub(crate) fn draw_grid(svg: &mut Svg, axis: &[Mark], top: i64, bottom: i64) {
     for mark in axis {
         let from = Point { x: mark.x, y: top };
         let to = Point {
@@ -109,7 +109,7 @@ pub fn draw_grid(svg: &mut Svg, axis: &[Mark], top: i64, bottom: i64) {
 }
 
 /// Writes the words of the marks.
-pub fn draw_axis(svg: &mut Svg, axis: &[Mark], y: i64) {
+pub(crate) fn draw_axis(svg: &mut Svg, axis: &[Mark], y: i64) {
     for mark in axis {
         if let Some(words) = &mark.words {
             svg.text(

@@ -1,10 +1,14 @@
 //! Bands of stops and restrictions, and their words.
 
-ghost use Rattle.std.specs.Prelude.{◌≡◌, IfOk, length, map};
+ghost use Rattle.std.specs.Prelude.{◌≡◌, ◌∷◌, [], IfOk, OnOk, length, map, string_bytes};
 ghost use Rattle.rbc_picture.specs.Bands.{Covers};
+ghost use Rattle.rbc_picture.specs.Panels.{bands_texts};
+ghost use Rattle.rbc_picture.specs.Shown.{IsShownOn};
+ghost use Rattle.rbc_picture.specs.Titles.{band_title};
 ghost use Rattle.rbc_picture.specs.declared.bands.Band.{Band};
 
 use crate::colours::{DOTS, LIMIT_EDGE, STOP_EDGE, STRIPES, WHITE};
+use crate::document::{push_piece, push_text};
 use crate::lanes::{Lanes, lanes_of};
 use crate::pixels::{Side, Span};
 use crate::shapes::{Area, Point};
@@ -12,6 +16,7 @@ use crate::short_words::bold_width;
 use crate::stretches::{Active, Stretch};
 use crate::svg::Svg;
 use crate::texts::{Anchor, BAND};
+use crate::titles::band_title;
 use crate::window::Window;
 use std::alloc::{AllocError, Global};
 
@@ -26,7 +31,7 @@ const HEIGHT: i64 = 160;
 
 /// Where the words of a band stand.
 #[derive(Clone, Copy)]
-pub enum Room {
+pub(crate) enum Room {
     /// In the band.
     Inside,
     /// Beside the band.
@@ -35,7 +40,7 @@ pub enum Room {
 
 /// A band for a stretch.
 #[derive(Drop)]
-pub struct Band {
+pub(crate) struct Band {
     pub stretch: Stretch,
     /// From its left edge to its right edge.
     pub body: Span,
@@ -49,7 +54,7 @@ pub struct Band {
 
 /// Bands in lanes.
 #[derive(Drop)]
-pub struct Bands {
+pub(crate) struct Bands {
     pub all: Vec<Band>,
     pub lanes: Lanes,
 }
@@ -59,7 +64,11 @@ pub struct Bands {
 /// # Errors
 ///
 /// Memory was refused.
-pub fn bands_of(alloc: Global, window: Window, stretches: &[Stretch]) -> Result<Bands, AllocError>
+pub(crate) fn bands_of(
+    alloc: Global,
+    window: Window,
+    stretches: &[Stretch],
+) -> Result<Bands, AllocError>
     ensures { IfOk result (Covers stretches.now) }
 {
     let all = all_bands(alloc, window, stretches)?;
@@ -123,15 +132,26 @@ fn room_of(body: Span, need: i64) -> (Room, Span) {
 
 impl Bands {
     /// The height of all lanes.
-    pub fn height(&self) -> i64 {
+    pub(crate) fn height(&self) -> i64 {
         lane_top(0, self.lanes.count)
     }
 
-    /// Draws the bands of a line in lanes, from `top` downwards.
-    pub fn draw(&self, svg: &mut Svg, line: usize, top: i64) {
-        for (band, lane) in self.all.iter().zip(self.lanes.of_items.iter()) {
-            band.draw(svg, line, lane_top(top, *lane));
+    /// Adds the bands of a line to a document, in lanes from `top` downwards. Fails only for lack of memory.
+    pub(crate) fn push(
+        &self,
+        alloc: Global,
+        document: &mut String,
+        line: usize,
+        top: i64,
+    ) -> Result<(), AllocError>
+        ensures { OnOk result (IsShownOn (bands_texts line self.now) (string_bytes document.old)
+            (string_bytes document.new)) }
+    {
+        for (index, band) in self.all.iter().enumerate() {
+            let lane = self.lanes.of_items.get(index).copied().unwrap_or(0);
+            band.push(alloc, document, line, lane_top(top, lane))?;
         }
+        Ok(())
     }
 
     /// The parts of the panel that the bands cover. Bands that meet are one part.
@@ -139,7 +159,7 @@ impl Bands {
     /// # Errors
     ///
     /// Memory was refused.
-    pub fn columns(&self, alloc: Global) -> Result<Vec<Span>, AllocError> {
+    pub(crate) fn columns(&self, alloc: Global) -> Result<Vec<Span>, AllocError> {
         let mut from_left = Vec::new(alloc);
         for band in &self.all {
             from_left.push((band.body.left, band.body.right))?;
@@ -172,21 +192,29 @@ fn lane_top(top: i64, lane: usize) -> i64 {
 }
 
 impl Band {
-    /// Draws the band of a stretch of a line.
-    fn draw(&self, svg: &mut Svg, line: usize, y: i64) {
-        svg.begin_group();
-        self.draw_title(svg, line);
-        self.draw_body(svg, y);
-        self.draw_words(svg, y);
-        svg.end_group();
+    /// Adds the band of a stretch of a line to a document. Fails only for lack of memory.
+    fn push(
+        &self,
+        alloc: Global,
+        document: &mut String,
+        line: usize,
+        y: i64,
+    ) -> Result<(), AllocError>
+        ensures { OnOk result (IsShownOn (band_title line self.now.stretch ∷ []) (string_bytes document.old)
+            (string_bytes document.new)) }
+    {
+        push_piece(document, Svg::of(alloc, "<g>\n"))?;
+        push_text(document, band_title(alloc, line, self.stretch)?.as_str())?;
+        push_piece(document, self.drawing(alloc, y))
     }
 
-    fn draw_title(&self, svg: &mut Svg, line: usize) {
-        svg.words("<title>");
-        svg.words(self.words.as_str());
-        svg.words(": ");
-        svg.stretch(line, self.stretch.from, self.stretch.to);
-        svg.words("</title>\n");
+    /// The band below its title, with its words.
+    fn drawing(&self, alloc: Global, y: i64) -> Svg {
+        let mut svg = Svg::new(alloc);
+        self.draw_body(&mut svg, y);
+        self.draw_words(&mut svg, y);
+        svg.end_group();
+        svg
     }
 
     fn draw_body(&self, svg: &mut Svg, y: i64) {

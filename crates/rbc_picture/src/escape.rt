@@ -12,7 +12,7 @@ use std::alloc::AllocError;
 /// # Errors
 ///
 /// Memory was refused.
-pub fn push_escaped(text: &mut String, name: &str) -> Result<(), AllocError>
+pub(crate) fn push_escaped(text: &mut String, name: &str) -> Result<(), AllocError>
     ensures escaped { OnOk result (chars (string_bytes text.new)
         ≡ chars (string_bytes text.old) ++ escaped (chars name.now)) }
     ensures inert { is_inert (escaped (chars name.now)) ≡ true }

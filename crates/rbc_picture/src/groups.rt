@@ -21,7 +21,7 @@ const NUMBERS_APART: i64 = 60;
 
 /// How a balise group is drawn.
 #[derive(Clone, Copy)]
-pub enum Form {
+pub(crate) enum Form {
     /// As a triangle towards its nominal direction.
     Triangle,
     /// As a tick.
@@ -32,7 +32,7 @@ pub enum Form {
 
 /// A balise group on the picture.
 #[derive(Drop)]
-pub struct GroupSign {
+pub(crate) struct GroupSign {
     group: NamedGroup,
     /// Where it stands, in tenths of a pixel.
     x: i64,
@@ -46,7 +46,7 @@ pub struct GroupSign {
 /// # Errors
 ///
 /// Memory was refused.
-pub fn signs_of(
+pub(crate) fn signs_of(
     alloc: Global,
     groups: &[NamedGroup],
     line: usize,
@@ -114,7 +114,7 @@ fn give_numbers(alloc: Global, signs: &mut [GroupSign]) -> Result<(), AllocError
 }
 
 /// Draws balise groups at the height of their line.
-pub fn draw_groups(svg: &mut Svg, signs: &[GroupSign], y: i64) {
+pub(crate) fn draw_groups(svg: &mut Svg, signs: &[GroupSign], y: i64) {
     for sign in signs {
         let at = Point { x: sign.x, y };
         match sign.form {

@@ -16,7 +16,7 @@ const GAP: i64 = 60;
 
 /// A label.
 #[derive(Drop)]
-pub struct Label {
+pub(crate) struct Label {
     /// The number of the train's on-board equipment.
     pub engine: String,
     /// What it is not told, or no text.
@@ -34,7 +34,7 @@ pub struct Label {
 /// # Errors
 ///
 /// Memory was refused.
-pub fn label_of(alloc: Global, train: &TrainState, body: Span) -> Result<Label, AllocError> {
+pub(crate) fn label_of(alloc: Global, train: &TrainState, body: Span) -> Result<Label, AllocError> {
     let engine = engine_words(alloc, train.engine)?;
     let untold = untold_list(alloc, train)?;
     let room = WIDEST
@@ -61,7 +61,7 @@ pub fn label_of(alloc: Global, train: &TrainState, body: Span) -> Result<Label, 
 /// # Errors
 ///
 /// Memory was refused.
-pub fn engine_words(alloc: Global, engine: u32) -> Result<String, AllocError> {
+pub(crate) fn engine_words(alloc: Global, engine: u32) -> Result<String, AllocError> {
     format!(in alloc; "{engine}")
 }
 
@@ -91,12 +91,12 @@ impl Label {
     }
 
     /// From its left end to its right end.
-    pub fn extent(&self) -> Span {
+    pub(crate) fn extent(&self) -> Span {
         Span::between(self.x, self.side.from(self.x, self.need()))
     }
 
     /// Draws the label.
-    pub fn draw(&self, svg: &mut Svg, y: i64) {
+    pub(crate) fn draw(&self, svg: &mut Svg, y: i64) {
         let engine = self.engine.as_str();
         let x = self.draw_text(
             svg,

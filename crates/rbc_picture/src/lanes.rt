@@ -10,7 +10,7 @@ const GAP: i64 = 120;
 
 /// The lane of each item, in the order of the items, and how many lanes there are.
 #[derive(Drop)]
-pub struct Lanes {
+pub(crate) struct Lanes {
     /// The lane of each item, from 0.
     pub of_items: Vec<usize>,
     /// How many there are.
@@ -23,7 +23,7 @@ pub struct Lanes {
 /// # Errors
 ///
 /// Memory was refused.
-pub fn lanes_of(alloc: Global, extents: &[Span]) -> Result<Lanes, AllocError>
+pub(crate) fn lanes_of(alloc: Global, extents: &[Span]) -> Result<Lanes, AllocError>
     ensures { IfOk result (λ lanes. length lanes.of_items.items ≡ length extents.now) }
 {
     let mut from_left = Vec::new(alloc);

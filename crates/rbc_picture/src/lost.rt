@@ -1,15 +1,20 @@
 //! The trains without a place.
 
-ghost use Rattle.std.specs.Prelude.{◌≡◌, IfOk, map, filter};
-ghost use Rattle.rbc_picture.specs.Trains.{is_unplaced};
+ghost use Rattle.std.specs.Prelude.{◌≡◌, IfOk, OnOk, map, filter, string_bytes};
+ghost use Rattle.rbc_picture.specs.Panels.{lost_texts};
+ghost use Rattle.rbc_picture.specs.Shown.{IsShownOn};
+ghost use Rattle.rbc_picture.specs.Titles.{train_texts};
+ghost use Rattle.rbc_picture.specs.Trains.{is_unplaced, train_shown};
 
 use crate::colours::{DASHED_EDGE, WHITE};
+use crate::document::push_piece;
 use crate::label::engine_words;
 use crate::shapes::{Area, Point, moved};
 use crate::short_words::{bold_width, fitting_list};
 use crate::svg::Svg;
 use crate::texts::{Anchor, ENGINE, HEADING, NOTE, UNTOLD};
 use crate::train_state::TrainState;
+use crate::train_texts::push_train;
 use std::alloc::{AllocError, Global};
 
 /// How many boxes stand in a row.
@@ -17,7 +22,7 @@ const IN_A_ROW: usize = 4;
 
 /// A train without a place, in a box.
 #[derive(Drop)]
-pub struct LostTrain<'a> {
+pub(crate) struct LostTrain<'a> {
     pub train: &'a TrainState,
     engine: String,
     /// The stops and restrictions that it is not told, or no text.
@@ -33,7 +38,7 @@ pub struct LostTrain<'a> {
 /// # Errors
 ///
 /// Memory was refused.
-pub fn lost_of<'a>(
+pub(crate) fn lost_of<'a>(
     alloc: Global,
     trains: &'a [TrainState],
 ) -> Result<Vec<LostTrain<'a>>, AllocError>
@@ -70,7 +75,7 @@ fn lost_train<'a>(alloc: Global, train: &'a TrainState) -> Result<LostTrain<'a>,
 }
 
 /// Where the part with the trains without a place ends, if it begins at `top`.
-pub fn lost_end(top: i64, trains: usize) -> i64 {
+pub(crate) fn lost_end(top: i64, trains: usize) -> i64 {
     row_top(top, trains.div_ceil(IN_A_ROW)).saturating_add(60)
 }
 
@@ -90,9 +95,24 @@ fn box_corner(top: i64, index: usize) -> Point {
     }
 }
 
-/// Draws the trains without a place, from `top` downwards.
-pub fn draw_lost(svg: &mut Svg, lost: &[LostTrain<'_>], top: i64) {
-    let y = top.saturating_add(160);
+/// Adds the trains without a place to a document, from `top` downwards. Fails only for lack of memory.
+pub(crate) fn push_lost(
+    alloc: Global,
+    document: &mut String,
+    lost: &[LostTrain<'_>],
+    top: i64,
+) -> Result<(), AllocError>
+    ensures { OnOk result (IsShownOn (lost_texts lost.now) (string_bytes document.old)
+        (string_bytes document.new)) }
+{
+    push_piece(document, heading(alloc, top.saturating_add(160)))?;
+    push_boxes(alloc, document, lost, top)?;
+    push_piece(document, Svg::of(alloc, "</g>\n"))
+}
+
+/// The heading of the trains without a place.
+fn heading(alloc: Global, y: i64) -> Svg {
+    let mut svg = Svg::new(alloc);
     svg.begin_group();
     svg.text(
         Point { x: 400, y },
@@ -106,29 +126,52 @@ pub fn draw_lost(svg: &mut Svg, lost: &[LostTrain<'_>], top: i64) {
         NOTE,
         "they may be anywhere, so each is stopped at once by every stop",
     );
+    svg
+}
+
+/// Adds the box of each train. Fails only for lack of memory.
+fn push_boxes(
+    alloc: Global,
+    document: &mut String,
+    lost: &[LostTrain<'_>],
+    top: i64,
+) -> Result<(), AllocError>
+    ensures { OnOk result (IsShownOn (lost_texts lost.now) (string_bytes document.old)
+        (string_bytes document.new)) }
+{
     for (index, train) in lost.iter().enumerate() {
-        train.draw(svg, box_corner(top, index));
+        train.push(alloc, document, box_corner(top, index))?;
     }
-    svg.end_group();
+    Ok(())
 }
 
 impl LostTrain<'_> {
-    /// Draws the box of the train.
-    fn draw(&self, svg: &mut Svg, corner: Point) {
+    /// Adds the box of the train to a document. Fails only for lack of memory.
+    fn push(&self, alloc: Global, document: &mut String, corner: Point) -> Result<(), AllocError>
+        ensures { OnOk result (IsShownOn (train_texts (train_shown self.now.train.now)) (string_bytes document.old)
+            (string_bytes document.new)) }
+    {
+        push_piece(document, Svg::of(alloc, "<g>\n"))?;
+        push_train(alloc, document, self.train)?;
+        push_piece(document, self.drawing(alloc, corner))
+    }
+
+    /// The box of the train below its title.
+    fn drawing(&self, alloc: Global, corner: Point) -> Svg {
+        let mut svg = Svg::new(alloc);
         let area = Area {
             x: corner.x,
             y: corner.y,
             width: 2_700,
             height: 240,
         };
-        svg.begin_group();
-        svg.train_title(self.train);
         svg.filled_box(area, WHITE, DASHED_EDGE);
         if let Some(is_answered) = self.at_once {
             svg.octagon(moved(corner, 130, 120), 70, is_answered);
         }
-        self.draw_words(svg, corner);
+        self.draw_words(&mut svg, corner);
         svg.end_group();
+        svg
     }
 
     /// Writes its engine, and then the stops and restrictions that it is not told, or else those that it is told.

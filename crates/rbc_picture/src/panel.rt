@@ -1,12 +1,14 @@
 //! The panel of a line.
 
-ghost use Rattle.std.specs.Prelude.{◌≡◌, IfOk, length, map, filter};
+ghost use Rattle.std.specs.Prelude.{◌≡◌, IfOk, OnOk, length, map, filter, string_bytes};
 ghost use Rattle.rbc_picture.specs.Trains.{is_on};
-ghost use Rattle.rbc_picture.specs.Panels.{ShowsLine};
+ghost use Rattle.rbc_picture.specs.Panels.{ShowsLine, panel_texts, shapes_texts};
+ghost use Rattle.rbc_picture.specs.Shown.{IsShownOn};
 
 use crate::axis::{Mark, axis_of, draw_axis, draw_grid};
 use crate::bands::{Bands, bands_of};
 use crate::colours::{DARK_EDGE, STOP, WHITE};
+use crate::document::{push_piece, push_text};
 use crate::groups::{GroupSign, draw_groups, signs_of};
 use crate::lanes::{Lanes, lanes_of};
 use crate::pixels::Span;
@@ -15,6 +17,7 @@ use crate::shapes::{Area, Point, Stroke, moved};
 use crate::stretches::{limit_stretches, stop_stretches};
 use crate::svg::Svg;
 use crate::texts::{Anchor, HEADING, NOTE};
+use crate::titles::line_heading;
 use crate::train_shape::{TrainShape, shape_of};
 use crate::train_state::TrainState;
 use crate::window::Window;
@@ -53,7 +56,7 @@ const TRACK_BEYOND: Stroke = Stroke {
 
 /// The panel of a line.
 #[derive(Drop)]
-pub struct Panel<'a> {
+pub(crate) struct Panel<'a> {
     /// The number of the line.
     pub line: usize,
     about: &'a NamedLine,
@@ -74,7 +77,7 @@ pub struct Panel<'a> {
 /// # Errors
 ///
 /// Memory was refused.
-pub fn panel_of<'a>(
+pub(crate) fn panel_of<'a>(
     alloc: Global,
     scene: &Scene<'a>,
     line: usize,
@@ -169,35 +172,69 @@ impl Panel<'_> {
     }
 
     /// Where the panel ends.
-    pub fn end(&self) -> i64 {
+    pub(crate) fn end(&self) -> i64 {
         self.limits_top()
             .saturating_add(self.limits.height())
             .saturating_add(100)
     }
 
-    /// Draws the panel.
-    pub fn draw(&self, svg: &mut Svg) {
-        svg.begin_group();
-        self.draw_heading(svg);
-        self.draw_overview(svg);
-        let y = self.line_y();
-        draw_grid(svg, &self.axis, self.stops_top(), y.saturating_add(80));
-        self.draw_columns(svg, y);
-        self.stops.draw(svg, self.line, self.stops_top());
-        self.draw_line(svg, y);
-        draw_groups(svg, &self.groups, y);
-        draw_axis(svg, &self.axis, self.axis_y());
-        self.draw_trains(svg);
-        self.limits.draw(svg, self.line, self.limits_top());
-        svg.end_group();
+    /// Adds the panel to a document. Fails only for lack of memory.
+    pub(crate) fn push(&self, alloc: Global, document: &mut String) -> Result<(), AllocError>
+        ensures { OnOk result (IsShownOn (panel_texts self.now) (string_bytes document.old)
+            (string_bytes document.new)) }
+    {
+        push_piece(document, self.heading_tag(alloc))?;
+        push_text(document, line_heading(alloc, self.line)?.as_str())?;
+        push_piece(document, self.above_stops(alloc))?;
+        self.stops
+            .push(alloc, document, self.line, self.stops_top())?;
+        push_piece(document, self.below_stops(alloc))?;
+        self.push_trains(alloc, document)?;
+        self.limits
+            .push(alloc, document, self.line, self.limits_top())?;
+        push_piece(document, Svg::of(alloc, "</g>\n"))
     }
 
-    /// Writes the number, the name and the length of the line, and which part of it is shown.
+    /// Where the number of the line is written.
+    fn heading_at(&self) -> Point {
+        Point {
+            x: LEFT,
+            y: self.top.saturating_add(160),
+        }
+    }
+
+    /// The panel up to the heading, without the end of its tag.
+    fn heading_tag(&self, alloc: Global) -> Svg {
+        let mut svg = Svg::new(alloc);
+        svg.begin_group();
+        svg.begin_tag(self.heading_at(), Anchor::Start, HEADING);
+        svg
+    }
+
+    /// The panel from the number of the line to the bands of stops.
+    fn above_stops(&self, alloc: Global) -> Svg {
+        let mut svg = Svg::new(alloc);
+        self.draw_heading(&mut svg);
+        self.draw_overview(&mut svg);
+        let y = self.line_y();
+        draw_grid(&mut svg, &self.axis, self.stops_top(), y.saturating_add(80));
+        self.draw_columns(&mut svg, y);
+        svg
+    }
+
+    /// The panel from the bands of stops to the trains.
+    fn below_stops(&self, alloc: Global) -> Svg {
+        let mut svg = Svg::new(alloc);
+        let y = self.line_y();
+        self.draw_line(&mut svg, y);
+        draw_groups(&mut svg, &self.groups, y);
+        draw_axis(&mut svg, &self.axis, self.axis_y());
+        svg
+    }
+
+    /// Writes the name and the length of the line, behind its number, and which part of it is shown.
     fn draw_heading(&self, svg: &mut Svg) {
-        let y = self.top.saturating_add(160);
-        svg.begin_words(Point { x: LEFT, y }, Anchor::Start, HEADING);
-        svg.words("Line ");
-        svg.number(self.line as u64);
+        let y = self.heading_at().y;
         svg.name(&self.about.name);
         svg.end_words();
         svg.begin_words(Point { x: RIGHT, y }, Anchor::End, NOTE);
@@ -258,11 +295,16 @@ impl Panel<'_> {
         draw_end(svg, right, 200, self.window.high == self.about.length);
     }
 
-    /// Draws each train in its row.
-    fn draw_trains(&self, svg: &mut Svg) {
-        for (train, row) in self.trains.iter().zip(self.rows.of_items.iter()) {
-            train.draw(svg, self.row_top(*row).saturating_add(270));
+    /// Adds each train to a document, in its row. Fails only for lack of memory.
+    fn push_trains(&self, alloc: Global, document: &mut String) -> Result<(), AllocError>
+        ensures { OnOk result (IsShownOn (shapes_texts self.now.trains.items) (string_bytes document.old)
+            (string_bytes document.new)) }
+    {
+        for (index, train) in self.trains.iter().enumerate() {
+            let row = self.rows.of_items.get(index).copied().unwrap_or(0);
+            train.push(alloc, document, self.row_top(row).saturating_add(270))?;
         }
+        Ok(())
     }
 }
 

@@ -4,7 +4,7 @@ use std::fmt;
 
 /// A length or a coordinate in tenths of a pixel, shown in pixels: 400 is `40`, and 405 is `40.5`.
 #[derive(Clone, Copy)]
-pub struct Pixels(pub u32);
+pub(crate) struct Pixels(pub u32);
 
 impl fmt::Display for Pixels {
     ghost use Rattle.std.specs.Prelude.{Some};
@@ -24,7 +24,7 @@ impl fmt::Display for Pixels {
 
 /// An interval on the picture, from left to right, both ends included.
 #[derive(Clone, Copy)]
-pub struct Span {
+pub(crate) struct Span {
     /// Its left end.
     pub left: i64,
     /// Its right end.
@@ -33,7 +33,7 @@ pub struct Span {
 
 impl Span {
     /// The interval between two places, in either order.
-    pub fn between(one: i64, other: i64) -> Span {
+    pub(crate) fn between(one: i64, other: i64) -> Span {
         Span {
             left: one.min(other),
             right: one.max(other),
@@ -41,7 +41,7 @@ impl Span {
     }
 
     /// The least interval that has this one and a place in it.
-    pub fn with(self, x: i64) -> Span {
+    pub(crate) fn with(self, x: i64) -> Span {
         Span {
             left: self.left.min(x),
             right: self.right.max(x),
@@ -49,19 +49,19 @@ impl Span {
     }
 
     /// Whether it has a place in common with another.
-    pub fn meets(self, other: Span) -> bool {
+    pub(crate) fn meets(self, other: Span) -> bool {
         self.left <= other.right && other.left <= self.right
     }
 
     /// Whether it lies within the picture, which is 12000 wide.
-    pub fn is_inside(self) -> bool {
+    pub(crate) fn is_inside(self) -> bool {
         0 <= self.left && self.right <= 12_000
     }
 }
 
 /// A side of a place on the picture.
 #[derive(Clone, Copy)]
-pub enum Side {
+pub(crate) enum Side {
     /// Towards rising places.
     Right,
     /// Towards falling places.
@@ -70,7 +70,7 @@ pub enum Side {
 
 impl Side {
     /// The place so far to this side of another.
-    pub fn from(self, x: i64, by: i64) -> i64 {
+    pub(crate) fn from(self, x: i64, by: i64) -> i64 {
         match self {
             Side::Right => x.saturating_add(by),
             Side::Left => x.saturating_sub(by),
@@ -78,7 +78,7 @@ impl Side {
     }
 
     /// The other side.
-    pub fn other(self) -> Side {
+    pub(crate) fn other(self) -> Side {
         match self {
             Side::Right => Side::Left,
             Side::Left => Side::Right,

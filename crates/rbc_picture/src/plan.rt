@@ -1,9 +1,12 @@
 //! The parts of a picture, one below the other, and the whole document.
 
-ghost use Rattle.std.specs.Prelude.{IfOk, length};
-ghost use Rattle.rbc_picture.specs.Panels.{ShowEachLine, ShowsAll};
+ghost use Rattle.std.specs.Prelude.{IfOk, OnOk, length, string_bytes};
+ghost use Rattle.std.specs.List.{flat_map};
+ghost use Rattle.rbc_picture.specs.Panels.{ShowEachLine, ShowsAll, panel_texts, plan_texts, scene_texts};
+ghost use Rattle.rbc_picture.specs.Shown.{IsShownOn, StandIn};
 
-use crate::lost::{LostTrain, draw_lost, lost_end, lost_of};
+use crate::document::push_piece;
+use crate::lost::{LostTrain, lost_end, lost_of, push_lost};
 use crate::panel::{Panel, panel_of};
 use crate::scene::{Scene, reaches_of, window_of};
 use crate::shapes::{Point, Stroke};
@@ -31,7 +34,7 @@ const PATTERNS: &str = "<defs>
 
 /// The parts of a picture below its head.
 #[derive(Drop)]
-pub struct Plan<'a> {
+pub(crate) struct Plan<'a> {
     /// The panel of each line.
     pub panels: Vec<Panel<'a>>,
     /// The trains without a place.
@@ -45,7 +48,7 @@ pub struct Plan<'a> {
 /// # Errors
 ///
 /// Memory was refused.
-pub fn plan_of<'a>(alloc: Global, scene: &Scene<'a>) -> Result<Plan<'a>, AllocError>
+pub(crate) fn plan_of<'a>(alloc: Global, scene: &Scene<'a>) -> Result<Plan<'a>, AllocError>
     ensures { IfOk result (ShowsAll scene.now) }
 {
     let panels = panels_of(alloc, scene)?;
@@ -99,23 +102,39 @@ impl Plan<'_> {
         u64::try_from(end.saturating_add(200) / 10).unwrap_or(0)
     }
 
-    /// Draws the panels, and the trains without a place if there are any.
-    fn draw(&self, svg: &mut Svg) {
+    /// Adds the panels to a document, and the trains without a place if there are any. Fails only for lack of memory.
+    fn push(&self, alloc: Global, document: &mut String) -> Result<(), AllocError>
+        ensures { OnOk result (IsShownOn (plan_texts self.now) (string_bytes document.old)
+            (string_bytes document.new)) }
+    {
+        self.push_panels(alloc, document)?;
+        let lost = self.lost.as_slice();
+        if lost.is_empty() {
+            return Ok(());
+        }
+        push_piece(document, rule(alloc, self.lost_top))?;
+        push_lost(alloc, document, lost, self.lost_top)
+    }
+
+    /// Adds the panels to a document. Fails only for lack of memory.
+    fn push_panels(&self, alloc: Global, document: &mut String) -> Result<(), AllocError>
+        ensures { OnOk result (IsShownOn (flat_map panel_texts self.now.panels.items) (string_bytes document.old)
+            (string_bytes document.new)) }
+    {
         for panel in &self.panels {
-            draw_rule(svg, panel.top);
-            panel.draw(svg);
+            push_piece(document, rule(alloc, panel.top))?;
+            panel.push(alloc, document)?;
         }
-        if !self.lost.is_empty() {
-            draw_rule(svg, self.lost_top);
-            draw_lost(svg, &self.lost, self.lost_top);
-        }
+        Ok(())
     }
 }
 
-/// Draws the line above a part.
-fn draw_rule(svg: &mut Svg, top: i64) {
+/// The line above a part.
+fn rule(alloc: Global, top: i64) -> Svg {
+    let mut svg = Svg::new(alloc);
     let y = top.saturating_sub(60);
     svg.line(Point { x: 400, y }, Point { x: 11_600, y }, RULE);
+    svg
 }
 
 /// Writes the whole document.
@@ -123,17 +142,26 @@ fn draw_rule(svg: &mut Svg, top: i64) {
 /// # Errors
 ///
 /// Memory was refused.
-pub fn document_of(alloc: Global, scene: &Scene<'_>) -> Result<String, AllocError> {
+pub(crate) fn document_of(alloc: Global, scene: &Scene<'_>) -> Result<String, AllocError>
+    ensures { IfOk result (λ document. StandIn (scene_texts scene.now) (string_bytes document)) }
+{
     let plan = plan_of(alloc, scene)?;
+    let mut document = String::new(alloc);
+    push_piece(&mut document, beginning(alloc, scene, plan.height()))?;
+    plan.push(alloc, &mut document)?;
+    push_piece(&mut document, Svg::of(alloc, "</svg>\n"))?;
+    Ok(document)
+}
+
+/// The document down to the panels.
+fn beginning(alloc: Global, scene: &Scene<'_>, height: u64) -> Svg {
     let mut svg = Svg::new(alloc);
-    begin_document(&mut svg, plan.height());
+    begin_document(&mut svg, height);
     write_titles(&mut svg, scene);
     svg.words(PATTERNS);
-    draw_ground(&mut svg, plan.height());
+    draw_ground(&mut svg, height);
     draw_head(&mut svg, scene);
-    plan.draw(&mut svg);
-    svg.words("</svg>\n");
-    svg.ended()
+    svg
 }
 
 /// Begins the document.

@@ -9,7 +9,7 @@ use std::alloc::{AllocError, Global};
 
 /// A post at a place before which a train is told to stop.
 #[derive(Drop)]
-pub struct Post {
+pub(crate) struct Post {
     /// Where it stands, in tenths of a pixel.
     pub x: i64,
     /// The stops before which the train is told to stop there.
@@ -41,7 +41,7 @@ struct Signs {
 /// # Errors
 ///
 /// Memory was refused.
-pub fn posts_of(
+pub(crate) fn posts_of(
     alloc: Global,
     train: &TrainState,
     line: usize,
@@ -100,7 +100,7 @@ fn signs_of(alloc: Global, told: &[Told]) -> Result<Vec<Signs>, AllocError> {
 
 /// What words beside posts must not meet.
 #[derive(Drop)]
-pub struct Taken {
+pub(crate) struct Taken {
     /// The part that each post takes.
     posts: Vec<Span>,
     /// The parts of the train, of its sign, and of words that were placed before.
@@ -113,7 +113,11 @@ impl Taken {
     /// # Errors
     ///
     /// Memory was refused.
-    pub fn by(alloc: Global, posts: &[Post], others: Vec<Span>) -> Result<Taken, AllocError> {
+    pub(crate) fn by(
+        alloc: Global,
+        posts: &[Post],
+        others: Vec<Span>,
+    ) -> Result<Taken, AllocError> {
         let posts = posts.iter().map(|post| around(post.x)).collect(alloc)?;
         Ok(Taken { posts, others })
     }
@@ -151,7 +155,7 @@ fn around(x: i64) -> Span {
 
 impl Post {
     /// The room of its words on a side.
-    pub fn room(&self, side: Side) -> Span {
+    pub(crate) fn room(&self, side: Side) -> Span {
         let end = bold_width(self.words.as_str(), 11).saturating_add(100);
         Span::between(side.from(self.x, 90), side.from(self.x, end))
     }
@@ -162,7 +166,11 @@ impl Post {
 /// # Errors
 ///
 /// Memory was refused.
-pub fn place_words(posts: &mut Vec<Post>, taken: &mut Taken, side: Side) -> Result<(), AllocError> {
+pub(crate) fn place_words(
+    posts: &mut Vec<Post>,
+    taken: &mut Taken,
+    side: Side,
+) -> Result<(), AllocError> {
     for (index, post) in posts.iter_mut().enumerate() {
         if let Some(free) = taken.side_of(index, post, side) {
             post.side = Some(free);

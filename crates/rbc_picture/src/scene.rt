@@ -8,7 +8,7 @@ use std::alloc::{AllocError, Global};
 
 /// A track, and what stands on it after some inputs.
 #[derive(Drop)]
-pub struct Scene<'a> {
+pub(crate) struct Scene<'a> {
     /// The track, with its names.
     pub track: &'a NamedTrack,
     /// The active stops, ascending.
@@ -23,7 +23,7 @@ pub struct Scene<'a> {
 
 /// What a picture counts.
 #[derive(Clone, Copy)]
-pub struct Sums {
+pub(crate) struct Sums {
     /// The inputs that were taken.
     pub taken: u64,
     /// The inputs of the batch.
@@ -42,7 +42,7 @@ pub struct Sums {
 /// # Errors
 ///
 /// Memory was refused.
-pub fn reaches_of(alloc: Global, scene: &Scene<'_>) -> Result<Vec<Reach>, AllocError> {
+pub(crate) fn reaches_of(alloc: Global, scene: &Scene<'_>) -> Result<Vec<Reach>, AllocError> {
     let mut reaches = Vec::new(alloc);
     for line in 0..scene.track.lines.len() {
         let reach = stops_reach(scene.stops, line)
@@ -120,7 +120,7 @@ fn train_reach(train: &TrainState, line: usize) -> Reach {
 
 /// The window of a line. Lines of one length have the same window, which shows the places of all of them. If that is
 /// the whole line, each has a window for its own places.
-pub fn window_of(lines: &[NamedLine], reaches: &[Reach], line: usize) -> Window {
+pub(crate) fn window_of(lines: &[NamedLine], reaches: &[Reach], line: usize) -> Window {
     let length = lines.get(line).map_or(1, |line| line.length);
     let common = Window::of(length, common_reach(lines, reaches, length));
     if !common.is_whole(length) {

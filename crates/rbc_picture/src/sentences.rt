@@ -10,7 +10,7 @@ use rbc_zones::{Dirs, Limit, Segment};
 
 impl Svg {
     /// Adds a part of a line: `km 15.200 to km 16.850`.
-    pub fn from_to(&mut self, from: u32, to: u32) {
+    pub(crate) fn from_to(&mut self, from: u32, to: u32) {
         self.words("km ");
         self.km(from);
         self.words(" to km ");
@@ -18,7 +18,7 @@ impl Svg {
     }
 
     /// Adds a stretch of a line: `line 0, km 15.200 to km 16.850`.
-    pub fn stretch(&mut self, line: usize, from: u32, to: u32) {
+    pub(crate) fn stretch(&mut self, line: usize, from: u32, to: u32) {
         self.words("line ");
         self.number(line as u64);
         self.words(", ");
@@ -26,7 +26,7 @@ impl Svg {
     }
 
     /// Adds a sentence on an active stop, with a space before it.
-    pub fn stop_sentence(&mut self, number: u32, segments: &[Segment]) {
+    pub(crate) fn stop_sentence(&mut self, number: u32, segments: &[Segment]) {
         self.words(" Stop ");
         self.number(u64::from(number));
         for (index, segment) in segments.iter().enumerate() {
@@ -37,7 +37,7 @@ impl Svg {
     }
 
     /// Adds a sentence on an active restriction, with a space before it.
-    pub fn limit_sentence(&mut self, number: u32, limit: &Limit) {
+    pub(crate) fn limit_sentence(&mut self, number: u32, limit: &Limit) {
         let segment = limit.segment();
         self.words(" Restriction ");
         self.number(u64::from(number));
@@ -52,22 +52,23 @@ impl Svg {
         self.words(" km/h.");
     }
 
-    /// Writes the title of a train, on a line of its own.
-    pub fn train_title(&mut self, train: &TrainState) {
-        self.words("<title>");
-        self.train_sentences(train);
-        self.words("</title>\n");
-    }
-
     /// Adds sentences on a train: where it may be, what each of its identifiers is held for, and which stops and
     /// restrictions it is not told.
-    pub fn train_sentences(&mut self, train: &TrainState) {
+    pub(crate) fn train_sentences(&mut self, train: &TrainState) {
         self.words("Train ");
         self.number(u64::from(train.engine));
         match &train.place {
             Some(place) => self.place_words(place),
             None => self.words(" has no place."),
         }
+        self.told_sentences(train);
+        for waiting in &train.waiting {
+            self.waiting_sentence(waiting.what);
+        }
+    }
+
+    /// Adds a sentence on what each identifier of a train is held for, with a space before it.
+    pub(crate) fn told_sentences(&mut self, train: &TrainState) {
         for stop in &train.stops {
             self.words(" Stop identifier ");
             self.number(u64::from(stop.id));
@@ -77,9 +78,6 @@ impl Svg {
             self.words(" Restriction identifier ");
             self.number(u64::from(*id));
             self.limit_slot(slot);
-        }
-        for waiting in &train.waiting {
-            self.waiting_sentence(waiting.what);
         }
     }
 

@@ -5,14 +5,14 @@ use crate::svg::Svg;
 
 /// A point on the picture, in tenths of a pixel from its left edge and from its upper edge.
 #[derive(Clone, Copy)]
-pub struct Point {
+pub(crate) struct Point {
     pub x: i64,
     pub y: i64,
 }
 
 /// The area of a box, in tenths of a pixel.
 #[derive(Clone, Copy)]
-pub struct Area {
+pub(crate) struct Area {
     /// Its left edge.
     pub x: i64,
     /// Its upper edge.
@@ -23,7 +23,7 @@ pub struct Area {
 
 /// How a line is drawn.
 #[derive(Clone, Copy)]
-pub struct Stroke {
+pub(crate) struct Stroke {
     pub colour: &'static str,
     /// Its width in pixels.
     pub width: &'static str,
@@ -32,7 +32,7 @@ pub struct Stroke {
 }
 
 /// A point so far to the right of another and so far below it.
-pub fn moved(point: Point, right: i64, down: i64) -> Point {
+pub(crate) fn moved(point: Point, right: i64, down: i64) -> Point {
     Point {
         x: point.x.saturating_add(right),
         y: point.y.saturating_add(down),
@@ -41,7 +41,7 @@ pub fn moved(point: Point, right: i64, down: i64) -> Point {
 
 impl Svg {
     /// Draws a line.
-    pub fn line(&mut self, from: Point, to: Point, stroke: Stroke) {
+    pub(crate) fn line(&mut self, from: Point, to: Point, stroke: Stroke) {
         self.words("<line");
         self.length("x1", from.x);
         self.length("y1", from.y);
@@ -56,7 +56,7 @@ impl Svg {
     }
 
     /// Begins a box. `more` has further attributes, each with a space before it.
-    pub fn begin_box(&mut self, area: Area, fill: &str, more: &str) {
+    pub(crate) fn begin_box(&mut self, area: Area, fill: &str, more: &str) {
         self.words("<rect");
         self.length("x", area.x);
         self.length("y", area.y);
@@ -67,13 +67,13 @@ impl Svg {
     }
 
     /// Draws a box.
-    pub fn filled_box(&mut self, area: Area, fill: &str, more: &str) {
+    pub(crate) fn filled_box(&mut self, area: Area, fill: &str, more: &str) {
         self.begin_box(area, fill, more);
         self.words("/>\n");
     }
 
     /// Begins a polygon. `more` has further attributes, each with a space before it.
-    pub fn begin_polygon(&mut self, points: &[Point], fill: &str, more: &str) {
+    pub(crate) fn begin_polygon(&mut self, points: &[Point], fill: &str, more: &str) {
         self.words("<polygon points=\"");
         for (index, point) in points.iter().enumerate() {
             if index > 0 {
@@ -93,14 +93,14 @@ impl Svg {
     }
 
     /// Draws a polygon.
-    pub fn polygon(&mut self, points: &[Point], fill: &str, more: &str) {
+    pub(crate) fn polygon(&mut self, points: &[Point], fill: &str, more: &str) {
         self.begin_polygon(points, fill, more);
         self.words("/>\n");
     }
 
     /// Draws the octagon of a stop that a train is told. It reaches `radius` to all sides, and is filled if the train
     /// has answered.
-    pub fn octagon(&mut self, centre: Point, radius: i64, is_filled: bool) {
+    pub(crate) fn octagon(&mut self, centre: Point, radius: i64, is_filled: bool) {
         let fill = if is_filled { STOP } else { WHITE };
         self.polygon(&corners_of(centre, radius), fill, SIGN_EDGE);
     }

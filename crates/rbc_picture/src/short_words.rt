@@ -6,7 +6,7 @@ use std::fmt::Write;
 
 /// A remark on a stop or a restriction that a train is told.
 #[derive(Clone, Copy)]
-pub enum Remark {
+pub(crate) enum Remark {
     /// Nothing.
     Nothing,
     /// The train has not answered or acknowledged it.
@@ -17,7 +17,7 @@ pub enum Remark {
 
 /// A stop or a restriction, in short: `S1`, `S2?`, `S3!` or `R20`.
 #[derive(Clone, Copy)]
-pub struct ShortWord {
+pub(crate) struct ShortWord {
     /// Whether it is a stop.
     pub is_stop: bool,
     /// Its number.
@@ -28,7 +28,7 @@ pub struct ShortWord {
 
 impl ShortWord {
     /// A stop without a remark.
-    pub fn stop(number: u32) -> ShortWord {
+    pub(crate) fn stop(number: u32) -> ShortWord {
         ShortWord {
             is_stop: true,
             number,
@@ -37,7 +37,7 @@ impl ShortWord {
     }
 
     /// A restriction without a remark.
-    pub fn restriction(number: u32) -> ShortWord {
+    pub(crate) fn restriction(number: u32) -> ShortWord {
         ShortWord {
             is_stop: false,
             number,
@@ -64,7 +64,7 @@ impl fmt::Display for ShortWord {
 /// # Errors
 ///
 /// Memory was refused.
-pub fn short_list(
+pub(crate) fn short_list(
     alloc: Global,
     before: &str,
     words: &[ShortWord],
@@ -102,7 +102,7 @@ fn push_more(list: &mut String, shown: usize, more: usize) -> Result<(), AllocEr
 /// # Errors
 ///
 /// Memory was refused.
-pub fn fitting_list(
+pub(crate) fn fitting_list(
     alloc: Global,
     before: &str,
     words: &[ShortWord],
@@ -128,11 +128,11 @@ fn count_of(words: &str) -> i64 {
 
 /// A bound on the width of words in ASCII, in tenths of a pixel, if they are bold. The layout takes it for all words
 /// but the numbers of balise groups.
-pub fn bold_width(words: &str, size: i64) -> i64 {
+pub(crate) fn bold_width(words: &str, size: i64) -> i64 {
     count_of(words).saturating_mul(size).saturating_mul(14) / 2
 }
 
 /// A bound on the width of words in ASCII, in tenths of a pixel, if they are not bold.
-pub fn plain_width(words: &str, size: i64) -> i64 {
+pub(crate) fn plain_width(words: &str, size: i64) -> i64 {
     count_of(words).saturating_mul(size).saturating_mul(13) / 2
 }

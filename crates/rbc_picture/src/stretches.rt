@@ -9,7 +9,7 @@ use std::fmt;
 
 /// What is active on a stretch.
 #[derive(Clone, Copy)]
-pub enum Active {
+pub(crate) enum Active {
     /// A stop.
     Stop,
     /// A restriction to a speed in km/h, for trains that face this way.
@@ -18,7 +18,7 @@ pub enum Active {
 
 /// A stretch of a line on which a stop or a restriction is active, from one place to another, in units of 10 cm.
 #[derive(Clone, Copy)]
-pub struct Stretch {
+pub(crate) struct Stretch {
     /// The number of the stop or of the restriction.
     pub number: u32,
     pub from: u32,
@@ -28,6 +28,11 @@ pub struct Stretch {
 }
 
 impl fmt::Display for Stretch {
+    ghost use Rattle.std.specs.Prelude.{Some};
+    ghost use Rattle.rbc_picture.specs.Titles.{stretch_words};
+
+    ghost output = { λ stretch. Some (stretch_words stretch) };
+
     fn fmt<W: fmt::Write>(&self, f: &mut fmt::Formatter<W>) -> fmt::Result {
         let number = self.number;
         match self.active {
@@ -49,7 +54,7 @@ impl fmt::Display for Stretch {
 /// # Errors
 ///
 /// Memory was refused.
-pub fn stop_stretches(
+pub(crate) fn stop_stretches(
     alloc: Global,
     stops: &[(u32, Area)],
     line: usize,
@@ -91,7 +96,7 @@ fn push_stretches(
 /// # Errors
 ///
 /// Memory was refused.
-pub fn limit_stretches(
+pub(crate) fn limit_stretches(
     alloc: Global,
     limits: &[(u32, Limit)],
     line: usize,

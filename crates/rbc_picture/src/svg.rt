@@ -1,4 +1,4 @@
-//! The text of an SVG document while it is written.
+//! A piece of an SVG document while it is drawn.
 
 use crate::escape::push_escaped;
 use crate::pixels::Pixels;
@@ -7,17 +7,17 @@ use rbc_words::{Count, Km};
 use std::alloc::{AllocError, Global};
 use std::fmt::Write;
 
-/// A document that is written piece by piece. If memory is refused, a piece is missing, and `ended` reports it: a
-/// method that adds a piece has no result. All lengths and coordinates are in tenths of a pixel.
+/// A piece of a document. If memory is refused, a part of it is missing, and `ended` reports it: a method that adds to
+/// it has no result. All lengths and coordinates are in tenths of a pixel.
 #[derive(Drop)]
-pub struct Svg {
+pub(crate) struct Svg {
     text: String,
     is_cut: bool,
 }
 
 impl Svg {
-    /// An empty document.
-    pub fn new(alloc: Global) -> Self {
+    /// An empty piece.
+    pub(crate) fn new(alloc: Global) -> Self {
         Svg {
             text: String::new(alloc),
             is_cut: false,
@@ -28,8 +28,8 @@ impl Svg {
     ///
     /// # Errors
     ///
-    /// Memory was refused to a piece of it.
-    pub fn ended(self) -> Result<String, AllocError> {
+    /// Memory was refused to a part of it.
+    pub(crate) fn ended(self) -> Result<String, AllocError> {
         if self.is_cut {
             return Err(AllocError);
         }
@@ -37,21 +37,21 @@ impl Svg {
     }
 
     /// Adds words as they are.
-    pub fn words(&mut self, words: &str) {
+    pub(crate) fn words(&mut self, words: &str) {
         if self.text.push_str(words).is_err() {
             self.is_cut = true;
         }
     }
 
     /// Adds a number in decimal.
-    pub fn number(&mut self, number: u64) {
+    pub(crate) fn number(&mut self, number: u64) {
         if write!(self.text, "{number}").is_err() {
             self.is_cut = true;
         }
     }
 
     /// Adds a place or a length on a line, in units of 10 cm, in kilometres.
-    pub fn km(&mut self, units: u32) {
+    pub(crate) fn km(&mut self, units: u32) {
         let km = Km(units);
         if write!(self.text, "{km}").is_err() {
             self.is_cut = true;
@@ -59,7 +59,7 @@ impl Svg {
     }
 
     /// Adds so many of a thing.
-    pub fn count(&mut self, number: usize, noun: &str) {
+    pub(crate) fn count(&mut self, number: usize, noun: &str) {
         let count = Count { number, noun };
         if write!(self.text, "{count}").is_err() {
             self.is_cut = true;
@@ -67,14 +67,14 @@ impl Svg {
     }
 
     /// Adds a stop or a restriction, in short.
-    pub fn short_word(&mut self, word: ShortWord) {
+    pub(crate) fn short_word(&mut self, word: ShortWord) {
         if write!(self.text, "{word}").is_err() {
             self.is_cut = true;
         }
     }
 
     /// Adds a name between quotation marks, escaped and with a space before it. Without a name it adds nothing.
-    pub fn name(&mut self, name: &Option<String>) {
+    pub(crate) fn name(&mut self, name: &Option<String>) {
         if let Some(name) = name {
             self.words(" \"");
             self.escaped(name.as_str());
@@ -90,7 +90,7 @@ impl Svg {
     }
 
     /// Adds a length or a coordinate in pixels. One below 0 counts as 0.
-    pub fn pixels(&mut self, tenths: i64) {
+    pub(crate) fn pixels(&mut self, tenths: i64) {
         let pixels = Pixels(u32::try_from(tenths.max(0)).unwrap_or(u32::MAX));
         if write!(self.text, "{pixels}").is_err() {
             self.is_cut = true;
@@ -98,7 +98,7 @@ impl Svg {
     }
 
     /// Adds an attribute, with a space before it.
-    pub fn attribute(&mut self, key: &str, value: &str) {
+    pub(crate) fn attribute(&mut self, key: &str, value: &str) {
         self.words(" ");
         self.words(key);
         self.words("=\"");
@@ -107,7 +107,7 @@ impl Svg {
     }
 
     /// Adds an attribute that is a length or a coordinate, with a space before it.
-    pub fn length(&mut self, key: &str, tenths: i64) {
+    pub(crate) fn length(&mut self, key: &str, tenths: i64) {
         self.words(" ");
         self.words(key);
         self.words("=\"");
@@ -116,12 +116,19 @@ impl Svg {
     }
 
     /// Begins a group of elements.
-    pub fn begin_group(&mut self) {
+    pub(crate) fn begin_group(&mut self) {
         self.words("<g>\n");
     }
 
     /// Ends a group of elements.
-    pub fn end_group(&mut self) {
+    pub(crate) fn end_group(&mut self) {
         self.words("</g>\n");
+    }
+
+    /// A piece that only has these words.
+    pub(crate) fn of(alloc: Global, words: &str) -> Self {
+        let mut svg = Svg::new(alloc);
+        svg.words(words);
+        svg
     }
 }

@@ -7,7 +7,7 @@ use crate::svg::Svg;
 
 /// How words look.
 #[derive(Clone, Copy)]
-pub struct Style {
+pub(crate) struct Style {
     /// Their size in pixels.
     pub size: &'static str,
     pub is_bold: bool,
@@ -15,77 +15,77 @@ pub struct Style {
 }
 
 /// The title above the picture.
-pub const TITLE: Style = Style {
+pub(crate) const TITLE: Style = Style {
     size: "20",
     is_bold: true,
     colour: DARK,
 };
 
 /// The summary below the title.
-pub const SUMMARY: Style = Style {
+pub(crate) const SUMMARY: Style = Style {
     size: "13",
     is_bold: false,
     colour: DARK,
 };
 
 /// How much is not told, below the summary.
-pub const LACK: Style = Style {
+pub(crate) const LACK: Style = Style {
     size: "13",
     is_bold: true,
     colour: RED,
 };
 
 /// The heading of a part.
-pub const HEADING: Style = Style {
+pub(crate) const HEADING: Style = Style {
     size: "15",
     is_bold: true,
     colour: DARK,
 };
 
 /// The words of the legend and of an axis.
-pub const SMALL: Style = Style {
+pub(crate) const SMALL: Style = Style {
     size: "11",
     is_bold: false,
     colour: DARK,
 };
 
 /// The stops and restrictions that a train is told, and remarks.
-pub const NOTE: Style = Style {
+pub(crate) const NOTE: Style = Style {
     size: "11",
     is_bold: false,
     colour: GREY,
 };
 
 /// The stops and restrictions that a train is not told.
-pub const UNTOLD: Style = Style {
+pub(crate) const UNTOLD: Style = Style {
     size: "11",
     is_bold: true,
     colour: RED,
 };
 
 /// The number of a train's on-board equipment.
-pub const ENGINE: Style = Style {
+pub(crate) const ENGINE: Style = Style {
     size: "13",
     is_bold: true,
     colour: DARK,
 };
 
 /// The words at a band.
-pub const BAND: Style = Style {
+pub(crate) const BAND: Style = Style {
     size: "11",
     is_bold: true,
     colour: DARK,
 };
 
 /// The words beside the sign of a stop.
-pub const SIGN: Style = Style {
+pub(crate) const SIGN: Style = Style {
     size: "11",
     is_bold: true,
     colour: BROWN,
 };
 
 /// The number of a balise group.
-pub const GROUP: Style = Style {
+pub(crate) const GROUP: Style = Style {
     size: "10",
     is_bold: false,
     colour: GREY,
@@ -97,7 +97,7 @@ const HALO: &str =
 
 /// Which part of words stands at their place.
 #[derive(Clone, Copy)]
-pub enum Anchor {
+pub(crate) enum Anchor {
     Start,
     Middle,
     End,
@@ -105,7 +105,7 @@ pub enum Anchor {
 
 impl Anchor {
     /// The anchor of words that go to a side.
-    pub fn of(side: Side) -> Anchor {
+    pub(crate) fn of(side: Side) -> Anchor {
         match side {
             Side::Right => Anchor::Start,
             Side::Left => Anchor::End,
@@ -134,27 +134,32 @@ impl Svg {
         }
     }
 
-    /// Begins a text; its words follow.
-    pub fn begin_words(&mut self, at: Point, anchor: Anchor, style: Style) {
+    /// Begins a text, up to the end of its tag.
+    pub(crate) fn begin_tag(&mut self, at: Point, anchor: Anchor, style: Style) {
         self.begin_text(at, anchor, style);
         self.attribute("fill", style.colour);
+    }
+
+    /// Begins a text; its words follow.
+    pub(crate) fn begin_words(&mut self, at: Point, anchor: Anchor, style: Style) {
+        self.begin_tag(at, anchor, style);
         self.words(">");
     }
 
     /// Ends a text.
-    pub fn end_words(&mut self) {
+    pub(crate) fn end_words(&mut self) {
         self.words("</text>\n");
     }
 
     /// Writes words as they are.
-    pub fn text(&mut self, at: Point, anchor: Anchor, style: Style, words: &str) {
+    pub(crate) fn text(&mut self, at: Point, anchor: Anchor, style: Style, words: &str) {
         self.begin_words(at, anchor, style);
         self.words(words);
         self.end_words();
     }
 
     /// Writes words as they are, with a white edge behind them.
-    pub fn text_with_halo(&mut self, at: Point, anchor: Anchor, style: Style, words: &str) {
+    pub(crate) fn text_with_halo(&mut self, at: Point, anchor: Anchor, style: Style, words: &str) {
         self.begin_text(at, anchor, style);
         self.words(HALO);
         self.words(words);

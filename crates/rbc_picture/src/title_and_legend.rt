@@ -26,7 +26,7 @@ const LACKS: &str = "NOT TOLD: it concerns the train, and no identifier is free.
     NOT TOLD AGAIN: it was not answered, and no identifier is free.";
 
 /// Where the head ends.
-pub fn head_end(sums: &Sums) -> i64 {
+pub(crate) fn head_end(sums: &Sums) -> i64 {
     legend_top(sums).saturating_add(600)
 }
 
@@ -45,7 +45,7 @@ fn lack_top(number: usize, top: i64) -> i64 {
 
 impl Svg {
     /// Adds the title of a picture: `Track "NAME" after 8 of 12 inputs`.
-    pub fn title_words(&mut self, scene: &Scene<'_>) {
+    pub(crate) fn title_words(&mut self, scene: &Scene<'_>) {
         self.words("Track");
         self.name(&scene.track.name);
         self.words(" after ");
@@ -55,7 +55,7 @@ impl Svg {
     }
 
     /// Adds the summary of a picture.
-    pub fn summary_words(&mut self, scene: &Scene<'_>) {
+    pub(crate) fn summary_words(&mut self, scene: &Scene<'_>) {
         let unplaced = scene.trains.iter().filter(|train| train.is_unplaced());
         self.count(scene.trains.len(), "train");
         self.words(", ");
@@ -74,7 +74,7 @@ impl Svg {
 }
 
 /// Draws the words above the picture, and the legend.
-pub fn draw_head(svg: &mut Svg, scene: &Scene<'_>) {
+pub(crate) fn draw_head(svg: &mut Svg, scene: &Scene<'_>) {
     svg.begin_words(Point { x: LEFT, y: 300 }, Anchor::Start, TITLE);
     svg.title_words(scene);
     svg.end_words();

@@ -1,10 +1,13 @@
 //! How a train is drawn on its line.
 
-ghost use Rattle.std.specs.Prelude.{◌≡◌, IfOk, pos};
-ghost use Rattle.rbc_picture.specs.Trains.{end_at};
+ghost use Rattle.std.specs.Prelude.{◌≡◌, IfOk, OnOk, pos, string_bytes};
+ghost use Rattle.rbc_picture.specs.Shown.{IsShownOn};
+ghost use Rattle.rbc_picture.specs.Titles.{train_texts};
+ghost use Rattle.rbc_picture.specs.Trains.{end_at, train_shown};
 ghost use Rattle.rbc_picture.specs.Window.{x_at};
 
 use crate::colours::DARK;
+use crate::document::push_piece;
 use crate::label::{Label, label_of};
 use crate::pixels::{Side, Span};
 use crate::posts::{Post, Taken, place_words, posts_of};
@@ -13,6 +16,7 @@ use crate::short_words::{bold_width, short_list};
 use crate::svg::Svg;
 use crate::texts::{Anchor, SIGN};
 use crate::train_state::TrainState;
+use crate::train_texts::push_train;
 use crate::window::Window;
 use rbc_place::Place;
 use rbc_track::Way;
@@ -22,14 +26,14 @@ use std::alloc::{AllocError, Global};
 const LEAST_LENGTH: i64 = 120;
 
 /// The line from a train to the place before which it is told to stop.
-pub const TOLD: Stroke = Stroke {
+pub(crate) const TOLD: Stroke = Stroke {
     colour: "#D55E00",
     width: "2",
     dashes: Some("6 4"),
 };
 
 /// The post at such a place.
-pub const POST: Stroke = Stroke {
+pub(crate) const POST: Stroke = Stroke {
     colour: "#D55E00",
     width: "3",
     dashes: None,
@@ -37,14 +41,14 @@ pub const POST: Stroke = Stroke {
 
 /// The sign of the stops that a train is told by message 16.
 #[derive(Drop)]
-pub struct NowSign {
+pub(crate) struct NowSign {
     pub words: String,
     pub is_answered: bool,
 }
 
 /// A train on its line.
 #[derive(Drop)]
-pub struct TrainShape<'a> {
+pub(crate) struct TrainShape<'a> {
     /// The train.
     pub train: &'a TrainState,
     /// From its left end to its right end.
@@ -61,7 +65,7 @@ pub struct TrainShape<'a> {
 /// # Errors
 ///
 /// Memory was refused.
-pub fn shape_of<'a>(
+pub(crate) fn shape_of<'a>(
     alloc: Global,
     train: &'a TrainState,
     place: Place,
@@ -143,7 +147,7 @@ fn parts_of(
 
 impl TrainShape<'_> {
     /// The room of the train with its label, its signs and their words.
-    pub fn extent(&self) -> Span {
+    pub(crate) fn extent(&self) -> Span {
         let label = self.label.extent();
         let mut extent = self.body.with(label.left).with(label.right);
         if let Some(sign) = &self.now {
@@ -162,16 +166,31 @@ impl TrainShape<'_> {
         extent
     }
 
-    /// Draws the train in a row.
-    pub fn draw(&self, svg: &mut Svg, y: i64) {
-        svg.begin_group();
-        svg.train_title(self.train);
-        self.label.draw(svg, y.saturating_sub(110));
-        self.draw_ways(svg, y);
-        self.draw_arrow(svg, y);
-        self.draw_posts(svg, y);
-        self.draw_now(svg, y);
+    /// Adds the train to a document, in a row. Fails only for lack of memory.
+    pub(crate) fn push(
+        &self,
+        alloc: Global,
+        document: &mut String,
+        y: i64,
+    ) -> Result<(), AllocError>
+        ensures { OnOk result (IsShownOn (train_texts (train_shown self.entry.now.train.now))
+            (string_bytes document.old) (string_bytes document.new)) }
+    {
+        push_piece(document, Svg::of(alloc, "<g>\n"))?;
+        push_train(alloc, document, self.train)?;
+        push_piece(document, self.drawing(alloc, y))
+    }
+
+    /// The train below its title.
+    fn drawing(&self, alloc: Global, y: i64) -> Svg {
+        let mut svg = Svg::new(alloc);
+        self.label.draw(&mut svg, y.saturating_sub(110));
+        self.draw_ways(&mut svg, y);
+        self.draw_arrow(&mut svg, y);
+        self.draw_posts(&mut svg, y);
+        self.draw_now(&mut svg, y);
         svg.end_group();
+        svg
     }
 
     /// Draws a line to each post.

@@ -2,7 +2,7 @@
 
 ghost use Rattle.std.specs.Prelude.{◌≡◌, IfOk, is_some, map};
 ghost use Rattle.rbc_account.specs.Known.{train_in};
-ghost use Rattle.rbc_picture.specs.Trains.{is_on, is_unplaced, known_trains, placing_of};
+ghost use Rattle.rbc_picture.specs.Trains.{is_on, is_unplaced, known_train, known_trains, train_shown};
 
 use crate::short_words::{Remark, ShortWord};
 use rbc_account::{Account, ToldPlace, TrainStanding, Waiting, Waits};
@@ -13,7 +13,7 @@ use std::alloc::{AllocError, Global};
 
 /// What a stop identifier of a train is held for.
 #[derive(Clone, Copy)]
-pub struct StopSlot {
+pub(crate) struct StopSlot {
     /// The identifier (NID_EM).
     pub id: u8,
     /// What it is held for.
@@ -24,7 +24,7 @@ pub struct StopSlot {
 
 /// A train: where it may be, what it is told, and what it is not told.
 #[derive(Drop)]
-pub struct TrainState {
+pub(crate) struct TrainState {
     /// The number of its on-board equipment (NID_ENGINE).
     pub engine: u32,
     /// Where it may be, if that is known.
@@ -39,7 +39,7 @@ pub struct TrainState {
 
 /// The stops that a train is told by message 16.
 #[derive(Drop)]
-pub struct AtOnce {
+pub(crate) struct AtOnce {
     /// The stops, by identifier.
     pub words: Vec<ShortWord>,
     /// Whether the train has answered all of them.
@@ -51,12 +51,12 @@ pub struct AtOnce {
 /// # Errors
 ///
 /// Memory was refused.
-pub fn trains_of(
+pub(crate) fn trains_of(
     alloc: Global,
     account: &Account,
     standing: &[TrainStanding],
 ) -> Result<Vec<TrainState>, AllocError>
-    ensures { IfOk result (λ trains. map placing_of trains.items
+    ensures { IfOk result (λ trains. map train_shown trains.items
         ≡ known_trains (train_in account.now.desk.records) standing.now) }
 {
     let mut trains = Vec::new(alloc);
@@ -75,7 +75,7 @@ fn state_of(
     at_train: &TrainStanding,
     train: &TrainRec,
 ) -> Result<TrainState, AllocError>
-    ensures { IfOk result (λ state. placing_of state ≡ (at_train.now.engine, train.now.place)) }
+    ensures { IfOk result (λ state. train_shown state ≡ known_train at_train.now train.now) }
 {
     Ok(TrainState {
         engine: at_train.engine,
@@ -115,7 +115,7 @@ fn told_place_of(account: &Account, engine: u32, id: u8, slot: &Slot) -> Option<
 
 impl TrainState {
     /// The place of the train, if it is placed on this line.
-    pub fn place_on(&self, line: usize) -> Option<Place>
+    pub(crate) fn place_on(&self, line: usize) -> Option<Place>
         ensures { is_some result ≡ is_on line self.now }
     {
         match self.place {
@@ -125,14 +125,14 @@ impl TrainState {
     }
 
     /// Whether it has no place.
-    pub fn is_unplaced(&self) -> bool
+    pub(crate) fn is_unplaced(&self) -> bool
         ensures { result ≡ is_unplaced self.now }
     {
         self.place.is_none()
     }
 
     /// Whether a stop was left unanswered in three reports, and is not told again.
-    pub fn is_due(&self, number: u32) -> bool {
+    pub(crate) fn is_due(&self, number: u32) -> bool {
         self.waiting
             .iter()
             .any(|waiting| waiting.what == Waits::Again(number))
@@ -160,7 +160,7 @@ impl TrainState {
     /// # Errors
     ///
     /// Memory was refused.
-    pub fn told_words(&self, alloc: Global) -> Result<Vec<ShortWord>, AllocError> {
+    pub(crate) fn told_words(&self, alloc: Global) -> Result<Vec<ShortWord>, AllocError> {
         let mut words = Vec::new(alloc);
         for stop in &self.stops {
             if let Slot::Used(used) = &stop.slot {
@@ -181,7 +181,7 @@ impl TrainState {
     /// # Errors
     ///
     /// Memory was refused.
-    pub fn untold_words(&self, alloc: Global) -> Result<Vec<ShortWord>, AllocError> {
+    pub(crate) fn untold_words(&self, alloc: Global) -> Result<Vec<ShortWord>, AllocError> {
         let mut words = Vec::new(alloc);
         for waiting in &self.waiting {
             match waiting.what {
@@ -198,7 +198,7 @@ impl TrainState {
     /// # Errors
     ///
     /// Memory was refused.
-    pub fn at_once(&self, alloc: Global) -> Result<Option<AtOnce>, AllocError> {
+    pub(crate) fn at_once(&self, alloc: Global) -> Result<Option<AtOnce>, AllocError> {
         let mut words = Vec::new(alloc);
         let mut is_answered = true;
         for stop in &self.stops {

@@ -25,16 +25,16 @@ const MOST_MARKS: u32 = 13;
 
 /// The lowest and the highest place that a window has to show, in units of 10 cm, if there is one.
 #[derive(Clone, Copy)]
-pub struct Reach {
+pub(crate) struct Reach {
     ends: Option<(u32, u32)>,
 }
 
 impl Reach {
     /// No place has to be shown.
-    pub const NONE: Reach = Reach { ends: None };
+    pub(crate) const NONE: Reach = Reach { ends: None };
 
     /// One more place has to be shown.
-    pub fn with(self, place: u32) -> Reach {
+    pub(crate) fn with(self, place: u32) -> Reach {
         let ends = match self.ends {
             Some((least, greatest)) => (least.min(place), greatest.max(place)),
             None => (place, place),
@@ -43,7 +43,7 @@ impl Reach {
     }
 
     /// The places of another reach have to be shown too.
-    pub fn and(self, other: Reach) -> Reach {
+    pub(crate) fn and(self, other: Reach) -> Reach {
         match other.ends {
             Some((least, greatest)) => self.with(least).with(greatest),
             None => self,
@@ -53,7 +53,7 @@ impl Reach {
 
 /// The part of a line that a panel shows, from one place to another, in units of 10 cm.
 #[derive(Clone, Copy)]
-pub struct Window {
+pub(crate) struct Window {
     /// Its lower end.
     pub low: u32,
     /// Its upper end.
@@ -64,7 +64,7 @@ pub struct Window {
 impl Window {
     /// The whole line, by its length in units of 10 cm, 1 to 3,000,000. Any other length counts as the nearest of
     /// these.
-    pub fn whole(length: u32) -> Window
+    pub(crate) fn whole(length: u32) -> Window
         ensures from_start { result.low ≡ 0 }
         ensures to_end { length ≤ max_length → length ≤ result.high }
     {
@@ -77,7 +77,7 @@ impl Window {
     /// The part of a line that has all places of a reach, with a margin of a twelfth of their distance, at least 250 m,
     /// and outwards to whole 100 m. It is the whole line if no place has to be shown, or if the part would be three
     /// fifths of the line or more.
-    pub fn of(length: u32, reach: Reach) -> Window
+    pub(crate) fn of(length: u32, reach: Reach) -> Window
         ensures { IfSome reach.ends (λ ends. Shows length ends result.low result.high) }
     {
         let whole = Window::whole(length);
@@ -94,12 +94,12 @@ impl Window {
     }
 
     /// Whether it shows the whole of a line with this length.
-    pub fn is_whole(self, length: u32) -> bool {
+    pub(crate) fn is_whole(self, length: u32) -> bool {
         self.low == 0 && self.high == length
     }
 
     /// Whether a place lies in it.
-    pub fn has(self, place: u32) -> bool {
+    pub(crate) fn has(self, place: u32) -> bool {
         self.low <= place && place <= self.high
     }
 
@@ -116,7 +116,7 @@ impl Window {
 
     /// The place on the picture of a place on the line, in tenths of a pixel: 400 at the lower end of the window, 11600
     /// at its upper end, and rising between them. A place outside the window counts as the end next to it.
-    pub fn x(self, place: u32) -> i64
+    pub(crate) fn x(self, place: u32) -> i64
         ensures { result ≡ pos (x_at self.low self.high place) }
     {
         i64::from(self.tenths(place))
@@ -124,7 +124,7 @@ impl Window {
 
     /// The distance between two marks of the axis, in units of 10 cm: the least of 1, 2, 5, 10, 20 .. of which at most
     /// 12 fit into the window.
-    pub fn step(self) -> u32
+    pub(crate) fn step(self) -> u32
         ensures { 0 < result }
     {
         let shown = u64::from(self.high - self.low);
@@ -141,7 +141,7 @@ impl Window {
     /// # Errors
     ///
     /// Memory was refused.
-    pub fn marks(self, alloc: Global) -> Result<Vec<u32>, AllocError> {
+    pub(crate) fn marks(self, alloc: Global) -> Result<Vec<u32>, AllocError> {
         let step = self.step();
         let first = self.low.div_ceil(step).saturating_mul(step);
         let mut marks = Vec::new(alloc);

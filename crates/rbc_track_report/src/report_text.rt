@@ -4,6 +4,7 @@ ghost use Rattle.std.specs.Prelude.{◌≡◌, [], false, IfOk, OnOk, string_byt
 ghost use Rattle.rbc_track_report.specs.Growth.{IsWrittenOn};
 
 use crate::names::{MAX_SHOWN, is_unruly};
+use itoa::Buffer;
 use rbc_words::{Count, Km, Metres};
 use std::alloc::{AllocError, Global};
 use std::fmt::Write;
@@ -26,6 +27,17 @@ impl Sheet {
             text: String::new(alloc),
             is_cut: false,
         }
+    }
+
+    /// An empty sheet with room for so many bytes. Where memory is refused to them, its end tells so.
+    pub fn with_room(alloc: Global, bytes: usize) -> Self
+        ensures { string_bytes result.text ≡ [] }
+    {
+        let mut sheet = Sheet::new(alloc);
+        if sheet.text.reserve(bytes).is_err() {
+            sheet.is_cut = true;
+        }
+        sheet
     }
 
     /// The whole text.
@@ -58,10 +70,8 @@ impl Sheet {
         ensures same { result.ghost_name ≡ self.entry.ghost_name }
         ensures written { IsWrittenOn self.old result.now }
     {
-        if write!(self.text, "{number}").is_err() {
-            self.is_cut = true;
-        }
-        self
+        let mut digits = Buffer::new();
+        self.words(digits.format(number))
     }
 
     /// Adds a number in decimal, with its sign where it is below 0.

@@ -4,7 +4,7 @@ use Rattle.rbc_command_line.specs.Words.{IsExplainOn, IsLiveOn, IsPictureOn, IsR
 use Rattle.rbc_command_line.specs.declared.words.Task.{Task}
 use Rattle.rbc_dispatch.specs.Living.{Lives}
 use Rattle.rbc_dispatch.specs.Running.{Runs}
-use Rattle.rbc_dispatch.specs.Showing.{IsLogFrom, IsPicture, Shows}
+use Rattle.rbc_dispatch.specs.Showing.{IsLogFrom, IsPictureAfter, Shows}
 use Rattle.rbc_dispatch.proofs.program.carry_out.Goals as goal
 
 -- the batch is done by as many workers as the task names
@@ -32,5 +32,5 @@ returns-in-Explain-clause-explain g c = λ file from asked.
 pub returns-in-Picture-clause-picture : goal.returns-in-Picture-clause-picture
 returns-in-Picture-clause-picture g c = λ file after asked.
     let taken = subst (λ (task : Task). IsPictureOn file after task) c.in-Picture.is asked in
-    subst (λ (n : Option ℕ). Shows {E = Unit {0}} (TooFewFor n) IsPicture (g.I.Read.remaining c.args.input.now) (g.I.Read.remaining c.picture_file.new.input)
+    subst (λ (n : Option ℕ). Shows {E = Unit {0}} (TooFewFor n) (IsPictureAfter n) (g.I.Read.remaining c.args.input.now) (g.I.Read.remaining c.picture_file.new.input)
     (g.O.Write.contents c.args.output.now) (g.O.Write.contents c.picture_file.new.output) c.picture_file.result) taken.1 c.picture_file.ensures.shows

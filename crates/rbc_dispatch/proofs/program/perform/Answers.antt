@@ -4,7 +4,7 @@ use Rattle.rbc_dispatch.specs.Checking.{Checks}
 use Rattle.rbc_dispatch.specs.Decoding.{Decodes, IsUntouched}
 use Rattle.rbc_dispatch.specs.Living.{Lives}
 use Rattle.rbc_dispatch.specs.Running.{Keeps, Runs}
-use Rattle.rbc_dispatch.specs.Showing.{IsLogFrom, IsPicture, Shows}
+use Rattle.rbc_dispatch.specs.Showing.{IsLogFrom, IsPictureAfter, Shows}
 use Rattle.rbc_dispatch.proofs.Ends.{at_handed_on, at_memory}
 use Rattle.rbc_dispatch.proofs.program.perform.Goals as goal
 
@@ -42,7 +42,7 @@ returns-in_err-carry_out-clause-not_told g c = λ file from asked.
 
 pub returns-in_err-carry_out-clause-picture : goal.returns-in_err-carry_out-clause-picture
 returns-in_err-carry_out-clause-picture g c = λ file after asked.
-    at_handed_on _ (Shows {E = Unit {0}} (TooFewFor after) IsPicture _ _ _ _) _ c.from_residual-in_err-carry_out.ensures.1
+    at_handed_on _ (Shows {E = Unit {0}} (TooFewFor after) (IsPictureAfter after) _ _ _ _) _ c.from_residual-in_err-carry_out.ensures.1
     (c.in_err-carry_out.ensures.picture file after (c.in_ok-task.ensures.picture file after asked))
 
 pub returns-in_err-carry_out-clause-not_drawn : goal.returns-in_err-carry_out-clause-not_drawn
@@ -130,7 +130,7 @@ returns-in_err-task-clause-explain g c = λ file from asked.
 
 pub returns-in_err-task-clause-picture : goal.returns-in_err-task-clause-picture
 returns-in_err-task-clause-picture g c = λ file after asked.
-    at_memory _ (Shows {E = Unit {0}} (TooFewFor after) IsPicture _ _ _ _) c.in_err-task.field-0.0 c.from_residual.ensures.1 (c.in_err-task.ensures.picture file after asked) (inr (inr refl))
+    at_memory _ (Shows {E = Unit {0}} (TooFewFor after) (IsPictureAfter after) _ _ _ _) c.in_err-task.field-0.0 c.from_residual.ensures.1 (c.in_err-task.ensures.picture file after asked) (inr (inr refl))
 
 pub returns-in_err-task-clause-check : goal.returns-in_err-task-clause-check
 returns-in_err-task-clause-check g c = λ file asked.

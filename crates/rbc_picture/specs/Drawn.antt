@@ -1,0 +1,88 @@
+-- What the picture of a run shows (own rule).
+use Rattle.std.specs.Prelude.{◌≡◌, ℕ, zero, suc, List, [], ◌∷◌, ◌++◌, map, filter, take, length, Option, Some, None}
+use Rattle.std.specs.Prelude.{is_none, option_map}
+use Rattle.std.specs.List.{flat_map, filter_map}
+use Rattle.rbc_track.specs.Plan.{Plan}
+use Rattle.rbc_track.specs.Reading.{IsTrackOf}
+use Rattle.rbc_zones.specs.declared.segment.Segment.{Segment}
+use Rattle.rbc_zones.specs.Limits.{Limit}
+use Rattle.rbc_settle.specs.declared.train.TrainRec.{TrainRec}
+use Rattle.rbc_records.specs.declared.record.Key.{Key}
+use Rattle.rbc_records.specs.declared.record.Rec.{Rec}
+use Rattle.rbc_text.specs.BatchText.{lines_of}
+use Rattle.rbc_batch.specs.Process.{IsAllRead}
+use Rattle.rbc_live.specs.History.{Taken, IsSerialRunOf}
+use Rattle.rbc_account.specs.Known.{train_in, engines_in, active_stops, active_limits}
+use Rattle.rbc_account.specs.Coming.{waiting_at}
+use Rattle.rbc_account.specs.Runs.{IsAccount}
+use Rattle.rbc_account.specs.declared.account.Account.{Account}
+use Rattle.rbc_picture.specs.Stretches.{stop_stretches, limit_stretches}
+use Rattle.rbc_picture.specs.Titles.{ShownTrain, line_heading, band_title, train_texts}
+use Rattle.rbc_picture.specs.Trains.{is_place_on}
+use Rattle.rbc_picture.specs.Shown.{StandIn}
+
+-- the texts of a panel: the number of its line, each active stretch that a stop closes, each train that is placed on
+-- the line with what it is not told, and each active stretch of a restriction
+abbrev pub line_texts : List (ℕ × List Segment) → List (ℕ × Limit) → List ShownTrain → ℕ → List (List ℕ)
+line_texts stops limits trains line =
+    line_heading line
+    ∷ (map (band_title line) (stop_stretches line stops)
+    ++ (flat_map train_texts (filter (λ train. is_place_on line train.place) trains)
+    ++ map (band_title line) (limit_stretches line limits)))
+
+-- those of so many panels, from line 0 on, where each line has texts
+abbrev pub lines_texts : (ℕ → List (List ℕ)) → ℕ → List (List ℕ)
+lines_texts texts zero = []
+lines_texts texts (suc more) = texts 0 ++ lines_texts (λ line. texts (suc line)) more
+
+-- those of a picture: of each line, and then of each train without a place
+abbrev pub picture_texts : ℕ → List (ℕ × List Segment) → List (ℕ × Limit) → List ShownTrain → List (List ℕ)
+picture_texts lines stops limits trains =
+    lines_texts (line_texts stops limits trains) lines
+    ++ flat_map train_texts (filter (λ train. is_none train.place) trains)
+
+-- what a picture shows of the train with an engine number, if it is enrolled
+abbrev pub enrolled_train : ℕ → List (Key × Rec) → ℕ → TrainRec → ShownTrain
+enrolled_train horizon records engine train =
+    record { engine = engine; place = train.place; waiting = waiting_at horizon records train }
+
+abbrev pub train_at : ℕ → List (Key × Rec) → ℕ → Option ShownTrain
+train_at horizon records engine = option_map (enrolled_train horizon records engine) (train_in records engine)
+
+-- the trains of records, engines ascending
+abbrev pub trains_in : ℕ → List (Key × Rec) → List ShownTrain
+trains_in horizon records = filter_map (train_at horizon records) (engines_in records)
+
+-- all that the picture of a track with so many lines has to show of records
+abbrev pub shown : ℕ → ℕ → List (Key × Rec) → List (List ℕ)
+shown horizon lines records =
+    picture_texts lines (active_stops records) (active_limits records) (trains_in horizon records)
+
+-- the lines that are taken: the first so many, or all
+abbrev pub lines_taken : Option ℕ → List (List ℕ) → List (List ℕ)
+lines_taken None lines = lines
+lines_taken (Some after) lines = take after lines
+
+-- A picture after lines: the records are those after the serial run of the lines, from the empty state, and all that
+-- there is to show of them stands in the picture, in its order.
+pub record IsPictureOf (plan : Plan) (lines : List (List ℕ)) (svg : List ℕ) : Type 0 where
+  pub taken : List Taken
+  pub records : List (Key × Rec)
+  pub fed : map (λ one. one.line) taken ≡ lines
+  pub serial : IsSerialRunOf plan taken records
+  pub drawn : StandIn (shown plan.horizon (length plan.lines) records) svg
+
+-- The picture after so many lines of all that a reader had left, or after all of them, on the track that a text is.
+pub record IsPictureOfRun (text : List ℕ) (after : Option ℕ) (old new : Option (List ℕ)) (svg : List ℕ) : Type 0 where
+  pub plan : Plan
+  pub batch : List ℕ
+  pub is_track : IsTrackOf text plan
+  pub read : IsAllRead old new batch
+  pub picture : IsPictureOf plan (lines_taken after (lines_of batch)) svg
+
+-- An account has taken lines so far.
+pub record HasTaken (plan : Plan) (account : Account) (lines : List (List ℕ)) : Type 0 where
+  pub taken : List Taken
+  pub fed : map (λ one. one.line) taken ≡ lines
+  pub counted : IsAccount plan taken account.desk.records account.sums
+  pub track : account.desk.track ≡ plan
