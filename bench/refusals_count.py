@@ -1,7 +1,7 @@
-"""Refuses one allocation after another to the tests of want of memory and to the program, and one thread after another to the program and
-to that of the golden batches, and prints a table of each: refusals_count.py ROOT REFUSE
+"""Refuses one allocation after another, and one thread after another, to the program and to that of the golden batches, and prints a table of
+each: refusals_count.py ROOT REFUSE
 
-ROOT is the repository, whose tests and programs are built, and REFUSE is the built refuse.c. The exit status is 1 where a run
+ROOT is the repository, whose programs are built, and REFUSE is the built refuse.c. The exit status is 1 where a run
 ended in another way than with the right answer or with the fault for want of memory.
 """
 
@@ -21,27 +21,6 @@ from program import program_of
 SECONDS = 60  # no run takes so long
 SHOWN = 10  # so many wrong ends are printed of each call
 
-# each call with the crate and the name of its test
-TESTS = {
-    "read_to_train": ("test_trains", "messages::reads_or_wants_memory"),
-    "ToTrain::copy": ("test_trains", "messages::copies_or_wants_memory"),
-    "describe": ("test_trains", "messages::describes_or_wants_memory"),
-    "track_from_toml": ("test_trains", "tracks::reads_tracks_or_wants_memory"),
-    "issue": ("test_trains", "refusals::issues_or_keeps_the_table"),
-    "settle": ("test_trains", "refusals::settles_or_keeps_the_train"),
-    "settle, by one message": ("test_trains", "refusals::settles_by_one_message_or_keeps_the_train"),
-    "parse_batch": ("test_runs", "refusals::parses_or_gives_no_inputs"),
-    "render": ("test_runs", "refused_runs::renders_or_gives_no_text"),
-    "process": ("test_runs", "refusals::processes_or_writes_nothing"),
-    "run, by 1 and by 2 workers": ("test_runs", "refused_runs::runs_or_tells_what_is_done"),
-    "run, of two stretches": ("test_runs", "refused_runs::runs_stretches_or_tells_what_is_done"),
-    "run, alone": ("test_runs", "refused_runs::runs_alone_or_tells_what_is_done"),
-}
-
-# the first line on standard error of a test that ended right: its call was refused memory, or what it does beside it was
-OF_CALL = b"error: Refused"
-BESIDE = re.compile(rb'error: (AllocError|AllocFailed \{ \.\. \}|OutOfMemory( \{ committed: \d+ \})?|"no serial run"|"memory")')
-
 # messages, and what they say
 DESCRIBED = {
     "1804C00000FA600000A82811C0000000FA2200": b"24 stamp 1001 ack 1 lrbg 5 65 dir 1 scale 0 tsr 0 start 0 length 1000 front 1 speed 8\n",
@@ -50,12 +29,15 @@ DESCRIBED = {
     "8806000000FA000001C000E400000287D0500C8019000830": b"136 stamp 1000 engine 7 0 scale 0 lrbg 5 distance 2000 dir 1 side 1 over 100 under 100\n",
 }
 
-# golden batches to which threads are refused, with their tracks
+# golden batches to which memory is refused, and those to which threads are, with their tracks
+SMALL = ("example-unanswered main_line.toml", "example-several main_line.toml")
 GOLDEN = ("contended-1 contended-1.toml", "identifiers identifiers.toml", "limits-1 limits-1.toml")
 
 # the line on standard error of the program, where memory was refused to it, and where it was to the reading of the track
 OF_PROGRAM = re.compile(rb"out of memory( after \d+ inputs)?\n")
 OF_TRACK = b"track: OutOfMemory\n"
+# what that of the golden batches says then, among other words
+MEMORY = re.compile(rb"AllocError|OutOfMemory|Memory")
 
 Ended = collections.namedtuple("Ended", "status output errors was_refused")
 
@@ -81,16 +63,6 @@ def run(words, text, refuse, what, folder=None):
     return Ended(done.returncode, done.stdout, done.stderr, was_refused)
 
 
-def end_of_test(ended):
-    """How a test ended: "answered", "refused", "beside", or None where it is wrong."""
-    if ended.status == 0:
-        return "answered"
-    line = ended.errors.split(b"\n")[0]
-    if ended.status == 101 and line == OF_CALL:
-        return "refused"
-    return "beside" if ended.status == 101 and BESIDE.fullmatch(line) else None
-
-
 def end_of_program(ended, expected):
     """The same of the program, which has to write an expected output."""
     if ended.status == 0:
@@ -102,12 +74,19 @@ def end_of_program(ended, expected):
     return "beside" if ended.errors == OF_TRACK else None
 
 
-def count(name, words, text, refuse, end_of):
+def end_of_golden(ended, right):
+    """The same of the program of the golden batches, which says that an output is right, or ends with an error."""
+    if ended.status == 0:
+        return "answered" if ended.output == right else None
+    return "refused" if ended.status == 1 and not ended.output and MEMORY.search(ended.errors) else None
+
+
+def count(name, words, text, refuse, end_of, folder=None):
     """Refuses one allocation after another, prints the line of a call, and gives how many runs ended wrong."""
     ends, number = collections.Counter(), 0
     while True:
         number += 1
-        ended = run(words, text, refuse, {"REFUSE": str(number)})
+        ended = run(words, text, refuse, {"REFUSE": str(number)}, folder)
         end = end_of(ended)
         # what was refused nothing has to answer
         if end is None or not (ended.was_refused or end == "answered"):
@@ -139,16 +118,6 @@ def count_threads(name, words, text, refuse, wanted, folder=None):
                 wrong += 1
                 print(f"{name}: thread {number} refused, rest {rest!r}: {ended}", file=sys.stderr)
     print("|", " | ".join([name, str(tried[""]), str(tried["1"]), str(sum(tried.values()) + 2 - wrong)]), "|", flush=True)
-    return wrong
-
-
-def at_tests(root, refuse):
-    """Refuses memory to each test."""
-    wrong = 0
-    for call, (crate, test) in TESTS.items():
-        words = [f"{root}/crates/{crate}/out/{crate}_tests", f"tests::{test}"]
-        name, _, how = call.partition(", ")
-        wrong += count(f"`{name}`" + (how and f", {how}"), words, b"", refuse, end_of_test)
     return wrong
 
 
@@ -189,6 +158,25 @@ def recv(engine, stamp):
 HEAVY_TRACK = b'horizon = 100000\n[[line]]\nlength = 300000\n[[group]]\nnid = 1\nline = 0\nat = 10000\nnominal = "up"\n'
 
 
+def golden(folder, case):
+    """Leaves one golden batch in a folder. Gives what the program of the golden batches has to write there."""
+    with open(f"{folder}/cases.txt", "w", encoding="ascii") as it:
+        it.write(case + "\n")
+    return f"{case.replace(' ', ' on ')} right\n".encode()
+
+
+def at_golden(root, refuse, folder):
+    """Refuses memory to the program of the golden batches, in which each worker takes part."""
+    wrong = 0
+    for case in SMALL:
+        right = golden(folder, case)
+        for workers in ("1", "2"):
+            name = f"`{case.split()[0]}`, {workers} workers in a locked book"
+            words = [f"{root}/crates/rbc_tests/out/rbc_tests", "1", workers]
+            wrong += count(name, words, b"", refuse, lambda ended, right=right: end_of_golden(ended, right), folder)
+    return wrong
+
+
 def at_threads(root, refuse, folder):
     """Refuses threads to the program on a batch for which it starts some, and to that of the golden batches on some of them."""
     with open(f"{folder}/heavy.toml", "wb") as it:
@@ -199,14 +187,11 @@ def at_threads(root, refuse, folder):
     for workers in ("2", "4", "16"):
         name = f"the program, {workers} workers"
         wrong += count_threads(name, [*words, workers], batch, refuse, expected)
-    shutil.copytree(f"{root}/crates/rbc_golden/data", f"{folder}/golden")
     for case in GOLDEN:
-        with open(f"{folder}/golden/cases.txt", "w", encoding="ascii") as it:
-            it.write(case + "\n")
-        right = f"{case.replace(' ', ' on ')} right\n".encode()
+        right = golden(f"{folder}/golden", case)
         for workers in ("2", "4", "16"):
             name = f"`{case.split()[0]}`, {workers} workers"
-            words = [f"{root}/crates/rbc_golden/out/rbc_golden", "1", workers]
+            words = [f"{root}/crates/rbc_tests/out/rbc_tests", "1", workers]
             wrong += count_threads(name, words, b"", refuse, right, f"{folder}/golden")
     return wrong
 
@@ -219,9 +204,11 @@ def read(file):
 def main():
     root, refuse = sys.argv[1:]
     print("| call | tried | refused | refused beside it | answered |\n|---|---|---|---|---|")
-    wrong = at_tests(root, refuse) + at_program(root, refuse)
-    print("\n| program | threads refused, one a run | and all behind it | right outputs |\n|---|---|---|---|")
+    wrong = at_program(root, refuse)
     with tempfile.TemporaryDirectory() as folder:
+        shutil.copytree(f"{root}/crates/rbc_tests/data", f"{folder}/golden")
+        wrong += at_golden(root, refuse, f"{folder}/golden")
+        print("\n| program | threads refused, one a run | and all behind it | right outputs |\n|---|---|---|---|")
         wrong += at_threads(root, refuse, folder)
     return 1 if wrong else 0
 

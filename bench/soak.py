@@ -56,7 +56,7 @@ class Soak:
 
     def __init__(self, root, seed, processes, folder):
         self.dispatch = program_of(root)
-        self.golden = f"{root}/crates/rbc_golden/out/rbc_golden"
+        self.golden = f"{root}/crates/rbc_tests/out/rbc_tests"
         self.seed, self.folder = seed, folder
         self.pool = concurrent.futures.ThreadPoolExecutor(processes)
         self.counts = collections.Counter()

@@ -2,7 +2,7 @@
 # Runs random batches by 1, 2, 4 and 16 workers for some time, and compares their outputs: bench/soak.sh [--built] [SECONDS [SEED [PROCESSES]]]
 #
 # In each round there is a batch of each profile of bench/soak_batches.py, of 50 to 20,000 lines. The program answers it by each number of
-# workers, and the outputs must be equal. Then crates/rbc_golden, in which each worker takes part in all batches, answers each three times by
+# workers, and the outputs must be equal. Then crates/rbc_tests, in which each worker takes part in all batches, answers each three times by
 # each number of workers, and one of them over and over for 20 seconds in one process, whose memory must stay. PROCESSES runs stand side by
 # side, 2 if left out. Prints what was done, at the end and every five minutes; a run that went wrong is printed with its profile, seed and
 # lines, which bench/soak_batches.py makes again, and the script then ends with status 1.
@@ -17,6 +17,6 @@ if [[ ${1-} == --built ]]; then
     shift
 else
     "$root/dispatch" --help > /dev/null
-    (cd "$root/crates/rbc_golden" && rt run > /dev/null 2>&1) || true # it builds the program, and runs it where no data is
+    (cd "$root/crates/rbc_tests" && rt run > /dev/null 2>&1) || true # it builds the program, and runs it where no data is
 fi
 python3 -B "$here/soak.py" "$root" "${1:-3600}" "${2:-1}" "${3:-2}"

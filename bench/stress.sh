@@ -5,11 +5,11 @@
 # of examples/ and a contended batch a tenth as often. Says of each whether every output was right, and how many inputs were computed
 # again in all. By hand, not by the gate.
 set -euo pipefail
-cd "$(dirname "$0")/../crates/rbc_golden"
+cd "$(dirname "$0")/../crates/rbc_tests"
 
 runs=${1:-1000}
 (rt run >/dev/null 2>&1) || true # it builds the program, and runs it where no data is
-program=$PWD/out/rbc_golden
+program=$PWD/out/rbc_tests
 folder=$(mktemp -d)
 trap 'rm -r "$folder"' EXIT
 cp data/* "$folder"

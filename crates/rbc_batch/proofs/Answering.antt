@@ -10,7 +10,7 @@ use Rattle.rbc_desk.specs.declared.outbox.Mail.{Mail}
 use Rattle.rbc_desk.specs.Serial.{serial, new_desk}
 use Rattle.rbc_desk.specs.Held.{Held, Holds, standing}
 use Rattle.rbc_desk.specs.SaidMails.{AreSaidMails}
-use Rattle.rbc_core.specs.declared.book.Stats.{Stats}
+use Rattle.rbc_book.specs.declared.book.Stats.{Stats}
 use Rattle.rbc_engine.specs.declared.workers.RunError.{RunError}
 use Rattle.rbc_engine.specs.declared.workers.RunError.TheVariants.{Workers, TooManyInputs, OutOfMemory}
 use Rattle.rbc_engine.specs.Answers.{IsRun}

@@ -1,14 +1,9 @@
-pub mod Books
-pub mod Agreeing
 pub mod Meanings
 pub mod Laws
-pub mod Mails
 pub mod Facts
 pub mod Fates
 pub mod Conflicts
 pub mod Forwards
-pub mod Searching
 pub mod WitnessEvents
 pub mod WitnessConflicts
 pub mod WitnessForwards
-pub mod Presents

@@ -1,9 +1,2 @@
-pub mod Runs
-pub mod Core
-pub mod Events
-pub mod Conflicts
-pub mod Forwards
-pub mod Searches
-pub mod Books
 pub mod Facts
 pub mod Witnesses

@@ -1,7 +1,7 @@
 -- Each step keeps a well-formed world.
 use Rattle.rbc_settle.proofs.Keeps.{keeps_trains}
 use Rattle.rbc_rule.specs.Laws.{EachStepKeepsWorlds}
-use Rattle.rbc_rule.proofs.Keeps as keeps
+use Rattle.rbc_rule_laws.proofs.Keeps as keeps
 
 pub step_keeps : EachStepKeepsWorlds
 step_keeps = keeps.step_keeps keeps_trains

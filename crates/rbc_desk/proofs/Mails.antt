@@ -19,7 +19,7 @@ use Rattle.rbc_rule.specs.Effect.{effect}
 use Rattle.rbc_rule.specs.Step as rule
 use Rattle.rbc_rule.specs.SaidFor.{SaysFor, as_told, AllSay, AllSayTo, IsSaidAfter}
 use Rattle.rbc_rule.specs.WellFormed.{IsWellFormed}
-use Rattle.rbc_rule.proofs.Says.{step_says}
+use Rattle.rbc_rule_laws.proofs.Says.{step_says}
 use Rattle.rbc_desk.specs.declared.outbox.Mail.{Mail}
 use Rattle.rbc_desk.specs.Serial.{Desk, step, serial, mail}
 use Rattle.rbc_desk.specs.SaidMails.{IsSaidTo, IsSaidMail, EachRunSays}

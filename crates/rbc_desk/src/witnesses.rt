@@ -1,7 +1,7 @@
 //! A worked case of the law on mails: right mails, of which its statement holds, and wrong ones, of which it does not.
 
 ghost use Rattle.std.specs.Prelude.{[], ◌∷◌};
-ghost use Rattle.rbc_rule.specs.Witnesses.{stop_before, stop_now, revoke, naming};
+ghost use Rattle.rbc_rule_laws.specs.Witnesses.{stop_before, stop_now, revoke, naming};
 ghost use Rattle.rbc_desk.specs.Serial.{mail};
 ghost use Rattle.rbc_desk.specs.Witnesses.{stop_told, stop_revoked, IsSaidThere, AreSaidThere};
 

@@ -8,9 +8,9 @@ use Rattle.rbc_rule.specs.declared.outcome.Reply.{Reply}
 use Rattle.rbc_desk.specs.Serial.{Desk, step, serial}
 use Rattle.rbc_desk.specs.Held.{Held, Standing, Holds, IsTakenIn, standing, max_results}
 use Rattle.rbc_desk.proofs.Runs.{fold_more}
-use Rattle.rbc_core.specs.Runs.{Run, IsGoodRun, IsSerialRun}
-use Rattle.rbc_core.proofs.Mails.{said_since}
-use Rattle.rbc_core.specs.declared.book.Stats.{Stats}
+use Rattle.rbc_book.specs.Runs.{Run, IsGoodRun, IsSerialRun}
+use Rattle.rbc_book.proofs.Mails.{said_since}
+use Rattle.rbc_book.specs.declared.book.Stats.{Stats}
 use Rattle.rbc_engine.specs.declared.workers.RunError.TheVariants.{OutOfMemory}
 use Rattle.rbc_engine.specs.Answers.{IsDeskAfter, IsStretch}
 use Rattle.rbc_engine.proofs.Stretches.{results_of}

@@ -12,9 +12,9 @@ use Rattle.rbc_rule.specs.Inputs.{Fits}
 use Rattle.rbc_rule.specs.Step as rule
 use Rattle.rbc_desk.specs.Serial.{Desk, step, serial}
 use Rattle.rbc_desk.specs.Held.{Held, Holds, AreOutboxes, standing}
-use Rattle.rbc_core.specs.declared.book.Stats.{Stats}
-use Rattle.rbc_core.specs.Runs.{Run, IsGoodRun, IsSerialRun}
-use Rattle.rbc_core.proofs.Mails.{said_since}
+use Rattle.rbc_book.specs.declared.book.Stats.{Stats}
+use Rattle.rbc_book.specs.Runs.{Run, IsGoodRun, IsSerialRun}
+use Rattle.rbc_book.proofs.Mails.{said_since}
 use Rattle.rbc_engine.specs.declared.workers.RunError.{RunError}
 use Rattle.rbc_engine.specs.declared.workers.RunError.TheVariants.{Workers, TooManyInputs, OutOfMemory}
 use Rattle.rbc_engine.specs.Answers.{IsDeskAfter, IsStretch, IsFinished, rest_of, plus, all_of, AreStretches, IsNextStretch, AreCounts}

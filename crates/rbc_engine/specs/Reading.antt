@@ -2,9 +2,9 @@
 use Rattle.std.specs.Prelude.{ℕ, ◌≤◌, List, length, Option}
 use Rattle.rbc_records.specs.declared.record.Key.{Key}
 use Rattle.rbc_versions.specs.Log.{LogName, Shown}
-use Rattle.rbc_core.specs.Runs.{Run}
-use Rattle.rbc_core.specs.Books.{BookValue, IsBook, state_of}
-use Rattle.rbc_core.specs.Forwards.{IsLatest}
+use Rattle.rbc_book.specs.Runs.{Run}
+use Rattle.rbc_book.specs.Books.{BookValue, IsBook, state_of}
+use Rattle.rbc_book.specs.Forwards.{IsLatest}
 
 -- a number of an input, which counts from 1
 abbrev pub IsNumber : Run → ℕ → Type 0

@@ -1,7 +1,7 @@
 //! Locking a book.
 
 ghost use Rattle.std.specs.Sync.Mutex.{mutex_guard_value};
-ghost use Rattle.rbc_core.specs.Books.{IsBook};
+ghost use Rattle.rbc_book.specs.Books.{IsBook};
 
 use rbc_core::{Book, RunName};
 use std::sync::{Mutex, MutexGuard, Wait};

@@ -6,9 +6,9 @@ ghost use Rattle.std.specs.List.{All};
 ghost use Rattle.rbc_track.specs.Plan.{IsPlan};
 ghost use Rattle.rbc_rule.specs.Inputs.{Fits};
 ghost use Rattle.rbc_desk.specs.Held.{IsInOrder};
-ghost use Rattle.rbc_core.specs.Books.{state_of};
-ghost use Rattle.rbc_core.specs.Core.{front};
-ghost use Rattle.rbc_core.specs.Runs.{IsGoodRun};
+ghost use Rattle.rbc_book.specs.Books.{state_of};
+ghost use Rattle.rbc_book.specs.Core.{front};
+ghost use Rattle.rbc_book.specs.Runs.{IsGoodRun};
 ghost use Rattle.rbc_engine.specs.Answers.{IsOpening, IsRun, IsStretch, IsNextStretch, IsFinished};
 ghost use Rattle.rbc_engine.specs.Fronts.{IsWaiting, IsGivenUp, IsNext, IsAtItsEnd};
 

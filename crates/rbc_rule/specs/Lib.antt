@@ -15,4 +15,3 @@ pub mod Saying
 pub mod SaidFor
 pub mod Told
 pub mod Laws
-pub mod Witnesses

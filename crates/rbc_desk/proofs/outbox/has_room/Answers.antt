@@ -3,7 +3,7 @@ use Rattle.ertms_codec.specs.declared.to_train.ToTrain.{ToTrain}
 use Rattle.ertms_codec.specs.declared.to_train.ToTrain.TheVariants.{General}
 use Rattle.ertms_codec.specs.Layout.{HoldValues}
 use Rattle.ertms_codec.specs.ToTrain.{Fits, fields_of}
-use Rattle.rbc_rule.proofs.Packets.{general_holds}
+use Rattle.rbc_rule_laws.proofs.Packets.{general_holds}
 use Rattle.rbc_desk.proofs.outbox.has_room.Goals as goal
 
 pub returns-in-General-clause-values : goal.returns-in-General-clause-values

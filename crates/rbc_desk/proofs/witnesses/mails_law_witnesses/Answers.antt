@@ -7,8 +7,8 @@ use Rattle.rbc_zones.specs.declared.segment.Segment.{Segment}
 use Rattle.rbc_settle.specs.Settling.{concern_to}
 use Rattle.rbc_rule.specs.Saying.{Said, StopsAtOnce, StopsBefore, RevokesStop}
 use Rattle.rbc_rule.specs.SaidFor.{IsEdgeSaid, IsConcernSaid}
-use Rattle.rbc_rule.specs.Witnesses.{on_line_0, stop_before, stop_now, revoke, naming}
-use Rattle.rbc_rule.proofs.WitnessSays.{differ, revokes_right}
+use Rattle.rbc_rule_laws.specs.Witnesses.{on_line_0, stop_before, stop_now, revoke, naming}
+use Rattle.rbc_rule_laws.proofs.WitnessSays.{differ, revokes_right}
 use Rattle.rbc_desk.specs.declared.outbox.Mail.{Mail}
 use Rattle.rbc_desk.specs.Serial.{mail}
 use Rattle.rbc_desk.specs.Witnesses.{stop_told, stop_revoked, IsSaidThere}

@@ -1,0 +1,5 @@
+pub mod Books
+pub mod Agreeing
+pub mod Mails
+pub mod Searching
+pub mod Presents

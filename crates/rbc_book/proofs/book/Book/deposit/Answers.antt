@@ -1,0 +1,21 @@
+use Rattle.std.proofs.Common.{◌≡◌, ◌+◌, ◌-◌, ◌∙◌, refl, sym, ap, arith}
+use Rattle.rbc_book.specs.declared.stage.Stage.TheVariants.{Tried}
+use Rattle.rbc_book.specs.Books.{IsOutIn, state_of}
+use Rattle.rbc_book.proofs.Books.{keeps, deposits}
+use Rattle.rbc_book.proofs.book.Book.deposit.Goals as goal
+
+pub invariant_of-self : goal.invariant_of-self
+invariant_of-self g c =
+    let i = c.self.invariant in
+    let out : IsOutIn c.self.inside.stages.items c.number-number.result = c.if-not-is_out.ensures.0 refl in
+    let turn = i.2.kept.stages (c.number-number.result - 1) _ out.1 in
+    let first = out.0 in
+    let number : c.args.attempt.number ≡ c.number-number.result - 1 + 1 = sym c.number-number.ensures.number ∙ omega (arith, first) in (
+      i.0,
+      i.1,
+      record { kept = keeps _ _ _ (Tried c.args.attempt) i.2.kept (turn.0, turn.1, number); present = i.2.present },
+    )
+
+pub returns-clause-event : goal.returns-clause-event
+returns-clause-event g c =
+    deposits g.N.RunName.run _ _ c.args.attempt c.number-number.result (ap state_of c.self.view_is) c.self.invariant.2.kept c.number-number.ensures.right (c.if-not-is_out.ensures.0 refl) c.number-number.ensures.number

@@ -1,0 +1,11 @@
+//! A book in which attempts at the inputs of a desk are committed in the order of the inputs.
+#![tactic(auto)]
+
+mod attempt;
+mod book;
+mod run_name;
+mod stage;
+
+pub use attempt::Attempt;
+pub use book::{Book, Commit, Stats};
+pub use run_name::RunName;

@@ -1,6 +1,0 @@
-use Rattle.rbc_settle.proofs.Keeps.{keeps_trains}
-use Rattle.rbc_rule.proofs.Keeps.{step_keeps}
-use Rattle.rbc_rule.proofs.law.step_law.Goals as goal
-
-pub returns : goal.returns
-returns c = step_keeps keeps_trains

@@ -1,5 +1,0 @@
-use Rattle.rbc_rule.proofs.Tells.{each_step_tells}
-use Rattle.rbc_rule.proofs.law.told_law.Goals as goal
-
-pub returns : goal.returns
-returns c = each_step_tells

@@ -1,0 +1,14 @@
+pub mod Keeps
+pub mod KeepsPlaces
+pub mod KeepsSlots
+pub mod KeepsTrains
+pub mod KeepsWorlds
+pub mod OneSaid
+pub mod Packets
+pub mod Says
+pub mod SaysPlaces
+pub mod SaysTold
+pub mod Sendable
+pub mod Tells
+pub mod WitnessSays
+pub mod WitnessWorlds

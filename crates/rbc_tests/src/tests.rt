@@ -1,0 +1,20 @@
+mod attempting;
+mod batches;
+mod calls;
+mod crowd;
+mod gates;
+mod numbers;
+mod processing;
+mod rows;
+mod runs;
+mod setting;
+mod settling;
+mod stretches;
+
+use std::fmt::Debug;
+use std::process::Abort;
+
+/// Asserts that two values are the same.
+fn same<T: Debug + PartialEq + Copy>(rt: &impl Abort, got: T, wanted: T) {
+    assert_eq!(rt; got, wanted);
+}

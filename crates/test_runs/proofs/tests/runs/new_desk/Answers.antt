@@ -1,5 +1,0 @@
-use Rattle.rbc_desk.specs.Serial.{new_desk}
-use Rattle.test_runs.proofs.tests.runs.new_desk.Goals as goal
-
-pub returns : goal.returns
-returns c = (new_desk, c.new.ensures.new c.args.track.now)
