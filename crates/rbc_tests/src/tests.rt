@@ -1,7 +1,6 @@
 mod attempting;
 mod batches;
 mod calls;
-mod crowd;
 mod gates;
 mod numbers;
 mod processing;

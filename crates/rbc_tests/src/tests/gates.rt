@@ -10,7 +10,7 @@ use std::time::{Clock, Duration};
 const TURNS: u32 = 10_000;
 
 /// A moment in the attempt at an input, by the number of the input.
-#[derive(Clone, Copy, Debug, PartialEq, Eq)]
+#[derive(Clone, Copy, PartialEq)]
 pub(super) enum Moment {
     BeforeRule(u32),
     BeforeDeposit(u32),

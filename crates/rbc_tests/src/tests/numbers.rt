@@ -6,7 +6,7 @@ use std::alloc::Global;
 use std::process::Abort;
 
 /// Where the number comes from that stands under a key.
-#[derive(Clone, Copy, Debug, PartialEq)]
+#[derive(Clone, Copy, PartialEq)]
 pub(crate) enum Origin {
     /// Nothing stands there, and the number is 0.
     Nowhere,
