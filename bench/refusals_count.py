@@ -36,8 +36,8 @@ GOLDEN = ("contended-1 contended-1.toml", "identifiers identifiers.toml", "limit
 # the line on standard error of the program, where memory was refused to it, and where it was to the reading of the track
 OF_PROGRAM = re.compile(rb"out of memory( after \d+ inputs)?\n")
 OF_TRACK = b"track: OutOfMemory\n"
-# what that of the golden batches says then, among other words
-MEMORY = re.compile(rb"AllocError|OutOfMemory|Memory")
+# what that of the golden batches says then; the vector that it writes to may be refused memory too
+OF_GOLDEN = re.compile(rb"Error: (out of memory( after \d+ inputs)?|memory allocation failed|write fault after 0 bytes)\n")
 
 Ended = collections.namedtuple("Ended", "status output errors was_refused")
 
@@ -78,7 +78,7 @@ def end_of_golden(ended, right):
     """The same of the program of the golden batches, which says that an output is right, or ends with an error."""
     if ended.status == 0:
         return "answered" if ended.output == right else None
-    return "refused" if ended.status == 1 and not ended.output and MEMORY.search(ended.errors) else None
+    return "refused" if ended.status == 1 and not ended.output and OF_GOLDEN.fullmatch(ended.errors) else None
 
 
 def count(name, words, text, refuse, end_of, folder=None):
