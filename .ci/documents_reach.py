@@ -36,7 +36,7 @@ PRINTING = {"rbc_dispatch"}
 PRINTING_FUNCTIONS = {("ertms_codec", "describe")}
 
 # where the rules stand; the rest of the class believed is formats
-RULES = {"rbc_place", "rbc_zones", "rbc_ids", "rbc_maps", "rbc_settle", "rbc_rule"}
+RULES = {"rbc_place", "rbc_zones", "rbc_ids", "rbc_maps", "rbc_train", "rbc_settle", "rbc_step"}
 RULES_FILES = {("rbc_desk", "Serial"), ("rbc_desk", "outbox.rt")}
 
 CLASSES = ("believed", "headline", "text", "law", "boundary")

@@ -2,13 +2,13 @@
 use Rattle.std.proofs.Common.{◌≡◌, ℕ, List, Option, Result, Ok, Err, subst, sym, ap, ◌∙◌}
 use Rattle.std.specs.Prelude.{IfOk}
 use Rattle.rbc_track.specs.Plan.{Plan}
-use Rattle.rbc_settle.specs.declared.settling.Sent.{Sent}
+use Rattle.rbc_train.specs.declared.sent.Sent.{Sent}
 use Rattle.rbc_records.specs.declared.record.Key.{Key}
 use Rattle.rbc_records.specs.declared.record.Rec.{Rec}
-use Rattle.rbc_rule.specs.declared.outcome.Reply.{Reply}
+use Rattle.rbc_step.specs.declared.outcome.Reply.{Reply}
 use Rattle.rbc_live.specs.History.{IsFed}
-use Rattle.rbc_settle.specs.declared.train.TrainRec.{TrainRec}
-use Rattle.rbc_rule.specs.declared.input.Input.{Input}
+use Rattle.rbc_train.specs.declared.train.TrainRec.{TrainRec}
+use Rattle.rbc_step.specs.declared.input.Input.{Input}
 use Rattle.rbc_account.specs.declared.block.Block.{Block}
 use Rattle.rbc_account.specs.Blocks.{IsRightBlock}
 use Rattle.rbc_account.specs.declared.told_place.ToldPlace.{ToldPlace}

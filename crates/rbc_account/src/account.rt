@@ -2,8 +2,8 @@
 
 ghost use Rattle.std.specs.Prelude.{◌≡◌, ◌⊎◌, ℕ, [], length, IfOk, IfErr, OnOk, option_copied};
 ghost use Rattle.rbc_track.specs.Reading.{IsTrackOf, RefusesTrack};
-ghost use Rattle.rbc_rule.specs.Gathered.{AreSendable};
-ghost use Rattle.rbc_rule.specs.Inputs.{Fits};
+ghost use Rattle.rbc_step.specs.Gathered.{AreSendable};
+ghost use Rattle.rbc_step.specs.Inputs.{Fits};
 ghost use Rattle.rbc_text.specs.BatchText.{line_of, IsInput};
 ghost use Rattle.rbc_live.specs.History.{IsFed, IsStepOf};
 ghost use Rattle.rbc_account.specs.Blocks.{IsRightBlock};
@@ -18,10 +18,10 @@ use crate::record_lookup;
 use crate::state::{Standing, standing_on};
 use crate::told_place::{ToldPlace, ToldPlaces};
 use rbc_live::{Answer, LiveDesk};
-use rbc_rule::{Input, Reply};
-use rbc_settle::TrainRec;
+use rbc_step::{Input, Reply};
 use rbc_text::parse_line;
 use rbc_track::{Track, TrackError};
+use rbc_train::TrainRec;
 use rbc_zones::{Area, Limit};
 use std::alloc::{AllocError, Global};
 
@@ -93,8 +93,8 @@ impl Account {
         })
     }
 
-    /// Takes an input, and says only what the desk answers. Fails only for lack of memory, and then the account is of no
-    /// further use.
+    /// Takes an input, and says only what the desk answers. Fails only for lack of memory, and then the account is of
+    /// no further use.
     fn take(&mut self, alloc: Global, input: &Input) -> Result<Answer, AllocError>
         requires { Fits input.now }
         ensures steps { IfOk result (λ answer. IsStepOf self.old.desk.track input.now self.old.desk.records

@@ -2,7 +2,7 @@
 
 ghost use Rattle.std.specs.Prelude.{◌≡◌, Option, Some, IfOk, IfSome, option_copied};
 ghost use Rattle.std.specs.List.{All};
-ghost use Rattle.rbc_settle.specs.declared.train.TrainRec.{TrainRec};
+ghost use Rattle.rbc_train.specs.declared.train.TrainRec.{TrainRec};
 ghost use Rattle.rbc_account.specs.declared.told.ToldWhat.TheVariants.{StopAtOnce};
 ghost use Rattle.rbc_account.specs.Known.{number_under};
 ghost use Rattle.rbc_account.specs.Subjects.{ArePaired, IsToldOf, IsOf, IsOfStop, IsOfLimit, IsOfNumber, revoked_stop};
@@ -17,9 +17,9 @@ use rbc_ids::Slot;
 use rbc_live::LiveDesk;
 use rbc_place::Place;
 use rbc_records::PlainStore;
-use rbc_rule::{Input, SentList};
-use rbc_settle::{Sent, TrainRec};
+use rbc_step::{Input, SentList};
 use rbc_track::Way;
+use rbc_train::{Sent, TrainRec};
 use rbc_zones::{Dirs, Limit, Segment};
 use std::alloc::{AllocError, Global};
 
@@ -87,8 +87,8 @@ pub struct ToldRestriction {
 /// What a packet tells, and why.
 #[derive(Clone, Copy)]
 pub enum RestrictionTold {
-    /// Packet 65: the restriction of this stretch is told from `begin` to `end` ahead of the balise group of the train's
-    /// place, counted in units of `unit` (1, 10 or 100).
+    /// Packet 65: the restriction of this stretch is told from `begin` to `end` ahead of the balise group of the
+    /// train's place, counted in units of `unit` (1, 10 or 100).
     Told {
         segment: Segment,
         begin: u32,

@@ -1,14 +1,15 @@
 //! The places before which trains were told to stop.
 
 ghost use Rattle.std.specs.Prelude.{◌≡◌, ℕ, [], OnOk};
-ghost use Rattle.rbc_account.specs.ToldPlaces.{place_ahead, told_from, told_by, number_of, kept_at, kept_with, kept_after, of_stamp};
+ghost use Rattle.rbc_account.specs.ToldPlaces.{place_ahead, told_from, told_by, number_of, kept_at, kept_with};
+ghost use Rattle.rbc_account.specs.ToldPlaces.{kept_after, of_stamp};
 
 use crate::distances::{unit_told, way_told};
 use ertms_codec::ToTrain;
 use indexmap::IndexMap;
-use rbc_rule::SentList;
-use rbc_settle::Sent;
+use rbc_step::SentList;
 use rbc_track::{Group, Track, Way};
+use rbc_train::Sent;
 use std::alloc::{AllocError, Global};
 use std::marker::Model;
 
@@ -22,8 +23,8 @@ pub struct ToldPlace {
     pub at: u32,
 }
 
-/// For each stop identifier of each train the place that the last message 15 told under it. In contracts a list of pairs
-/// of a number of engine and identifier and a place, of which the first with a number counts.
+/// For each stop identifier of each train the place that the last message 15 told under it. In contracts a list of
+/// pairs of a number of engine and identifier and a place, of which the first with a number counts.
 #[derive(Drop)]
 pub struct ToldPlaces {
     last: IndexMap<u64, ToldPlace>,

@@ -5,7 +5,7 @@ use Rattle.std.specs.Io.KnownBytes.{Appends, Consumes, IsAtEnd, Keeps}
 use Rattle.rbc_track.specs.Plan.{Plan}
 use Rattle.rbc_batch.specs.declared.batch.ProcessError.{ProcessError}
 use Rattle.rbc_batch.specs.declared.batch.ProcessError.TheVariants as fault
-use Rattle.rbc_rule.specs.declared.input.Input.{Input}
+use Rattle.rbc_step.specs.declared.input.Input.{Input}
 use Rattle.rbc_text.specs.BatchText.{lines_of, AreInputsOf}
 use Rattle.rbc_book.specs.declared.book.Stats.{Stats}
 use Rattle.rbc_desk.specs.Serial.{serial, new_desk}

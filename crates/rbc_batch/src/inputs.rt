@@ -2,12 +2,12 @@
 
 ghost use Rattle.std.specs.Prelude.{◌≡◌, ◌≤◌, length, take, IfOk};
 ghost use Rattle.std.specs.List.{All};
-ghost use Rattle.rbc_rule.specs.Inputs.{Fits};
+ghost use Rattle.rbc_step.specs.Inputs.{Fits};
 ghost use Rattle.rbc_text.specs.BatchText.{lines_of, AreInputs, AreInputsOf};
 ghost use Rattle.rbc_text.specs.Pieces.{texts_of};
 
 use rayon::prelude::*;
-use rbc_rule::Input;
+use rbc_step::Input;
 use rbc_text::{first_line, parse_line};
 use std::alloc::{AllocError, Global};
 use std::thread::Threads;

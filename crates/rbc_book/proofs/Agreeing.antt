@@ -1,6 +1,7 @@
 -- What was read, and what stands there.
-use Rattle.std.proofs.Common.{◌≡◌, ℕ, ◌+◌, ◌||◌, Bool, true, false, cond, option_map, List, [], ◌∷◌, Option, Some, refl, sym, ap, ◌∙◌, subst}
+use Rattle.std.proofs.Common.{◌≡◌, ℕ, ◌+◌, ◌||◌, Bool, true, false, cond, option_map, List, [], ◌∷◌, Option, Some, Result, Ok, Err, refl, sym, ap, ◌∙◌, subst}
 use Rattle.std.specs.Bool.{OnTrue}
+use Rattle.std.specs.Prelude.{IfOk}
 use Rattle.std.proofs.lemmas.List.Elements.{All-head, All-tail}
 use Rattle.rbc_track.specs.Plan.{Plan}
 use Rattle.rbc_records.specs.declared.record.Key.{Key}
@@ -10,9 +11,10 @@ use Rattle.rbc_records.specs.Notes.{Part, same_key, note_in, is_noted, AreNow}
 use Rattle.rbc_records.specs.Writes.{written}
 use Rattle.rbc_versions.specs.Log.{LogName, Shown}
 use Rattle.rbc_versions.specs.Entries.{NumberedRec, AreOfWrites, AreKeyedOf, numbered, record_of, records_of, shown, ticket_in, tickets_after}
-use Rattle.rbc_rule.specs.declared.input.Input.{Input}
-use Rattle.rbc_rule.specs.declared.outcome.Outcome.{Outcome}
-use Rattle.rbc_rule.specs.Right.{IsRight}
+use Rattle.rbc_step.specs.declared.input.Input.{Input}
+use Rattle.rbc_step.specs.declared.outcome.Outcome.{Outcome}
+use Rattle.rbc_step.specs.declared.outcome.RuleFault.{RuleFault}
+use Rattle.rbc_step.specs.Right.{IsRight}
 use Rattle.rbc_desk.specs.Held.{IsOutcomeOf}
 use Rattle.rbc_book.specs.declared.stage.Stage.{Stage}
 use Rattle.rbc_book.specs.declared.stage.Stage.TheVariants.{Free, Out, Tried, Void}
@@ -83,6 +85,13 @@ computed_outcome run log stage index fresh records input outcome entries unset i
     none : (b : Bool) → b ≡ false → OnTrue b ((x : Try) × (stage ≡ Tried x) × (outcome ≡ x.outcome) × (numbered entries ≡ x.writes))
     none true e = absurd (cc e)
     none false e = tt
+
+pub computed_outcomes : (run : Run) (log other : LogName) (track : Plan) (stage : Stage Try) (index : ℕ) (fresh : Bool) (records : Key → Option Rec) (input : Input)
+    (done : Result (Outcome × List (Key × Option Shown)) RuleFault) → fresh ≡ false → track ≡ run.track → other ≡ log → IsInput run (index + 1) input → IfOk done (λ d. IsOutcomeOf track input records d.0) → IfOk done (λ d. AreKeyedOf other d.1)
+    → IfOk done (λ d. AreOfWrites (numbered d.1) d.0.writes) → IfOk done (λ d. IsOutcomeAt run log index stage fresh records d.0 d.1)
+computed_outcomes run log other track stage index fresh records input (Ok done) unset of_track of_log is right keyed writes =
+    computed_outcome run log stage index fresh records input done.0 done.1 unset is (subst (λ (t : Plan). IsOutcomeOf t input records done.0) of_track right) (subst (λ (l : LogName). AreKeyedOf l done.1) of_log keyed) writes
+computed_outcomes run log other track stage index fresh records input (Err fault) unset of_track of_log is right keyed writes = tt
 
 -- only an attempt is fresh
 pub not_fresh : (tickets : List (Key × Shown)) (stage : Stage Try) (fresh : Bool) → Judges tickets stage (Some fresh) → ((a : Try) → stage ≡ Tried a → ⊥) → fresh ≡ false

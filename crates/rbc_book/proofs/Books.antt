@@ -7,9 +7,9 @@ use Rattle.rbc_records.specs.declared.record.Key.{Key}
 use Rattle.rbc_records.specs.Notes.{same_key}
 use Rattle.rbc_versions.specs.Log.{LogName, Shown, number_of}
 use Rattle.rbc_versions.specs.Entries.{NumberedRec, AreCurrent, numbered, ticket_in, tickets_after, numbers_after}
-use Rattle.rbc_rule.specs.declared.input.Input.{Input}
-use Rattle.rbc_rule.specs.declared.outcome.Outcome.{Outcome}
-use Rattle.rbc_rule.specs.Inputs.{Fits}
+use Rattle.rbc_step.specs.declared.input.Input.{Input}
+use Rattle.rbc_step.specs.declared.outcome.Outcome.{Outcome}
+use Rattle.rbc_step.specs.Inputs.{Fits}
 use Rattle.rbc_desk.specs.Held.{Standing, Holds, IsOutcomeOf, after_outcome}
 use Rattle.rbc_desk.specs.Serial.{Desk, step, serial}
 use Rattle.rbc_desk.proofs.Runs.{fold_more, All-get}
@@ -20,7 +20,7 @@ use Rattle.rbc_book.specs.Runs.{Run, IsGoodRun, IsInput}
 use Rattle.rbc_book.specs.Core.{Try, IsRightTry, State, opening, IsAt, front, IsReady, IsStale}
 use Rattle.rbc_book.specs.declared.book.Commit.TheVariants.{Applied, Recomputed, NotReady, Failed}
 use Rattle.rbc_book.specs.Events.{Happens, Commits}
-use Rattle.rbc_book.specs.Events.Event.{Deposits, Voids}
+use Rattle.rbc_book.specs.Events.Event.{Takes, Deposits, Voids}
 use Rattle.rbc_book.specs.Books.{IsStage, AreStages, IsKept, IsOutIn, Judges, IsJudged, IsCarriedOut, number_now}
 
 module _ {A : Type 0} where
@@ -123,6 +123,25 @@ keeps run s k x b new = record {
   stages = stages_set s.stages k s.committed s.taken s.committed s.taken x b.stages new (λ j g ne h. h);
 }
 
+-- the same with the stages that a call leaves
+pub keeps_set : (run : Run) (s : State) (k : ℕ) (x : Stage Try) (xs : List (Stage Try)) → IsKept run s → IsStage s.committed s.taken k x → xs ≡ set s.stages k x → IsKept run (record s { stages = xs })
+keeps_set run s k x xs b new put = subst (λ (l : List (Stage Try)). IsKept run (record s { stages = l })) (sym put) (keeps run s k x b new)
+
+pub takes_set : (run : Run) (s : State) (xs : List (Stage Try)) → IsKept run s → s.taken < length run.inputs → xs ≡ set s.stages s.taken Out → IsKept run (record s { stages = xs; taken = s.taken + 1 })
+takes_set run s xs b more put = subst (λ (l : List (Stage Try)). IsKept run (record s { stages = l; taken = s.taken + 1 })) (sym put) (takes run s s.taken b refl more)
+
+-- the next input is taken, which is an event
+pub takes_next : (run : Run) (s old : State) (xs : List (Stage Try)) → s ≡ old → s.closed ≡ false → s.taken < length run.inputs → xs ≡ set s.stages s.taken Out
+    → Happens run old (Takes (Some (s.taken + 1))) (record s { stages = xs; taken = s.taken + 1 })
+takes_next run s old xs is opened more put =
+    subst (λ (o : State). Happens run o (Takes (Some (s.taken + 1))) (record s { stages = xs; taken = s.taken + 1 })) is (record {
+      may = (opened, more, refl);
+      leads = ap (λ (l : List (Stage Try)). record s { stages = l; taken = s.taken + 1 }) (put ∙ ap (λ n. set s.stages n Out) (index s.taken));
+    })
+  where
+    index : (n : ℕ) → n ≡ n + 1 - 1
+    index n = omega arith
+
 -- the book is closed to `take`
 pub closes : (run : Run) (s : State) → IsKept run s → IsKept run (record s { closed = true })
 closes run s b = record {
@@ -185,21 +204,40 @@ is_out_at run s number b h =
     let turn = b.stages (number - 1) Out h.1 in
     at_index s (number - 1) number Out (omega (arith, h.0)) turn.0 turn.1 h.1
 
+-- it has an index among the stages
+pub out_within : (xs : List (Stage Try)) (number : ℕ) → IsOutIn xs number → number - 1 < length xs
+out_within xs number out = slice_get_within xs (number - 1) Out out.1
+
 pub out_in : (s : State) (number : ℕ) → IsAt s number Out → IsOutIn s.stages number
 out_in s number a = (let low = a.uncommitted in omega (arith, low), a.at)
 
 -- an attempt at an input that is out is kept
-pub deposits : (run : Run) (s old : State) (a : Try) (number : ℕ) → s ≡ old → IsKept run s → IsRightTry run a → IsOutIn s.stages number → number ≡ a.number
-    → Happens run old (Deposits a true) (record s { stages = set s.stages (number - 1) (Tried a) })
-deposits run s old a number is b right out same =
-    subst (λ (o : State). Happens run o (Deposits a true) (record s { stages = set s.stages (number - 1) (Tried a) })) is
-    (record { may = (right, is_out_at run s a.number b (subst (IsOutIn s.stages) same out)); leads = ap (λ n. record s { stages = set s.stages (n - 1) (Tried a) }) same })
+pub deposits : (run : Run) (s old : State) (a : Try) (number : ℕ) (xs : List (Stage Try)) → s ≡ old → IsKept run s → IsRightTry run a → IsOutIn s.stages number → number ≡ a.number → xs ≡ set s.stages (number - 1) (Tried a)
+    → Happens run old (Deposits a true) (record s { stages = xs })
+deposits run s old a number xs is b right out same put =
+    subst (λ (o : State). Happens run o (Deposits a true) (record s { stages = xs })) is (record {
+      may = (right, is_out_at run s a.number b (subst (IsOutIn s.stages) same out));
+      leads = ap (λ (l : List (Stage Try)). record s { stages = l }) (put ∙ ap (λ n. set s.stages (n - 1) (Tried a)) same);
+    })
+
+-- an attempt at an input that is not out is handed back
+pub hands_back : (run : Run) (s old : State) (a : Try) (number : ℕ) → s ≡ old → IsRightTry run a → (IsOutIn s.stages number → ⊥) → number ≡ a.number → Happens run old (Deposits a false) old
+hands_back run s old a number is right other same =
+    subst (λ (o : State). Happens run o (Deposits a false) o) is
+    (record { may = (right, λ at. other (subst (IsOutIn s.stages) (sym same) (out_in s a.number at))); leads = refl })
+
+-- an input that is not out is not given up
+pub voids_none : (run : Run) (s old : State) (number : ℕ) → s ≡ old → (IsOutIn s.stages number → ⊥) → Happens run old (Voids number false) old
+voids_none run s old number is other = subst (λ (o : State). Happens run o (Voids number false) o) is (record { may = λ at. other (out_in s number at); leads = refl })
 
 -- an input that is out is given up
-pub voids : (run : Run) (s old : State) (number : ℕ) → s ≡ old → IsKept run s → IsOutIn s.stages number → Happens run old (Voids number true) (record s { stages = set s.stages (number - 1) Void })
-voids run s old number is b out =
-    subst (λ (o : State). Happens run o (Voids number true) (record s { stages = set s.stages (number - 1) Void })) is
-    (record { may = is_out_at run s number b out; leads = refl })
+pub voids : (run : Run) (s old : State) (number : ℕ) (xs : List (Stage Try)) → s ≡ old → IsKept run s → IsOutIn s.stages number → xs ≡ set s.stages (number - 1) Void
+    → Happens run old (Voids number true) (record s { stages = xs })
+voids run s old number xs is b out put =
+    subst (λ (o : State). Happens run o (Voids number true) (record s { stages = xs })) is (record {
+      may = is_out_at run s number b out;
+      leads = ap (λ (l : List (Stage Try)). record s { stages = l }) put;
+    })
 
 -- ---- numbers
 
@@ -308,20 +346,20 @@ pub stays_closed : (run : Run) (s old : State) → s ≡ old → s.closed ≡ tr
 stays_closed run s old is closed more = subst (λ (o : State). Commits run o Failed o) is (true, record { may = (more, inl closed); leads = λ i. record s { closed = closed i } })
 
 -- the next input is committed
-pub commits_kept : (run : Run) (log : LogName) (s : State) (before now : List (Key × Shown)) (fresh : Bool) (stage : Stage Try) (desk : Standing) (xs : List (Stage Try)) (recomputed : ℕ) → IsKept run s
-    → IsJudged s.stages s.committed before (Some fresh) → IsCarriedOut run log s.committed stage fresh s.desk desk before now → xs ≡ set s.stages s.committed Void → recomputed ≤ s.committed + 1
-    → IsKept run (committed s desk (number_now now) (set xs s.committed Free) recomputed)
-commits_kept run log s before now fresh stage desk xs recomputed b can done void few =
+pub commits_kept : (run : Run) (log : LogName) (s : State) (before now : List (Key × Shown)) (fresh : Bool) (stage : Stage Try) (desk : Standing) (xs ys : List (Stage Try)) (recomputed : ℕ) → IsKept run s
+    → IsJudged s.stages s.committed before (Some fresh) → IsCarriedOut run log s.committed stage fresh s.desk desk before now → xs ≡ set s.stages s.committed Void → ys ≡ set xs s.committed Free → recomputed ≤ s.committed + 1
+    → IsKept run (committed s desk (number_now now) ys recomputed)
+commits_kept run log s before now fresh stage desk xs ys recomputed b can done void free few =
     let out = done.is_outcome in
-    subst (IsKept run) (λ i. committed s (sym done.taken_over i) (number_now now) (sym (freed s xs void) i) recomputed)
+    subst (IsKept run) (λ i. committed s (sym done.taken_over i) (number_now now) (sym (free ∙ freed s xs void) i) recomputed)
     (commits run s out.input done.outcome (number_now now) recomputed b (turn_of run s before b fresh can) out.is_input out.right few)
 
 -- the state that a commit leads to
-led : (s : State) (outcome : Outcome) (entries : List (Key × Option Shown)) (writes : List (Key × NumberedRec)) (before now : List (Key × Shown)) (desk : Standing) (xs : List (Stage Try)) (recomputed : ℕ)
-    → s.present ≡ number_now before → numbered entries ≡ writes → ((k : Key) → ticket_in now k ≡ tickets_after entries (ticket_in before) k) → desk ≡ after_outcome s.desk outcome → xs ≡ set s.stages s.committed Void
-    → committed s desk (number_now now) (set xs s.committed Free) recomputed ≡ committed s (after_outcome s.desk outcome) (λ k. numbers_after writes s.present k) (set s.stages (front s - 1) Free) recomputed
-led s outcome entries writes before now desk xs recomputed numbers named tickets same void i =
-    committed s (same i) (λ k. present k i) ((freed s xs void ∙ ap (λ n. set s.stages n Free) (front_index s)) i) recomputed
+led : (s : State) (outcome : Outcome) (entries : List (Key × Option Shown)) (writes : List (Key × NumberedRec)) (before now : List (Key × Shown)) (desk : Standing) (xs ys : List (Stage Try)) (recomputed : ℕ)
+    → s.present ≡ number_now before → numbered entries ≡ writes → ((k : Key) → ticket_in now k ≡ tickets_after entries (ticket_in before) k) → desk ≡ after_outcome s.desk outcome → xs ≡ set s.stages s.committed Void → ys ≡ set xs s.committed Free
+    → committed s desk (number_now now) ys recomputed ≡ committed s (after_outcome s.desk outcome) (λ k. numbers_after writes s.present k) (set s.stages (front s - 1) Free) recomputed
+led s outcome entries writes before now desk xs ys recomputed numbers named tickets same void free i =
+    committed s (same i) (λ k. present k i) ((free ∙ (freed s xs void ∙ ap (λ n. set s.stages n Free) (front_index s))) i) recomputed
   where
     present : (k : Key) → number_now now k ≡ numbers_after writes s.present k
     present k =
@@ -329,36 +367,40 @@ led s outcome entries writes before now desk xs recomputed numbers named tickets
         ∙ (ap (λ (e : List (Key × NumberedRec)). numbers_after e (number_now before) k) named ∙ ap (λ (p : Key → ℕ). numbers_after writes p k) (sym numbers))
 
 -- by its attempt
-pub applies : (run : Run) (log : LogName) (s old : State) (before now : List (Key × Shown)) (stage : Stage Try) (desk : Standing) (xs : List (Stage Try)) → s ≡ old → IsKept run s → s.present ≡ number_now before
-    → s.closed ≡ false → IsJudged s.stages s.committed before (Some true) → slice_get s.stages s.committed ≡ Some stage → IsCarriedOut run log s.committed stage true s.desk desk before now
-    → xs ≡ set s.stages s.committed Void
-    → Commits run old Applied (committed s desk (number_now now) (set xs s.committed Free) s.recomputed)
-applies run log s old before now stage desk xs is b numbers opened can at done void =
+pub applies : (run : Run) (log : LogName) (s old : State) (before now : List (Key × Shown)) (fresh : Bool) (stage : Stage Try) (desk : Standing) (xs ys : List (Stage Try)) → s ≡ old → IsKept run s → s.present ≡ number_now before
+    → s.closed ≡ false → fresh ≡ true → IsJudged s.stages s.committed before (Some fresh) → slice_get s.stages s.committed ≡ Some stage → IsCarriedOut run log s.committed stage fresh s.desk desk before now
+    → xs ≡ set s.stages s.committed Void → ys ≡ set xs s.committed Free
+    → Commits run old Applied (committed s desk (number_now now) ys s.recomputed)
+applies run log s old before now fresh stage desk xs ys is b numbers opened set_true judged at carried void free =
+    let can : IsJudged s.stages s.committed before (Some true) = subst (λ f. IsJudged s.stages s.committed before (Some f)) set_true judged in
+    let done : IsCarriedOut run log s.committed stage true s.desk desk before now = subst (λ f. IsCarriedOut run log s.committed stage f s.desk desk before now) set_true carried in
     let attempt = done.is_outcome.attempt in
     let there : slice_get s.stages s.committed ≡ Some (Tried attempt.0) = at ∙ ap Some attempt.1 in
-    let fresh = subst (λ (x : Stage Try). Judges before x (Some true)) (same_item s.stages s.committed can.0 (Tried attempt.0) can.1 there) can.2 in
-    let current : AreCurrent attempt.0.notes s.present = subst (AreCurrent attempt.0.notes) (sym numbers) fresh.0 in
-    subst (λ (o : State). Commits run o Applied (committed s desk (number_now now) (set xs s.committed Free) s.recomputed)) is (
+    let judges = subst (λ (x : Stage Try). Judges before x (Some true)) (same_item s.stages s.committed can.0 (Tried attempt.0) can.1 there) can.2 in
+    let current : AreCurrent attempt.0.notes s.present = subst (AreCurrent attempt.0.notes) (sym numbers) judges.0 in
+    subst (λ (o : State). Commits run o Applied (committed s desk (number_now now) ys s.recomputed)) is (
       done.outcome,
       attempt.0.writes,
       record {
         may = (opened, (attempt.0, front_at run s before b true (Tried attempt.0) can there, current, attempt.2, refl));
-        leads = led s done.outcome done.entries attempt.0.writes before now desk xs s.recomputed numbers attempt.3 done.tickets done.taken_over void;
+        leads = led s done.outcome done.entries attempt.0.writes before now desk xs ys s.recomputed numbers attempt.3 done.tickets done.taken_over void free;
       },
     )
 
 -- or computed here
-pub recomputes : (run : Run) (log : LogName) (s old : State) (before now : List (Key × Shown)) (stage : Stage Try) (desk : Standing) (xs : List (Stage Try)) → s ≡ old → IsKept run s → s.present ≡ number_now before
-    → s.closed ≡ false → IsJudged s.stages s.committed before (Some false) → IsCarriedOut run log s.committed stage false s.desk desk before now → xs ≡ set s.stages s.committed Void
-    → Commits run old Recomputed (committed s desk (number_now now) (set xs s.committed Free) (s.recomputed + 1))
-recomputes run log s old before now stage desk xs is b numbers opened can done void =
+pub recomputes : (run : Run) (log : LogName) (s old : State) (before now : List (Key × Shown)) (fresh : Bool) (stage : Stage Try) (desk : Standing) (xs ys : List (Stage Try)) → s ≡ old → IsKept run s → s.present ≡ number_now before
+    → s.closed ≡ false → fresh ≡ false → IsJudged s.stages s.committed before (Some fresh) → IsCarriedOut run log s.committed stage fresh s.desk desk before now → xs ≡ set s.stages s.committed Void → ys ≡ set xs s.committed Free
+    → Commits run old Recomputed (committed s desk (number_now now) ys (s.recomputed + 1))
+recomputes run log s old before now fresh stage desk xs ys is b numbers opened set_false judged carried void free =
+    let can : IsJudged s.stages s.committed before (Some false) = subst (λ f. IsJudged s.stages s.committed before (Some f)) set_false judged in
+    let done : IsCarriedOut run log s.committed stage false s.desk desk before now = subst (λ f. IsCarriedOut run log s.committed stage f s.desk desk before now) set_false carried in
     let out = done.is_outcome in
     let stale : IsStale s = stale_stage s before can.0 numbers can.2 (front_at run s before b false can.0 can can.1) in
-    subst (λ (o : State). Commits run o Recomputed (committed s desk (number_now now) (set xs s.committed Free) (s.recomputed + 1))) is (
+    subst (λ (o : State). Commits run o Recomputed (committed s desk (number_now now) ys (s.recomputed + 1))) is (
       done.outcome,
       numbered done.entries,
       record {
         may = (opened, stale, (out.input, out.is_input, out.right), out.writes);
-        leads = led s done.outcome done.entries (numbered done.entries) before now desk xs (s.recomputed + 1) numbers refl done.tickets done.taken_over void;
+        leads = led s done.outcome done.entries (numbered done.entries) before now desk xs ys (s.recomputed + 1) numbers refl done.tickets done.taken_over void free;
       },
     )

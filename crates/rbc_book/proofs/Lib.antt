@@ -1,5 +1,7 @@
+pub mod Stages
 pub mod Books
 pub mod Agreeing
 pub mod Mails
 pub mod Searching
 pub mod Presents
+pub mod Turns

@@ -2,7 +2,7 @@
 use Rattle.std.proofs.Common.{ℕ, List, [], ◌++◌, take, sym, ap, ◌∙◌}
 use Rattle.std.proofs.lemmas.List.Elements.{All-take}
 use Rattle.rbc_maps.specs.Maps.{value_or}
-use Rattle.rbc_rule.specs.Inputs.{Fits}
+use Rattle.rbc_step.specs.Inputs.{Fits}
 use Rattle.rbc_desk.specs.declared.outbox.Mail.{Mail}
 use Rattle.rbc_desk.specs.Held.{Standing}
 use Rattle.rbc_desk.proofs.Mails.{each_run_says}

@@ -1,14 +1,13 @@
 -- The present tickets after a publication show what stands after its writes.
-use Rattle.std.proofs.Common.{◌≡◌, ℕ, Bool, true, false, cond, List, [], ◌∷◌, length, Option, Some, None, refl, sym, ap, ◌∙◌, subst}
+use Rattle.std.proofs.Common.{◌≡◌, ℕ, Bool, true, false, cond, List, [], ◌∷◌, length, Option, refl, sym, ap, ◌∙◌, subst}
 use Rattle.std.specs.Prelude.{IfSome, replicate}
 use Rattle.std.proofs.lemmas.List.Elements.{All-head, All-tail}
 use Rattle.rbc_records.specs.declared.record.Key.{Key}
-use Rattle.rbc_records.specs.declared.record.Rec.{Rec}
 use Rattle.rbc_records.specs.Notes.{same_key, record_in}
 use Rattle.rbc_records.proofs.Keys.{same_key_is}
 use Rattle.rbc_versions.specs.Log.{LogName, Shown, IsOf}
 use Rattle.rbc_versions.specs.Entries.{AreKeyedOf, StandIn, ticket_in, tickets_after}
-use Rattle.rbc_desk.specs.Held.{Held, Standing, standing, after_outcome}
+use Rattle.rbc_desk.specs.Held.{Held, Standing, standing}
 use Rattle.rbc_book.specs.declared.stage.Stage.TheVariants.{Free}
 use Rattle.rbc_book.specs.Runs.{Run, IsGoodRun}
 use Rattle.rbc_book.specs.Core.{Try}

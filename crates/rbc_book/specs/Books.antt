@@ -7,8 +7,8 @@ use Rattle.rbc_records.specs.declared.record.Rec.{Rec}
 use Rattle.rbc_records.specs.Notes.{AreNow, record_in}
 use Rattle.rbc_versions.specs.Log.{LogName, Shown, number_of}
 use Rattle.rbc_versions.specs.Entries.{AreCurrent, AreOfWrites, AreKeyedOf, StandIn, numbered, record_of, records_of, ticket_in, tickets_after}
-use Rattle.rbc_rule.specs.declared.input.Input.{Input}
-use Rattle.rbc_rule.specs.declared.outcome.Outcome.{Outcome}
+use Rattle.rbc_step.specs.declared.input.Input.{Input}
+use Rattle.rbc_step.specs.declared.outcome.Outcome.{Outcome}
 use Rattle.rbc_desk.specs.Held.{Held, Standing, standing, AreOutboxes, IsOutcomeOf, after_outcome}
 use Rattle.rbc_book.specs.declared.stage.Stage.{Stage}
 use Rattle.rbc_book.specs.declared.stage.Stage.TheVariants.{Free, Out, Tried, Void}

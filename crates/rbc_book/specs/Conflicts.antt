@@ -4,7 +4,7 @@ use Rattle.std.specs.List.{fold, list_any}
 use Rattle.rbc_records.specs.declared.record.Key.{Key}
 use Rattle.rbc_records.specs.Notes.{same_key}
 use Rattle.rbc_versions.specs.Entries.{NumberedRec, number_for}
-use Rattle.rbc_rule.specs.declared.outcome.Outcome.{Outcome}
+use Rattle.rbc_step.specs.declared.outcome.Outcome.{Outcome}
 use Rattle.rbc_book.specs.declared.stage.Stage.TheVariants.{Tried}
 use Rattle.rbc_book.specs.Runs.{Run}
 use Rattle.rbc_book.specs.Core.{Try, State, opening, IsAt, front}

@@ -3,10 +3,10 @@ use Rattle.std.specs.Prelude.{◌≡◌, ◌⊎◌, ℕ, ◌+◌, ◌-◌, ◌<�
 use Rattle.rbc_records.specs.declared.record.Key.{Key}
 use Rattle.rbc_records.specs.Notes.{Part}
 use Rattle.rbc_versions.specs.Entries.{NumberedRec, records_of, AreCurrent, AreOfWrites}
-use Rattle.rbc_rule.specs.declared.input.Input.{Input}
-use Rattle.rbc_rule.specs.declared.outcome.Outcome.{Outcome}
-use Rattle.rbc_rule.specs.Gathered.{AreSendable}
-use Rattle.rbc_rule.specs.Right.{IsRight}
+use Rattle.rbc_step.specs.declared.input.Input.{Input}
+use Rattle.rbc_step.specs.declared.outcome.Outcome.{Outcome}
+use Rattle.rbc_step.specs.Gathered.{AreSendable}
+use Rattle.rbc_step.specs.Right.{IsRight}
 use Rattle.rbc_desk.specs.Held.{Standing, standing}
 use Rattle.rbc_book.specs.declared.stage.Stage.{Stage}
 use Rattle.rbc_book.specs.declared.stage.Stage.TheVariants.{Free, Tried, Void}

@@ -6,8 +6,8 @@ use Rattle.rbc_records.specs.declared.record.Key.{Key}
 use Rattle.rbc_records.specs.declared.record.Rec.{Rec}
 use Rattle.rbc_versions.specs.declared.log.Version.{Version}
 use Rattle.rbc_versions.specs.Entries.{NumberedRec, AreCurrent, AreOfWrites, number_for, numbers_after}
-use Rattle.rbc_rule.specs.declared.input.Input.{Input}
-use Rattle.rbc_rule.specs.declared.outcome.Outcome.{Outcome}
+use Rattle.rbc_step.specs.declared.input.Input.{Input}
+use Rattle.rbc_step.specs.declared.outcome.Outcome.{Outcome}
 use Rattle.rbc_desk.specs.Held.{standing, after_outcome, IsOutcomeOf}
 use Rattle.rbc_book.specs.declared.stage.Stage.TheVariants.{Free, Out, Tried, Void}
 use Rattle.rbc_book.specs.declared.book.Commit.{Commit}

@@ -2,8 +2,8 @@
 use Rattle.std.specs.Prelude.{◌≡◌, ℕ, ◌+◌, ◌-◌, ◌≤◌, List, [], length, take, Some, slice_get}
 use Rattle.std.specs.List.{All}
 use Rattle.rbc_track.specs.Plan.{Plan, IsPlan}
-use Rattle.rbc_rule.specs.declared.input.Input.{Input}
-use Rattle.rbc_rule.specs.Inputs.{Fits}
+use Rattle.rbc_step.specs.declared.input.Input.{Input}
+use Rattle.rbc_step.specs.Inputs.{Fits}
 use Rattle.rbc_desk.specs.declared.outbox.Mail.{Mail}
 use Rattle.rbc_desk.specs.Serial.{Desk, serial}
 use Rattle.rbc_desk.specs.Held.{Held, Standing, standing, Holds, AreOutboxes, max_results}

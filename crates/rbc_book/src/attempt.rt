@@ -7,14 +7,14 @@ ghost use Rattle.rbc_versions.specs.Log.{number_of};
 ghost use Rattle.rbc_versions.specs.Entries.{AreOf, AreKeyedOf, AreOfWrites, AreCurrent, StandIn, numbered, number_for};
 ghost use Rattle.rbc_versions.specs.Entries.{records_of, shown, record_of, ticket_in};
 ghost use Rattle.rbc_versions.specs.Entries.{CountsAll};
-ghost use Rattle.rbc_rule.specs.Right.{IsRight};
-ghost use Rattle.rbc_rule.specs.Gathered.{AreSendable};
+ghost use Rattle.rbc_step.specs.Right.{IsRight};
+ghost use Rattle.rbc_step.specs.Gathered.{AreSendable};
 ghost use Rattle.rbc_book.specs.Runs.{IsInput};
 ghost use Rattle.rbc_book.specs.Core.{IsRightTry};
 
 use crate::run_name::RunName;
 use rbc_records::Key;
-use rbc_rule::{Input, Outcome};
+use rbc_step::{Input, Outcome};
 use rbc_track::Track;
 use rbc_versions::{Notes, Present, Published, VersionLog};
 use std::marker::{Model, PhantomData};

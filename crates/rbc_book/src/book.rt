@@ -6,9 +6,10 @@ ghost use Rattle.std.specs.Prelude.{List};
 ghost use Rattle.rbc_records.specs.declared.record.Key.{Key};
 ghost use Rattle.rbc_records.specs.Notes.{record_in};
 ghost use Rattle.rbc_versions.specs.Log.{Shown};
-ghost use Rattle.rbc_versions.specs.Entries.{StandIn};
-ghost use Rattle.rbc_rule.specs.Gathered.{AreSendable};
-ghost use Rattle.rbc_desk.specs.Held.{IsMemoryOf, standing};
+ghost use Rattle.rbc_versions.specs.Entries.{AreKeyedOf, AreOfWrites, StandIn, numbered, ticket_in, tickets_after};
+ghost use Rattle.rbc_step.specs.Gathered.{AreSendable};
+ghost use Rattle.rbc_step.specs.Inputs.{Fits};
+ghost use Rattle.rbc_desk.specs.Held.{IsMemoryOf, IsOutcomeOf, standing, after_outcome};
 ghost use Rattle.rbc_book.specs.declared.stage.Stage.TheVariants.{Free, Tried, Void};
 ghost use Rattle.rbc_book.specs.Runs.{IsGoodRun, IsSerialRun, IsSaidSince};
 ghost use Rattle.rbc_book.specs.Core.{Try, opening};
@@ -24,7 +25,7 @@ use crate::run_name::RunName;
 use crate::stage::Stage;
 use rbc_desk::{Desk, MAX_RESULTS};
 use rbc_records::Key;
-use rbc_rule::{Input, Outcome, RuleFault};
+use rbc_step::{Input, Outcome, RuleFault};
 use rbc_track::Track;
 use rbc_versions::{Present, Published, VersionLog, publish_all};
 use std::alloc::{AllocError, Global};
@@ -151,7 +152,7 @@ impl<'a, N: RunName> Book<'a, N> {
         if self.is_closed || self.taken as usize >= self.inputs.len() {
             return None;
         }
-        self.stages[self.taken as usize] = Stage::Out;
+        set_stage(&mut self.stages, self.taken as usize, Stage::Out);
         self.taken += 1;
         Some(self.taken)
     }
@@ -182,7 +183,7 @@ impl<'a, N: RunName> Book<'a, N> {
             return Err(attempt);
         }
         self.weight = self.weight.saturating_add(attempt.weight());
-        self.stages[number as usize - 1] = Stage::Tried(attempt);
+        set_stage(&mut self.stages, number as usize - 1, Stage::Tried(attempt));
         Ok(())
     }
 
@@ -194,7 +195,7 @@ impl<'a, N: RunName> Book<'a, N> {
         if !is_out(&self.stages, number) {
             return false;
         }
-        self.stages[number as usize - 1] = Stage::Void;
+        set_stage(&mut self.stages, number as usize - 1, Stage::Void);
         true
     }
 
@@ -229,7 +230,7 @@ impl<'a, N: RunName> Book<'a, N> {
             self.is_closed = true;
             return Commit::Failed;
         };
-        self.stages[front] = Stage::Free;
+        set_stage(&mut self.stages, front, Stage::Free);
         self.committed += 1;
         if is_fresh {
             return Commit::Applied;
@@ -298,6 +299,18 @@ fn all_free<N: RunName>(alloc: Global, count: usize) -> Result<Vec<Stage<Attempt
         stages.push_reserved(Stage::Free);
     }
     Ok(stages)
+}
+
+/// Sets how far the input at an index is.
+fn set_stage<N: RunName>(
+    stages: &mut Vec<Stage<Attempt<N>>>,
+    index: usize,
+    stage: Stage<Attempt<N>>,
+)
+    requires { index < length stages.old.items }
+    ensures { stages.new.items ≡ set stages.old.items index stage }
+{
+    stages[index] = stage;
 }
 
 /// Whether the input of a number was taken, and is neither attempted nor given up.
@@ -418,15 +431,35 @@ fn outcome_of<N: RunName>(
             return Ok((outcome, published));
         }
     }
-    let outcome = desk.decide(alloc, track, &inputs[front])?;
+    computed(rt, alloc, track, &inputs[front], log, desk)
+}
+
+/// The outcome of an input as it is computed here, and its publication. Fails only for lack of memory.
+fn computed(
+    rt: &impl Wait,
+    alloc: Global,
+    track: &Track,
+    input: &Input,
+    log: &VersionLog,
+    desk: &mut Desk,
+) -> Result<(Outcome, Published), RuleFault>
+    requires { Fits input.now }
+    ensures right { IfOk result (λ done. IsOutcomeOf track.now input.now (record_in desk.old.records) done.0) }
+    ensures fit { IfOk result (λ done. AreSendable done.0.messages) }
+    ensures here { IfOk result (λ done. AreKeyedOf log.now done.1) }
+    ensures writes { IfOk result (λ done. AreOfWrites (numbered done.1) done.0.writes) }
+    ensures memory { IfErr result (λ fault. IsMemoryOf track.now (record_in desk.old.records) fault) }
+    ensures same { standing desk.new ≡ standing desk.old }
+{
+    let outcome = desk.decide(alloc, track, input)?;
     match publish_all(rt, alloc, log, &outcome.writes) {
         Ok(published) => Ok((outcome, published)),
         Err(_) => Err(RuleFault::OutOfMemory),
     }
 }
 
-/// Does what the next input does, and tells how much is published for it. Fails only for lack of memory, and then changes
-/// nothing.
+/// Does what the next input does, and tells how much is published for it. Fails only for lack of memory, and then
+/// changes nothing.
 fn carry_out<N: RunName>(
     rt: &impl Wait,
     alloc: Global,
@@ -450,10 +483,30 @@ fn carry_out<N: RunName>(
     ensures kept { OnErr result (present.new.tickets ≡ present.old.tickets) }
 {
     let (outcome, published) = outcome_of(rt, alloc, track, inputs, log, turn, desk)?;
-    if present.reserve(published.len()).is_err() {
-        return Err(RuleFault::OutOfMemory);
-    }
-    let _replaced = desk.take_over(alloc, outcome)?;
-    present.take_over(&published);
+    hand_over(alloc, outcome, &published, desk, present)?;
     Ok(published.weight())
+}
+
+/// Takes an outcome and its publication over. Fails only for lack of memory, and then changes nothing.
+fn hand_over(
+    alloc: Global,
+    outcome: Outcome,
+    published: &Published,
+    desk: &mut Desk,
+    present: &mut Present,
+) -> Result<(), AllocError>
+    requires fit { AreSendable outcome.messages }
+    requires room { length desk.old.results < MAX_RESULTS }
+    ensures desk { OnOk result (standing desk.new ≡ after_outcome (standing desk.old) outcome) }
+    ensures tickets { OnOk result ((k : Key)
+        → ticket_in present.new.tickets k ≡ tickets_after published.now (ticket_in present.old.tickets) k) }
+    ensures err { OnErr result (standing desk.new ≡ standing desk.old) }
+    ensures kept { OnErr result (present.new.tickets ≡ present.old.tickets) }
+{
+    if present.reserve(published.len()).is_err() {
+        return Err(AllocError);
+    }
+    desk.take_over(alloc, outcome)?;
+    present.take_over(published);
+    Ok(())
 }

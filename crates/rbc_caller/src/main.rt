@@ -10,7 +10,7 @@ mod office;
 
 use anyhow::{Context, Result, bail};
 use office::{Office, sent_line};
-use rbc_rule::Reply;
+use rbc_step::Reply;
 use rbc_text::{first_line, parse_line};
 use rbc_track::track_from_toml;
 use std::alloc::{AllocError, Global};

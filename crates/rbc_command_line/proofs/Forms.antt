@@ -1,5 +1,5 @@
 -- What clap finds in each form of `run`, and in those of `live`, `explain` and `picture` without a number.
-use Rattle.std.proofs.Common.{refl, sym, ap, arith, ◌∙◌, ◌≡◌, ◌≢◌, ℕ, [], ◌∷◌, ◌++◌, List, Some, true, false, Ok, ◌==◌, codes, option_and_then}
+use Rattle.std.proofs.Common.{refl, sym, ap, arith, ◌∙◌, ◌≡◌, ◌≢◌, ℕ, [], ◌∷◌, ◌++◌, List, Some, None, true, false, Ok, ◌==◌, codes, option_and_then}
 use Rattle.std.specs.Prelude.{find, pos, unwrap_or}
 use Rattle.std.specs.Option.{option_map_or}
 use Rattle.std.specs.Str.Parse.{IsNumeral, signed_digits_value, without_leading_plus}
@@ -20,30 +20,10 @@ use Rattle.clap.proofs.OnLiterals.{clap_on_literals}
 use Rattle.clap.proofs.ValueTestLemmas.{Accepts-accepts}
 use Rattle.clap.proofs.WalkLemmas.{byte_read}
 use Rattle.rbc_command_line.specs.Forms.{AfterAllByDefault, AsManyAsNamed, BeginAtOneByDefault, FromOneByDefault, OneByDefault, WritesByte}
-use Rattle.rbc_command_line.specs.Words.{AsksToRun, check_shape, codes_shape, decode_shape, explain_shape, found_after, live_shape, picture_shape, track_rule, word_after, workers_rule}
+use Rattle.rbc_command_line.specs.Words.{AsksToDraw, AsksToExplain, AsksToLive, AsksToRun, check_shape, codes_shape, command_line, decode_shape, explain_shape, found_after, live_shape, picture_shape, track_rule, word_after, workers_rule}
 
 no_hyphen : (c : ℕ) → c ≢ 45 → (c == 45) ≡ false
 no_hyphen c plain = ne_eqb c 45 plain
-
-pub one_by_default : OneByDefault
-unfolding clap_on_literals
-one_by_default [] plain = absurd plain
-one_by_default (c ∷ rest) plain = let e = no_hyphen c plain in (simp e, simp e, simp e)
-
-pub from_one_by_default : FromOneByDefault
-unfolding clap_on_literals
-from_one_by_default [] plain = absurd plain
-from_one_by_default (c ∷ rest) plain = let e = no_hyphen c plain in (simp e, simp e, simp e)
-
-pub begin_at_one_by_default : BeginAtOneByDefault
-unfolding clap_on_literals
-begin_at_one_by_default [] plain = absurd plain
-begin_at_one_by_default (c ∷ rest) plain = let e = no_hyphen c plain in (simp e, simp e, simp e)
-
-pub after_all_by_default : AfterAllByDefault
-unfolding clap_on_literals
-after_all_by_default [] plain = absurd plain
-after_all_by_default (c ∷ rest) plain = let e = no_hyphen c plain in (simp e, simp e, simp e)
 
 -- the command line, with any parser of the number of workers
 abbrev line_with : ValueParser → App
@@ -58,66 +38,141 @@ abbrev Finds : ValueParser → Text → Text → List Text → Type 0
 Finds q file word words = (fault_of (line_with q) words ≡ []) × (word_after (codes "run") (codes "track") (subcommand_of (line_with q) words) ≡ Some file)
     × (option_and_then (one_of (codes "workers")) (found_after (codes "run") (subcommand_of (line_with q) words)) ≡ Some (read_as (reading_of q) word))
 
--- ---- the number is in the option's own word
+-- ---- the walk is taken apart from what follows it
 
-last_in_one : (q : ValueParser) (c : ℕ) (rest word : Text) → (c == 45) ≡ false → accepts false q word ≡ true
-    → Finds q (c ∷ rest) word (codes "run" ∷ codes "--track" ∷ (c ∷ rest) ∷ (codes "--workers=" ++ word) ∷ [])
-unfolding clap_on_literals
-last_in_one q c rest word plain passes = (simp (plain, passes), simp plain, simp plain)
+-- a subcommand as it is built
+abbrev part_of : App → Text → Shape
+part_of line name = unwrap_or (find (λ s. answers_to name (label_of s)) (built line).subs) decode_shape
 
-first_in_one : (q : ValueParser) (c : ℕ) (rest word : Text) → (c == 45) ≡ false → accepts false q word ≡ true
-    → Finds q (c ∷ rest) word (codes "run" ∷ (codes "--workers=" ++ word) ∷ codes "--track" ∷ (c ∷ rest) ∷ [])
-unfolding clap_on_literals
-first_in_one q c rest word plain passes = (simp (plain, passes), simp plain, simp plain)
-
--- ---- the number is in the next word, and the walk is taken apart from what follows it
-
--- `run` as it is built
-abbrev run_built : ValueParser → Shape
-run_built q = unwrap_or (find (λ s. answers_to (codes "run") (label_of s)) (built (line_with q)).subs) decode_shape
-
--- the walk over words behind `run`
-abbrev walk_over : ValueParser → List Text → Walk
-walk_over q words = walk (run_built q).rules [] nothing_held words
+-- the walk over words behind it
+abbrev walk_over : Shape → List Text → Walk
+walk_over s words = walk s.rules [] nothing_held words
 
 -- what is left to check at the end of a walk
-abbrev rest_fault : ValueParser → Walk → Kinds
-rest_fault q w = let s = run_built q in or_else (settle_fault s.rules s.args_override_self w.held)
+abbrev rest_fault : Shape → Walk → Kinds
+rest_fault s w = or_else (settle_fault s.rules s.args_override_self w.held)
     (or_else (defaults_fault (settled s.rules w.held).rows s.rules) (check_fault s (finished s.rules w.held) false))
 
--- `run` takes four words if the walk does, and so does what follows it
-taken : (q : ValueParser) (a b c d : Text) → (let words = a ∷ b ∷ c ∷ d ∷ [] in
-    walk_fault (run_built q) [] (walk_from nothing_held) words ≡ [] → (end : Walk) → walk_over q words ≡ end → rest_fault q end ≡ []
-    → fault_of (line_with q) (codes "run" ∷ words) ≡ [])
+-- it takes words if the walk does, and so does what follows it
+abbrev Takes : App → Text → List Text → Type 0
+Takes line name words = walk_fault (part_of line name) [] (walk_from nothing_held) words ≡ []
+    → (end : Walk) → walk_over (part_of line name) words ≡ end → rest_fault (part_of line name) end ≡ []
+    → fault_of line (name ∷ words) ≡ []
+
+run_takes_two : (q : ValueParser) (a b : Text) → Takes (line_with q) (codes "run") (a ∷ b ∷ [])
 unfolding clap_on_literals
-taken q a b c d walks end is rests =
-    let left : rest_fault q (walk_over q (a ∷ b ∷ c ∷ d ∷ [])) ≡ [] = rw is rests in
-    rw (walks, left) refl
+run_takes_two q a b walks end is rests = rw (walks, is, rests) refl
+
+run_takes_three : (q : ValueParser) (a b c : Text) → Takes (line_with q) (codes "run") (a ∷ b ∷ c ∷ [])
+unfolding clap_on_literals
+run_takes_three q a b c walks end is rests = rw (walks, is, rests) refl
+
+run_takes_four : (q : ValueParser) (a b c d : Text) → Takes (line_with q) (codes "run") (a ∷ b ∷ c ∷ d ∷ [])
+unfolding clap_on_literals
+run_takes_four q a b c d walks end is rests = rw (walks, is, rests) refl
+
+live_takes : (a b : Text) → Takes command_line (codes "live") (a ∷ b ∷ [])
+unfolding clap_on_literals
+live_takes a b walks end is rests = rw (walks, is, rests) refl
+
+explain_takes : (a b : Text) → Takes command_line (codes "explain") (a ∷ b ∷ [])
+unfolding clap_on_literals
+explain_takes a b walks end is rests = rw (walks, is, rests) refl
+
+picture_takes : (a b : Text) → Takes command_line (codes "picture") (a ∷ b ∷ [])
+unfolding clap_on_literals
+picture_takes a b walks end is rests = rw (walks, is, rests) refl
+
+-- ---- without a number
+
+module _ (c : ℕ) (rest : Text) (plain : (c == 45) ≡ false) where
+  abbrev track_alone : List Text
+  track_alone = codes "--track" ∷ (c ∷ rest) ∷ []
+
+  -- the walk with the option's value still pending
+  abbrev track_pending : Walk
+  track_pending = walk_from (record { rows = []; pending = Some (codes "track", (c ∷ rest) ∷ []); skip = 0 })
+
+  run_alone : AsksToRun (c ∷ rest) 1 (codes "run" ∷ track_alone)
+  unfolding clap_on_literals
+  run_alone = (run_takes_two (vp.Signed (pos 0) (pos 255)) (codes "--track") (c ∷ rest) (simp plain) track_pending (simp plain) refl, simp plain, simp plain)
+
+  live_alone : AsksToLive (c ∷ rest) 1 (codes "live" ∷ track_alone)
+  unfolding clap_on_literals
+  live_alone = (live_takes (codes "--track") (c ∷ rest) (simp plain) track_pending (simp plain) refl, simp plain, simp plain)
+
+  explain_alone : AsksToExplain (c ∷ rest) 1 (codes "explain" ∷ track_alone)
+  unfolding clap_on_literals
+  explain_alone = (explain_takes (codes "--track") (c ∷ rest) (simp plain) track_pending (simp plain) refl, simp plain, simp plain)
+
+  picture_alone : AsksToDraw (c ∷ rest) None (codes "picture" ∷ track_alone)
+  unfolding clap_on_literals
+  picture_alone = (picture_takes (codes "--track") (c ∷ rest) (simp plain) track_pending (simp plain) refl, simp plain, simp plain)
+
+pub one_by_default : OneByDefault
+one_by_default [] plain = absurd plain
+one_by_default (c ∷ rest) plain = run_alone c rest (no_hyphen c plain)
+
+pub from_one_by_default : FromOneByDefault
+from_one_by_default [] plain = absurd plain
+from_one_by_default (c ∷ rest) plain = live_alone c rest (no_hyphen c plain)
+
+pub begin_at_one_by_default : BeginAtOneByDefault
+begin_at_one_by_default [] plain = absurd plain
+begin_at_one_by_default (c ∷ rest) plain = explain_alone c rest (no_hyphen c plain)
+
+pub after_all_by_default : AfterAllByDefault
+after_all_by_default [] plain = absurd plain
+after_all_by_default (c ∷ rest) plain = picture_alone c rest (no_hyphen c plain)
 
 -- the walk with the last option's value still pending
 abbrev ends_at : Rule → Text → Text → Text → Walk
 ends_at first value id last = record (walk_from (record { rows = used (filled first) (value ∷ []) []; pending = Some (id, last ∷ []); skip = 0 })) { waiting = idle }
 
+-- ---- the number is in the option's own word
+
+module _ (q : ValueParser) (c : ℕ) (rest word : Text) (plain : (c == 45) ≡ false) (passes : accepts false q word ≡ true) where
+  last_in_one : Finds q (c ∷ rest) word (codes "run" ∷ codes "--track" ∷ (c ∷ rest) ∷ (codes "--workers=" ++ word) ∷ [])
+  unfolding clap_on_literals
+  last_in_one =
+      let rows = used (record (filled workers_rule) { parser = Some q }) (word ∷ []) (used (filled track_rule) ((c ∷ rest) ∷ []) []) in (
+        run_takes_three q (codes "--track") (c ∷ rest) (codes "--workers=" ++ word) (simp (plain, passes))
+            (walk_from (record { rows = rows; pending = None; skip = 0 })) (simp plain) refl,
+        simp plain,
+        simp plain,
+      )
+
+  first_in_one : Finds q (c ∷ rest) word (codes "run" ∷ (codes "--workers=" ++ word) ∷ codes "--track" ∷ (c ∷ rest) ∷ [])
+  unfolding clap_on_literals
+  first_in_one = (
+    run_takes_three q (codes "--workers=" ++ word) (codes "--track") (c ∷ rest) (simp (plain, passes))
+        (ends_at (record workers_rule { parser = Some q }) word (codes "track") (c ∷ rest)) (simp plain) refl,
+    simp plain,
+    simp plain,
+  )
+
+-- ---- the number is in the next word
+
 module _ (q : ValueParser) (c d : ℕ) (rest more : Text) (plain : (c == 45) ≡ false) (digit : (d == 45) ≡ false) where
   abbrev workers_last : List Text
   workers_last = codes "--track" ∷ (c ∷ rest) ∷ codes "--workers" ∷ (d ∷ more) ∷ []
 
-  last_walks : walk_fault (run_built q) [] (walk_from nothing_held) workers_last ≡ []
+  last_walks : walk_fault (part_of (line_with q) (codes "run")) [] (walk_from nothing_held) workers_last ≡ []
   unfolding clap_on_literals
   last_walks = simp (plain, digit)
 
-  last_ends : walk_over q workers_last ≡ ends_at track_rule (c ∷ rest) (codes "workers") (d ∷ more)
+  last_ends : walk_over (part_of (line_with q) (codes "run")) workers_last ≡ ends_at track_rule (c ∷ rest) (codes "workers") (d ∷ more)
   unfolding clap_on_literals
   last_ends = simp (plain, digit)
 
-  last_rests : accepts false q (d ∷ more) ≡ true → rest_fault q (ends_at track_rule (c ∷ rest) (codes "workers") (d ∷ more)) ≡ []
+  last_rests : accepts false q (d ∷ more) ≡ true → rest_fault (part_of (line_with q) (codes "run")) (ends_at track_rule (c ∷ rest) (codes "workers") (d ∷ more)) ≡ []
   unfolding clap_on_literals
   last_rests passes = simp passes
 
   last_in_two : accepts false q (d ∷ more) ≡ true → Finds q (c ∷ rest) (d ∷ more) (codes "run" ∷ workers_last)
   unfolding clap_on_literals
   last_in_two passes =
-      (taken q (codes "--track") (c ∷ rest) (codes "--workers") (d ∷ more) last_walks _ last_ends (last_rests passes), simp (plain, digit), simp (plain, digit))
+      (run_takes_four q (codes "--track") (c ∷ rest) (codes "--workers") (d ∷ more) last_walks _ last_ends (last_rests passes), simp (plain, digit), simp (plain, digit))
 
   abbrev workers_first : List Text
   workers_first = codes "--workers" ∷ (d ∷ more) ∷ codes "--track" ∷ (c ∷ rest) ∷ []
@@ -125,22 +180,22 @@ module _ (q : ValueParser) (c d : ℕ) (rest more : Text) (plain : (c == 45) ≡
   abbrev first_end : Walk
   first_end = ends_at (record workers_rule { parser = Some q }) (d ∷ more) (codes "track") (c ∷ rest)
 
-  first_walks : accepts false q (d ∷ more) ≡ true → walk_fault (run_built q) [] (walk_from nothing_held) workers_first ≡ []
+  first_walks : accepts false q (d ∷ more) ≡ true → walk_fault (part_of (line_with q) (codes "run")) [] (walk_from nothing_held) workers_first ≡ []
   unfolding clap_on_literals
   first_walks passes = simp (plain, digit, passes)
 
-  first_ends : walk_over q workers_first ≡ first_end
+  first_ends : walk_over (part_of (line_with q) (codes "run")) workers_first ≡ first_end
   unfolding clap_on_literals
   first_ends = simp (plain, digit)
 
-  first_rests : rest_fault q first_end ≡ []
+  first_rests : rest_fault (part_of (line_with q) (codes "run")) first_end ≡ []
   unfolding clap_on_literals
   first_rests = refl
 
   first_in_two : accepts false q (d ∷ more) ≡ true → Finds q (c ∷ rest) (d ∷ more) (codes "run" ∷ workers_first)
   unfolding clap_on_literals
   first_in_two passes =
-      (taken q (codes "--workers") (d ∷ more) (codes "--track") (c ∷ rest) (first_walks passes) _ first_ends first_rests, simp (plain, digit), simp (plain, digit))
+      (run_takes_four q (codes "--workers") (d ∷ more) (codes "--track") (c ∷ rest) (first_walks passes) _ first_ends first_rests, simp (plain, digit), simp (plain, digit))
 
 -- ---- a number in decimal digits
 

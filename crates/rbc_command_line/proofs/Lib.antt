@@ -1,3 +1,4 @@
+mod Added
 mod Findings
 mod Forms
 mod WitnessWords

@@ -1,21 +1,21 @@
 //! The arguments that the program takes.
-ghost use Rattle.std.specs.Prelude.{◌≡◌, ◌⊎◌, ℕ, List, Option, [], codes, false, IfErr, IfNone, IfOk, IfSome, OnOk};
-ghost use Rattle.std.specs.Prelude.{map, option_map, string_bytes, true};
-ghost use Rattle.clap.specs.Simple.{App, Shape, new_rule, with_subcommand};
-ghost use Rattle.clap.specs.Words.{app_of, fault_of, rule_of, shape_of, subcommand_rows_of};
+ghost use Rattle.std.specs.Prelude.{◌≡◌, ◌⊎◌, ℕ, List, Option, Some, [], codes, false, IfErr, IfNone, IfOk, IfSome};
+ghost use Rattle.std.specs.Prelude.{OnOk, map, option_map, string_bytes, true};
+ghost use Rattle.clap.specs.Simple.{App, Shape, new_app, new_rule, with_rule, with_subcommand};
+ghost use Rattle.clap.specs.Walk.{Rule};
+ghost use Rattle.clap.specs.Words.{app_of, fault_of, kind_of, rule_of, shape_of, subcommand_rows_of};
 ghost use Rattle.clap.specs.declared.builder.command.Command.TheViews.{out-Command as fields_of};
 ghost use Rattle.rbc_command_line.specs.NoTask.{status_of, status_of_kind};
 ghost use Rattle.rbc_command_line.specs.Words.{AsksToCheck, AsksToDecode, AsksToDraw, AsksToExplain, AsksToLive};
 ghost use Rattle.rbc_command_line.specs.Words.{AsksToRun, IsCheckOf, IsDecode, IsExplainOn, IsFound, IsLiveOn};
-ghost use Rattle.rbc_command_line.specs.Words.{IsNoTask, IsPictureOn, IsRunOn, IsTakenFor, IsWantOfMemory, after_rule};
-ghost use Rattle.rbc_command_line.specs.Words.{bare_line, begin_rule, check_shape, codes_shape, command_line};
-ghost use Rattle.rbc_command_line.specs.Words.{count_after, decode_shape, explain_shape, finding_in, from_rule};
-ghost use Rattle.rbc_command_line.specs.Words.{input_after, live_shape, number_after, other_keys_rule, picture_shape};
-ghost use Rattle.rbc_command_line.specs.Words.{run_shape, track_rule, word_after, workers_rule};
+ghost use Rattle.rbc_command_line.specs.Words.{IsNoTask, IsPictureOn, IsRunOn, IsTakenFor, IsWantOfMemory, bare_line};
+ghost use Rattle.rbc_command_line.specs.Words.{command_line, count_after, finding_in, input_after, number_after};
+ghost use Rattle.rbc_command_line.specs.Words.{other_keys_rule, track_rule, word_after};
 
 use crate::no_task::NoTask;
+use clap::builder::ValueParser;
 use clap::error::ErrorKind;
-use clap::{Arg, ArgAction, ArgMatches, Command, value_parser};
+use clap::{Arg, ArgAction, ArgMatches, Command};
 use std::alloc::{AllocError, Global};
 use std::env::{Env, FillError};
 use std::{env, io};
@@ -44,6 +44,25 @@ pub enum Task<'a> {
     Codes,
 }
 
+/// A subcommand's name, and what its help says at the top and at the end.
+struct Page {
+    name: &'static str,
+    about: &'static str,
+    after_help: &'static str,
+}
+
+/// An option that takes a number.
+struct NumberOption {
+    /// Its name, without hyphens.
+    name: &'static str,
+    /// What the number has to be.
+    parser: ValueParser<'static>,
+    /// The number where the option is not given, if there is one.
+    default: &'static [&'static str],
+    /// What help says of it.
+    help: &'static str,
+}
+
 const AFTER_HELP: &str = "\
 First:    dispatch check --track FILE                 what the track file says
 Then:     dispatch run --track FILE < BATCH           results and messages, as bytes
@@ -52,7 +71,10 @@ To read:  dispatch explain --track FILE < BATCH       the same run in words
           dispatch picture --track FILE < BATCH > out.svg
 More:     README.md, docs/GUIDE.md; `dispatch help COMMAND` for one command.";
 
-const AFTER_RUN: &str = "\
+const RUN: &Page = &Page {
+    name: "run",
+    about: "Run a batch: its results, and each train's messages as bytes",
+    after_help: "\
 Reads a batch from standard input, to its end, and writes one line for each input in order,
 `INPUT ok COUNT` or `INPUT refused CODE`, and then one line for each message, by engine number:
 `ENGINE INPUT HEX`. Nothing is written before the whole batch is run.
@@ -60,9 +82,13 @@ Reads a batch from standard input, to its end, and writes one line for each inpu
 Workers are threads that work on several inputs at once. The output is the same for every number.
 
 Exit status: 0 done; 1 a fault, one line on standard error; 2 bad arguments.
-`dispatch codes` says what each code and each fault means, `dispatch explain` tells a run in words.";
+`dispatch codes` says what each code and each fault means, `dispatch explain` tells a run in words.",
+};
 
-const AFTER_LIVE: &str = "\
+const LIVE: &Page = &Page {
+    name: "live",
+    about: "Answer inputs one line at a time, each before the next is waited for",
+    after_help: "\
 Reads inputs from standard input, a line each, and answers each before it waits for the next one:
 `INPUT ok COUNT` or `INPUT refused CODE`, and then one line for each message that it sends, in the
 order in which they are sent: `ENGINE INPUT HEX`. Ends where standard input ends.
@@ -71,30 +97,46 @@ No state is kept. Keep the lines in a log. After a crash, start the program agai
 first, and name in --from the first input whose answer you do not have.
 
 Exit status: 0 done; 1 a fault, one line on standard error; 2 bad arguments. What was written before
-a fault stands.";
+a fault stands.",
+};
 
-const AFTER_EXPLAIN: &str = "\
+const EXPLAIN: &Page = &Page {
+    name: "explain",
+    about: "Tell a run in words, as a log",
+    after_help: "\
 Reads a batch from standard input, as `run` does, and tells for each input what came of it and each
 message with its reason; then what is active, told, not told and not acknowledged at the end. The
 lines that begin with \"= \" are those of `run`. Places are in km from the beginning of their line.
 
-Exit status: 0 done; 1 a fault, one line on standard error; 2 bad arguments.";
+Exit status: 0 done; 1 a fault, one line on standard error; 2 bad arguments.",
+};
 
-const AFTER_PICTURE: &str = "\
+const PICTURE: &Page = &Page {
+    name: "picture",
+    about: "Draw the track with its trains, stops and restrictions, as SVG",
+    after_help: "\
 Reads a batch from standard input, as `run` does, and writes one SVG document: for each line its
 balise groups, the stops and restrictions that are active, and each train where it may be, with the
 places before which it is told to stop. Trains without a place are listed below.
 
-Exit status: 0 done; 1 a fault, one line on standard error; 2 bad arguments.";
+Exit status: 0 done; 1 a fault, one line on standard error; 2 bad arguments.",
+};
 
-const AFTER_CHECK: &str = "\
+const CHECK: &Page = &Page {
+    name: "check",
+    about: "Show what a track file says, and what is wrong with it",
+    after_help: "\
 Writes the lines with their balise groups in order, then warnings and notes. Where the file is
 refused, writes the rule that it breaks and where. Standard input is not read.
 
 Exit status: 0 good, without a warning; 1 refused (`track: RULE` on standard error, as `run` has
-it), or good with warnings (`track: N warnings`); 2 bad arguments.";
+it), or good with warnings (`track: N warnings`); 2 bad arguments.",
+};
 
-const AFTER_DECODE: &str = "\
+const DECODE: &Page = &Page {
+    name: "decode",
+    about: "Show what the bytes of one message mean",
+    after_help: "\
 Messages 15, 16, 18 and 24 are read as messages to a train, all others as messages from one.
 Writes one line: the message's number, then each variable with its value.
 
@@ -102,24 +144,63 @@ Writes one line: the message's number, then each variable with its value.
   16 stamp 2 ack 0 lrbg 16777215 em 1
 
 Exit status: 0 done; 1 a fault: `bad hex`, or `decode: NAME` with NAME Length, Message, Packet or
-Field; 2 bad arguments.";
+Field; 2 bad arguments.",
+};
 
-const AFTER_CODES: &str = "\
+const CODES: &Page = &Page {
+    name: "codes",
+    about: "List all result codes and faults, and what to do about each",
+    after_help: "\
 Writes for each its number or its line, its name, what it means and what to do. Reads nothing.
 
-Exit status: 0 done; 1 a fault, one line on standard error; 2 bad arguments.";
+Exit status: 0 done; 1 a fault, one line on standard error; 2 bad arguments.",
+};
+
+const WORKERS: &NumberOption = &NumberOption {
+    name: "workers",
+    parser: ValueParser::Signed(0, 255),
+    default: &["1"],
+    help: "How many inputs are worked on at once, 1 to 16",
+};
+
+const FIRST_ANSWER: &NumberOption = &NumberOption {
+    name: "from",
+    parser: ValueParser::Unsigned(1, 18_446_744_073_709_551_615),
+    default: &["1"],
+    help: "The first input whose answer is written, 1 or more",
+};
+
+const FIRST_TOLD: &NumberOption = &NumberOption {
+    name: "from",
+    parser: ValueParser::Signed(1, 4_294_967_295),
+    default: &[],
+    help: "Begin the log at input N; earlier inputs are run all the same",
+};
+
+const LAST_DRAWN: &NumberOption = &NumberOption {
+    name: "after",
+    parser: ValueParser::Signed(0, 4_294_967_295),
+    default: &[],
+    help: "Draw what stands after the first N inputs; without it, after all",
+};
 
 /// The command line that the program takes, by the name `dispatch` whatever its file is called.
 fn command<'a>(alloc: Global) -> Result<Command<'a>, AllocError>
     ensures { IfOk result (λ command. app_of command ≡ command_line) }
 {
-    let with_run = with_subcommand(bare_command(alloc), run_command(alloc));
-    let with_live = with_subcommand(with_run, live_command(alloc));
-    let with_explain = with_subcommand(with_live, explain_command(alloc));
-    let with_picture = with_subcommand(with_explain, picture_command(alloc));
-    let with_check = with_subcommand(with_picture, check_command(alloc));
-    let with_decode = with_subcommand(with_check, decode_command(alloc));
-    with_subcommand(with_decode, Ok(codes_command(alloc)))
+    let workers = number_option(alloc, WORKERS);
+    let with_run = with_subcommand(bare_command(alloc), with_track(alloc, RUN, workers));
+    let answer = number_option(alloc, FIRST_ANSWER);
+    let with_live = with_subcommand(with_run, with_track(alloc, LIVE, answer));
+    let told = number_option(alloc, FIRST_TOLD);
+    let with_explain = with_subcommand(with_live, with_track(alloc, EXPLAIN, told));
+    let drawn = number_option(alloc, LAST_DRAWN);
+    let with_picture = with_subcommand(with_explain, with_track(alloc, PICTURE, drawn));
+    let other_keys = other_keys_option(alloc);
+    let with_check = with_subcommand(with_picture, with_track(alloc, CHECK, other_keys));
+    let decode = subcommand(alloc, DECODE).arg(hex_word(alloc));
+    let with_decode = with_subcommand(with_check, decode);
+    with_subcommand(with_decode, Ok(subcommand(alloc, CODES)))
 }
 
 /// The command line with one more subcommand, where memory was had for both.
@@ -132,7 +213,10 @@ fn with_subcommand<'a>(
         → IfOk subcommand.entry (λ s. (fields_of s).has_globals ≡ false)
         → IfOk result (λ r. app_of r ≡ with_subcommand app shape) }
 {
-    command?.subcommand(subcommand?)
+    match (command, subcommand) {
+        (Ok(command), Ok(subcommand)) => command.subcommand(subcommand),
+        _ => Err(AllocError),
+    }
 }
 
 /// The command line without its subcommands.
@@ -141,7 +225,7 @@ fn bare_command<'a>(alloc: Global) -> Result<Command<'a>, AllocError>
 {
     Command::new(alloc, "dispatch")
         .no_binary_name(true)
-        .version("3.3.1, rules 3")
+        .version("3.3.2, rules 3")
         .about(
             "Emergency stops and speed restrictions, from a signaller's batch to each train's messages",
         )
@@ -150,15 +234,26 @@ fn bare_command<'a>(alloc: Global) -> Result<Command<'a>, AllocError>
         .bin_name("dispatch")
 }
 
-fn run_command<'a>(alloc: Global) -> Result<Command<'a>, AllocError>
-    ensures shape { IfOk result (λ command. shape_of command ≡ run_shape) }
+/// A subcommand that takes a track and one more option.
+fn with_track<'a>(alloc: Global, page: &Page, option: Arg<'a>) -> Result<Command<'a>, AllocError>
+    requires { option.global ≡ false }
+    ensures shape { (rule : Rule) → rule_of option.entry ≡ rule → IfOk result (λ command. shape_of command
+        ≡ (with_rule (with_rule (new_app page.now.name.now) track_rule) rule).top) }
     ensures local { IfOk result (λ command. (fields_of command).has_globals ≡ false) }
 {
-    Command::new(alloc, "run")
-        .about("Run a batch: its results, and each train's messages as bytes")
-        .after_help(AFTER_RUN)
+    subcommand(alloc, page)
         .arg(track_option(alloc))?
-        .arg(workers_option(alloc))
+        .arg(option)
+}
+
+/// A subcommand without arguments.
+fn subcommand<'a>(alloc: Global, page: &Page) -> Command<'a>
+    ensures app { app_of result ≡ new_app page.now.name.now }
+    ensures local { (fields_of result).has_globals ≡ false }
+{
+    Command::new(alloc, page.name)
+        .about(page.about)
+        .after_help(page.after_help)
 }
 
 fn track_option<'a>(alloc: Global) -> Arg<'a>
@@ -172,94 +267,21 @@ fn track_option<'a>(alloc: Global) -> Arg<'a>
         .help("The track file, a TOML document")
 }
 
-fn workers_option<'a>(alloc: Global) -> Arg<'a>
-    ensures rule { rule_of result ≡ workers_rule }
+fn number_option<'a>(alloc: Global, option: &NumberOption) -> Arg<'a>
+    ensures rule { rule_of result ≡ record (new_rule option.now.name.now) {
+      long = Some option.now.name.now;
+      value_names = 1;
+      parser = Some option.now.parser;
+      defaults = map (λ text. text.now) option.now.default.now;
+    } }
     ensures local { result.global ≡ false }
 {
-    Arg::new(alloc, "workers")
-        .long("workers")
+    Arg::new(alloc, option.name)
+        .long(option.name)
         .value_name("N")
-        .value_parser(value_parser!(u8))
-        .default_value("1")
-        .help("How many inputs are worked on at once, 1 to 16")
-}
-
-fn live_command<'a>(alloc: Global) -> Result<Command<'a>, AllocError>
-    ensures shape { IfOk result (λ command. shape_of command ≡ live_shape) }
-    ensures local { IfOk result (λ command. (fields_of command).has_globals ≡ false) }
-{
-    Command::new(alloc, "live")
-        .about("Answer inputs one line at a time, each before the next is waited for")
-        .after_help(AFTER_LIVE)
-        .arg(track_option(alloc))?
-        .arg(from_option(alloc))
-}
-
-fn from_option<'a>(alloc: Global) -> Arg<'a>
-    ensures rule { rule_of result ≡ from_rule }
-    ensures local { result.global ≡ false }
-{
-    Arg::new(alloc, "from")
-        .long("from")
-        .value_name("N")
-        .value_parser(value_parser!(u64).range(1..))
-        .default_value("1")
-        .help("The first input whose answer is written, 1 or more")
-}
-
-fn explain_command<'a>(alloc: Global) -> Result<Command<'a>, AllocError>
-    ensures shape { IfOk result (λ command. shape_of command ≡ explain_shape) }
-    ensures local { IfOk result (λ command. (fields_of command).has_globals ≡ false) }
-{
-    Command::new(alloc, "explain")
-        .about("Tell a run in words, as a log")
-        .after_help(AFTER_EXPLAIN)
-        .arg(track_option(alloc))?
-        .arg(begin_option(alloc))
-}
-
-fn begin_option<'a>(alloc: Global) -> Arg<'a>
-    ensures rule { rule_of result ≡ begin_rule }
-    ensures local { result.global ≡ false }
-{
-    Arg::new(alloc, "from")
-        .long("from")
-        .value_name("N")
-        .value_parser(value_parser!(u32).range(1..))
-        .help("Begin the log at input N; earlier inputs are run all the same")
-}
-
-fn picture_command<'a>(alloc: Global) -> Result<Command<'a>, AllocError>
-    ensures shape { IfOk result (λ command. shape_of command ≡ picture_shape) }
-    ensures local { IfOk result (λ command. (fields_of command).has_globals ≡ false) }
-{
-    Command::new(alloc, "picture")
-        .about("Draw the track with its trains, stops and restrictions, as SVG")
-        .after_help(AFTER_PICTURE)
-        .arg(track_option(alloc))?
-        .arg(after_option(alloc))
-}
-
-fn after_option<'a>(alloc: Global) -> Arg<'a>
-    ensures rule { rule_of result ≡ after_rule }
-    ensures local { result.global ≡ false }
-{
-    Arg::new(alloc, "after")
-        .long("after")
-        .value_name("N")
-        .value_parser(value_parser!(u32))
-        .help("Draw what stands after the first N inputs; without it, after all")
-}
-
-fn check_command<'a>(alloc: Global) -> Result<Command<'a>, AllocError>
-    ensures shape { IfOk result (λ command. shape_of command ≡ check_shape) }
-    ensures local { IfOk result (λ command. (fields_of command).has_globals ≡ false) }
-{
-    Command::new(alloc, "check")
-        .about("Show what a track file says, and what is wrong with it")
-        .after_help(AFTER_CHECK)
-        .arg(track_option(alloc))?
-        .arg(other_keys_option(alloc))
+        .value_parser(option.parser)
+        .default_values(option.default)
+        .help(option.help)
 }
 
 fn other_keys_option<'a>(alloc: Global) -> Arg<'a>
@@ -272,16 +294,6 @@ fn other_keys_option<'a>(alloc: Global) -> Arg<'a>
         .help("Count unknown keys as notes, not as warnings")
 }
 
-fn decode_command<'a>(alloc: Global) -> Result<Command<'a>, AllocError>
-    ensures shape { IfOk result (λ command. shape_of command ≡ decode_shape) }
-    ensures local { IfOk result (λ command. (fields_of command).has_globals ≡ false) }
-{
-    Command::new(alloc, "decode")
-        .about("Show what the bytes of one message mean")
-        .after_help(AFTER_DECODE)
-        .arg(hex_word(alloc))
-}
-
 fn hex_word<'a>(alloc: Global) -> Arg<'a>
     ensures rule { rule_of result ≡ record (new_rule (codes "HEX")) { required = true } }
     ensures local { result.global ≡ false }
@@ -289,15 +301,6 @@ fn hex_word<'a>(alloc: Global) -> Arg<'a>
     Arg::new(alloc, "HEX")
         .required(true)
         .help("The bytes of the message, two hexadecimal digits each")
-}
-
-fn codes_command<'a>(alloc: Global) -> Command<'a>
-    ensures shape { shape_of result ≡ codes_shape }
-    ensures local { (fields_of result).has_globals ≡ false }
-{
-    Command::new(alloc, "codes")
-        .about("List all result codes and faults, and what to do about each")
-        .after_help(AFTER_CODES)
 }
 
 /// The arguments, as words. Where one is not UTF-8, they are bad.
@@ -311,16 +314,25 @@ pub fn read<R: Env + AllocGlobal>(rt: &R) -> Result<Vec<String>, NoTask>
         }
         Err(_) => {
             let message = "invalid UTF-8 was detected in one or more arguments";
-            Err(refuse(rt.alloc(), ErrorKind::InvalidValue, message)?)
+            Err(refuse(rt.alloc(), ErrorKind::InvalidValue, message))
         }
     }
 }
 
-// What the program says of words that it refuses itself.
-fn refuse(alloc: Global, kind: ErrorKind, message: &str) -> Result<NoTask, AllocError>
-    ensures { IfOk result (λ no_task. status_of no_task ≡ status_of_kind kind) }
+// What the program says of words that it refuses itself, if there is memory for it.
+fn refuse(alloc: Global, kind: ErrorKind, message: &str) -> NoTask
+    ensures { IsWantOfMemory result ⊎ (status_of result ≡ status_of_kind kind) }
 {
-    Ok(NoTask::Words(command(alloc)?.error(kind, message)?))
+    match refusal(alloc, kind, message) {
+        Ok(error) => NoTask::Words(error),
+        Err(refused) => NoTask::from(refused),
+    }
+}
+
+fn refusal(alloc: Global, kind: ErrorKind, message: &str) -> Result<clap::Error, AllocError>
+    ensures { IfOk result (λ error. kind_of error ≡ kind) }
+{
+    command(alloc)?.error(kind, message)
 }
 
 /// The task that the arguments ask for. The error is help, where they ask for that, what is wrong
@@ -345,7 +357,7 @@ pub fn parse<'a>(alloc: Global, words: &'a [String]) -> Result<Task<'a>, NoTask>
     match task_of(&matches) {
         Some(task) => Ok(task),
         // Not met: clap asks for a subcommand, and each subcommand for its word.
-        None => Err(refuse(alloc, ErrorKind::MissingSubcommand, "no task was named")?),
+        None => Err(refuse(alloc, ErrorKind::MissingSubcommand, "no task was named")),
     }
 }
 

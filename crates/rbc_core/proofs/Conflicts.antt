@@ -5,7 +5,7 @@ use Rattle.std.proofs.lemmas.Bool.{eqb-true, eqb-false}
 use Rattle.std.proofs.lemmas.List.Elements.{All-nil, All-cons, Contains-append_right, Contains-get_or}
 use Rattle.rbc_records.specs.declared.record.Key.{Key}
 use Rattle.rbc_versions.specs.Entries.{NumberedRec, AreCurrent, number_for}
-use Rattle.rbc_rule.specs.declared.outcome.Outcome.{Outcome}
+use Rattle.rbc_step.specs.declared.outcome.Outcome.{Outcome}
 use Rattle.rbc_book.specs.declared.stage.Stage.{Stage}
 use Rattle.rbc_book.specs.declared.stage.Stage.TheVariants.{Free, Tried, Void}
 use Rattle.rbc_book.specs.Runs.{Run}

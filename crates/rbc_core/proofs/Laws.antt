@@ -5,7 +5,7 @@ use Rattle.std.specs.List.{fold, All}
 use Rattle.std.proofs.lemmas.List.Elements.{All-head, All-tail}
 use Rattle.rbc_records.specs.declared.record.Key.{Key}
 use Rattle.rbc_versions.specs.Entries.{NumberedRec, AreOfWrites, numbers_after}
-use Rattle.rbc_rule.specs.declared.outcome.Outcome.{Outcome}
+use Rattle.rbc_step.specs.declared.outcome.Outcome.{Outcome}
 use Rattle.rbc_desk.specs.Held.{IsOutcomeOf, after_outcome}
 use Rattle.rbc_book.specs.declared.stage.Stage.{Stage}
 use Rattle.rbc_book.specs.declared.stage.Stage.TheVariants.{Free, Out, Tried, Void}

@@ -1,7 +1,7 @@
 -- Worked cases of the laws of events and of what is recomputed. Lengths are in units of 10 cm.
 use Rattle.std.specs.Prelude.{ℕ, zero, suc, true, false, List, [], ◌∷◌, ◌++◌, Some, None, if◌then◌else◌, slice_get}
 use Rattle.rbc_maps.specs.Numbered.{none_numbered}
-use Rattle.rbc_settle.specs.Trains.{new_train}
+use Rattle.rbc_train.specs.Trains.{new_train}
 use Rattle.rbc_records.specs.declared.record.Key.{Key}
 use Rattle.rbc_records.specs.declared.record.Key.TheVariants as key
 use Rattle.rbc_records.specs.declared.record.Rec.{Rec}
@@ -9,9 +9,9 @@ use Rattle.rbc_records.specs.declared.record.Rec.TheVariants as rec
 use Rattle.rbc_records.specs.Notes.{same_key}
 use Rattle.rbc_versions.specs.declared.log.Version.{Version}
 use Rattle.rbc_versions.specs.Entries.{NumberedRec, records_of}
-use Rattle.rbc_rule.specs.declared.input.Input.TheVariants as input
-use Rattle.rbc_rule.specs.declared.outcome.Outcome.{Outcome}
-use Rattle.rbc_rule.specs.declared.outcome.Reply.TheVariants.{Done, Refused}
+use Rattle.rbc_step.specs.declared.input.Input.TheVariants as input
+use Rattle.rbc_step.specs.declared.outcome.Outcome.{Outcome}
+use Rattle.rbc_step.specs.declared.outcome.Reply.TheVariants.{Done, Refused}
 use Rattle.rbc_rule_laws.specs.Witnesses.{track_a}
 use Rattle.rbc_desk.specs.Held.{Held, standing}
 use Rattle.rbc_book.specs.declared.stage.Stage.TheVariants.{Free, Out, Tried, Void}

@@ -1,7 +1,8 @@
 //! `dispatch`, the program. `dispatch run --track FILE --workers N` reads a batch from standard input
 //! and writes what the dispatcher answers on the track in the file to standard output.
 //! `dispatch live --track FILE` answers one line at a time, before it waits for the next one.
-//! `dispatch explain --track FILE` tells a batch in words, and `dispatch picture --track FILE` draws what stands after it.
+//! `dispatch explain --track FILE` tells a batch in words, and `dispatch picture --track FILE` draws what stands after
+//! it.
 //! `dispatch check --track FILE` says what a track file says, and what is wrong with it.
 //! `dispatch decode HEX` writes the text of one message, and `dispatch codes` what each code means.
 //!

@@ -23,8 +23,8 @@ pub fn picture_text<I: Read, O: Write>(
     input: &mut I,
     output: &mut O,
 ) -> Result<(), Fault>
-    ensures shows { ShowsOn (TooFewFor after) (IsPictureAfter after) text.now (I.remaining input.old) (I.remaining input.new)
-        (O.contents output.old) (O.contents output.new) result }
+    ensures shows { ShowsOn (TooFewFor after) (IsPictureAfter after) text.now
+        (I.remaining input.old) (I.remaining input.new) (O.contents output.old) (O.contents output.new) result }
     ensures keeps { Keeps result input.old input.new output.old output.new }
 {
     let drawing = picture(alloc, text, input, after)?;

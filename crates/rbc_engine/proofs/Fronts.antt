@@ -2,7 +2,7 @@
 use Rattle.std.proofs.Common.{◌≡◌, ◌≢◌, ℕ, ◌+◌, ◌-◌, ◌<◌, ◌≤◌, Bool, true, false, length, get_or, Option, Some, None, inl, inr, ⊎_elim, refl, sym, ap, ◌∙◌, subst, arith}
 use Rattle.std.specs.Prelude.{slice_get}
 use Rattle.std.proofs.lemmas.Option.{slice_get_cases, slice_get_within}
-use Rattle.rbc_rule.specs.declared.input.Input.{Input}
+use Rattle.rbc_step.specs.declared.input.Input.{Input}
 use Rattle.rbc_book.specs.declared.book.Commit.{Commit}
 use Rattle.rbc_book.specs.declared.book.Commit.TheVariants.{Applied, Recomputed, NotReady, Done, Failed}
 use Rattle.rbc_book.specs.declared.stage.Stage.{Stage}

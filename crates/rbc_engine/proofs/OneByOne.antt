@@ -3,8 +3,8 @@ use Rattle.std.proofs.Common.{◌≡◌, ℕ, ◌+◌, ◌<◌, ◌≤◌, List,
 use Rattle.std.specs.Prelude.{slice_get}
 use Rattle.std.proofs.lemmas.List.{length-take-le}
 use Rattle.std.proofs.lemmas.Option.{get_or_from_slice_get}
-use Rattle.rbc_rule.specs.declared.input.Input.{Input}
-use Rattle.rbc_rule.specs.declared.outcome.Reply.{Reply}
+use Rattle.rbc_step.specs.declared.input.Input.{Input}
+use Rattle.rbc_step.specs.declared.outcome.Reply.{Reply}
 use Rattle.rbc_desk.specs.Serial.{Desk, step, serial}
 use Rattle.rbc_desk.specs.Held.{Held, Standing, Holds, IsTakenIn, standing, max_results}
 use Rattle.rbc_desk.proofs.Runs.{fold_more}

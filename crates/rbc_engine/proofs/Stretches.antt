@@ -6,10 +6,10 @@ use Rattle.std.proofs.lemmas.List.{length-append, length-take-le, length-drop}
 use Rattle.std.proofs.lemmas.List.Elements.{All-drop, All-take}
 use Rattle.std.proofs.lemmas.List.Sums.{fold-append}
 use Rattle.rbc_track.specs.Plan.{Plan}
-use Rattle.rbc_rule.specs.declared.input.Input.{Input}
-use Rattle.rbc_rule.specs.declared.outcome.Reply.{Reply}
-use Rattle.rbc_rule.specs.Inputs.{Fits}
-use Rattle.rbc_rule.specs.Step as rule
+use Rattle.rbc_step.specs.declared.input.Input.{Input}
+use Rattle.rbc_step.specs.declared.outcome.Reply.{Reply}
+use Rattle.rbc_step.specs.Inputs.{Fits}
+use Rattle.rbc_step.specs.Step as rule
 use Rattle.rbc_desk.specs.Serial.{Desk, step, serial}
 use Rattle.rbc_desk.specs.Held.{Held, Holds, AreOutboxes, standing}
 use Rattle.rbc_book.specs.declared.book.Stats.{Stats}

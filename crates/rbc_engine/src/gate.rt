@@ -23,8 +23,8 @@ pub trait Gate {
     }
 }
 
-/// A gate that does nothing. Behind it one worker does all inputs on the desk itself, since several on a locked book take
-/// longer.
+/// A gate that does nothing. Behind it one worker does all inputs on the desk itself, since several on a locked book
+/// take longer.
 #[derive(Clone, Copy, Debug)]
 pub struct OpenGate;
 

@@ -2,7 +2,7 @@
 
 ghost use Rattle.std.specs.Prelude.{◌≡◌, ◌≤◌, IfSome, length};
 ghost use Rattle.std.specs.List.{All};
-ghost use Rattle.rbc_rule.specs.Inputs.{Fits};
+ghost use Rattle.rbc_step.specs.Inputs.{Fits};
 ghost use Rattle.rbc_book.specs.Books.{IsBook};
 ghost use Rattle.rbc_engine.specs.Reading.{IsNumber};
 ghost use Rattle.rbc_engine.specs.Facts.{all_fit_at_most_once};
@@ -10,8 +10,9 @@ ghost use Rattle.rbc_engine.specs.Facts.{all_fit_at_most_once};
 use crate::gate::Gate;
 use crate::locking::{lock, unlocked};
 use crate::recorder::Recorder;
-use rbc_core::{Attempt, Book, Commit, RunName};
-use rbc_rule::{Input, RuleFault, decide};
+use rbc_book::{Attempt, Book, Commit, RunName};
+use rbc_rule::decide;
+use rbc_step::{Input, RuleFault};
 use rbc_track::Track;
 use rbc_versions::{VersionLog, publish_all};
 use std::alloc::Global;

@@ -9,6 +9,6 @@ mod recorder;
 mod workers;
 
 pub use gate::{AllWorkers, Gate, OpenGate};
-pub use rbc_rule::MAX_INPUTS;
+pub use rbc_step::MAX_INPUTS;
 pub use recorder::Recorder;
 pub use workers::{MAX_WORKERS, RunError, run};

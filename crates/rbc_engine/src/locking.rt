@@ -3,7 +3,7 @@
 ghost use Rattle.std.specs.Sync.Mutex.{mutex_guard_value};
 ghost use Rattle.rbc_book.specs.Books.{IsBook};
 
-use rbc_core::{Book, RunName};
+use rbc_book::{Book, RunName};
 use std::sync::{Mutex, MutexGuard, Wait};
 
 /// Locks a book. It is one of the run, whatever others did to it before.

@@ -7,7 +7,7 @@ ghost use Rattle.rbc_engine.specs.Reading.{WasLatest};
 
 use crate::gate::Gate;
 use crate::locking::lock;
-use rbc_core::{Book, RunName};
+use rbc_book::{Book, RunName};
 use rbc_records::{Key, ReadFault, Reader, Rec};
 use rbc_versions::{Notes, Ticket, VersionLog};
 use std::alloc::Global;

@@ -4,7 +4,7 @@
 ghost use Rattle.std.specs.Prelude.{◌≡◌, ◌≤◌, IsTrue, Ok, false, length, drop};
 ghost use Rattle.std.specs.List.{All};
 ghost use Rattle.rbc_track.specs.Plan.{IsPlan};
-ghost use Rattle.rbc_rule.specs.Inputs.{Fits};
+ghost use Rattle.rbc_step.specs.Inputs.{Fits};
 ghost use Rattle.rbc_desk.specs.Held.{IsInOrder};
 ghost use Rattle.rbc_book.specs.Books.{state_of};
 ghost use Rattle.rbc_book.specs.Core.{front};
@@ -14,8 +14,9 @@ ghost use Rattle.rbc_engine.specs.Fronts.{IsWaiting, IsGivenUp, IsNext, IsAtItsE
 
 use crate::gate::{Behind, Gate};
 use crate::job::work_together;
-use rbc_core::{Book, Commit, Desk, MAX_RESULTS, RunName, Stats};
-use rbc_rule::{Input, MAX_INPUTS};
+use rbc_book::{Book, Commit, RunName, Stats};
+use rbc_desk::{Desk, MAX_RESULTS};
+use rbc_step::{Input, MAX_INPUTS};
 use rbc_track::Track;
 use rbc_versions::VersionLog;
 use std::alloc::Global;
@@ -278,7 +279,8 @@ fn run_next<G: Gate + Sync, R: Threads + Wait + Sync>(
     requires within { (all.recomputed ≤ all.taken) × (all.taken ≤ length inputs.now) }
     requires few { length inputs.now ≤ MAX_INPUTS }
     requires good { IsGoodRun (record { track = track.now; opening = desk.old; inputs = drop all.taken inputs.now }) }
-    ensures { IsNextStretch (record { track = track.now; opening = desk.old; inputs = inputs.now }) all result desk.new }
+    ensures { IsNextStretch (record { track = track.now; opening = desk.old; inputs = inputs.now })
+        all result desk.new }
 {
     match run_behind(rt, alloc, track, desk, inputs, all.taken, workers, gate) {
         Ok(stats) => Ok(Stats {
@@ -348,7 +350,8 @@ pub fn run<G: Gate + Sync, R: AllocGlobal + Threads + Wait + Sync>(
 ) -> Result<Stats, RunError>
     requires opening { IsOpening track.now desk.old }
     requires fit { All Fits inputs.now }
-    ensures run { IsRun (record { track = track.now; opening = desk.old; inputs = inputs.now }) workers result desk.new }
+    ensures run { IsRun (record { track = track.now; opening = desk.old; inputs = inputs.now })
+        workers result desk.new }
     ensures opening { IsOpening track.now desk.new }
 {
     if workers == 0 || workers > MAX_WORKERS {

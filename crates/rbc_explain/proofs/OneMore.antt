@@ -10,8 +10,8 @@ use Rattle.rbc_engine.specs.Answers.{max_inputs}
 use Rattle.rbc_text.specs.BatchText.{lines_of}
 use Rattle.rbc_text.specs.Pieces.{texts_of}
 use Rattle.rbc_text.specs.OutputText.{answer_of}
-use Rattle.rbc_rule.specs.declared.outcome.Reply.{Reply}
-use Rattle.rbc_rule.specs.declared.outcome.Reply.TheVariants.{Done, Refused}
+use Rattle.rbc_step.specs.declared.outcome.Reply.{Reply}
+use Rattle.rbc_step.specs.declared.outcome.Reply.TheVariants.{Done, Refused}
 use Rattle.rbc_live.specs.History.{IsFed, Taken, IsHistory}
 use Rattle.rbc_account.specs.declared.account.Sums.{Sums}
 use Rattle.rbc_account.specs.declared.account.Account.{Account}

@@ -10,9 +10,9 @@ use crate::sentence::stop_sentence;
 use ertms_codec::ToTrain;
 use rbc_account::{Told, ToldWhat, WhyAtOnce};
 use rbc_place::Place;
-use rbc_settle::Sent;
 use rbc_track::Track;
 use rbc_track_report::Sheet;
+use rbc_train::Sent;
 use std::alloc::{AllocError, Global};
 
 /// Adds what a message says, and why it was sent. Of one that no record accounts for this adds nothing. Fails only for

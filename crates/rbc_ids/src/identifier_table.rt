@@ -8,7 +8,8 @@ ghost use Rattle.rbc_ids.specs.declared.slot.IssueError.TheVariants.{Full};
 ghost use Rattle.rbc_ids.specs.declared.slot.Slot.TheVariants.{Revoking};
 ghost use Rattle.rbc_ids.specs.Table.{IsTable, TellsApart, is_told, is_used_at, least_free, identifier_of, told_now};
 ghost use Rattle.rbc_ids.specs.Table.{marked, IsIssued, freed_by, marked_by, stamp_answer, changed_by_stamp};
-ghost use Rattle.rbc_ids.specs.Table.{acked_slot, after_stamp_ack, after_id_ack, changed_by_id, number_rejected, rejected};
+ghost use Rattle.rbc_ids.specs.Table.{acked_slot, after_stamp_ack, after_id_ack, changed_by_id, number_rejected};
+ghost use Rattle.rbc_ids.specs.Table.{rejected};
 ghost use Rattle.rbc_ids.specs.Table.{is_ripe_at, reported_slot, after_report};
 
 use crate::slot::{IdAck, IssueError, Kind, MOST_REPORTS, Slot, StampAck, UsedSlot};

@@ -4,11 +4,11 @@ use Rattle.std.specs.Prelude.{codes, IfNone}
 use Rattle.std.specs.Str.{bytes_eq}
 use Rattle.std.proofs.lemmas.Slice.Eq.{bytes_eq-Decides}
 use Rattle.rbc_track.specs.Plan.{Plan}
-use Rattle.rbc_settle.specs.declared.settling.Sent.{Sent}
+use Rattle.rbc_train.specs.declared.sent.Sent.{Sent}
 use Rattle.rbc_records.specs.declared.record.Key.{Key}
 use Rattle.rbc_records.specs.declared.record.Rec.{Rec}
-use Rattle.rbc_rule.specs.declared.input.Input.TheVariants.{Bad}
-use Rattle.rbc_rule.specs.declared.outcome.Reply.{Reply}
+use Rattle.rbc_step.specs.declared.input.Input.TheVariants.{Bad}
+use Rattle.rbc_step.specs.declared.outcome.Reply.{Reply}
 use Rattle.rbc_text.specs.BatchText.{Line, Spelled, is_space, words_of, message_of, line_of, IsInput}
 use Rattle.rbc_text.specs.Pieces.{pieces_behind}
 use Rattle.rbc_live.specs.History.{IsFed}

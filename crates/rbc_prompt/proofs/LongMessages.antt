@@ -16,10 +16,10 @@ use Rattle.ertms_codec.specs.Layout.{value_at}
 use Rattle.ertms_codec.specs.Refusals.{HasItsLength}
 use Rattle.ertms_codec.proofs.Fields.{at_below}
 use Rattle.ertms_codec.proofs.FromTrainAgain.{again}
-use Rattle.rbc_rule.specs.declared.input.Input.{Input}
-use Rattle.rbc_rule.specs.declared.input.Input.TheVariants.{Enrol, Withdraw, Stop, Release, Restrict, Lift, Received, Bad}
-use Rattle.rbc_rule.specs.Codes.{code_of}
-use Rattle.rbc_rule.specs.Step.{step}
+use Rattle.rbc_step.specs.declared.input.Input.{Input}
+use Rattle.rbc_step.specs.declared.input.Input.TheVariants.{Enrol, Withdraw, Stop, Release, Restrict, Lift, Received, Bad}
+use Rattle.rbc_step.specs.Codes.{code_of}
+use Rattle.rbc_step.specs.Step.{step}
 use Rattle.rbc_text.specs.BatchText.{Line, Spelled, Heard, is_space, words_of, is_hex_word, line_of_hex, message_of, line_of_words, line_of, refusal_of, AreHeard}
 use Rattle.rbc_prompt.specs.GoingOn.{ActsAs, GoesOnAs}
 use Rattle.rbc_prompt.specs.UnderWay.{joined}

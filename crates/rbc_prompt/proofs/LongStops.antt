@@ -8,14 +8,14 @@ use Rattle.std.proofs.lemmas.Bool.Decides.{nat_tests}
 use Rattle.rbc_track.specs.Plan.{Plan}
 use Rattle.rbc_zones.specs.declared.segment.Segment.{Segment}
 use Rattle.rbc_zones.specs.Segments.{is_good_area, is_good_segment}
-use Rattle.rbc_rule.specs.declared.input.Input.{Input}
-use Rattle.rbc_rule.specs.declared.input.Input.TheVariants.{Stop, Bad}
-use Rattle.rbc_rule.specs.declared.refuse.Refusal.TheVariants.{NumberUsed, BadArea}
-use Rattle.rbc_rule.specs.Bounds.{max_stops}
-use Rattle.rbc_rule.specs.Codes.{code_of}
-use Rattle.rbc_rule.specs.World.{World}
-use Rattle.rbc_rule.specs.Effect.{then_do, after_adding}
-use Rattle.rbc_rule.specs.Step.{after, step}
+use Rattle.rbc_step.specs.declared.input.Input.{Input}
+use Rattle.rbc_step.specs.declared.input.Input.TheVariants.{Stop, Bad}
+use Rattle.rbc_step.specs.declared.refuse.Refusal.TheVariants.{NumberUsed, BadArea}
+use Rattle.rbc_step.specs.Bounds.{max_stops}
+use Rattle.rbc_step.specs.Codes.{code_of}
+use Rattle.rbc_step.specs.World.{World}
+use Rattle.rbc_step.specs.Effect.{then_do, after_adding}
+use Rattle.rbc_step.specs.Step.{after, step}
 use Rattle.rbc_text.specs.BatchText.{Line, Spelled, is_space, words_of, decimal_of, segment_of, onto_all, segments_of, stop_from, stop_of, line_of_words, line_of, IsInput}
 use Rattle.rbc_prompt.specs.GoingOn.{ActsAs, GoesOnAs, is_stop}
 use Rattle.rbc_prompt.specs.UnderWay.{joined}

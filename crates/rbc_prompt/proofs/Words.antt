@@ -12,8 +12,8 @@ use Rattle.hex.specs.Hex.{is_hex_digit}
 use Rattle.rbc_zones.specs.declared.segment.Segment.{Segment}
 use Rattle.rbc_zones.specs.declared.limit.Dirs.{Dirs}
 use Rattle.rbc_zones.specs.declared.limit.Dirs.TheVariants.{Up, Down, Both}
-use Rattle.rbc_rule.specs.declared.input.Input.{Input}
-use Rattle.rbc_rule.specs.declared.input.Input.TheVariants.{Bad}
+use Rattle.rbc_step.specs.declared.input.Input.{Input}
+use Rattle.rbc_step.specs.declared.input.Input.TheVariants.{Bad}
 use Rattle.rbc_text.specs.BatchText.{is_space, is_colon, is_dash, is_digit, words_of, value_of, decimal_of, segment_from, segment_of, enrolment_from, enrolment_of, withdrawal_from, withdrawal_of, number_of, dirs_of, front_of, restriction_from, restriction_of, Line, Spelled, message_of, stop_of, line_of_words, line_of}
 use Rattle.rbc_prompt.proofs.Pieces.{first_piece, glued, split_glued}
 

@@ -1,10 +1,10 @@
 -- Lines that have begun, and lead to the same however they go on.
 use Rattle.std.specs.Prelude.{◌≡◌, ℕ, Bool, true, false, List, ◌++◌}
 use Rattle.rbc_track.specs.Plan.{Plan}
-use Rattle.rbc_rule.specs.declared.input.Input.{Input}
-use Rattle.rbc_rule.specs.declared.input.Input.TheVariants.{Enrol, Withdraw, Stop, Release, Restrict, Lift, Received, Bad}
-use Rattle.rbc_rule.specs.World.{World}
-use Rattle.rbc_rule.specs.Step.{step}
+use Rattle.rbc_step.specs.declared.input.Input.{Input}
+use Rattle.rbc_step.specs.declared.input.Input.TheVariants.{Enrol, Withdraw, Stop, Release, Restrict, Lift, Received, Bad}
+use Rattle.rbc_step.specs.World.{World}
+use Rattle.rbc_step.specs.Step.{step}
 use Rattle.rbc_text.specs.BatchText.{Line, line_of, IsInput}
 
 -- whatever input the first line is, the second one is an input whose step is the same, on each track and in each world

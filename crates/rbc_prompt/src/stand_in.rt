@@ -8,7 +8,7 @@ ghost use Rattle.rbc_text.specs.BatchText.{words_of};
 ghost use Rattle.rbc_prompt.specs.GoingOn.{GoesOnAs, is_stop, max_kept};
 
 use memchr::{memchr, memrchr};
-use rbc_rule::Input;
+use rbc_step::Input;
 use rbc_text::{cut, parse_line};
 use std::alloc::{AllocError, Global};
 

@@ -1,8 +1,8 @@
 //! Reading single records.
 
 use crate::record::{Key, Rec};
-use rbc_settle::Numbers;
 use rbc_sought::Sought;
+use rbc_train::Numbers;
 use std::alloc::{AllocError, Global};
 
 /// Why a record could not be read.

@@ -2,7 +2,7 @@
 
 ghost use Rattle.std.specs.Prelude.{◌≡◌, IfOk};
 
-use rbc_settle::{Numbers, TrainRec};
+use rbc_train::{Numbers, TrainRec};
 use rbc_zones::{Limits, Stops};
 use std::alloc::{AllocError, Global};
 

@@ -10,8 +10,8 @@ use crate::reader::{ReadFault, Reader};
 use crate::record::{Key, Rec};
 use crate::record_table::Table;
 use crate::writes::Writes;
-use rbc_settle::Numbers;
 use rbc_sought::Sought;
+use rbc_train::Numbers;
 use std::alloc::{AllocError, Global};
 use std::marker::Model;
 

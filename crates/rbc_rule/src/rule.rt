@@ -2,15 +2,13 @@
 
 ghost use Rattle.std.specs.Prelude.{◌≡◌, ◌+◌, ◌<◌, ◌^◌, IfOk, OnOk};
 ghost use Rattle.rbc_records.specs.Notes.{Extends};
-ghost use Rattle.rbc_rule.specs.Inputs.{Fits};
-ghost use Rattle.rbc_rule.specs.Right.{EachWriteChanges, IsRight, IsSilentIfRefused, FailsAs};
-ghost use Rattle.rbc_rule.specs.Gathered.{AreSendable};
+ghost use Rattle.rbc_step.specs.Inputs.{Fits};
+ghost use Rattle.rbc_step.specs.Right.{EachWriteChanges, IsRight, IsSilentIfRefused, FailsAs};
+ghost use Rattle.rbc_step.specs.Gathered.{AreSendable};
 
-use crate::change::Restriction;
-use crate::input::Input;
-use crate::outcome::{Outcome, RuleFault};
-use crate::{commands, enrol, receive, withdraw};
+use rbc_kinds::{commands, enrol, receive, withdraw};
 use rbc_records::Reader;
+use rbc_step::{Input, Outcome, Restriction, RuleFault};
 use rbc_track::Track;
 use std::alloc::Global;
 

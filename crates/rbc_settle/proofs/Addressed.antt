@@ -1,10 +1,11 @@
 -- Messages to one engine.
-use Rattle.std.proofs.Common.{◌≡◌, ℕ, List, [], ◌∷◌, map, refl, ap, ◌∙◌}
+use Rattle.std.proofs.Common.{◌≡◌, ℕ, ◌+◌, ◌≤◌, List, [], ◌∷◌, length, map, refl, sym, ap, subst, ◌∙◌, arith}
 use Rattle.std.specs.List.{All}
 use Rattle.std.proofs.lemmas.List.Elements.{All-nil, All-cons, All-head, All-tail}
 use Rattle.ertms_codec.specs.declared.to_train.ToTrain.{ToTrain}
-use Rattle.rbc_settle.specs.declared.settling.Sent.{Sent}
-use Rattle.rbc_settle.specs.Settling.{to_engine}
+use Rattle.ertms_codec.specs.ToTrain.{Fits}
+use Rattle.rbc_train.specs.declared.sent.Sent.{Sent}
+use Rattle.rbc_train.specs.Settling.{to_engine}
 
 made_again : (engine : ℕ) (sent : List Sent) → All (λ one. one.engine ≡ engine) sent → sent ≡ to_engine engine (map (λ one. one.message) sent)
 made_again engine [] all = refl
@@ -26,3 +27,13 @@ messages_are engine (message ∷ messages) = ap (λ (others : List ToTrain). mes
 pub all_to : (engine : ℕ) (messages : List ToTrain) → All (λ (one : Sent). one.engine ≡ engine) (to_engine engine messages)
 all_to engine [] = All-nil (λ (one : Sent). one.engine ≡ engine)
 all_to engine (message ∷ messages) = All-cons (λ (one : Sent). one.engine ≡ engine) (record { engine = engine; message = message }) (to_engine engine messages) refl (all_to engine messages)
+
+-- where nothing is sent, all of it fits
+pub none_to_fit : (sent : List Sent) → sent ≡ [] → All (λ one. Fits one.message) sent
+none_to_fit sent none = subst (All (λ (one : Sent). Fits one.message)) (sym none) (All-nil (λ (one : Sent). Fits one.message))
+
+-- what is sent behind nothing is all
+pub few_in_all : (before sent : List Sent) (most : ℕ) → before ≡ [] → length sent ≤ length before + most → length sent ≤ most
+few_in_all before sent most none few =
+    let count : length before ≡ 0 = ap length none in
+    omega (arith, few, count)

@@ -3,12 +3,12 @@ use Rattle.std.proofs.Common.{◌≡◌, ℕ, ◌+◌, List, [], ◌∷◌, leng
 use Rattle.std.specs.List.{fold}
 use Rattle.rbc_maps.specs.Maps.{keys}
 use Rattle.rbc_ids.specs.Table.{Slots}
-use Rattle.rbc_settle.specs.declared.train.TrainRec.{TrainRec}
-use Rattle.rbc_settle.specs.declared.change.StopChange.TheVariants as stop_change
-use Rattle.rbc_settle.specs.declared.change.LimitChange.{LimitChange}
-use Rattle.rbc_settle.specs.Actions.{Action, ChangesStop, ChangesLimits, groups}
-use Rattle.rbc_settle.specs.declared.change.ToldStop.{ToldStop}
-use Rattle.rbc_settle.specs.Settling.{carried_out, kind_of, number_forced, revoke_stop, tell_stop}
+use Rattle.rbc_train.specs.declared.train.TrainRec.{TrainRec}
+use Rattle.rbc_train.specs.declared.change.StopChange.TheVariants as stop_change
+use Rattle.rbc_train.specs.declared.change.LimitChange.{LimitChange}
+use Rattle.rbc_train.specs.Actions.{Action, ChangesStop, ChangesLimits, groups}
+use Rattle.rbc_train.specs.declared.change.ToldStop.{ToldStop}
+use Rattle.rbc_train.specs.Settling.{carried_out, kind_of, number_forced, revoke_stop, tell_stop}
 use Rattle.rbc_settle.proofs.Forcing.{forced_all}
 use Rattle.rbc_settle.proofs.Revoking.{by_one, revoked_all}
 use Rattle.rbc_settle.proofs.Changed.{by_hundreds, changed_all, changed_by_groups}

@@ -1,16 +1,10 @@
 -- What is found in a table decides what is told and what is revoked.
-use Rattle.std.proofs.Common.{◌≡◌, ℕ, Bool, true, false, not, ◌||◌, cond, eqb, if◌then◌else◌, List, [], ◌∷◌, map, Option, Some, None, is_none, is_some, option_map, option_copied, Bor, refl, sym, ap}
+use Rattle.std.proofs.Common.{◌≡◌, ℕ, Bool, true, false, not, ◌||◌, cond, eqb, List, [], ◌∷◌, map, Option, Some, None, is_none, is_some, option_map, option_copied, Bor, refl, sym, ap}
 use Rattle.std.specs.List.{find, zip}
 use Rattle.std.specs.Prelude.{slice_get}
 use Rattle.rbc_maps.specs.Maps.{has, value_of}
 use Rattle.rbc_ids.specs.Table.{Slots, tells, is_told, identifier_of}
 use Rattle.rbc_ids.specs.declared.slot.Slot.{Slot}
-use Rattle.rbc_zones.specs.declared.segment.Segment.{Segment}
-use Rattle.rbc_zones.specs.Limits.{Limit}
-use Rattle.rbc_settle.specs.declared.train.TrainRec.{TrainRec}
-use Rattle.rbc_settle.specs.declared.change.ToldStop.{ToldStop}
-use Rattle.rbc_settle.specs.Told.{Part}
-use Rattle.rbc_settle.specs.Settling.{told_stop, concern_to, stop_to_tell, limit_told_to, limit_to_tell}
 
 none_next : {V : Type 0} (here : Bool) (value : V) (rest : Option V) (more : Bool) → is_none rest ≡ not more → is_none (cond here (Some value) rest) ≡ not (here || more)
 none_next true value rest more e = refl
@@ -38,21 +32,6 @@ some_next false held rest more e = e
 pub identifier_is_some : (slots : Slots) (number : ℕ) → is_some (identifier_of slots number) ≡ is_told slots number
 identifier_is_some [] number = refl
 identifier_is_some (held ∷ slots) number = some_next (tells number held.1) held (find (λ other. tells number other.1) slots) (is_told slots number) (identifier_is_some slots number)
-
--- what is told already is not to be told
-pub stop_told_already : (train : TrainRec) (stop : ℕ × List Segment) → is_told train.stops stop.0 ≡ true → stop_to_tell train stop ≡ None
-stop_told_already train stop e = ap (λ b. if b then None else option_map (λ (told : ToldStop). (stop.0, told)) (told_stop train.place (concern_to train stop))) e
-
-pub stop_not_told : (train : TrainRec) (stop : ℕ × List Segment) → is_told train.stops stop.0 ≡ false
-    → stop_to_tell train stop ≡ option_map (λ told. (stop.0, told)) (told_stop train.place (concern_to train stop))
-stop_not_told train stop e = ap (λ b. if b then None else option_map (λ (told : ToldStop). (stop.0, told)) (told_stop train.place (concern_to train stop))) e
-
-pub limit_told_already : (horizon : ℕ) (train : TrainRec) (limit : ℕ × Limit) → is_told train.limits limit.0 ≡ true → limit_to_tell horizon train limit ≡ None
-limit_told_already horizon train limit e = ap (λ b. if b then None else option_map (λ (told : Part). (limit.0, told)) (limit_told_to horizon train.place limit.1)) e
-
-pub limit_not_told : (horizon : ℕ) (train : TrainRec) (limit : ℕ × Limit) → is_told train.limits limit.0 ≡ false
-    → limit_to_tell horizon train limit ≡ option_map (λ told. (limit.0, told)) (limit_told_to horizon train.place limit.1)
-limit_not_told horizon train limit e = ap (λ b. if b then None else option_map (λ (told : Part). (limit.0, told)) (limit_told_to horizon train.place limit.1)) e
 
 -- nothing is paired where there is no first identifier
 none_zipped : {A K : Type 0} (make : K × ℕ → A) (wanted : List K) (free : List ℕ) → None ≡ slice_get free 0 → [] ≡ map make (zip wanted free)

@@ -1,4 +1,3 @@
-pub mod NumberLists
 pub mod Forcing
 pub mod Revoking
 pub mod Telling
@@ -25,7 +24,5 @@ pub mod GoodSlots
 pub mod Stamps
 pub mod Keeps
 pub mod NothingLeft
-pub mod NumberCopies
-pub mod Merging
 pub mod OneLine
 pub mod WitnessTrains

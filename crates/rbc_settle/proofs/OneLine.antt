@@ -12,11 +12,11 @@ use Rattle.rbc_zones.specs.Concerns.{concern_of}
 use Rattle.rbc_zones.specs.Limits.{Limit}
 use Rattle.rbc_zones.specs.Marks.{stop_marks, limit_marks}
 use Rattle.rbc_zones.proofs.Marks.{stop_elsewhere, limit_elsewhere}
-use Rattle.rbc_settle.specs.declared.train.TrainRec.{TrainRec}
-use Rattle.rbc_settle.specs.declared.change.ToldStop.{ToldStop}
-use Rattle.rbc_settle.specs.Told.{Part}
-use Rattle.rbc_settle.specs.Numbers.{has_number}
-use Rattle.rbc_settle.specs.Settling.{told_stop, told_limit, concern_to, stop_to_tell, limit_told_to, limit_to_tell}
+use Rattle.rbc_train.specs.declared.train.TrainRec.{TrainRec}
+use Rattle.rbc_train.specs.declared.change.ToldStop.{ToldStop}
+use Rattle.rbc_train.specs.Told.{Part}
+use Rattle.rbc_train.specs.Numbers.{has_number}
+use Rattle.rbc_train.specs.Settling.{told_stop, told_limit, concern_to, stop_to_tell, limit_told_to, limit_to_tell}
 use Rattle.rbc_settle.specs.OneLine.{IsJudgedOnLine}
 
 -- what is left out by a test, and would give nothing, is not missed

@@ -1,5 +1,5 @@
 -- Carrying out actions, one after another: what was done so far, and what is left, is what was to be done.
-use Rattle.std.proofs.Common.{◌≡◌, ℕ, suc, ◌+◌, ◌-◌, ◌<◌, ◌≤◌, min, List, [], ◌∷◌, ◌++◌, length, map, take, drop, get_or, refl, sym, ap, ◌∙◌, subst, arith, drop-cons}
+use Rattle.std.proofs.Common.{◌≡◌, ℕ, suc, ◌+◌, ◌-◌, ◌<◌, ◌≤◌, min, List, [], ◌∷◌, ◌++◌, length, map, take, drop, get_or, Option, Some, None, IfSome, IfNone, refl, sym, ap, ◌∙◌, subst, arith, drop-cons}
 use Rattle.std.specs.List.{All, fold, scan}
 use Rattle.std.proofs.lemmas.List.{length-map, length-take, length-append, take_all, take_min, drop_min, take-append-le, append_assoc, append-nil, map-append}
 use Rattle.std.proofs.lemmas.List.Sums.{fold-append}
@@ -8,14 +8,14 @@ use Rattle.ertms_codec.specs.declared.to_train.ToTrain.{ToTrain}
 use Rattle.ertms_codec.specs.ToTrain.{Fits}
 use Rattle.rbc_track.specs.Plan.{Plan}
 use Rattle.rbc_maps.specs.Numbered.{AreNumbered}
-use Rattle.rbc_settle.specs.declared.train.TrainRec.{TrainRec}
-use Rattle.rbc_settle.specs.declared.change.StopChange.{StopChange}
-use Rattle.rbc_settle.specs.declared.change.StopChange.TheVariants as stop_change
-use Rattle.rbc_settle.specs.declared.change.LimitChange.{LimitChange}
-use Rattle.rbc_settle.specs.declared.settling.Sent.{Sent}
-use Rattle.rbc_settle.specs.Actions.{Action, ChangesStop, ChangesLimits, groups}
-use Rattle.rbc_settle.specs.Settling.{Stops, Limits, last_stamp, actions, actions_with_stamp, in_messages, carried_out, message_of, settled, messages_of, to_engine}
-use Rattle.rbc_settle.specs.Following.{Allows, CanFollow}
+use Rattle.rbc_train.specs.declared.train.TrainRec.{TrainRec}
+use Rattle.rbc_train.specs.declared.change.StopChange.{StopChange}
+use Rattle.rbc_train.specs.declared.change.StopChange.TheVariants as stop_change
+use Rattle.rbc_train.specs.declared.change.LimitChange.{LimitChange}
+use Rattle.rbc_train.specs.declared.sent.Sent.{Sent}
+use Rattle.rbc_train.specs.Actions.{Action, ChangesStop, ChangesLimits, groups}
+use Rattle.rbc_train.specs.Settling.{Stops, Limits, last_stamp, actions, actions_with_stamp, in_messages, carried_out, message_of, settled, messages_of, to_engine}
+use Rattle.rbc_train.specs.Following.{Allows, CanFollow}
 use Rattle.rbc_settle.specs.Sending.{CanTake, HasTaken, AreBehind}
 use Rattle.rbc_settle.specs.UpToDate.{HasTables, IsUpToDateOrAtTheEnd}
 use Rattle.rbc_settle.proofs.Follows.{can_follow, can_follow-take, follows_first, follows_then}
@@ -25,7 +25,7 @@ use Rattle.rbc_settle.proofs.Carried.{next_stamp, stamp_after}
 use Rattle.rbc_settle.proofs.Few.{few_messages}
 use Rattle.rbc_settle.proofs.Groups.{groups_cons}
 
-same_engine : (train : TrainRec) (action : Action) → (carried_out train action).engine ≡ train.engine
+pub same_engine : (train : TrainRec) (action : Action) → (carried_out train action).engine ≡ train.engine
 same_engine train (ChangesStop (stop_change.Revoke id number)) = refl
 same_engine train (ChangesStop (stop_change.Tell id number told)) = refl
 same_engine train (ChangesLimits changes) = refl
@@ -216,6 +216,24 @@ module _ (plan : Plan) (stops : Stops) (limits : Limits) (train : TrainRec) (tab
       let mapped : length (to_engine train.engine messages) ≡ length messages = length-map messages (λ (message : ToTrain). record { engine = train.engine; message = message }) in
       let most = few_messages plan stops limits train tables in
       omega (arith, count, mapped, most)
+
+-- where there is nothing to do, nothing is sent
+pub none_sent : (train : TrainRec) (all : List Action) (before : List Sent) → all ≡ [] → before ≡ before ++ to_engine train.engine (scan carried_out message_of train all)
+none_sent train all before none =
+    sym (append-nil before) ∙ ap (λ (acts : List Action). before ++ to_engine train.engine (scan carried_out message_of train acts)) (sym none)
+
+-- a train is settled that becomes the one that was found
+pub found_settled : (plan : Plan) (stops : Stops) (limits : Limits) (train after now : TrainRec) (found : Option TrainRec) → found ≡ Some after → now ≡ after
+    → IfSome found (λ it. it ≡ settled plan stops limits train) → now ≡ settled plan stops limits train
+found_settled plan stops limits train after now found is same is_settled =
+    same ∙ subst (λ (f : Option TrainRec). IfSome f (λ it. it ≡ settled plan stops limits train)) is is_settled
+
+-- or that stays as it is where none was
+pub stays_settled : (plan : Plan) (stops : Stops) (limits : Limits) (train now : TrainRec) (found : Option TrainRec) → found ≡ None → now ≡ train
+    → IfNone found (actions_with_stamp plan stops limits train ≡ []) → now ≡ settled plan stops limits train
+stays_settled plan stops limits train now found is same nothing =
+    let none : actions_with_stamp plan stops limits train ≡ [] = subst (λ (f : Option TrainRec). IfNone f (actions_with_stamp plan stops limits train ≡ [])) is nothing in
+    same ∙ ap (λ (acts : List Action). fold carried_out train acts) (sym none)
 
 -- changes that make no message are none
 pub no_message : (stops : List StopChange) (limits : List LimitChange) → stops ≡ [] → limits ≡ [] → in_messages stops limits ≡ []

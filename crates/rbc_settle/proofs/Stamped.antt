@@ -3,10 +3,10 @@ use Rattle.std.proofs.Common.{◌≡◌, ℕ, ◌+◌, ◌-◌, ◌*◌, List, �
 use Rattle.std.proofs.lemmas.Bool.{cases_lt}
 use Rattle.std.proofs.lemmas.List.{take-map, length-map, length-take-le, take_all, take-append-le, append-nil}
 use Rattle.std.proofs.Math.Seq.{take-append-add}
-use Rattle.rbc_settle.specs.declared.change.StopChange.{StopChange}
-use Rattle.rbc_settle.specs.declared.change.LimitChange.{LimitChange}
-use Rattle.rbc_settle.specs.Actions.{Action, ChangesStop, ChangesLimits, groups}
-use Rattle.rbc_settle.specs.Settling.{in_messages}
+use Rattle.rbc_train.specs.declared.change.StopChange.{StopChange}
+use Rattle.rbc_train.specs.declared.change.LimitChange.{LimitChange}
+use Rattle.rbc_train.specs.Actions.{Action, ChangesStop, ChangesLimits, groups}
+use Rattle.rbc_train.specs.Settling.{in_messages}
 use Rattle.rbc_settle.proofs.Groups.{take-groups}
 
 -- as many messages as there are stamps: first those of stops, and of what is left those of restrictions
@@ -36,3 +36,9 @@ first_messages room stops limits = elim (cases_lt room (length stops)) [
 pub with_stamps : (room : ℕ) (stops first : List StopChange) (limits then : List LimitChange) → first ≡ take room stops → then ≡ take ((room - length (take room stops)) * 100) limits
     → in_messages first then ≡ take room (in_messages stops limits)
 with_stamps room stops first limits then is_first is_then = (λ i. in_messages (is_first i) (is_then i)) ∙ first_messages room stops limits
+
+-- a list of two parts, one behind the other, is cut
+pub cut_of_both : {A : Type 0} (n room : ℕ) (one other first then both cut : List A) → one ≡ first → other ≡ then → both ≡ one ++ other → cut ≡ take n both → n ≡ room
+    → cut ≡ take room (first ++ then)
+cut_of_both n room one other first then both cut one_is other_is both_is cut_is n_is =
+    cut_is ∙ ap (take n) (both_is ∙ (λ i. one_is i ++ other_is i)) ∙ ap (λ k. take k (first ++ then)) n_is

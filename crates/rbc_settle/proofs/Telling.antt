@@ -10,8 +10,8 @@ use Rattle.rbc_ids.specs.Table.{Slots, IsTable, TellsApart, tells, is_told, free
 use Rattle.rbc_ids.proofs.Tables.{stays_with}
 use Rattle.rbc_ids.proofs.Once.{apart-told}
 use Rattle.rbc_ids.proofs.Gaps.{run, least_free-run, run_below, all_from_run}
-use Rattle.rbc_settle.specs.Settling.{is_used_by}
-use Rattle.rbc_settle.specs.Following.{CanTell}
+use Rattle.rbc_train.specs.Settling.{is_used_by}
+use Rattle.rbc_train.specs.Following.{CanTell}
 use Rattle.rbc_settle.proofs.Revoking.{Clock}
 
 -- the table after that

@@ -10,8 +10,8 @@ use Rattle.rbc_ids.specs.declared.slot.Kind.{Kind}
 use Rattle.rbc_ids.specs.declared.slot.Kind.TheVariants.{Conditional, Unconditional}
 use Rattle.rbc_ids.specs.Table.{told_now}
 use Rattle.rbc_zones.specs.declared.stop_meaning.Concern.TheVariants as concern
-use Rattle.rbc_settle.specs.declared.train.TrainRec.{TrainRec}
-use Rattle.rbc_settle.specs.Settling.{is_used_by, is_stop_gone, is_limit_gone, due_number, settled}
+use Rattle.rbc_train.specs.declared.train.TrainRec.{TrainRec}
+use Rattle.rbc_train.specs.Settling.{is_used_by, is_stop_gone, is_limit_gone, due_number, settled}
 use Rattle.rbc_settle.proofs.GoodSlots.{no_report}
 use Rattle.rbc_settle.specs.UpToDate.{IsToldIfItCan, IsLimitToldIfItCan, IsUpToDate, StaysAsItIs}
 use Rattle.rbc_settle.specs.WellFormed.{IsGiven, has_kind, has_count, is_stop_kind, is_limit_kind, stamps, told_numbers, HasPlaceOn, IsWellFormedTrain}

@@ -1,11 +1,4 @@
-pub mod Numbers
-pub mod Trains
-pub mod Told
-pub mod InField
-pub mod Actions
-pub mod Settling
 pub mod OneLine
-pub mod Following
 pub mod UpToDate
 pub mod Sending
 pub mod WellFormed

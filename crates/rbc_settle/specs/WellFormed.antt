@@ -10,10 +10,10 @@ use Rattle.rbc_ids.specs.declared.slot.Slot.TheVariants.{Used, Revoking}
 use Rattle.rbc_ids.specs.declared.slot.Kind.{Kind}
 use Rattle.rbc_ids.specs.declared.slot.Kind.TheVariants.{Conditional, Unconditional, Restriction}
 use Rattle.rbc_ids.specs.Table.{Slots, stamp_of, is_conditional, most_reports}
-use Rattle.rbc_settle.specs.declared.train.TrainRec.{TrainRec}
-use Rattle.rbc_settle.specs.Trains.{max_engine, max_train_length}
-use Rattle.rbc_settle.specs.Numbers.{AreNumbers, has_number}
-use Rattle.rbc_settle.specs.Settling.{Stops, Limits, last_stamp, settled}
+use Rattle.rbc_train.specs.declared.train.TrainRec.{TrainRec}
+use Rattle.rbc_train.specs.Trains.{max_engine, max_train_length}
+use Rattle.rbc_train.specs.Numbers.{AreNumbers, has_number}
+use Rattle.rbc_train.specs.Settling.{Stops, Limits, last_stamp, settled}
 use Rattle.rbc_settle.specs.UpToDate.{HasTables}
 
 -- no number stands twice in a list

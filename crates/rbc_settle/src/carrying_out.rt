@@ -1,22 +1,19 @@
 //! Carrying out the changes to a train, and sending the messages that say so.
 
-ghost use Rattle.std.specs.Prelude.{◌≡◌, ℕ, ◌+◌, ◌^◌, ◌<◌, ◌≤◌, length, map, fold, IfOk, OnOk, OnErr};
+ghost use Rattle.std.specs.Prelude.{◌≡◌, ℕ, ◌+◌, ◌^◌, ◌<◌, ◌≤◌, length, map, fold, IfOk, OnOk};
 ghost use Rattle.ertms_codec.specs.PacketsToTrain.{PacketFits, ArePacketsThatFit, most_packets};
 ghost use Rattle.ertms_codec.specs.ToTrain.{Fits};
-ghost use Rattle.rbc_settle.specs.declared.change.StopChange.TheVariants.{Tell};
-ghost use Rattle.rbc_settle.specs.Trains.{stop_identifiers};
-ghost use Rattle.rbc_settle.specs.Actions.{ChangesStop, ChangesLimits, groups};
-ghost use Rattle.rbc_settle.specs.Settling.{kind_of, head_of, and_forced, limit_changed, packet_of, carried_out};
-ghost use Rattle.rbc_settle.specs.Settling.{message_of};
-ghost use Rattle.rbc_settle.specs.Following.{CanChange, CanChangeAll, Allows};
+ghost use Rattle.rbc_train.specs.declared.change.StopChange.TheVariants.{Tell};
+ghost use Rattle.rbc_train.specs.Trains.{stop_identifiers};
+ghost use Rattle.rbc_train.specs.Actions.{ChangesStop, ChangesLimits, groups};
+ghost use Rattle.rbc_train.specs.Settling.{head_of, limit_changed, packet_of, carried_out, message_of};
+ghost use Rattle.rbc_train.specs.Following.{CanChangeAll, Allows};
 ghost use Rattle.rbc_settle.specs.Sending.{CanTake, HasTaken, AreBehind};
 ghost use Rattle.rbc_settle.specs.UpToDate.{HasTables};
 
-use crate::change::{LimitChange, StopChange, ToldStop};
-use crate::settling::Sent;
-use crate::train::TrainRec;
 use ertms_codec::{Head, MOST_PACKETS, Packets, Part, ToTrain};
 use rbc_ids::{IdTable, Kind};
+use rbc_train::{LimitChange, Sent, StopChange, ToldStop, TrainRec};
 use std::alloc::{AllocError, Global};
 
 /// NID_LRBG of a message to a train without a place.
@@ -25,169 +22,139 @@ const UNKNOWN_GROUP: u32 = 16_777_215;
 /// Q_DIR of a revoked restriction: both directions.
 const BOTH: u8 = 2;
 
-impl TrainRec {
-    /// Makes changes to the stops, one after another, and puts the message of each behind those of `sent`. Fails only
-    /// for lack of memory.
-    pub(crate) fn change_stops(
-        &mut self,
-        changes: &[StopChange],
-        sent: &mut Vec<Sent>,
-    ) -> Result<(), AllocError>
-        requires { CanTake self.old (map ChangesStop changes.now) }
-        ensures taken { OnOk result (HasTaken self.old
-            (map ChangesStop changes.now) sent.old.items self.new sent.new.items) }
-        ensures behind { AreBehind sent.old.items sent.new.items }
-    {
-        for change in changes {
-            let message = self.stop_message(change);
-            self.change_stop(change)?;
-            sent.push(Sent {
-                engine: self.engine,
-                message,
-            })?;
-        }
-        Ok(())
+/// Makes changes to the stops, one after another, and puts the message of each behind those of `sent`. Fails only for
+/// lack of memory.
+pub fn change_stops(
+    train: &mut TrainRec,
+    changes: &[StopChange],
+    sent: &mut Vec<Sent>,
+) -> Result<(), AllocError>
+    requires { CanTake train.old (map ChangesStop changes.now) }
+    ensures taken { OnOk result (HasTaken train.old
+        (map ChangesStop changes.now) sent.old.items train.new sent.new.items) }
+    ensures behind { AreBehind sent.old.items sent.new.items }
+{
+    for change in changes {
+        let message = stop_message(train, change);
+        train.change_stop(change)?;
+        sent.push(Sent {
+            engine: train.engine,
+            message,
+        })?;
     }
+    Ok(())
+}
 
-    /// Makes changes to the restrictions, one after another, and puts a message for each hundred of them behind those
-    /// of `sent`. Fails only for lack of memory.
-    pub(crate) fn change_limits(
-        &mut self,
-        alloc: Global,
-        changes: &[LimitChange],
-        sent: &mut Vec<Sent>,
-    ) -> Result<(), AllocError>
-        requires { CanTake self.old (map ChangesLimits (groups changes.now)) }
-        ensures taken { OnOk result (HasTaken self.old
-            (map ChangesLimits (groups changes.now)) sent.old.items self.new sent.new.items) }
-        ensures behind { AreBehind sent.old.items sent.new.items }
-    {
-        let mut rest = changes;
-        while !rest.is_empty() {
-            let (group, behind) = rest.split_at(rest.len().min(MOST_PACKETS));
-            let message = self.limits_message(alloc, group)?;
-            self.change_group(group)?;
-            sent.push(Sent {
-                engine: self.engine,
-                message,
-            })?;
-            rest = behind;
-        }
-        Ok(())
+/// Makes changes to the restrictions, one after another, and puts a message for each hundred of them behind those of
+/// `sent`. Fails only for lack of memory.
+pub fn change_limits(
+    alloc: Global,
+    train: &mut TrainRec,
+    changes: &[LimitChange],
+    sent: &mut Vec<Sent>,
+) -> Result<(), AllocError>
+    requires { CanTake train.old (map ChangesLimits (groups changes.now)) }
+    ensures taken { OnOk result (HasTaken train.old
+        (map ChangesLimits (groups changes.now)) sent.old.items train.new sent.new.items) }
+    ensures behind { AreBehind sent.old.items sent.new.items }
+{
+    let mut rest = changes;
+    while !rest.is_empty() {
+        let (group, behind) = rest.split_at(rest.len().min(MOST_PACKETS));
+        let message = limits_message(alloc, train, group)?;
+        change_group(train, group)?;
+        sent.push(Sent {
+            engine: train.engine,
+            message,
+        })?;
+        rest = behind;
     }
+    Ok(())
+}
 
-    /// Returns the message that makes a change to the stops, with the next stamp.
-    fn stop_message(&self, change: &StopChange) -> ToTrain
-        requires stamp { self.now.stamp + 1 < 2 ^ 32 }
-        requires tables { HasTables self.now }
-        requires allowed { Allows self.now (ChangesStop change.now) }
-        ensures message { result ≡ message_of self.now (ChangesStop change.now) }
-        ensures fits { Fits result }
-    {
-        match *change {
-            StopChange::Revoke { id, .. } => ToTrain::Revoke {
-                head: self.head(true),
-                id,
-            },
-            StopChange::Tell { id, told, .. } => self.told_message(id, told),
-        }
+/// Returns the message that makes a change to the stops, with the next stamp.
+fn stop_message(train: &TrainRec, change: &StopChange) -> ToTrain
+    requires stamp { train.now.stamp + 1 < 2 ^ 32 }
+    requires tables { HasTables train.now }
+    requires allowed { Allows train.now (ChangesStop change.now) }
+    ensures message { result ≡ message_of train.now (ChangesStop change.now) }
+    ensures fits { Fits result }
+{
+    match *change {
+        StopChange::Revoke { id, .. } => ToTrain::Revoke {
+            head: head_of(train, true),
+            id,
+        },
+        StopChange::Tell { id, told, .. } => told_message(train, id, told),
     }
+}
 
-    /// Returns the message that tells a stop under an identifier.
-    fn told_message(&self, id: u8, told: ToldStop) -> ToTrain
-        requires stamp { self.now.stamp + 1 < 2 ^ 32 }
-        requires one_of_them { id < stop_identifiers }
-        ensures message { (number : ℕ) → result ≡ message_of self.now (ChangesStop (Tell id number told)) }
-        ensures fits { Fits result }
-    {
-        let head = self.head(false);
-        match told {
-            ToldStop::AtOnce => ToTrain::Stop { head, id },
-            ToldStop::Before(edge) => ToTrain::StopAt {
-                head,
-                id,
-                scale: edge.scale,
-                reference: 0,
-                dir: edge.dir,
-                distance: edge.distance,
-            },
-        }
+/// Returns the message that tells a stop under an identifier.
+fn told_message(train: &TrainRec, id: u8, told: ToldStop) -> ToTrain
+    requires stamp { train.now.stamp + 1 < 2 ^ 32 }
+    requires one_of_them { id < stop_identifiers }
+    ensures message { (number : ℕ) → result ≡ message_of train.now (ChangesStop (Tell id number told)) }
+    ensures fits { Fits result }
+{
+    let head = head_of(train, false);
+    match told {
+        ToldStop::AtOnce => ToTrain::Stop { head, id },
+        ToldStop::Before(edge) => ToTrain::StopAt {
+            head,
+            id,
+            scale: edge.scale,
+            reference: 0,
+            dir: edge.dir,
+            distance: edge.distance,
+        },
     }
+}
 
-    /// Returns the message that makes 1 to 100 changes to the restrictions, with the next stamp. Fails only for lack of
-    /// memory.
-    fn limits_message(&self, alloc: Global, changes: &[LimitChange]) -> Result<ToTrain, AllocError>
-        requires stamp { self.now.stamp + 1 < 2 ^ 32 }
-        requires some { 1 ≤ length changes.now }
-        requires most { length changes.now ≤ most_packets }
-        ensures message { IfOk result (λ message. message ≡ message_of self.now (ChangesLimits changes.now)) }
-        ensures fits { IfOk result (λ message. Fits message) }
-    {
-        let head = self.head(true);
-        let packets = packets_of(alloc, changes)?;
-        Ok(ToTrain::General { head, packets })
-    }
+/// Returns the message that makes 1 to 100 changes to the restrictions, with the next stamp. Fails only for lack of
+/// memory.
+fn limits_message(
+    alloc: Global,
+    train: &TrainRec,
+    changes: &[LimitChange],
+) -> Result<ToTrain, AllocError>
+    requires stamp { train.now.stamp + 1 < 2 ^ 32 }
+    requires some { 1 ≤ length changes.now }
+    requires most { length changes.now ≤ most_packets }
+    ensures message { IfOk result (λ message. message ≡ message_of train.now (ChangesLimits changes.now)) }
+    ensures fits { IfOk result (λ message. Fits message) }
+{
+    let head = head_of(train, true);
+    let packets = packets_of(alloc, changes)?;
+    Ok(ToTrain::General { head, packets })
+}
 
-    /// Returns the head of the next message.
-    fn head(&self, ack: bool) -> Head
-        requires { self.now.stamp + 1 < 2 ^ 32 }
-        ensures head { result ≡ head_of self.now ack }
-        ensures group { result.lrbg ≤ 16777215 }
-    {
-        Head {
-            stamp: self.stamp + 1,
-            ack,
-            lrbg: self
-                .place
-                .as_ref()
-                .map_or(UNKNOWN_GROUP, |place| place.lrbg()),
-        }
+/// Returns the head of the next message.
+fn head_of(train: &TrainRec, ack: bool) -> Head
+    requires { train.now.stamp + 1 < 2 ^ 32 }
+    ensures head { result ≡ head_of train.now ack }
+    ensures group { result.lrbg ≤ 16777215 }
+{
+    Head {
+        stamp: train.stamp + 1,
+        ack,
+        lrbg: train
+            .place
+            .as_ref()
+            .map_or(UNKNOWN_GROUP, |place| place.lrbg()),
     }
+}
 
-    /// Adds a number, if there is one, to those that the train is told at once. Fails only for lack of memory, which
-    /// leaves the train as it was.
-    fn force(&mut self, number: Option<u32>) -> Result<(), AllocError>
-        ensures ok { OnOk result (self.new ≡ record self.old { forced = and_forced number self.old.forced }) }
-        ensures err { OnErr result (self.new ≡ self.old) }
-    {
-        match number {
-            Some(number) if !self.forced.has(number) => self.forced.add(number),
-            _ => Ok(()),
-        }
-    }
-
-    /// Makes a change to the stops, under the identifier that it names. Fails only for lack of memory.
-    fn change_stop(&mut self, change: &StopChange) -> Result<(), AllocError>
-        requires stamp { self.old.stamp + 1 < 2 ^ 32 }
-        requires allowed { Allows self.old (ChangesStop change.now) }
-        ensures { OnOk result (self.new ≡ carried_out self.old (ChangesStop change.now)) }
-    {
-        let stamp = self.stamp + 1;
-        match *change {
-            StopChange::Revoke { id, number } => {
-                self.force(number)?;
-                self.stops.revoke(id, stamp)
-            }
-            StopChange::Tell { id, number, told } => {
-                self.stops.tell(id, number, stamp, kind_of(told))?
-            }
-        }
-        self.stamp = stamp;
-        Ok(())
-    }
-
-    /// Makes the changes of one message to the restrictions, under the identifiers that they name. Fails only for lack
-    /// of memory.
-    fn change_group(&mut self, changes: &[LimitChange]) -> Result<(), AllocError>
-        requires stamp { self.old.stamp + 1 < 2 ^ 32 }
-        requires allowed { Allows self.old (ChangesLimits changes.now) }
-        ensures { OnOk result (self.new ≡ carried_out self.old (ChangesLimits changes.now)) }
-    {
-        let stamp = self.stamp + 1;
-        change_all(&mut self.limits, stamp, changes)?;
-        self.stamp = stamp;
-        Ok(())
-    }
+/// Makes the changes of one message to the restrictions, under the identifiers that they name. Fails only for lack of
+/// memory.
+fn change_group(train: &mut TrainRec, changes: &[LimitChange]) -> Result<(), AllocError>
+    requires stamp { train.old.stamp + 1 < 2 ^ 32 }
+    requires allowed { Allows train.old (ChangesLimits changes.now) }
+    ensures { OnOk result (train.new ≡ carried_out train.old (ChangesLimits changes.now)) }
+{
+    let stamp = train.stamp + 1;
+    change_all(&mut train.limits, stamp, changes)?;
+    train.stamp = stamp;
+    Ok(())
 }
 
 /// Makes changes that have one stamp to a table of restrictions, one after another. Fails only for lack of memory.
@@ -240,15 +207,5 @@ fn packet_of(change: &LimitChange) -> Part
             front: told.front,
             speed: told.speed,
         },
-    }
-}
-
-/// Returns the kind of message that tells a stop.
-fn kind_of(told: ToldStop) -> Kind
-    ensures { result ≡ kind_of told }
-{
-    match told {
-        ToldStop::AtOnce => Kind::Unconditional,
-        ToldStop::Before(_) => Kind::Conditional,
     }
 }

@@ -1,30 +1,25 @@
 //! What has to be done to a train. All of it is judged before the first action.
 
-ghost use Rattle.std.specs.Prelude.{◌≡◌, ◌≤◌, [], ◌++◌, ℕ, IfOk, OnOk, IfSome, Some, option_copied};
+ghost use Rattle.std.specs.Prelude.{◌≡◌, [], ◌++◌, IfOk, OnOk, IfSome, option_copied};
 ghost use Rattle.std.specs.List.{filter_map};
 ghost use Rattle.rbc_maps.specs.Maps.{has};
 ghost use Rattle.rbc_maps.specs.Numbered.{AreNumbered};
 ghost use Rattle.rbc_ids.specs.Table.{IsTable};
-ghost use Rattle.rbc_zones.specs.declared.stop_meaning.Concern.TheVariants.{Before};
-ghost use Rattle.rbc_settle.specs.Trains.{stop_identifiers, limit_identifiers};
-ghost use Rattle.rbc_settle.specs.Settling.{direction_of, told_at, told_stop, told_limit, limit_told_to, stop_to_tell};
-ghost use Rattle.rbc_settle.specs.Settling.{limit_to_tell, is_used_by, is_limit_gone, due_number, spare_identifiers};
-ghost use Rattle.rbc_settle.specs.Settling.{escalated, is_stop_revoked, number_forced, next_to_tell, stops_revoked};
-ghost use Rattle.rbc_settle.specs.Settling.{stops_told, limits_revoked, limits_told, in_messages, actions_with_stamp};
-ghost use Rattle.rbc_settle.specs.Numbers.{has_number};
+ghost use Rattle.rbc_train.specs.Trains.{stop_identifiers, limit_identifiers};
+ghost use Rattle.rbc_train.specs.Settling.{is_used_by, is_limit_gone, due_number, spare_identifiers, escalated};
+ghost use Rattle.rbc_train.specs.Settling.{is_stop_revoked, number_forced, next_to_tell, stops_revoked, stops_told};
+ghost use Rattle.rbc_train.specs.Settling.{limits_revoked, limits_told, in_messages, actions_with_stamp};
+ghost use Rattle.rbc_train.specs.Numbers.{has_number};
 ghost use Rattle.rbc_settle.specs.OneLine.{IsJudgedOnLine};
 ghost use Rattle.rbc_settle.specs.UpToDate.{HasTables};
 
-use crate::change::{Changes, LimitChange, StopChange, ToldEdge, ToldLimit, ToldStop};
-use crate::train::TrainRec;
+use crate::change::Changes;
 use ertms_codec::MOST_PACKETS;
 use rbc_ids::Slot;
 use rbc_place::Place;
-use rbc_track::{Track, Way};
-use rbc_zones::{
-    Area, Concern, Limit, Limits, Stops, concern, limit_clear, limit_concerns, limit_fields,
-    stop_field,
-};
+use rbc_track::Track;
+use rbc_train::{LimitChange, StopChange, ToldStop, TrainRec, limit_to_tell, stop_to_tell};
+use rbc_zones::{Area, Limits, Stops, limit_clear};
 use std::alloc::{AllocError, Global};
 use std::cell::Cell;
 
@@ -92,7 +87,8 @@ fn escalated(alloc: Global, stops: &Stops, train: &TrainRec) -> Result<Vec<u32>,
 
 /// Returns the numbers of the slots that are due, in ascending order of the identifiers.
 fn due_numbers(alloc: Global, stops: &Stops, train: &TrainRec) -> Result<Vec<u32>, AllocError>
-    ensures { IfOk result (λ numbers. numbers.items ≡ filter_map (λ held. due_number stops.now held.1) train.now.stops) }
+    ensures { IfOk result (λ numbers. numbers.items
+        ≡ filter_map (λ held. due_number stops.now held.1) train.now.stops) }
 {
     if train.stops.held() == 0 {
         return Ok(Vec::new(alloc));
@@ -358,98 +354,6 @@ fn limits_told(
         .zip(free)
         .map(|((number, told), id)| LimitChange::Tell { id, number, told })
         .collect(alloc)
-}
-
-/// Returns a stop and how it is told, if it is not told yet and concerns the train. Whether it is told is searched for
-/// from `near` on, which is moved.
-fn stop_to_tell(
-    train: &TrainRec,
-    number: u32,
-    area: &Area,
-    near: &Cell<usize>,
-) -> Option<(u32, ToldStop)>
-    ensures { result ≡ stop_to_tell train.now (number, area.now) }
-{
-    let place = train.place.as_ref();
-    let told = told_stop(place, concern(area, train.forced.has(number), place))?;
-    if train.stops.tells(number, near) {
-        return None;
-    }
-    Some((number, told))
-}
-
-/// How a stop is told, by its concern to a train. A train without a place is told to stop at once.
-fn told_stop(place: Option<&Place>, concern: Concern) -> Option<ToldStop>
-    requires { (edge : ℕ) → concern ≡ Before edge → edge ≤ 3000000 }
-    ensures { result ≡ told_stop (option_copied place.entry) concern }
-{
-    match (concern, place) {
-        (Concern::None, _) => None,
-        (Concern::Before(edge), Some(place)) => Some(told_before(place, edge)),
-        (Concern::Before(_), None) | (Concern::Now, _) => Some(ToldStop::AtOnce),
-    }
-}
-
-/// Returns a restriction and how it is told, as `stop_to_tell` does a stop.
-fn limit_to_tell(
-    horizon: u32,
-    train: &TrainRec,
-    number: u32,
-    limit: &Limit,
-    near: &Cell<usize>,
-) -> Option<(u32, ToldLimit)>
-    ensures { result ≡ limit_to_tell horizon train.now (number, limit.now) }
-{
-    let told = told_limit(horizon, train.place.as_ref()?, limit)?;
-    if train.limits.tells(number, near) {
-        return None;
-    }
-    Some((number, told))
-}
-
-/// How a restriction is told, if it concerns a train at this place. The horizon is in units of 10 cm.
-fn told_limit(horizon: u32, place: &Place, limit: &Limit) -> Option<ToldLimit>
-    ensures { result ≡ limit_told_to horizon (Some place.now) limit.now }
-{
-    if !limit_concerns(limit, place, horizon) {
-        return None;
-    }
-    let (scale, start, length) = limit_fields(limit, place);
-    Some(ToldLimit {
-        dir: direction_of(place),
-        scale,
-        start,
-        length,
-        front: limit.front(),
-        speed: (limit.speed() / 5) as u8,
-    })
-}
-
-/// How a stop before an edge is told: with the distance from the balise group to the edge.
-fn told_before(place: &Place, edge: u32) -> ToldStop
-    requires { edge ≤ 3000000 }
-    ensures { Some result ≡ told_at place.now (Before edge) }
-{
-    let at = place.at();
-    let distance = match place.facing() {
-        Way::Up => edge.saturating_sub(at),
-        Way::Down => at.saturating_sub(edge),
-    };
-    let (scale, distance) = stop_field(distance);
-    ToldStop::Before(ToldEdge {
-        dir: direction_of(place),
-        scale,
-        distance,
-    })
-}
-
-/// Q_DIR: 1 if the train faces in the nominal direction of its balise group, else 0.
-fn direction_of(place: &Place) -> u8
-    ensures value { result ≡ direction_of place.now }
-    ensures small { result ≤ 1 }
-{
-    let up = place.facing() == Way::Up;
-    u8::from(up == place.same())
 }
 
 /// Whether a told restriction has to be revoked, because it is not active or is clear of the train.

@@ -5,13 +5,10 @@ mod carrying_out;
 mod change;
 mod judge;
 mod law;
-mod numbers;
 mod settling;
-mod train;
 mod witnesses;
 
 pub use law::settle_law;
-pub use numbers::Numbers;
-pub use settling::{Sent, settle, settled};
-pub use train::{LIMIT_IDENTIFIERS, STOP_IDENTIFIERS, TrainRec};
+pub use rbc_train::{LIMIT_IDENTIFIERS, Numbers, STOP_IDENTIFIERS, Sent, TrainRec};
+pub use settling::{settle, settled};
 pub use witnesses::settle_law_witnesses;

@@ -4,27 +4,18 @@ ghost use Rattle.std.specs.Prelude.{◌≡◌, ◌+◌, ◌≤◌, [], ◌++◌,
 ghost use Rattle.std.specs.Prelude.{false};
 ghost use Rattle.std.specs.List.{All};
 ghost use Rattle.ertms_codec.specs.ToTrain.{Fits};
-ghost use Rattle.rbc_settle.specs.Settling.{most_messages, in_messages, actions_with_stamp, settled, messages_of};
-ghost use Rattle.rbc_settle.specs.Settling.{to_engine};
+ghost use Rattle.rbc_train.specs.Settling.{most_messages, in_messages, actions_with_stamp, settled, messages_of};
+ghost use Rattle.rbc_train.specs.Settling.{to_engine};
 ghost use Rattle.rbc_settle.specs.Sending.{CanTake, HasTaken, AreBehind};
 ghost use Rattle.rbc_settle.specs.UpToDate.{IsUpToDateOrAtTheEnd};
 
+use crate::carrying_out::{change_limits, change_stops};
 use crate::change::Changes;
 use crate::judge::changes;
-use crate::train::TrainRec;
-use ertms_codec::ToTrain;
 use rbc_track::Track;
+use rbc_train::{Sent, TrainRec};
 use rbc_zones::{Limits, Stops};
 use std::alloc::{AllocError, Global};
-
-/// A message that is sent to a train.
-#[derive(Debug, Drop)]
-pub struct Sent {
-    /// NID_ENGINE of the train.
-    pub engine: u32,
-    /// The message itself.
-    pub message: ToTrain,
-}
 
 /// Brings a copy of a train up to date (own rule). Stops that are not active any more, or are escalated, are revoked,
 /// and stops that concern the train are told, each by a message; then the same is done with restrictions, a hundred to
@@ -62,12 +53,7 @@ pub fn settled(
     if are_none(&changes) {
         return Ok(None);
     }
-    let mut after = train.copy(alloc)?;
-    let before = sent.len();
-    if change(alloc, &mut after, &changes, sent).is_err() {
-        sent.truncate(before);
-        return Err(AllocError);
-    }
+    let after = changed(alloc, train, &changes, sent)?;
     Ok(Some(after))
 }
 
@@ -77,6 +63,28 @@ fn are_none(changes: &Changes) -> bool
     ensures some { result ≡ false → 1 ≤ length (in_messages changes.now.stops.items changes.now.limits.items) }
 {
     changes.stops.is_empty() && changes.limits.is_empty()
+}
+
+/// Makes all changes to a copy of a train, which it returns, and puts their messages behind those of `sent`. Fails
+/// only for lack of memory, which leaves `sent` as it is.
+fn changed(
+    alloc: Global,
+    train: &TrainRec,
+    changes: &Changes,
+    sent: &mut Vec<Sent>,
+) -> Result<TrainRec, AllocError>
+    requires { CanTake train.now (in_messages changes.now.stops.items changes.now.limits.items) }
+    ensures taken { IfOk result (λ after. HasTaken train.now
+        (in_messages changes.now.stops.items changes.now.limits.items) sent.old.items after sent.new.items) }
+    ensures err { OnErr result (sent.new.items ≡ sent.old.items) }
+{
+    let mut after = train.copy(alloc)?;
+    let before = sent.len();
+    if change(alloc, &mut after, changes, sent).is_err() {
+        sent.truncate(before);
+        return Err(AllocError);
+    }
+    Ok(after)
 }
 
 /// Makes all changes to a train, and puts their messages behind those of `sent`. Fails only for lack of memory.
@@ -91,8 +99,8 @@ fn change(
         (in_messages changes.now.stops.items changes.now.limits.items) sent.old.items train.new sent.new.items) }
     ensures behind { AreBehind sent.old.items sent.new.items }
 {
-    train.change_stops(&changes.stops, sent)?;
-    train.change_limits(alloc, &changes.limits, sent)
+    change_stops(train, &changes.stops, sent)?;
+    change_limits(alloc, train, &changes.limits, sent)
 }
 
 /// Brings a train up to date as `settled` does, and returns the messages that do it, in their order. Takes memory only

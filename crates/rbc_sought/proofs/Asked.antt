@@ -6,8 +6,8 @@ use Rattle.rbc_ids.specs.Table.{is_told}
 use Rattle.rbc_place.specs.Placing.{Place}
 use Rattle.rbc_zones.specs.declared.segment.Segment.{Segment}
 use Rattle.rbc_zones.specs.Concerns.{concern_of, concern_at}
-use Rattle.rbc_settle.specs.declared.train.TrainRec.{TrainRec}
-use Rattle.rbc_settle.specs.Numbers.{has_number}
+use Rattle.rbc_train.specs.declared.train.TrainRec.{TrainRec}
+use Rattle.rbc_train.specs.Numbers.{has_number}
 use Rattle.rbc_sought.specs.declared.bounds.Extent.{Extent}
 use Rattle.rbc_sought.specs.Tolds.{has_bit, told_of_train}
 use Rattle.rbc_sought.specs.Extents.{nowhere, everywhere, ahead_of, extent_of_train, extent_of_area, meet}

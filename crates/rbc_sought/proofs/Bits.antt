@@ -8,7 +8,7 @@ use Rattle.std.specs.List.{list_any}
 use Rattle.rbc_ids.specs.Table.{Slots, tells, is_told}
 use Rattle.rbc_ids.specs.declared.slot.Slot.{Slot}
 use Rattle.rbc_ids.specs.declared.slot.Slot.TheVariants.{Used, Revoking}
-use Rattle.rbc_settle.specs.Numbers.{has_number}
+use Rattle.rbc_train.specs.Numbers.{has_number}
 use Rattle.rbc_sought.specs.Tolds.{has_bit, with_bit, with_slot, bits_of_slots, bits_of_few}
 
 -- a set bit stays with one more number

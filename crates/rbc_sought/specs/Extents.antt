@@ -6,7 +6,7 @@ use Rattle.rbc_zones.specs.declared.segment.Segment.{Segment}
 use Rattle.rbc_track.specs.declared.group.Way.{Way}
 use Rattle.rbc_track.specs.declared.group.Way.TheVariants as way
 use Rattle.rbc_place.specs.Placing.{Place}
-use Rattle.rbc_settle.specs.declared.train.TrainRec.{TrainRec}
+use Rattle.rbc_train.specs.declared.train.TrainRec.{TrainRec}
 use Rattle.rbc_sought.specs.Tolds.{with_bit}
 use Rattle.rbc_sought.specs.declared.bounds.Extent.{Extent}
 

@@ -3,9 +3,9 @@ use Rattle.std.specs.Prelude.{nat_lt, Bool, true, false, ◌&&◌, ◌||◌, len
 use Rattle.rbc_ids.specs.Table.{is_told}
 use Rattle.rbc_zones.specs.declared.stop_meaning.Concern.{Concern}
 use Rattle.rbc_zones.specs.declared.stop_meaning.Concern.TheVariants as concern
-use Rattle.rbc_settle.specs.declared.train.TrainRec.{TrainRec}
-use Rattle.rbc_settle.specs.Numbers.{has_number}
-use Rattle.rbc_settle.specs.Settling.{concern_to}
+use Rattle.rbc_train.specs.declared.train.TrainRec.{TrainRec}
+use Rattle.rbc_train.specs.Numbers.{has_number}
+use Rattle.rbc_train.specs.Settling.{concern_to}
 use Rattle.rbc_sought.specs.declared.bounds.Sought.{Sought}
 use Rattle.rbc_sought.specs.declared.bounds.Sought.TheVariants as sought
 

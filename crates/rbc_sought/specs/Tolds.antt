@@ -5,7 +5,7 @@ use Rattle.std.specs.Int.Bits.{bit_or}
 use Rattle.rbc_ids.specs.Table.{Slots}
 use Rattle.rbc_ids.specs.declared.slot.Slot.{Slot}
 use Rattle.rbc_ids.specs.declared.slot.Slot.TheVariants.{Used, Revoking}
-use Rattle.rbc_settle.specs.declared.train.TrainRec.{TrainRec}
+use Rattle.rbc_train.specs.declared.train.TrainRec.{TrainRec}
 use Rattle.rbc_sought.specs.declared.bounds.Told.{Told}
 
 -- the bit of a number is set; there are 64 bits

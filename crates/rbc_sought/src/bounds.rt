@@ -6,8 +6,8 @@ ghost use Rattle.rbc_sought.specs.Extents.{nowhere, extent_of_train, ahead_of, e
 
 use rbc_ids::{IdTable, Slot};
 use rbc_place::Place;
-use rbc_settle::{STOP_IDENTIFIERS, TrainRec};
 use rbc_track::Way;
+use rbc_train::{STOP_IDENTIFIERS, TrainRec};
 use rbc_zones::{Area, Segment};
 
 /// The most restriction identifiers of a train that are looked at. One that holds more counts as told of every

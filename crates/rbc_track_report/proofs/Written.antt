@@ -116,3 +116,12 @@ written_none sheet = record { whole = λ whole. whole; text = λ _. grows_none _
 pub written_then : (first second third : Sheet) → IsWrittenOn first second → IsWrittenOn second third → IsWrittenOn first third
 written_then first second third one two =
     record { whole = λ whole. one.whole (two.whole whole); text = λ whole. grows_then _ _ _ (one.text (two.whole whole)) (two.text whole) }
+
+-- the same between two steps of a chain
+pub ◌then◌ : {first second third : Sheet} → IsWrittenOn first second → IsWrittenOn second third → IsWrittenOn first third
+one then two = written_then _ _ _ one two
+
+infixl 30 ◌then◌
+-- a sheet that comes back from the last step of a chain
+pub back : {first last end : Sheet} → IsWrittenOn first last → last ≡ end → IsWrittenOn first end
+back written same = rw (← same) written

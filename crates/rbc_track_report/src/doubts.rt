@@ -23,7 +23,6 @@ pub fn push_hidden_names(remarks: &mut Remarks<'_>, document: &Table)
     push_hidden_in_groups(remarks, rows_under(document, "group"));
 }
 
-#[tactic(auto, using(crate::proofs::Written::warned_none, crate::proofs::Written::warned_then))]
 fn push_hidden_in_groups(remarks: &mut Remarks<'_>, rows: &[Value])
     ensures { AreWarned remarks.old remarks.new }
 {
@@ -71,7 +70,6 @@ pub fn push_bare(remarks: &mut Remarks<'_>, draft: &Draft<'_>)
 }
 
 /// Adds the notes on a track whose balise groups are in order.
-#[tactic(auto, using(crate::proofs::Written::noted_then))]
 pub fn push_notes(remarks: &mut Remarks<'_>, draft: &Draft<'_>)
     ensures { AreNoted remarks.old remarks.new }
 {
@@ -83,7 +81,6 @@ pub fn push_notes(remarks: &mut Remarks<'_>, draft: &Draft<'_>)
 }
 
 /// Adds a note where the horizon is not below the longest line.
-#[tactic(auto, using(crate::proofs::Written::noted_none, crate::proofs::Written::noted_more))]
 fn push_far(remarks: &mut Remarks<'_>, draft: &Draft<'_>)
     ensures { AreNoted remarks.old remarks.new }
 {

@@ -40,7 +40,6 @@ struct Found {
 }
 
 /// Keeps the keys of one table that nobody knows.
-#[tactic(auto, using(crate::proofs::Written::on_keys_none, crate::proofs::Written::on_keys_cut))]
 fn keep_unknown<'a>(
     remarks: &mut Remarks<'_>,
     found: &mut BTreeMap<&'a str, Found>,
@@ -76,7 +75,6 @@ fn found_once_more(before: Option<&Found>, index: usize) -> Found {
 }
 
 /// Adds a remark for each key that was kept, in the order of the keys.
-#[tactic(auto, using(crate::proofs::Written::on_keys_none, crate::proofs::Written::on_keys_more))]
 fn push_found<'a>(remarks: &mut Remarks<'a>, kind: Kind, found: &BTreeMap<&'a str, Found>)
     ensures { AreOnKeys remarks.old remarks.new }
 {
@@ -105,7 +103,6 @@ fn push_unknown_in_rows<'a>(alloc: Global, remarks: &mut Remarks<'a>, kind: Kind
 
 /// Adds a remark for each key that nobody knows: of the document, of lines, of balise groups, each in the order of the
 /// keys.
-#[tactic(auto, using(crate::proofs::Written::on_keys_then))]
 pub fn push_unknown<'a>(alloc: Global, remarks: &mut Remarks<'a>, document: &'a Table)
     ensures { AreOnKeys remarks.old remarks.new }
 {

@@ -14,7 +14,6 @@ const UP_ROOM: &str = "       ";
 const DOWN_ROOM: &str = "     ";
 
 /// Adds what a track is as a whole.
-#[tactic(auto, using(crate::proofs::Written::written_none, crate::proofs::Written::written_then))]
 pub fn push_head(sheet: &mut Sheet, draft: &Draft<'_>)
     ensures { IsWrittenOn sheet.old sheet.new }
 {
@@ -31,7 +30,6 @@ pub fn push_head(sheet: &mut Sheet, draft: &Draft<'_>)
 }
 
 /// Adds each line with its balise groups, which are in order.
-#[tactic(auto, using(crate::proofs::Written::written_none, crate::proofs::Written::written_then))]
 pub fn push_lines(sheet: &mut Sheet, draft: &Draft<'_>)
     ensures { IsWrittenOn sheet.old sheet.new }
 {
@@ -51,7 +49,6 @@ pub fn count_on(groups: &[GroupDraft<'_>], index: usize) -> usize
         .count()
 }
 
-#[tactic(auto, using(crate::proofs::Written::written_none, crate::proofs::Written::written_then))]
 fn push_line(sheet: &mut Sheet, index: usize, line: &LineDraft<'_>)
     ensures { IsWrittenOn sheet.old sheet.new }
 {
@@ -85,7 +82,6 @@ fn push_groups_of(sheet: &mut Sheet, index: usize, groups: &[GroupDraft<'_>])
 }
 
 /// Adds a balise group: its place with the points in line, its number, and NID_C and NID_BG, of which that is made.
-#[tactic(auto, using(crate::proofs::Written::written_none, crate::proofs::Written::written_then))]
 fn push_group(sheet: &mut Sheet, group: &GroupDraft<'_>)
     ensures { IsWrittenOn sheet.old sheet.new }
 {
@@ -105,7 +101,6 @@ fn push_group(sheet: &mut Sheet, group: &GroupDraft<'_>)
 }
 
 /// Adds the name of a balise group in its column, if it has one.
-#[tactic(auto, using(crate::proofs::Written::written_none, crate::proofs::Written::written_then))]
 fn push_name(sheet: &mut Sheet, group: &GroupDraft<'_>)
     ensures { IsWrittenOn sheet.old sheet.new }
 {
@@ -120,7 +115,6 @@ fn push_name(sheet: &mut Sheet, group: &GroupDraft<'_>)
 }
 
 /// Adds a place of 10 columns, with its point in the sixth.
-#[tactic(auto, using(crate::proofs::Written::written_none, crate::proofs::Written::written_then))]
 fn push_km(sheet: &mut Sheet, at: u32)
     ensures { IsWrittenOn sheet.old sheet.new }
 {

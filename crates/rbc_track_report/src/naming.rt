@@ -1,6 +1,7 @@
 //! A good track as people know it: its name, its lines and its balise groups in order, and how many warnings there are.
 
-ghost use Rattle.std.specs.Prelude.{◌≡◌, ◌⊎◌, Some, None, option_map, option_copied, option_and_then, IfOk, MatchResult};
+ghost use Rattle.std.specs.Prelude.{◌≡◌, ◌⊎◌, Some, None, option_map, option_copied, option_and_then, IfOk};
+ghost use Rattle.std.specs.Prelude.{MatchResult};
 ghost use Rattle.std.specs.Prelude.{string_bytes};
 ghost use Rattle.toml.specs.Parse.{parse_document};
 ghost use Rattle.toml.specs.View.{table_view};
@@ -60,8 +61,8 @@ pub struct NamedTrack {
 ///
 /// # Errors
 ///
-/// `OutOfMemory`; `Text` if the text is no TOML document; `Shape` if a value is missing, or is not what it has to be. No
-/// other rule on tracks is checked.
+/// `OutOfMemory`; `Text` if the text is no TOML document; `Shape` if a value is missing, or is not what it has to be.
+/// No other rule on tracks is checked.
 pub fn named_track(alloc: Global, text: &str) -> Result<NamedTrack, TrackError>
     ensures name { IfOk result (λ named. option_map (λ name. string_bytes name) named.name
         ≡ option_and_then shown_name (parse_document text.now)) }
@@ -134,12 +135,13 @@ fn named(alloc: Global, document: &Table, draft: &Draft<'_>) -> Result<NamedTrac
         ≡ option_copied draft.now.name) }
     ensures horizon { IfOk result (λ named. named.horizon ≡ draft.now.horizon) }
 {
+    let warnings = warnings_of(alloc, document, draft)?;
     Ok(NamedTrack {
         name: owned(alloc, draft.name)?,
         horizon: draft.horizon,
         lines: lines_in(alloc, draft)?,
         groups: groups_in(alloc, draft.groups.as_slice())?,
-        warnings: warnings_of(alloc, document, draft)?,
+        warnings,
     })
 }
 

@@ -28,7 +28,6 @@ pub fn sentence_of(rule: TrackError) -> &'static str
 }
 
 /// Adds where something stands: `[[line]] 2`, counted from 1 as in the file.
-#[tactic(auto, using(crate::proofs::Written::written_none, crate::proofs::Written::written_then))]
 pub fn push_place(sheet: &mut Sheet, place: Place)
     ensures { IsWrittenOn sheet.old sheet.new }
 {
@@ -40,7 +39,6 @@ pub fn push_place(sheet: &mut Sheet, place: Place)
 }
 
 /// Adds the beginning of a sentence on something in a document.
-#[tactic(auto, using(crate::proofs::Written::written_none, crate::proofs::Written::written_then))]
 fn push_subject(sheet: &mut Sheet, place: Place)
     ensures { IsWrittenOn sheet.old sheet.new }
 {
@@ -57,7 +55,6 @@ fn push_subject(sheet: &mut Sheet, place: Place)
 }
 
 /// Adds what a value is.
-#[tactic(auto, using(crate::proofs::Written::written_none, crate::proofs::Written::written_then))]
 fn push_kind(sheet: &mut Sheet, value: &Value)
     ensures { IsWrittenOn sheet.old sheet.new }
 {
@@ -87,7 +84,6 @@ fn words_of(wanted: Wanted) -> &'static str {
 }
 
 /// Adds the two lines on a value that is missing, or is not what it has to be.
-#[tactic(auto, using(crate::proofs::Written::written_none, crate::proofs::Written::written_then))]
 pub fn push_misfit(sheet: &mut Sheet, misfit: &Misfit<'_>)
     ensures { IsWrittenOn sheet.old sheet.new }
 {
@@ -100,7 +96,6 @@ pub fn push_misfit(sheet: &mut Sheet, misfit: &Misfit<'_>)
 }
 
 /// Adds what stands there, or that it is missing.
-#[tactic(auto, using(crate::proofs::Written::written_none, crate::proofs::Written::written_then))]
 fn push_what(sheet: &mut Sheet, misfit: &Misfit<'_>)
     ensures { IsWrittenOn sheet.old sheet.new }
 {
@@ -137,7 +132,6 @@ pub fn push_list_fault(sheet: &mut Sheet, rule: TrackError, draft: &Draft<'_>)
     }
 }
 
-#[tactic(auto, using(crate::proofs::Written::written_none, crate::proofs::Written::written_then))]
 fn push_tables(sheet: &mut Sheet, kind: &str, number: usize)
     ensures { IsWrittenOn sheet.old sheet.new }
 {
@@ -150,7 +144,6 @@ fn push_tables(sheet: &mut Sheet, kind: &str, number: usize)
 }
 
 /// Adds the first line whose length is out of its range.
-#[tactic(auto, using(crate::proofs::Written::written_none, crate::proofs::Written::written_then))]
 fn push_bad_length(sheet: &mut Sheet, draft: &Draft<'_>)
     ensures { IsWrittenOn sheet.old sheet.new }
 {
@@ -168,7 +161,6 @@ fn push_bad_length(sheet: &mut Sheet, draft: &Draft<'_>)
 }
 
 /// Adds the first balise group that is on no line of the track, or beyond the end of its line.
-#[tactic(auto, using(crate::proofs::Written::written_none, crate::proofs::Written::written_then))]
 fn push_off_line(sheet: &mut Sheet, draft: &Draft<'_>)
     ensures { IsWrittenOn sheet.old sheet.new }
 {
@@ -185,7 +177,6 @@ fn push_off_line(sheet: &mut Sheet, draft: &Draft<'_>)
 }
 
 /// Adds a balise group that is beyond the end of its line.
-#[tactic(auto, using(crate::proofs::Written::written_none, crate::proofs::Written::written_then))]
 fn push_beyond(sheet: &mut Sheet, index: usize, group: &GroupDraft<'_>, length: u32)
     ensures { IsWrittenOn sheet.old sheet.new }
 {
@@ -201,7 +192,6 @@ fn push_beyond(sheet: &mut Sheet, index: usize, group: &GroupDraft<'_>, length: 
 }
 
 /// Adds a balise group that is on none of so many lines.
-#[tactic(auto, using(crate::proofs::Written::written_none, crate::proofs::Written::written_then))]
 fn push_no_such_line(sheet: &mut Sheet, index: usize, group: &GroupDraft<'_>, lines: usize)
     ensures { IsWrittenOn sheet.old sheet.new }
 {
@@ -219,7 +209,6 @@ fn push_no_such_line(sheet: &mut Sheet, index: usize, group: &GroupDraft<'_>, li
     };
 }
 
-#[tactic(auto, using(crate::proofs::Written::written_none, crate::proofs::Written::written_then))]
 fn push_group(sheet: &mut Sheet, index: usize, nid: u32)
     ensures { IsWrittenOn sheet.old sheet.new }
 {
@@ -232,7 +221,6 @@ fn push_group(sheet: &mut Sheet, index: usize, nid: u32)
 }
 
 /// Adds the first balise group whose number an earlier one has.
-#[tactic(auto, using(crate::proofs::Written::written_none, crate::proofs::Written::written_then))]
 fn push_twice(sheet: &mut Sheet, groups: &[GroupDraft<'_>])
     ensures { IsWrittenOn sheet.old sheet.new }
 {

@@ -135,7 +135,6 @@ impl<'a> Remarks<'a> {
 }
 
 /// Adds a heading, and below it the remarks, numbered.
-#[tactic(auto, using(crate::proofs::Written::written_none, crate::proofs::Written::written_then))]
 pub fn push_remarks(sheet: &mut Sheet, heading: &str, remarks: &[Remark<'_>])
     ensures { IsWrittenOn sheet.old sheet.new }
 {
@@ -151,7 +150,6 @@ pub fn push_remarks(sheet: &mut Sheet, heading: &str, remarks: &[Remark<'_>])
     }
 }
 
-#[tactic(auto, using(crate::proofs::Written::written_none, crate::proofs::Written::written_then))]
 fn push_remark(sheet: &mut Sheet, remark: Remark<'_>)
     ensures { IsWrittenOn sheet.old sheet.new }
 {
@@ -179,7 +177,6 @@ fn push_remark(sheet: &mut Sheet, remark: Remark<'_>)
     }
 }
 
-#[tactic(auto, using(crate::proofs::Written::written_none, crate::proofs::Written::written_then))]
 fn push_unknown(sheet: &mut Sheet, key: &str, kind: Kind, tables: usize, first: usize)
     ensures { IsWrittenOn sheet.old sheet.new }
 {
@@ -214,7 +211,6 @@ fn push_where(sheet: &mut Sheet, kind: Kind, tables: usize, first: usize)
     }
 }
 
-#[tactic(auto, using(crate::proofs::Written::written_none, crate::proofs::Written::written_then))]
 fn push_tables(sheet: &mut Sheet, kind: &str, tables: usize, first: usize)
     ensures { IsWrittenOn sheet.old sheet.new }
 {
@@ -231,7 +227,6 @@ fn push_tables(sheet: &mut Sheet, kind: &str, tables: usize, first: usize)
     }
 }
 
-#[tactic(auto, using(crate::proofs::Written::written_none, crate::proofs::Written::written_then))]
 fn push_hidden(sheet: &mut Sheet, place: Place)
     ensures { IsWrittenOn sheet.old sheet.new }
 {
@@ -253,7 +248,6 @@ fn push_named(sheet: &mut Sheet, place: Place)
     }
 }
 
-#[tactic(auto, using(crate::proofs::Written::written_none, crate::proofs::Written::written_then))]
 fn push_same_place(sheet: &mut Sheet, nids: (u32, u32), line: u32, at: u32)
     ensures { IsWrittenOn sheet.old sheet.new }
 {
@@ -269,7 +263,6 @@ fn push_same_place(sheet: &mut Sheet, nids: (u32, u32), line: u32, at: u32)
         .words(".\n");
 }
 
-#[tactic(auto, using(crate::proofs::Written::written_none, crate::proofs::Written::written_then))]
 fn push_horizon(sheet: &mut Sheet, horizon: u32, words: &str)
     ensures { IsWrittenOn sheet.old sheet.new }
 {
@@ -280,7 +273,6 @@ fn push_horizon(sheet: &mut Sheet, horizon: u32, words: &str)
         .words(words);
 }
 
-#[tactic(auto, using(crate::proofs::Written::written_none, crate::proofs::Written::written_then))]
 fn push_wide_gap(sheet: &mut Sheet, horizon: u32, gap: Gap)
     ensures { IsWrittenOn sheet.old sheet.new }
 {

@@ -162,7 +162,6 @@ impl Sheet {
 
     /// Adds a text from a file: its first 40 characters, with a dot for each one that is unruly, and two dots where it
     /// is longer.
-    #[tactic(auto, using(crate::proofs::Written::written_none, crate::proofs::Written::written_then))]
     pub fn shown(&mut self, shown: &str) -> &mut Self
         ensures same { result.ghost_name ≡ self.entry.ghost_name }
         ensures written { IsWrittenOn self.old result.now }

@@ -98,6 +98,16 @@ shown_put (entry ∷ entries) k ticket = by (same_key k entry.0) (shown_put entr
 abbrev pub IsKeyed : LogName → Key × Option Shown → Type 0
 IsKeyed log entry = IfSome entry.1 (λ ticket. IsOf log ticket × (ticket.value.key ≡ entry.0))
 
+-- where nothing was put yet
+pub none_once : (entries : List (Key × Option Shown)) → entries ≡ [] → IsNotedOnce (shown entries)
+none_once entries none = subst (λ (e : List (Key × Option Shown)). IsNotedOnce (shown e)) (sym none) tt
+
+pub none_left : (writes : List Note) (entries : List (Key × Option Shown)) (records : Key → Option Rec) (q : Key) → entries ≡ [] → written writes (written (shown entries) records) q ≡ written writes records q
+none_left writes entries records q none = ap (λ (e : List (Key × Option Shown)). written writes (written (shown e) records) q) none
+
+pub none_keyed : (log : LogName) (entries : List (Key × Option Shown)) → entries ≡ [] → AreKeyedOf log entries
+none_keyed log entries none = subst (AreKeyedOf log) (sym none) (All-nil (IsKeyed log))
+
 -- tickets that were published under their keys stay so
 pub keyed_put : (log : LogName) (entries : List (Key × Option Shown)) (k : Key) (ticket : Option Shown) → AreKeyedOf log entries → IsKeyed log (k, ticket) → AreKeyedOf log (insert_entry same_key entries k ticket)
 keyed_put log [] k ticket all own = All-cons (IsKeyed log) (k, ticket) [] own (All-nil (IsKeyed log))

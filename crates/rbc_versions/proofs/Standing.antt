@@ -1,6 +1,6 @@
 -- Tickets under keys, of which the first with a key counts.
-use Rattle.std.proofs.Common.{◌≡◌, sym, ap, subst, ◌∙◌, refl, List, [], ◌∷◌, Option, Some, None, IfSome, Bool, true, false, cond, ℕ, ◌+◌, ◌<◌, length, take, drop, get_or, slice_get, arith}
-use Rattle.std.proofs.lemmas.List.{at_drop_more, get_or-map, length-map}
+use Rattle.std.proofs.Common.{◌≡◌, sym, ap, subst, ◌∙◌, refl, List, [], ◌∷◌, Option, Some, None, IfSome, Bool, true, false, cond, ℕ, ◌+◌, ◌<◌, ◌≤◌, length, take, drop, get_or, slice_get, arith}
+use Rattle.std.proofs.lemmas.List.{at_drop_more, drop_all, get_or-map, length-map}
 use Rattle.std.proofs.lemmas.List.Elements.{All-map, All-more}
 use Rattle.std.proofs.lemmas.Option.{get_or_from_slice_get}
 use Rattle.std.specs.List.{All}
@@ -40,6 +40,14 @@ stands_put log old new k ticket stand own put q = by (same_key q k) refl (put q)
     by : (b : Bool) → same_key q k ≡ b → ticket_in new q ≡ cond b ticket (ticket_in old q) → Stands (ticket_in new q)
     by true is put = subst Stands (sym put) (subst (λ (other : Key). IfSome ticket (λ t. IsOf log t × (t.value.key ≡ other))) (sym (same_key_is q k is)) own)
     by false is put = subst Stands (sym put) (stand q)
+
+-- no tickets stand in every log, and show the records behind the last one
+pub none_stand : (log : LogName) (tickets : List (Key × Shown)) → tickets ≡ [] → StandIn log tickets
+none_stand log tickets none = subst (StandIn log) (sym none) (λ k. tt)
+
+pub none_shown : (store : List (Key × Rec)) (n : ℕ) (tickets : List (Key × Shown)) → tickets ≡ [] → length store ≤ n → (k : Key) → option_map record_of (ticket_in tickets k) ≡ record_in (drop n store) k
+none_shown store n tickets none past k =
+    ap (λ (all : List (Key × Shown)). option_map record_of (ticket_in all k)) none ∙ sym (ap (λ (left : List (Key × Rec)). record_in left k) (drop_all n store past))
 
 -- the ticket under a key is of the log
 pub stands_of : (log : LogName) (tickets : List (Key × Shown)) (k : Key) → StandIn log tickets → IfSome (ticket_in tickets k) (IsOf log)

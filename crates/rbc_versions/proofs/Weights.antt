@@ -7,8 +7,12 @@ use Rattle.rbc_records.specs.declared.record.Key.{Key}
 use Rattle.rbc_records.specs.declared.record.Rec.{Rec}
 use Rattle.rbc_records.specs.Notes.{same_key}
 use Rattle.rbc_versions.specs.Log.{Shown}
-use Rattle.rbc_versions.specs.Entries.{shown, record_of, note_weight, notes_weight}
+use Rattle.rbc_versions.specs.Entries.{shown, record_of, note_weight, notes_weight, CountsAll}
 use Rattle.rbc_versions.proofs.Putting.{shown_put}
+
+-- nothing counts nothing
+pub none_weighs : (entries : List (Key × Option Shown)) → entries ≡ [] → CountsAll 0 (shown entries)
+none_weighs entries none = subst (λ (e : List (Key × Option Shown)). CountsAll 0 (shown e)) (sym none) (omega arith)
 
 -- one more counts no more than itself
 weight_put : (notes : List (Key × Option Rec)) (k : Key) (rec : Option Rec)

@@ -104,6 +104,23 @@ impl VersionLog {
         }
     }
 
+    /// Publishes a copy of a record. Fails only for lack of memory, or where no number is left.
+    pub(crate) fn publish_copy(
+        &self,
+        rt: &impl Wait,
+        alloc: Global,
+        key: Key,
+        rec: &Rec,
+    ) -> Result<Ticket, OutOfMemory>
+        ensures { IfOk result (λ ticket. IsOf self.now ticket
+            × (ticket.value ≡ record { key = key; rec = rec.now })) }
+    {
+        match rec.copy(alloc) {
+            Ok(copy) => self.publish(rt, key, copy),
+            Err(_) => Err(OutOfMemory),
+        }
+    }
+
     /// A ticket of a number, if it was given out; none for 0. Takes no memory.
     pub fn look(&self, number: u64) -> Option<Ticket>
         ensures ticket { IfSome result (λ ticket. IsOf self.now ticket × (ticket.index + 1 ≡ number)) }

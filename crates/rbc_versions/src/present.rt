@@ -87,17 +87,13 @@ impl Present {
         ensures records { IfOk result (λ present. (k : Key)
             → option_map record_of (ticket_in present.tickets k) ≡ record_in store.now k) }
     {
-        let mut tickets = IndexMap::new(alloc);
-        if tickets.reserve(store.len()).is_err() {
+        let Ok(mut tickets) = IndexMap::with_capacity(alloc, store.len()) else {
             return Err(OutOfMemory);
-        }
+        };
         // The first record under a key counts, so it goes in last.
         for index in (0..store.len()).rev() {
             let (key, rec) = store.at(index);
-            let Ok(copy) = rec.copy(alloc) else {
-                return Err(OutOfMemory);
-            };
-            let ticket = log.publish(rt, key, copy)?;
+            let ticket = log.publish_copy(rt, alloc, key, rec)?;
             put(&mut tickets, key, Some(ticket));
         }
         Ok(Present { tickets })

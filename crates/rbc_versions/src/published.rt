@@ -108,12 +108,7 @@ fn publish_one(
     ensures rec { IfOk result (λ ticket. option_map record_of ticket ≡ option_copied rec.entry) }
 {
     match rec {
-        Some(rec) => {
-            let Ok(copy) = rec.copy(alloc) else {
-                return Err(OutOfMemory);
-            };
-            Ok(Some(log.publish(rt, key, copy)?))
-        }
+        Some(rec) => Ok(Some(log.publish_copy(rt, alloc, key, rec)?)),
         None => Ok(None),
     }
 }
@@ -140,10 +135,9 @@ pub fn publish_all(
     ensures writes { IfOk result (λ published. AreOfWrites (numbered published) writes.now) }
     ensures once { IfOk result (λ published. IsNotedOnce (shown published)) }
 {
-    let mut all = IndexMap::new(alloc);
-    if all.reserve(writes.len()).is_err() {
+    let Ok(mut all) = IndexMap::with_capacity(alloc, writes.len()) else {
         return Err(OutOfMemory);
-    }
+    };
     let mut weight = 0usize;
     for index in 0..writes.len() {
         let (key, rec) = writes.at(index);

@@ -5,9 +5,10 @@ ghost use Rattle.rbc_versions.specs.Log.{IsOf};
 ghost use Rattle.rbc_versions.specs.Entries.{AreOf};
 ghost use Rattle.rbc_book.specs.Runs.{IsInput};
 
-use rbc_core::{Attempt, Book, RunName};
+use rbc_book::{Attempt, Book, RunName};
 use rbc_records::{Key, ReadFault, Reader, Rec};
-use rbc_rule::{Input, RuleFault, decide};
+use rbc_rule::decide;
+use rbc_step::{Input, RuleFault};
 use rbc_track::Track;
 use rbc_versions::{Notes, Published, Ticket, VersionLog, publish_all};
 use std::alloc::{AllocError, Global};

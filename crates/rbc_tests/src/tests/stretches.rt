@@ -4,7 +4,7 @@ use super::runs::{new_desk, run_lines};
 use super::same;
 use super::setting::good_track;
 use rbc_batch::render;
-use rbc_core::Desk;
+use rbc_desk::Desk;
 use rbc_engine::{AllWorkers, OpenGate};
 use std::process::Abort;
 

@@ -1,7 +1,7 @@
 use Rattle.std.proofs.Common.{◌++◌, List, drop}
 use Rattle.std.specs.List.{All}
-use Rattle.rbc_rule.specs.declared.input.Input.{Input}
-use Rattle.rbc_rule.specs.Inputs.{Fits}
+use Rattle.rbc_step.specs.declared.input.Input.{Input}
+use Rattle.rbc_step.specs.Inputs.{Fits}
 use Rattle.rbc_text.specs.BatchText.{AreInputs}
 use Rattle.rbc_text.specs.Pieces.{texts_of}
 use Rattle.rbc_batch.proofs.inputs.inputs_in_turn.Given as goal

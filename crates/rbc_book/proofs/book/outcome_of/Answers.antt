@@ -1,15 +1,12 @@
 use Rattle.std.proofs.Common.{◌≡◌, ◌+◌, ◌-◌, subst, refl, arith, List, Some, false}
 use Rattle.std.specs.Prelude.{slice_get}
 use Rattle.std.proofs.lemmas.Option.{slice_get_read}
-use Rattle.rbc_track.specs.Plan.{Plan}
 use Rattle.rbc_records.specs.Notes.{record_in}
-use Rattle.rbc_rule.specs.declared.input.Input.{Input}
+use Rattle.rbc_step.specs.declared.input.Input.{Input}
 use Rattle.rbc_versions.specs.Log.{LogName}
-use Rattle.rbc_versions.specs.Entries.{AreKeyedOf}
-use Rattle.rbc_desk.specs.Held.{IsOutcomeOf}
 use Rattle.rbc_book.specs.Runs.{IsInput}
 use Rattle.rbc_book.specs.Books.{ArePresent}
-use Rattle.rbc_book.proofs.Agreeing.{fresh_outcome, computed_outcome, not_fresh}
+use Rattle.rbc_book.proofs.Agreeing.{fresh_outcome, computed_outcomes, not_fresh}
 use Rattle.rbc_book.proofs.book.outcome_of.Goals as goal
 use Rattle.rbc_book.proofs.book.outcome_of.Goals.{in-Tried+else-is_fresh, in_default}
 
@@ -24,13 +21,11 @@ returns-then-is_fresh-clause-outcome g c =
     fresh_outcome g.N.RunName.run g.N.RunName.log turn.stage c.in-Tried.attempt turn.front turn.is_fresh j.0 records c.into_parts-outcome.result.0 c.into_parts-outcome.result.1 c.in-Tried.is c.if-is_fresh.true present j.2 parts.right
     (c.requires.number c.in-Tried.attempt c.in-Tried.is) parts.outcome parts.writes parts.published
 
-pub returns-in-Ok-clause-outcome : goal.returns-in-Ok-clause-outcome
-returns-in-Ok-clause-outcome g c =
+pub returns-clause-outcome : goal.returns-clause-outcome
+returns-clause-outcome g c =
     let run = g.N.RunName.run in
     let turn = c.args.turn in
-    let records = record_in c.args.desk.now.records in
     let input = c.index-inputs-front.result in
-    let outcome = c.in_ok-outcome.outcome in
     let unset : turn.is_fresh ≡ false = elim c.match-stage.branch [
       | in-Tried+else-is_fresh w ↦ w.if-is_fresh.false
       | in_default w ↦ not_fresh c.requires.judged.0 turn.stage turn.is_fresh c.requires.judged.2 (λ a is. w.in_default.not-Tried a is)
@@ -41,7 +36,4 @@ returns-in-Ok-clause-outcome g c =
       first = omega arith;
       there = subst (λ (inputs : List Input). slice_get inputs (turn.front + 1 - 1) ≡ Some input) c.requires.run.1 (subst (λ k. slice_get c.args.inputs.now k ≡ Some input) before at);
     } in
-    let log : c.args.log.now ≡ g.N.RunName.log = c.requires.run.2 in
-    let keyed : AreKeyedOf g.N.RunName.log c.in-Ok.published = subst (λ (l : LogName). AreKeyedOf l c.in-Ok.published) log c.in-Ok.ensures.here in
-    computed_outcome run g.N.RunName.log turn.stage turn.front turn.is_fresh records input outcome c.in-Ok.published unset is (subst (λ (track : Plan). IsOutcomeOf track input records outcome) c.requires.run.0 c.in_ok-outcome.ensures.right) keyed
-    c.in-Ok.ensures.writes
+    computed_outcomes run g.N.RunName.log _ _ turn.stage turn.front turn.is_fresh _ input _ unset c.requires.run.0 c.requires.run.2 is c.computed.ensures.right c.computed.ensures.here c.computed.ensures.writes

@@ -14,6 +14,7 @@ use Rattle.clap.proofs.OnLiterals.{clap_on_literals}
 use Rattle.rbc_command_line.specs.NoTask.{no_task_of}
 use Rattle.rbc_command_line.specs.Words.{Finding, IsCheckOf, IsDecode, IsExplainOn, IsFound, IsLiveOn, IsPictureOn, IsRunOn, IsTakenFor, IsWantOfMemory, command_line, count_after, finding_in, input_after, number_after, word_after}
 use Rattle.rbc_command_line.specs.declared.no_task.NoTask.{NoTask}
+use Rattle.rbc_command_line.specs.declared.no_task.NoTask.TheVariants.{OutOfMemory}
 use Rattle.rbc_command_line.specs.declared.words.Task.{Task}
 use Rattle.rbc_command_line.specs.declared.words.Task.TheVariants.{Run, Live, Explain, Picture, Check, Decode, Codes}
 use Rattle.rbc_command_line.proofs.words.parse.Goals as goal
@@ -206,3 +207,55 @@ returns-in_err-matches-clause-picture c = λ file after asked.
     let e = c.in_err-matches.field-0.0 in
     let kinds = kinds_here _ (map string_bytes c.args.words.now) (λ ks. HasKind ks e) c.in_ok-command.ensures c.in_err-matches.ensures.kinds in
     only_memory _ (IsPictureOn file after) (no_task_of e) c.from_residual-in_err-matches.ensures.1 (memory_alone e (subst (λ (ks : List ErrorKind). HasKind ks e) asked.0 kinds))
+
+-- no task was found in the words, though they ask for one
+none_asked : {P : Type 0} (found same : Finding) (name id word : Text) → found ≡ same → word_after name id found ≡ None → word_after name id same ≡ Some word → P
+none_asked found same name id word is none asked = absurd (not_found _ word none (ap (word_after name id) is ∙ asked))
+
+pub returns-in_err-command-clause-run : goal.returns-in_err-command-clause-run
+returns-in_err-command-clause-run c = λ file workers asked. only_memory _ (IsRunOn file workers) OutOfMemory c.from_residual.ensures.1 refl
+
+pub returns-in_err-command-clause-live : goal.returns-in_err-command-clause-live
+returns-in_err-command-clause-live c = λ file from asked. only_memory _ (IsLiveOn file from) OutOfMemory c.from_residual.ensures.1 refl
+
+pub returns-in_err-command-clause-explain : goal.returns-in_err-command-clause-explain
+returns-in_err-command-clause-explain c = λ file from asked. only_memory _ (IsExplainOn file from) OutOfMemory c.from_residual.ensures.1 refl
+
+pub returns-in_err-command-clause-picture : goal.returns-in_err-command-clause-picture
+returns-in_err-command-clause-picture c = λ file after asked. only_memory _ (IsPictureOn file after) OutOfMemory c.from_residual.ensures.1 refl
+
+pub returns-in_err-command-clause-decode : goal.returns-in_err-command-clause-decode
+returns-in_err-command-clause-decode c = λ word asked. only_memory _ (IsDecode word) OutOfMemory c.from_residual.ensures.1 refl
+
+pub returns-in_err-command-clause-check : goal.returns-in_err-command-clause-check
+returns-in_err-command-clause-check c = λ file asked. only_memory _ (IsCheckOf file) OutOfMemory c.from_residual.ensures.1 refl
+
+pub returns-clause-run : goal.returns-clause-run
+returns-clause-run c = λ file workers asked.
+    let found = found_here _ (map string_bytes c.args.words.now) _ c.in_ok-command.ensures c.in_ok-matches.ensures.matches in
+    none_asked _ _ (codes "run") (codes "track") file found c.in-None.ensures.none.0.0 asked.1
+
+pub returns-clause-live : goal.returns-clause-live
+returns-clause-live c = λ file from asked.
+    let found = found_here _ (map string_bytes c.args.words.now) _ c.in_ok-command.ensures c.in_ok-matches.ensures.matches in
+    none_asked _ _ (codes "live") (codes "track") file found c.in-None.ensures.none.0.1 asked.1
+
+pub returns-clause-explain : goal.returns-clause-explain
+returns-clause-explain c = λ file from asked.
+    let found = found_here _ (map string_bytes c.args.words.now) _ c.in_ok-command.ensures c.in_ok-matches.ensures.matches in
+    none_asked _ _ (codes "explain") (codes "track") file found c.in-None.ensures.none.0.3 asked.1
+
+pub returns-clause-picture : goal.returns-clause-picture
+returns-clause-picture c = λ file after asked.
+    let found = found_here _ (map string_bytes c.args.words.now) _ c.in_ok-command.ensures c.in_ok-matches.ensures.matches in
+    none_asked _ _ (codes "picture") (codes "track") file found c.in-None.ensures.none.0.4 asked.1
+
+pub returns-clause-decode : goal.returns-clause-decode
+returns-clause-decode c = λ word asked.
+    let found = found_here _ (map string_bytes c.args.words.now) _ c.in_ok-command.ensures c.in_ok-matches.ensures.matches in
+    none_asked _ _ (codes "decode") (codes "HEX") word found c.in-None.ensures.none.0.2 asked.1
+
+pub returns-clause-check : goal.returns-clause-check
+returns-clause-check c = λ file asked.
+    let found = found_here _ (map string_bytes c.args.words.now) _ c.in_ok-command.ensures c.in_ok-matches.ensures.matches in
+    none_asked _ _ (codes "check") (codes "track") file found c.in-None.ensures.none.1 asked.1

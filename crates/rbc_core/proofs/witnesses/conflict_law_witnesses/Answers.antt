@@ -3,7 +3,7 @@ use Rattle.std.proofs.lemmas.List.Elements.{All-nil, All-cons, All-head, All-tai
 use Rattle.rbc_records.specs.declared.record.Key.{Key}
 use Rattle.rbc_records.specs.declared.record.Key.TheVariants as key
 use Rattle.rbc_versions.specs.Entries.{NumberedRec, AreCurrent, records_of}
-use Rattle.rbc_rule.specs.declared.input.Input.TheVariants as input
+use Rattle.rbc_step.specs.declared.input.Input.TheVariants as input
 use Rattle.rbc_rule_laws.proofs.WitnessSays.{differ}
 use Rattle.rbc_book.specs.Core.{State}
 use Rattle.rbc_book.specs.Events.Event.{Reads, Deposits, Voids, Applies, Recomputes, Ends}

@@ -3,7 +3,7 @@ use Rattle.std.specs.Prelude.{slice_get, Some}
 use Rattle.std.specs.List.{flat_map}
 use Rattle.std.proofs.lemmas.Option.{slice_get_within, get_or_from_slice_get}
 use Rattle.rbc_desk.specs.declared.outbox.Mail.{Mail}
-use Rattle.rbc_rule.proofs.GatherReading.{one_more_gathered}
+use Rattle.rbc_step.proofs.GatherReading.{one_more_gathered}
 use Rattle.rbc_text.specs.OutputText.{outbox_lines}
 use Rattle.rbc_text.proofs.output.push_outboxes.Goals as goal
 

@@ -1,8 +1,12 @@
 use Rattle.std.proofs.Common.{◌≡◌, ◌+◌, ◌-◌, ◌∙◌, refl, sym, ap, arith}
+use Rattle.std.proofs.lemmas.Bool.{false≢true}
 use Rattle.rbc_book.specs.declared.stage.Stage.TheVariants.{Tried}
 use Rattle.rbc_book.specs.Books.{IsOutIn, state_of}
-use Rattle.rbc_book.proofs.Books.{keeps, deposits}
+use Rattle.rbc_book.proofs.Books.{keeps_set, out_within, deposits, hands_back}
 use Rattle.rbc_book.proofs.book.Book.deposit.Goals as goal
+
+pub set_stage-requires : goal.set_stage-requires
+set_stage-requires g c = out_within _ c.number-number.result (c.if-not-is_out.ensures.0 refl)
 
 pub invariant_of-self : goal.invariant_of-self
 invariant_of-self g c =
@@ -13,9 +17,13 @@ invariant_of-self g c =
     let number : c.args.attempt.number ≡ c.number-number.result - 1 + 1 = sym c.number-number.ensures.number ∙ omega (arith, first) in (
       i.0,
       i.1,
-      record { kept = keeps _ _ _ (Tried c.args.attempt) i.2.kept (turn.0, turn.1, number); present = i.2.present },
+      record { kept = keeps_set _ _ _ (Tried c.args.attempt) _ i.2.kept (turn.0, turn.1, number) c.set_stage.ensures; present = i.2.present },
     )
 
 pub returns-clause-event : goal.returns-clause-event
 returns-clause-event g c =
-    deposits g.N.RunName.run _ _ c.args.attempt c.number-number.result (ap state_of c.self.view_is) c.self.invariant.2.kept c.number-number.ensures.right (c.if-not-is_out.ensures.0 refl) c.number-number.ensures.number
+    deposits g.N.RunName.run _ _ c.args.attempt c.number-number.result _ (ap state_of c.self.view_is) c.self.invariant.2.kept c.number-number.ensures.right (c.if-not-is_out.ensures.0 refl) c.number-number.ensures.number c.set_stage.ensures
+
+pub returns-then-not-is_out-clause-event : goal.returns-then-not-is_out-clause-event
+returns-then-not-is_out-clause-event g c =
+    hands_back g.N.RunName.run _ _ c.args.attempt c.number-number.result (ap state_of c.self.view_is) c.number-number.ensures.right (λ out. false≢true (c.if-not-is_out.ensures.1 out)) c.number-number.ensures.number

@@ -1,13 +1,12 @@
-use Rattle.std.proofs.Common.{◌≡◌, sym, ap, ◌∙◌, List, length}
+use Rattle.std.proofs.Common.{◌≡◌, ap, ◌∙◌, List, length}
 use Rattle.std.specs.Prelude.{replicate}
 use Rattle.rbc_records.specs.declared.record.Key.{Key}
 use Rattle.rbc_records.specs.declared.record.Rec.{Rec}
 use Rattle.rbc_records.specs.Notes.{record_in}
-use Rattle.rbc_rule.specs.declared.input.Input.{Input}
-use Rattle.rbc_versions.specs.Log.{LogName}
+use Rattle.rbc_step.specs.declared.input.Input.{Input}
 use Rattle.rbc_versions.specs.Entries.{StandIn}
 use Rattle.rbc_book.specs.declared.stage.Stage.TheVariants.{Free}
-use Rattle.rbc_book.specs.Books.{IsBook, record_now}
+use Rattle.rbc_book.specs.Books.{record_now}
 use Rattle.rbc_book.proofs.Presents.{opens_book}
 use Rattle.rbc_book.proofs.book.Book.new.Goals as goal
 

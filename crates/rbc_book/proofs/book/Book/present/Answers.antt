@@ -1,4 +1,4 @@
-use Rattle.std.proofs.Common.{◌≡◌, ◌<◌, ◌≤◌, ◌-◌, ℕ, subst, refl, arith}
+use Rattle.std.proofs.Common.{subst, refl}
 use Rattle.rbc_book.specs.Books.{BookValue, state_of}
 use Rattle.rbc_book.specs.Forwards.{IsLatest}
 use Rattle.rbc_book.proofs.Searching.{latest_found, latest_present, latest_happens}

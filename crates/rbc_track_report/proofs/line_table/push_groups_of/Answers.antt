@@ -1,0 +1,12 @@
+use Rattle.std.proofs.Common.{rules}
+use Rattle.rbc_track_report.proofs.Written.{back, ◌then◌}
+use Rattle.rbc_track_report.proofs.line_table.push_groups_of.Goals as goal
+
+pub returns-then-number-eq0 : goal.returns-then-number-eq0
+returns-then-number-eq0 c = back c.words.ensures.written (search rules)
+
+pub loop-group-init : goal.loop-group-init
+loop-group-init c = back (c.count.ensures.written then c.words-2.ensures.written) (search rules)
+
+pub returns : goal.returns
+returns c = c.loop-group.invariant

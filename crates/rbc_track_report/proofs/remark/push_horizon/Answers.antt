@@ -1,0 +1,8 @@
+use Rattle.std.proofs.Common.{rules}
+use Rattle.rbc_track_report.proofs.Written.{back, ◌then◌}
+use Rattle.rbc_track_report.proofs.remark.push_horizon.Goals as goal
+
+pub returns : goal.returns
+returns c =
+    back (c.words.ensures.written then c.length.ensures.written then c.words-2.ensures.written
+    then c.words-3.ensures.written) (search rules)

@@ -1,0 +1,10 @@
+use Rattle.std.proofs.Common.{rules}
+use Rattle.rbc_track_report.proofs.Written.{back, ◌then◌}
+use Rattle.rbc_track_report.proofs.remark.push_wide_gap.Goals as goal
+
+pub returns : goal.returns
+returns c =
+    back (c.words.ensures.written then c.length.ensures.written then c.words-2.ensures.written
+    then c.length-2.ensures.written then c.words-3.ensures.written then c.number.ensures.written
+    then c.words-4.ensures.written then c.length-3.ensures.written then c.words-5.ensures.written
+    then c.length-4.ensures.written then c.words-6.ensures.written) (search rules)

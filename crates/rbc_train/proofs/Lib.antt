@@ -1,0 +1,4 @@
+pub mod NumberLists
+pub mod NumberCopies
+pub mod Merging
+pub mod ToTell
