@@ -1,40 +1,75 @@
--- Lines of the output in a log that grows.
-use Rattle.std.proofs.Common.{◌≡◌, ℕ, List, [], ◌∷◌, ◌++◌, refl, sym, ap, subst, ◌∙◌, append_assoc, append-nil, Result, Ok, Err, OnOk}
-use Rattle.rbc_text.specs.BatchText.{lines_of}
-use Rattle.rbc_explain.specs.Marked.{marked, Shows, IsToldOn}
+-- Lines that are added to a log.
+use Rattle.std.proofs.Common.{◌≡◌, ◌==◌, ℕ, false, List, [], ◌∷◌, ◌++◌, codes, flat_map, filter_map, Option, None, refl, sym, ap, subst, ◌∙◌, append_assoc, append-nil, Result, Ok, Err, OnOk, is_ok, if◌then◌else◌}
+use Rattle.std.specs.List.{cons_option, slice_split, list_any, AllByRecursion}
+use Rattle.std.proofs.lemmas.List.Concat.{flat_map-append}
+use Rattle.std.proofs.lemmas.List.Elements.{filter_map-append}
+use Rattle.rbc_text.specs.BatchText.{is_line_feed, lines_of}
+use Rattle.rbc_explain.specs.Marked.{ended, IsLine, IsPlain, unmarked, AreAdded, IsToldOn}
+use Rattle.rbc_explain.proofs.Lines.{line_then, none_in_first, pieces_are_lines, ended_pieces, none_marked_in}
 
--- what stands in the second of two texts stands in both together
-shows_after : (lines : List (List ℕ)) (first second : List ℕ) → Shows lines second → Shows lines (first ++ second)
-shows_after [] first second shows = tt
-shows_after (line ∷ lines) first second shows =
-    (first ++ shows.0, shows.1, ap (λ (t : List ℕ). first ++ t) shows.2 ∙ sym (append_assoc first shows.0 (marked line ++ shows.1)), shows.3)
+each_then : (P : List ℕ → Type 0) (lines more : List (List ℕ)) → AllByRecursion P lines → AllByRecursion P more → AllByRecursion P (lines ++ more)
+each_then P [] more one two = two
+each_then P (line ∷ lines) more one two = (one.0, each_then P lines more one.1 two)
 
--- what stands in each of two texts stands in both together
-pub shows_then : (lines more : List (List ℕ)) (first second : List ℕ) → Shows lines first → Shows more second → Shows (lines ++ more) (first ++ second)
-shows_then [] more first second one two = shows_after more first second two
-shows_then (line ∷ lines) more first second one two = (
-  one.0,
-  one.1 ++ second,
-  ap (λ (t : List ℕ). t ++ second) one.2 ∙ append_assoc one.0 (marked line ++ one.1) second ∙ ap (λ (t : List ℕ). one.0 ++ t) (append_assoc (marked line) one.1 second),
-  shows_then lines more one.1 second one.3 two,
-)
+-- nothing is added
+pub added_none : (log : List ℕ) → AreAdded [] log log
+added_none log = record { text = sym (append-nil log); each = tt }
+
+-- one line is added
+pub added_one : (line old new : List ℕ) → IsLine line → new ≡ old ++ ended line → AreAdded (line ∷ []) old new
+added_one line old new is e = record { text = e ∙ ap (λ (t : List ℕ). old ++ t) (sym (append-nil (ended line))); each = (is, tt) }
+
+-- lines are added twice
+pub added_then : (lines more : List (List ℕ)) (first second third : List ℕ) → AreAdded lines first second → AreAdded more second third → AreAdded (lines ++ more) first third
+added_then lines more first second third one two = record {
+  text = two.text ∙ ap (λ (t : List ℕ). t ++ flat_map ended more) one.text ∙ append_assoc first (flat_map ended lines) (flat_map ended more)
+      ∙ ap (λ (t : List ℕ). first ++ t) (sym (flat_map-append ended lines more));
+  each = each_then IsLine lines more one.each two.each;
+}
 
 -- a log to which nothing is added
 pub told_none : (log : List ℕ) → IsToldOn [] log log
-told_none log = ([], sym (append-nil log), tt)
+told_none log = ([], added_none log, refl)
 
--- words are added
-pub told_words : (old words new : List ℕ) → new ≡ old ++ words → IsToldOn [] old new
-told_words old words new e = (words, e, tt)
+-- a line of the output is added
+pub added_marked : (line old new : List ℕ) → new ≡ old ++ ended (codes "= " ++ line) → IsLine line → AreAdded ((codes "= " ++ line) ∷ []) old new
+added_marked line old new e is = added_one (codes "= " ++ line) old new (line_then (codes "= ") line refl is) e
 
--- a line is added
-pub told_line : (old line new : List ℕ) → new ≡ old ++ marked line → IsToldOn (line ∷ []) old new
-told_line old line new e = (marked line, e, ([], [], sym (append-nil (marked line)), tt))
+pub told_marked : (line old new : List ℕ) → AreAdded ((codes "= " ++ line) ∷ []) old new → IsToldOn (line ∷ []) old new
+told_marked line old new added = ((codes "= " ++ line) ∷ [], added, refl)
+
+-- another line is added
+pub told_other : (line old new : List ℕ) → IsLine line → unmarked line ≡ None → new ≡ old ++ ended line → IsToldOn [] old new
+told_other line old new is other e = (line ∷ [], added_one line old new is e, ap (λ (found : Option (List ℕ)). cons_option found []) other)
+
+-- a text is added that ends with a line feed and has no `=`
+pub told_text : (text old new : List ℕ) → IsPlain text → new ≡ old ++ text → IsToldOn [] old new
+told_text text old new plain e = (
+  slice_split is_line_feed plain.0,
+  record { text = e ∙ ap (λ (t : List ℕ). old ++ t) (plain.1 ∙ sym (ended_pieces plain.0)); each = pieces_are_lines plain.0 },
+  none_marked_in plain.0 (none_in_first (λ byte. byte == 61) plain.0 (codes "\n") (ap (λ (t : List ℕ). list_any (λ byte. byte == 61) t) (sym plain.1) ∙ plain.2)),
+)
+
+-- the same unless memory was refused
+pub told_text_if : (T E : Type 0) (r : Result T E) (text old new : List ℕ) → IsPlain text → new ≡ (if is_ok r then old ++ text else old) → OnOk r (IsToldOn [] old new)
+told_text_if T E (Ok done) text old new plain e = told_text text old new plain e
+told_text_if T E (Err fault) text old new plain e = tt
+
+-- another line is added in parts, unless memory was refused
+pub told_in_parts : (T E : Type 0) (r : Result T E) (indent line old mid next new : List ℕ) → IsLine (indent ++ line) → unmarked (indent ++ line) ≡ None → mid ≡ old ++ indent
+    → next ≡ mid ++ line → new ≡ (if is_ok r then next ++ codes "\n" else next) → OnOk r (IsToldOn [] old new)
+told_in_parts T E (Ok done) indent line old mid next new is other first second third =
+    told_other (indent ++ line) old new is other
+    (third ∙ ap (λ (t : List ℕ). t ++ codes "\n") (second ∙ ap (λ (t : List ℕ). t ++ line) first ∙ append_assoc old indent line) ∙ append_assoc old (indent ++ line) (codes "\n"))
+told_in_parts T E (Err fault) indent line old mid next new is other first second third = tt
 
 -- a log that is added to twice
 pub told_then : (lines more : List (List ℕ)) (first second third : List ℕ) → IsToldOn lines first second → IsToldOn more second third → IsToldOn (lines ++ more) first third
-told_then lines more first second third one two =
-    (one.0 ++ two.0, two.1 ∙ ap (λ (t : List ℕ). t ++ two.0) one.1 ∙ append_assoc first one.0 two.0, shows_then lines more one.0 two.0 one.2 two.2)
+told_then lines more first second third one two = (
+  one.0 ++ two.0,
+  added_then one.0 two.0 first second third one.1 two.1,
+  filter_map-append unmarked one.0 two.0 ∙ (λ i. one.2 i ++ two.2 i),
+)
 
 -- words, and then lines
 pub words_then : (more : List (List ℕ)) (first second third : List ℕ) → IsToldOn [] first second → IsToldOn more second third → IsToldOn more first third
@@ -45,37 +80,8 @@ pub then_words : (lines : List (List ℕ)) (first second third : List ℕ) → I
 then_words lines first second third one two =
     subst (λ (ls : List (List ℕ)). IsToldOn ls first third) (append-nil lines) (told_then lines [] first second third one two)
 
--- Of all lines those before the rest stand in what was added.
-abbrev pub IsGoingOn : List (List ℕ) → List ℕ → List ℕ → List ℕ → Type 0
-IsGoingOn all rest old new = (shown : List (List ℕ)) × (all ≡ shown ++ lines_of rest) × IsToldOn shown old new
-
--- none of them yet
-pub begins : (text log : List ℕ) → IsGoingOn (lines_of text) text log log
-begins text log = ([], refl, told_none log)
-
--- one more, and words
-pub goes_on : (all : List (List ℕ)) (rest line behind old now mid new : List ℕ) → IsGoingOn all rest old now → lines_of rest ≡ line ∷ lines_of behind
-    → IsToldOn (line ∷ []) now mid → IsToldOn [] mid new → IsGoingOn all behind old new
-goes_on all rest line behind old now mid new going first one words = (
-  going.0 ++ line ∷ [],
-  going.1 ∙ ap (λ (ls : List (List ℕ)). going.0 ++ ls) first ∙ sym (append_assoc going.0 (line ∷ []) (lines_of behind)),
-  then_words (going.0 ++ line ∷ []) old mid new (told_then going.0 (line ∷ []) old now mid going.2 one) words,
-)
-
--- all of them
-pub ends : (all : List (List ℕ)) (rest old new : List ℕ) → IsGoingOn all rest old new → rest ≡ [] → IsToldOn all old new
-ends all rest old new going none =
-    let last : lines_of rest ≡ [] = ap (λ (t : List ℕ). lines_of t) none in
-    subst (λ (ls : List (List ℕ)). IsToldOn ls old new) (sym (going.1 ∙ ap (λ (ls : List (List ℕ)). going.0 ++ ls) last ∙ append-nil going.0)) going.2
-
 -- the same where the words may lack memory
 pub told_ends : (T E : Type 0) (r : Result T E) (lines : List (List ℕ)) (first second third : List ℕ) → IsToldOn lines first second → OnOk r (IsToldOn [] second third)
     → OnOk r (IsToldOn lines first third)
 told_ends T E (Ok done) lines first second third one two = then_words lines first second third one two
 told_ends T E (Err fault) lines first second third one two = tt
-
--- what stands in a text stands in it also after words
-pub shows_before : (lines : List (List ℕ)) (old new : List ℕ) → Shows lines old → IsToldOn [] old new → Shows lines new
-shows_before lines old new shows told =
-    subst (λ (t : List ℕ). Shows lines t) (sym told.1)
-    (subst (λ (ls : List (List ℕ)). Shows ls (old ++ told.0)) (append-nil lines) (shows_then lines [] old told.0 shows tt))

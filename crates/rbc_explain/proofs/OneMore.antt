@@ -18,9 +18,9 @@ use Rattle.rbc_account.specs.declared.account.Account.{Account}
 use Rattle.rbc_account.specs.Sums.{no_sums, counted, input_count}
 use Rattle.rbc_account.specs.Runs.{sums_after, EachAccountIsTrue}
 use Rattle.rbc_account.proofs.Adding.{all_counted}
-use Rattle.rbc_explain.specs.Marked.{Shows, IsToldOn}
+use Rattle.rbc_explain.specs.Marked.{IsToldOn}
 use Rattle.rbc_explain.specs.Log.{answer_told, answers_told, IsLogOf, IsUnderWay}
-use Rattle.rbc_explain.proofs.Marking.{shows_then, shows_before}
+use Rattle.rbc_explain.proofs.Marking.{told_then, then_words}
 
 -- a line behind others
 taken_more : (plan : Plan) (taken : List Taken) (one : Taken) (old mid new : List (Key × Rec)) → IsHistory plan old taken mid → IsFed plan one.line mid new one.reply one.messages
@@ -62,10 +62,9 @@ line_told plan from before after lines old new line one is under fed track sums 
         counts = sums ∙ ap (counted one.reply) under.counted.counts ∙ sym (sums_more no_sums under.taken one);
       };
       track = track ∙ under.track;
-      shows = subst (λ (ls : List (List ℕ)). Shows ls new) (sym (answers_more from 1 under.taken one))
-          (subst (λ (t : List ℕ). Shows (answers_told from 1 under.taken ++ answer_told from (1 + length under.taken) one) t) (sym told.1)
-          (shows_then (answers_told from 1 under.taken) (answer_told from (1 + length under.taken) one) old told.0 under.shows
-          (subst (λ (n : ℕ). Shows (answer_told from n one) told.0) next told.2)));
+      told = subst (λ (ls : List (List ℕ)). IsToldOn ls [] new) (sym (answers_more from 1 under.taken one))
+          (told_then (answers_told from 1 under.taken) (answer_told from (1 + length under.taken) one) [] old new under.told
+          (subst (λ (n : ℕ). IsToldOn (answer_told from n one) old new) next told));
     }
 
 -- how many inputs an account has taken
@@ -89,13 +88,13 @@ is_told from number one reached = by_test (nat_le from number) (grind (arith, na
 
 -- the log before the first line
 pub begins : (plan : Plan) (from : ℕ) (account : Account) (log : List ℕ) → account.desk.track ≡ plan → account.desk.records ≡ [] → account.sums ≡ no_sums
-    → IsUnderWay plan from account [] log
-begins plan from account log track empty none = record {
+    → IsToldOn [] [] log → IsUnderWay plan from account [] log
+begins plan from account log track empty none words = record {
   taken = [];
   fed = refl;
   counted = record { history = λ k. ap (λ (records : List (Key × Rec)). record_in records k) empty; counts = none };
   track = track;
-  shows = tt;
+  told = words;
 }
 
 -- the log after the last line
@@ -110,7 +109,7 @@ ends plan from account lines log last law few under words =
       records = account.desk.records;
       fed = under.fed;
       serial = (law plan under.taken account.desk.records account.sums small under.counted).serial;
-      shows = shows_before (answers_told from 1 under.taken) log last under.shows words;
+      told = then_words (answers_told from 1 under.taken) [] log last under.told words;
     }
 
 -- the lines up to one more

@@ -2,3 +2,4 @@ pub mod Log
 pub mod Marked
 pub mod Said
 pub mod Sentences
+pub mod Telling

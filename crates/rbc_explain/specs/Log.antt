@@ -10,7 +10,7 @@ use Rattle.rbc_batch.specs.Process.{IsAllRead}
 use Rattle.rbc_live.specs.History.{Taken, IsSerialRunOf}
 use Rattle.rbc_account.specs.Runs.{IsAccount}
 use Rattle.rbc_account.specs.declared.account.Account.{Account}
-use Rattle.rbc_explain.specs.Marked.{Shows}
+use Rattle.rbc_explain.specs.Marked.{IsToldOn}
 
 -- the lines of the answer to a line of this number, where lines are told from that number on
 abbrev pub answer_told : ℕ → ℕ → Taken → List (List ℕ)
@@ -21,14 +21,14 @@ abbrev pub answers_told : ℕ → ℕ → List Taken → List (List ℕ)
 answers_told from number [] = []
 answers_told from number (taken ∷ more) = answer_told from number taken ++ answers_told from (number + 1) more
 
--- The log of lines, told from a number on: the answers and the messages are those of the serial run of the lines, from the empty state,
--- and each line of an answer that is told stands in the log, in its order, with "= " before it.
+-- The log of lines, told from a number on: the answers and the messages are those of the serial run of the lines, from the empty state. The log is a text in
+-- lines, and behind the marks of those that are marked stand the lines of the answers that are told, in their order.
 pub record IsLogOf (plan : Plan) (from : ℕ) (lines : List (List ℕ)) (log : List ℕ) : Type 0 where
   pub taken : List Taken
   pub records : List (Key × Rec)
   pub fed : map (λ one. one.line) taken ≡ lines
   pub serial : IsSerialRunOf plan taken records
-  pub shows : Shows (answers_told from 1 taken) log
+  pub told : IsToldOn (answers_told from 1 taken) [] log
 
 -- The log of all that a reader had left, on the track that a text is.
 pub record IsLogOfRun (text : List ℕ) (from : ℕ) (old new : Option (List ℕ)) (log : List ℕ) : Type 0 where
@@ -44,4 +44,4 @@ pub record IsUnderWay (plan : Plan) (from : ℕ) (account : Account) (lines : Li
   pub fed : map (λ one. one.line) taken ≡ lines
   pub counted : IsAccount plan taken account.desk.records account.sums
   pub track : account.desk.track ≡ plan
-  pub shows : Shows (answers_told from 1 taken) log
+  pub told : IsToldOn (answers_told from 1 taken) [] log

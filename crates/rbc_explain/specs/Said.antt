@@ -40,6 +40,14 @@ IsSpoken _ _ = ⊥
 abbrev pub IsSpokenBy : Plan → ToTrain → Spoken → Type 0
 IsSpokenBy plan message words = (said : rule.Said) × Says plan message (said ∷ []) × IsSpoken said words
 
+-- a train is told something of a stop
+abbrev pub IsOnStop : rule.Said → Type 0
+IsOnStop (rule.StopsAtOnce id) = Unit
+IsOnStop (rule.StopsBefore id spot) = Unit
+IsOnStop (rule.RevokesStop id) = Unit
+IsOnStop (rule.Restricts id stretch front speed) = ⊥
+IsOnStop (rule.RevokesLimit id) = ⊥
+
 -- a packet says it, in a message that names a balise group
 abbrev pub IsSpokenByPacket : Plan → ℕ → Part → Spoken → Type 0
 IsSpokenByPacket plan lrbg packet words = (said : rule.Said) × PacketSays plan lrbg packet said × IsSpoken said words

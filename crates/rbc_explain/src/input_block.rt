@@ -1,26 +1,22 @@
 //! One input in a log: its line, what came of it, and each message with its reason.
 
-ghost use Rattle.std.specs.Prelude.{OnOk};
+ghost use Rattle.std.specs.Prelude.{◌≡◌, ◌<◌, length, slice_get, Some, OnOk};
 ghost use Rattle.rbc_step.specs.Gathered.{AreSendable};
-ghost use Rattle.rbc_text.specs.BatchText.{lines_of};
 ghost use Rattle.rbc_text.specs.OutputText.{answer_of};
-ghost use Rattle.rbc_explain.specs.Marked.{IsToldOn};
+ghost use Rattle.rbc_explain.specs.Telling.{IsBlockOn};
 
 use crate::deed_in_words::push_deed;
 use crate::echo::push_echo;
 use crate::log::{push_line, push_words};
-use crate::message::push_message;
+use crate::message::{USUAL_BYTES, push_message};
 use crate::refused::{RefusedInput, push_refused};
 use crate::waiting_in_words::push_waiting_at;
-use rbc_account::{Block, Counts, Deed};
+use rbc_account::{Block, Counts, Deed, Told};
 use rbc_step::{Input, Reply};
 use rbc_text::{first_line, render_answer};
 use rbc_track::Track;
 use rbc_track_report::Sheet;
 use std::alloc::{AllocError, Global};
-
-/// Room for what is usually said at once.
-const USUAL_BYTES: usize = 256;
 
 /// The track of a run.
 #[derive(Clone, Copy)]
@@ -30,8 +26,8 @@ pub(crate) struct TrackOfRun<'a> {
     pub lines: usize,
 }
 
-/// Adds what came of the input of a line. The lines of its answer stand there in their order, each with `= ` before it.
-/// Fails only for lack of memory.
+/// Adds what came of the input of a line. The lines of its answer stand there in their order, each with `= ` before it,
+/// and before the line of a message what the message says. Fails only for lack of memory.
 pub(crate) fn push_block(
     alloc: Global,
     log: &mut Vec<u8>,
@@ -39,9 +35,10 @@ pub(crate) fn push_block(
     line: &[u8],
     block: &Block,
 ) -> Result<(), AllocError>
-    requires { AreSendable block.now.messages }
-    ensures { OnOk result (IsToldOn (lines_of (answer_of block.now.number block.now.reply block.now.messages))
-        log.old.items log.new.items) }
+    requires sendable { AreSendable block.now.messages }
+    requires paired { length block.now.told.items ≡ length block.now.messages }
+    ensures { OnOk result (IsBlockOn of.entry.track.now block.now.number block.now.reply block.now.messages
+        block.now.told.items log.old.items log.new.items) }
 {
     let answer = render_answer(alloc, block.number, block.reply, &block.messages)?;
     push_words(log, heading(alloc, line, block)?)?;
@@ -49,9 +46,8 @@ pub(crate) fn push_block(
     push_words(log, afterwards(alloc, block))
 }
 
-/// Adds each line of the answer to an input, and after it what is said of the next message. Fails only for lack of
-/// memory.
-#[tactic(auto, using(crate::proofs::Marking::begins, crate::proofs::Marking::goes_on, crate::proofs::Marking::ends))]
+/// Adds each line of the answer to an input: after the first one what came of the input, and before each other one what
+/// is said of its message. Fails only for lack of memory.
 fn push_answer(
     alloc: Global,
     log: &mut Vec<u8>,
@@ -60,18 +56,31 @@ fn push_answer(
     block: &Block,
     answer: &[u8],
 ) -> Result<(), AllocError>
-    ensures { OnOk result (IsToldOn (lines_of answer.now) log.old.items log.new.items) }
+    requires answer { answer.now ≡ answer_of block.now.number block.now.reply block.now.messages }
+    requires paired { length block.now.told.items ≡ length block.now.messages }
+    ensures { OnOk result (IsBlockOn of.entry.track.now block.now.number block.now.reply block.now.messages
+        block.now.told.items log.old.items log.new.items) }
 {
-    let mut rest = answer;
-    let mut index = 0usize;
-    while !rest.is_empty() {
+    let (reply, behind) = first_line(answer);
+    push_line(log, reply)?;
+    push_words(log, outcome(alloc, of, line, block))?;
+    let mut rest = behind;
+    for index in 0..block.messages.len() {
+        let told = told_of(&block.told, index);
+        push_message(alloc, log, of.track, block.messages.at(index), told)?;
         let (first, behind) = first_line(rest);
         push_line(log, first)?;
-        push_words(log, following(alloc, of, line, block, index)?)?;
         rest = behind;
-        index = index.saturating_add(1);
     }
     Ok(())
+}
+
+/// What is told of the message at an index.
+fn told_of(told: &[Told], index: usize) -> &Told
+    requires { index < length told.now }
+    ensures { slice_get told.now index ≡ Some result.now }
+{
+    &told[index]
 }
 
 /// The line of an input with its number, after an empty line. Fails only for lack of memory.
@@ -86,25 +95,11 @@ fn heading(alloc: Global, line: &[u8], block: &Block) -> Result<Sheet, AllocErro
     Ok(sheet)
 }
 
-/// What follows the line of the answer at an index: after the first one what came of the input, and after each what is
-/// said of the message at that index. Fails only for lack of memory.
-fn following(
-    alloc: Global,
-    of: TrackOfRun<'_>,
-    line: &[u8],
-    block: &Block,
-    index: usize,
-) -> Result<Sheet, AllocError> {
+/// Whether the input was accepted, and what it did, or why it was refused.
+fn outcome(alloc: Global, of: TrackOfRun<'_>, line: &[u8], block: &Block) -> Sheet {
     let mut sheet = Sheet::with_room(alloc, USUAL_BYTES);
-    if index == 0 {
-        push_outcome(&mut sheet, of, line, block);
-    }
-    if index < block.messages.len()
-        && let Some(told) = block.told.get(index)
-    {
-        push_message(alloc, &mut sheet, of.track, block.messages.at(index), told)?;
-    }
-    Ok(sheet)
+    push_outcome(&mut sheet, of, line, block);
+    sheet
 }
 
 /// Adds whether the input was accepted, and what it did, or why it was refused.

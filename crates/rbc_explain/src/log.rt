@@ -1,31 +1,85 @@
 //! The text of a log while it is written: words, and lines of the output of a run.
 
-ghost use Rattle.std.specs.Prelude.{◌≡◌, ◌++◌, [], ◌∷◌, OnOk};
-ghost use Rattle.rbc_explain.specs.Marked.{marked, IsToldOn};
+ghost use Rattle.std.specs.Prelude.{◌≡◌, ◌++◌, [], ◌∷◌, ℕ, List, true, None, codes, OnOk};
+ghost use Rattle.rbc_explain.specs.Marked.{AreAdded, IsLine, IsPlain, IsToldOn, ended, unmarked};
 
+use memchr::memchr;
+use rbc_text::first_line;
 use rbc_track_report::Sheet;
 use std::alloc::AllocError;
 
-/// Adds words. Fails only for lack of memory, here or while the words were written.
-#[tactic(auto, using(crate::proofs::Marking::told_words))]
+/// Adds words, in whole lines without a mark: a line of them that begins with `=` is indented. Fails only for lack of
+/// memory, here or while the words were written.
 pub(crate) fn push_words(log: &mut Vec<u8>, words: Sheet) -> Result<(), AllocError>
     ensures { OnOk result (IsToldOn [] log.old.items log.new.items) }
 {
     let words = words.ended()?;
-    log.extend_from_slice(words.as_bytes())
+    push_text(log, words.as_bytes())
+}
+
+/// Adds a text in whole lines without a mark. Nearly every text can be added as it is.
+fn push_text(log: &mut Vec<u8>, text: &[u8]) -> Result<(), AllocError>
+    ensures { OnOk result (IsToldOn [] log.old.items log.new.items) }
+{
+    if is_plain(text) {
+        return log.extend_from_slice(text);
+    }
+    push_each_line(log, text)
+}
+
+/// Whether a text ends with a line feed and has no `=`.
+fn is_plain(text: &[u8]) -> bool
+    ensures { result ≡ true → IsPlain text.now }
+{
+    match text.split_last() {
+        Some((last, _)) => *last == b'\n' && memchr(b'=', text).is_none(),
+        None => false,
+    }
+}
+
+/// Adds each line of a text without a mark.
+fn push_each_line(log: &mut Vec<u8>, text: &[u8]) -> Result<(), AllocError>
+    ensures { OnOk result (IsToldOn [] log.old.items log.new.items) }
+{
+    let mut rest = text;
+    while !rest.is_empty() {
+        let (line, behind) = first_line(rest);
+        push_other(log, line)?;
+        rest = behind;
+    }
+    Ok(())
+}
+
+/// Adds a line, without its line feed, so that it has no mark.
+fn push_other(log: &mut Vec<u8>, line: &[u8]) -> Result<(), AllocError>
+    ensures { IsLine line.now → OnOk result (IsToldOn [] log.old.items log.new.items) }
+{
+    log.extend_from_slice(indent_of(line))?;
+    log.extend_from_slice(line)?;
+    log.extend_from_slice(b"\n")
+}
+
+/// What stands before a line so that it has no mark.
+fn indent_of(line: &[u8]) -> &'static [u8]
+    ensures other { unmarked (result.now ++ line.now) ≡ None }
+    ensures line { IsLine line.now → IsLine (result.now ++ line.now) }
+{
+    match line.first() {
+        Some(b'=') => b" ",
+        _ => b"",
+    }
 }
 
 /// Adds a line of the output, without its line feed, as it is, with `= ` before it. Fails only for lack of memory.
-#[tactic(auto, using(crate::proofs::Marking::told_line))]
 pub(crate) fn push_line(log: &mut Vec<u8>, line: &[u8]) -> Result<(), AllocError>
-    ensures { OnOk result (IsToldOn (line.now ∷ []) log.old.items log.new.items) }
+    ensures { IsLine line.now → OnOk result (AreAdded ((codes "= " ++ line.now) ∷ []) log.old.items log.new.items) }
 {
     push_marked(log, line)
 }
 
 /// Adds a line with its mark.
 fn push_marked(log: &mut Vec<u8>, line: &[u8]) -> Result<(), AllocError>
-    ensures { OnOk result (log.new.items ≡ log.old.items ++ marked line.now) }
+    ensures { OnOk result (log.new.items ≡ log.old.items ++ ended (codes "= " ++ line.now)) }
 {
     log.extend_from_slice(b"= ")?;
     log.extend_from_slice(line)?;

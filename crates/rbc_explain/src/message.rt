@@ -1,9 +1,10 @@
 //! A message to a train in words: what it says, and why it was sent.
 
-ghost use Rattle.std.specs.Prelude.{IfOk, IfSome, string_bytes};
-ghost use Rattle.rbc_explain.specs.Said.{IsStopSentence};
+ghost use Rattle.std.specs.Prelude.{OnOk};
+ghost use Rattle.rbc_explain.specs.Telling.{IsSaidOn, Tells, TellsStop};
 
 use crate::figures::{push_place, push_stretch};
+use crate::log::push_words;
 use crate::restriction::push_restrictions;
 use crate::said::spoken_by;
 use crate::sentence::stop_sentence;
@@ -15,15 +16,20 @@ use rbc_track_report::Sheet;
 use rbc_train::Sent;
 use std::alloc::{AllocError, Global};
 
+/// Room for what is usually said of a message at once.
+pub(crate) const USUAL_BYTES: usize = 256;
+
 /// Adds what a message says, and why it was sent. Of one that no record accounts for this adds nothing. Fails only for
 /// lack of memory.
 pub(crate) fn push_message(
     alloc: Global,
-    sheet: &mut Sheet,
+    log: &mut Vec<u8>,
     track: &Track,
     sent: &Sent,
     told: &Told,
-) -> Result<(), AllocError> {
+) -> Result<(), AllocError>
+    ensures { OnOk result (IsSaidOn (Tells track.now sent.now told.now.what) log.old.items log.new.items) }
+{
     match &told.what {
         ToldWhat::StopBefore {
             number,
@@ -31,56 +37,79 @@ pub(crate) fn push_message(
             edge,
             unit,
         } => {
-            push_stop(alloc, sheet, track, sent, *number, false)?;
-            push_before(sheet, &told.place, *before, *edge, *unit);
+            push_stop_sentence(alloc, log, track, sent, *number, false)?;
+            push_words(log, words_before(alloc, sent, &told.place, *before, *edge, *unit))
         }
         ToldWhat::StopAtOnce { number, why } => {
-            push_stop(alloc, sheet, track, sent, *number, false)?;
-            push_at_once(sheet, &told.place, *number, why);
+            push_stop_sentence(alloc, log, track, sent, *number, false)?;
+            push_words(log, words_at_once(alloc, sent, &told.place, *number, why))
         }
         ToldWhat::StopRevoked { number, unanswered } => {
-            push_stop(alloc, sheet, track, sent, *number, *unanswered)?;
-            push_revoked(sheet, &sent.message, *number, *unanswered);
+            push_stop_sentence(alloc, log, track, sent, *number, *unanswered)?;
+            push_words(log, words_revoked(alloc, sent, *number, *unanswered))
         }
         ToldWhat::Restrictions(all) => {
-            push_restrictions(alloc, sheet, track, sent, &told.place, all)?;
+            push_restrictions(alloc, log, track, sent, &told.place, all)
         }
-        ToldWhat::Unknown => {}
+        ToldWhat::Unknown => Ok(()),
     }
-    Ok(())
 }
 
-/// Adds the sentence on a message on a stop, and what kind of message it is. Fails only for lack of memory.
-fn push_stop(
+/// Adds the sentence on a message on a stop of this number, from what the message says. Fails only for lack of memory.
+fn push_stop_sentence(
     alloc: Global,
-    sheet: &mut Sheet,
+    log: &mut Vec<u8>,
     track: &Track,
     sent: &Sent,
     number: u32,
     is_escalated: bool,
-) -> Result<(), AllocError> {
-    if let Some(sentence) = sentence_on_stop(alloc, track, sent, number, is_escalated)? {
-        sheet.words(sentence.as_str());
-    }
-    push_kind(sheet, &sent.message);
-    Ok(())
-}
-
-/// The sentence on a message on a stop of this number, from what the message says. Fails only for lack of memory.
-fn sentence_on_stop(
-    alloc: Global,
-    track: &Track,
-    sent: &Sent,
-    number: u32,
-    is_escalated: bool,
-) -> Result<Option<String>, AllocError>
-    ensures { IfOk result (λ found. IfSome found
-        (λ text. IsStopSentence track.now sent.now.engine number sent.now.message (string_bytes text))) }
+) -> Result<(), AllocError>
+    ensures { OnOk result (IsSaidOn (TellsStop track.now sent.now number) log.old.items log.new.items) }
 {
     match spoken_by(track, &sent.message, is_escalated) {
-        Some(said) => Ok(Some(stop_sentence(alloc, sent.engine, number, &said)?)),
-        None => Ok(None),
+        Some(said) => {
+            let sentence = stop_sentence(alloc, sent.engine, number, &said)?;
+            log.extend_from_slice(sentence.as_bytes())
+        }
+        None => Ok(()),
     }
+}
+
+/// What kind of message tells a stop before a place, and why.
+fn words_before(
+    alloc: Global,
+    sent: &Sent,
+    place: &Option<Place>,
+    before: u32,
+    edge: u32,
+    unit: u32,
+) -> Sheet {
+    let mut sheet = Sheet::with_room(alloc, USUAL_BYTES);
+    push_kind(&mut sheet, &sent.message);
+    push_before(&mut sheet, place, before, edge, unit);
+    sheet
+}
+
+/// What kind of message tells a stop at once, and why.
+fn words_at_once(
+    alloc: Global,
+    sent: &Sent,
+    place: &Option<Place>,
+    number: u32,
+    why: &WhyAtOnce,
+) -> Sheet {
+    let mut sheet = Sheet::with_room(alloc, USUAL_BYTES);
+    push_kind(&mut sheet, &sent.message);
+    push_at_once(&mut sheet, place, number, why);
+    sheet
+}
+
+/// What kind of message revokes a stop, and why.
+fn words_revoked(alloc: Global, sent: &Sent, number: u32, is_escalated: bool) -> Sheet {
+    let mut sheet = Sheet::with_room(alloc, USUAL_BYTES);
+    push_kind(&mut sheet, &sent.message);
+    push_revoked(&mut sheet, &sent.message, number, is_escalated);
+    sheet
 }
 
 /// Adds the kind of a message on a stop, its identifier, its stamp and what answers it.

@@ -1,9 +1,12 @@
 //! A message on restrictions in words: what each packet says, and why.
 
-ghost use Rattle.std.specs.Prelude.{IfOk, IfSome, string_bytes};
+ghost use Rattle.std.specs.Prelude.{◌≡◌, ◌<◌, length, slice_get, Some, OnOk};
 ghost use Rattle.rbc_explain.specs.Said.{IsRestrictionSentence, IsPacketSentence};
+ghost use Rattle.rbc_explain.specs.Telling.{IsSaidOn, TellsEach, TellsPacket, TellsRestrictions};
 
 use crate::figures::{push_place, push_stretch, way_word, ways_words};
+use crate::log::push_words;
+use crate::message::USUAL_BYTES;
 use crate::said::spoken_by_packet;
 use crate::sentence::{packet_sentence, restriction_sentence};
 use ertms_codec::{Head, Packets, Part, ToTrain};
@@ -18,30 +21,34 @@ use std::alloc::{AllocError, Global};
 /// Adds what a message 24 says, and why each of its packets was sent. Fails only for lack of memory.
 pub(crate) fn push_restrictions(
     alloc: Global,
-    sheet: &mut Sheet,
+    log: &mut Vec<u8>,
     track: &Track,
     sent: &Sent,
     place: &Option<Place>,
     all: &[ToldRestriction],
-) -> Result<(), AllocError> {
+) -> Result<(), AllocError>
+    ensures { OnOk result (IsSaidOn (TellsRestrictions track.now sent.now.engine sent.now.message all.now)
+        log.old.items log.new.items) }
+{
     let ToTrain::General { head, packets } = &sent.message else {
         return Ok(());
     };
     if packets.count() > 1 {
-        push_several(sheet, sent.engine, packets.count(), *head, place);
-        return push_each(alloc, sheet, track, head.lrbg, packets, place, all);
+        push_words(log, several(alloc, sent.engine, packets.count(), *head, place))?;
+        return push_each(alloc, log, track, head.lrbg, packets, place, all);
     }
-    match all {
-        [one, ..] => {
+    match all.first() {
+        Some(one) => {
             let packet = packets.at(0);
-            push_single(alloc, sheet, track, sent.engine, *head, &packet, place, one)
+            push_single(alloc, log, track, sent.engine, *head, &packet, place, one)
         }
-        [] => Ok(()),
+        None => Ok(()),
     }
 }
 
-/// Adds that a message has several packets, and where the train may be.
-fn push_several(sheet: &mut Sheet, engine: u32, count: usize, head: Head, place: &Option<Place>) {
+/// That a message has several packets, and where the train may be.
+fn several(alloc: Global, engine: u32, count: usize, head: Head, place: &Option<Place>) -> Sheet {
+    let mut sheet = Sheet::with_room(alloc, USUAL_BYTES);
     sheet
         .words("  To train ")
         .number(engine as usize)
@@ -54,109 +61,148 @@ fn push_several(sheet: &mut Sheet, engine: u32, count: usize, head: Head, place:
         .words("; answer: message 146.\n");
     if let Some(place) = place {
         sheet.words("    The train may be at ");
-        push_place(sheet, place);
+        push_place(&mut sheet, place);
         sheet.words(".\n");
     }
+    sheet
 }
 
 /// Adds what each of several packets says, and why. Fails only for lack of memory.
 fn push_each(
     alloc: Global,
-    sheet: &mut Sheet,
+    log: &mut Vec<u8>,
     track: &Track,
     lrbg: u32,
     packets: &Packets,
     place: &Option<Place>,
     all: &[ToldRestriction],
-) -> Result<(), AllocError> {
-    for (index, one) in all.iter().enumerate() {
-        if index < packets.count() {
-            let packet = packets.at(index);
-            push_packet(alloc, sheet, track, lrbg, &packet, one.number)?;
-            sheet.words("    Why: ");
-            push_why(sheet, place, one);
+) -> Result<(), AllocError>
+    ensures { OnOk result (IsSaidOn (TellsEach track.now lrbg packets.now all.now) log.old.items log.new.items) }
+{
+    for index in 0..all.len() {
+        if index >= packets.count() {
+            return Ok(());
         }
+        let packet = packets.at(index);
+        push_packet(alloc, log, track, lrbg, &packet, place, one_of(all, index))?;
     }
     Ok(())
 }
 
-/// Adds what one of several packets says, with its kind and identifier. Fails only for lack of memory.
+/// What is told of the packet at an index.
+fn one_of(all: &[ToldRestriction], index: usize) -> &ToldRestriction
+    requires { index < length all.now }
+    ensures { slice_get all.now index ≡ Some result.now }
+{
+    &all[index]
+}
+
+/// Adds what one of several packets says, its kind and identifier, and why it was sent. Fails only for lack of memory.
 fn push_packet(
     alloc: Global,
-    sheet: &mut Sheet,
+    log: &mut Vec<u8>,
     track: &Track,
     lrbg: u32,
     packet: &Part,
-    number: u32,
-) -> Result<(), AllocError> {
-    if let Some(sentence) = sentence_on_packet(alloc, track, lrbg, packet, number)? {
-        sheet.words(sentence.as_str());
-    }
+    place: &Option<Place>,
+    one: &ToldRestriction,
+) -> Result<(), AllocError>
+    ensures { OnOk result (IsSaidOn (TellsPacket track.now lrbg packet.now
+        (IsPacketSentence track.now lrbg one.now.number packet.now)) log.old.items log.new.items) }
+{
+    push_packet_sentence(alloc, log, track, lrbg, packet, one.number)?;
+    push_words(log, why_packet(alloc, packet, place, one))
+}
+
+/// The kind and the identifier of one of several packets, and why it was sent.
+fn why_packet(alloc: Global, packet: &Part, place: &Option<Place>, one: &ToldRestriction) -> Sheet {
+    let mut sheet = Sheet::with_room(alloc, USUAL_BYTES);
     sheet
         .words("    Packet ")
         .number(kind_of(packet))
         .words(", identifier ")
         .number(id_of(packet) as usize)
-        .words(".\n");
-    Ok(())
+        .words(".\n    Why: ");
+    push_why(&mut sheet, place, one);
+    sheet
 }
 
-/// The sentence on one of several packets, on the restriction of this number, from what the packet says. Fails only for
-/// lack of memory.
-fn sentence_on_packet(
+/// Adds the sentence on one of several packets, on the restriction of this number, from what the packet says. Fails
+/// only for lack of memory.
+fn push_packet_sentence(
     alloc: Global,
+    log: &mut Vec<u8>,
     track: &Track,
     lrbg: u32,
     packet: &Part,
     number: u32,
-) -> Result<Option<String>, AllocError>
-    ensures { IfOk result (λ found. IfSome found
-        (λ text. IsPacketSentence track.now lrbg number packet.now (string_bytes text))) }
+) -> Result<(), AllocError>
+    ensures { OnOk result (IsSaidOn (TellsPacket track.now lrbg packet.now
+        (IsPacketSentence track.now lrbg number packet.now)) log.old.items log.new.items) }
 {
     match spoken_by_packet(track, lrbg, packet) {
-        Some(said) => Ok(Some(packet_sentence(alloc, number, &said)?)),
-        None => Ok(None),
+        Some(said) => {
+            let sentence = packet_sentence(alloc, number, &said)?;
+            log.extend_from_slice(sentence.as_bytes())
+        }
+        None => Ok(()),
     }
 }
 
 /// Adds what a message with one packet says, and why it was sent. Fails only for lack of memory.
 fn push_single(
     alloc: Global,
-    sheet: &mut Sheet,
+    log: &mut Vec<u8>,
     track: &Track,
     engine: u32,
     head: Head,
     packet: &Part,
     place: &Option<Place>,
     one: &ToldRestriction,
-) -> Result<(), AllocError> {
-    let sentence = sentence_on_restriction(alloc, track, engine, head.lrbg, packet, one.number)?;
-    if let Some(sentence) = sentence {
-        sheet.words(sentence.as_str());
-    }
-    push_kind(sheet, packet, head.stamp);
-    sheet.words("    Why: ");
-    push_why_there(sheet, place, one);
-    push_why(sheet, place, one);
-    Ok(())
+) -> Result<(), AllocError>
+    ensures { OnOk result (IsSaidOn (TellsPacket track.now head.lrbg packet.now
+        (IsRestrictionSentence track.now head.lrbg engine one.now.number packet.now)) log.old.items log.new.items) }
+{
+    push_restriction_sentence(alloc, log, track, engine, head.lrbg, packet, one.number)?;
+    push_words(log, why_single(alloc, packet, head.stamp, place, one))
 }
 
-/// The sentence on a message of one packet, on the restriction of this number, from what the packet says. Fails only
-/// for lack of memory.
-fn sentence_on_restriction(
+/// The kind of a message of one packet, and why it was sent.
+fn why_single(
     alloc: Global,
+    packet: &Part,
+    stamp: u32,
+    place: &Option<Place>,
+    one: &ToldRestriction,
+) -> Sheet {
+    let mut sheet = Sheet::with_room(alloc, USUAL_BYTES);
+    push_kind(&mut sheet, packet, stamp);
+    sheet.words("    Why: ");
+    push_why_there(&mut sheet, place, one);
+    push_why(&mut sheet, place, one);
+    sheet
+}
+
+/// Adds the sentence on a message of one packet, on the restriction of this number, from what the packet says. Fails
+/// only for lack of memory.
+fn push_restriction_sentence(
+    alloc: Global,
+    log: &mut Vec<u8>,
     track: &Track,
     engine: u32,
     lrbg: u32,
     packet: &Part,
     number: u32,
-) -> Result<Option<String>, AllocError>
-    ensures { IfOk result (λ found. IfSome found
-        (λ text. IsRestrictionSentence track.now lrbg engine number packet.now (string_bytes text))) }
+) -> Result<(), AllocError>
+    ensures { OnOk result (IsSaidOn (TellsPacket track.now lrbg packet.now
+        (IsRestrictionSentence track.now lrbg engine number packet.now)) log.old.items log.new.items) }
 {
     match spoken_by_packet(track, lrbg, packet) {
-        Some(said) => Ok(Some(restriction_sentence(alloc, engine, number, &said)?)),
-        None => Ok(None),
+        Some(said) => {
+            let sentence = restriction_sentence(alloc, engine, number, &said)?;
+            log.extend_from_slice(sentence.as_bytes())
+        }
+        None => Ok(()),
     }
 }
 

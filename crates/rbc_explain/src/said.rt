@@ -1,12 +1,16 @@
 //! What a message says to a train, from its own variables back to places on the track (SUBSET-026, 7.5 and 8).
 
-ghost use Rattle.std.specs.Prelude.{◌≡◌, ◌≤◌, ◌*◌, IfSome};
+ghost use Rattle.std.specs.Prelude.{◌≡◌, ◌≤◌, ◌<◌, ◌*◌, ℕ, [], ◌∷◌, true, is_some, IfSome};
+ghost use Rattle.rbc_track.specs.Plan.{group_of, max_length};
+ghost use Rattle.rbc_track.specs.declared.group.Way.{Way};
+ghost use Rattle.rbc_step.specs.Saying.{CountsFrom, IsSpotTold, IsStretchTold, PacketSays, Says};
+ghost use Rattle.rbc_step.specs.Saying as rule;
 ghost use Rattle.rbc_explain.specs.Said.{IsSpokenBy, IsSpokenByPacket, IsSpotAhead, IsOriginOf, IsStopBefore};
-ghost use Rattle.rbc_explain.specs.Said.{IsRestriction};
+ghost use Rattle.rbc_explain.specs.Said.{IsRestriction, IsOnStop};
 
 use ertms_codec::{Part, ToTrain};
 use rbc_account::{unit_told, way_told};
-use rbc_track::{Track, Way};
+use rbc_track::{Group, Track, Way};
 use rbc_words::Km;
 use std::fmt;
 
@@ -103,9 +107,11 @@ struct Origin {
 /// What distances count from, if the message names a balise group of the track and its direction and unit are known.
 fn origin_of(track: &Track, lrbg: u32, dir: u8, scale: u8) -> Option<Origin>
     ensures counts { IfSome result (IsOriginOf track.now lrbg dir scale) }
-    ensures few { IfSome result (λ origin. origin.unit ≤ 100) }
+    ensures few { IfSome result (λ origin. (origin.unit ≤ 100) × (origin.at ≤ max_length)) }
+    ensures all { (line at : ℕ) (way : Way) (unit : ℕ) → CountsFrom track.now lrbg dir scale line at way unit
+        → is_some result ≡ true }
 {
-    let group = track.group(lrbg)?;
+    let group = group_in(track, lrbg)?;
     let way = way_told(group.nominal, dir)?;
     let unit = unit_told(scale)?;
     Some(Origin {
@@ -116,32 +122,45 @@ fn origin_of(track: &Track, lrbg: u32, dir: u8, scale: u8) -> Option<Origin>
     })
 }
 
-/// The place that lies so far ahead of another one, which may be before the beginning of the line.
-fn spot_ahead(way: Way, from: u32, by: u32) -> Option<Spot>
-    ensures { IfSome result (λ spot. IsSpotAhead way from by spot.is_before spot.units) }
+/// The balise group of this number. It stands on a line, of which none is longer than 300 km.
+fn group_in(track: &Track, lrbg: u32) -> Option<Group>
+    ensures is { result ≡ group_of track.now lrbg }
+    ensures near { IfSome result (λ group. group.at ≤ max_length) }
 {
-    match way {
-        Way::Up => Some(Spot {
+    let _horizon = track.horizon();
+    track.group(lrbg)
+}
+
+/// The place that lies so many units ahead of an origin, which may be before the beginning of the line.
+fn spot_ahead(origin: &Origin, units: u32) -> Spot
+    requires { (origin.now.unit ≤ 100) × (origin.now.at ≤ max_length) × (units ≤ 131070) }
+    ensures ahead { IsSpotAhead origin.now.way origin.now.at (units * origin.now.unit) result.is_before result.units }
+    ensures behind { result.is_before ≡ true → origin.now.at < units * origin.now.unit }
+{
+    let by = units * origin.unit;
+    match origin.way {
+        Way::Up => Spot {
             is_before: false,
-            units: from.checked_add(by)?,
-        }),
-        Way::Down if by <= from => Some(Spot {
+            units: origin.at + by,
+        },
+        Way::Down if by <= origin.at => Spot {
             is_before: false,
-            units: from - by,
-        }),
-        Way::Down => Some(Spot {
+            units: origin.at - by,
+        },
+        Way::Down => Spot {
             is_before: true,
-            units: by - from,
-        }),
+            units: by - origin.at,
+        },
     }
 }
 
 /// To stop before the place that lies so many units ahead, if that is on a line.
 fn stop_before(track: &Track, lrbg: u32, dir: u8, scale: u8, distance: u16) -> Option<Spoken>
-    ensures { IfSome result (IsStopBefore track.now lrbg dir scale distance) }
+    ensures is { IfSome result (IsStopBefore track.now lrbg dir scale distance) }
+    ensures all { (spot : rule.Spot) → IsSpotTold track.now lrbg dir scale distance spot → is_some result ≡ true }
 {
     let origin = origin_of(track, lrbg, dir, scale)?;
-    let spot = spot_ahead(origin.way, origin.at, u32::from(distance) * origin.unit)?;
+    let spot = spot_ahead(&origin, u32::from(distance));
     if spot.is_before {
         return None;
     }
@@ -154,7 +173,8 @@ fn stop_before(track: &Track, lrbg: u32, dir: u8, scale: u8, distance: u16) -> O
 /// What a message on a stop says: of one that is escalated its identifier is revoked, and else the stop itself. `None`
 /// where the message is no such one, or tells no place of the track.
 pub(crate) fn spoken_by(track: &Track, message: &ToTrain, is_escalated: bool) -> Option<Spoken>
-    ensures { IfSome result (IsSpokenBy track.now message.now) }
+    ensures is { IfSome result (IsSpokenBy track.now message.now) }
+    ensures all { (said : rule.Said) → IsOnStop said → Says track.now message.now (said ∷ []) → is_some result ≡ true }
 {
     match message {
         ToTrain::StopAt {
@@ -190,12 +210,13 @@ fn restriction(
     length: u16,
     speed: u8,
 ) -> Option<Spoken>
-    ensures { IfSome result (IsRestriction track.now lrbg dir scale start length (5 * speed)) }
+    ensures is { IfSome result (IsRestriction track.now lrbg dir scale start length (5 * speed)) }
+    ensures all { (stretch : rule.Stretch) → IsStretchTold track.now lrbg dir scale start length stretch
+        → is_some result ≡ true }
 {
     let origin = origin_of(track, lrbg, dir, scale)?;
-    let end = u32::from(start) + u32::from(length);
-    let from = spot_ahead(origin.way, origin.at, u32::from(start) * origin.unit)?;
-    let to = spot_ahead(origin.way, origin.at, end * origin.unit)?;
+    let from = spot_ahead(&origin, u32::from(start));
+    let to = spot_ahead(&origin, u32::from(start) + u32::from(length));
     Some(Spoken::Restriction {
         line: origin.line,
         from,
@@ -206,7 +227,8 @@ fn restriction(
 
 /// What a packet says in a message that names a balise group. `None` where it tells no place of the track.
 pub(crate) fn spoken_by_packet(track: &Track, lrbg: u32, packet: &Part) -> Option<Spoken>
-    ensures { IfSome result (IsSpokenByPacket track.now lrbg packet.now) }
+    ensures is { IfSome result (IsSpokenByPacket track.now lrbg packet.now) }
+    ensures all { (said : rule.Said) → PacketSays track.now lrbg packet.now said → is_some result ≡ true }
 {
     match packet {
         Part::Restrict {

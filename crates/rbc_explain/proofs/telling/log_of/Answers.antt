@@ -1,4 +1,5 @@
-use Rattle.std.proofs.Common.{refl}
+use Rattle.std.proofs.Common.{rules, ◌≡◌, ℕ, List, [], refl, subst}
+use Rattle.rbc_explain.specs.Marked.{IsToldOn}
 use Rattle.rbc_explain.proofs.OneMore.{begins, ends}
 use Rattle.rbc_explain.proofs.telling.log_of.Goals as goal
 
@@ -6,5 +7,7 @@ pub returns : goal.returns
 returns c =
     let account = c.args.account in
     let plan = account.desk.track in
+    let nothing : c.new-log.result.items ≡ [] = search rules in
+    let words = subst (λ (old : List ℕ). IsToldOn [] old c.push_words.new.log.items) nothing c.in_ok-push_words.ensures in
     ends plan c.args.from c.push_inputs.new.account c.args.lines.now c.push_inputs.new.log.items c.push_words-2.new.log.items c.account_law.ensures c.requires.few
-    (c.in_ok-push_inputs.ensures plan (begins plan c.args.from account c.push_words.new.log.items refl c.requires.empty c.requires.sums)) c.in_ok-push_words-2.ensures
+    (c.in_ok-push_inputs.ensures plan (begins plan c.args.from account c.push_words.new.log.items refl c.requires.empty c.requires.sums words)) c.in_ok-push_words-2.ensures

@@ -3,6 +3,7 @@ use Rattle.rbc_live.specs.History.{Taken}
 use Rattle.rbc_explain.specs.Marked.{IsToldOn}
 use Rattle.rbc_explain.proofs.Marking.{told_none}
 use Rattle.rbc_explain.proofs.OneMore.{line_told, line_told_if, inputs_so_far, next_number, not_told}
+use Rattle.rbc_explain.proofs.Told.{answer_told}
 use Rattle.rbc_explain.proofs.telling.push_input.Goals as goal
 
 -- it is not told
@@ -33,4 +34,5 @@ returns c = λ plan lines few under.
     let reached : c.args.from ≤ length lines + 1 = omega (arith, so_far, test, sum, inputs, wide, few) in
     let next = c.in_ok-block.ensures.number ∙ next_number plan c.args.from c.args.account.now lines log block.reply c.step.new.self.sums under few c.in_ok-block.ensures.sums in
     line_told_if _ _ c.push_block.result plan c.args.from c.args.account.now c.step.new.self lines log c.push_block.new.log.items c.args.line.now block.number one refl under
-    c.in_ok-block.ensures.fed c.in_ok-block.ensures.track c.in_ok-block.ensures.sums next reached c.push_block.ensures
+    c.in_ok-block.ensures.fed c.in_ok-block.ensures.track c.in_ok-block.ensures.sums next reached
+    (answer_told _ _ c.push_block.result c.track.result.now block.number block.reply block.messages block.told.items log c.push_block.new.log.items c.push_block.ensures)

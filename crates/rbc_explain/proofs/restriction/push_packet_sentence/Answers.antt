@@ -1,0 +1,8 @@
+use Rattle.std.proofs.Common.{◌∙◌}
+use Rattle.rbc_explain.proofs.Told.{packet_said}
+use Rattle.rbc_explain.proofs.restriction.push_packet_sentence.Goals as goal
+
+pub returns-in_ok-sentence-in-Some : goal.returns-in_ok-sentence-in-Some
+returns-in_ok-sentence-in-Some c =
+    packet_said _ _ c.extend_from_slice.result c.args.track.now c.args.lrbg c.args.number c.args.packet.now c.in-Some.said c.as_bytes.result.now c.args.log.now.items
+    c.extend_from_slice.new.self.items c.in-Some.ensures.is (c.as_bytes.ensures.value ∙ c.in_ok-sentence-in-Some.ensures) c.extend_from_slice.ensures.items

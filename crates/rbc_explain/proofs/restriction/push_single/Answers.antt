@@ -1,0 +1,9 @@
+use Rattle.rbc_explain.specs.Said.{IsRestrictionSentence}
+use Rattle.rbc_explain.proofs.Told.{packet_then_words}
+use Rattle.rbc_explain.proofs.restriction.push_single.Goals as goal
+
+pub returns : goal.returns
+returns c =
+    packet_then_words _ _ c.push_words.result c.args.track.now c.args.head.lrbg c.args.packet.now
+    (IsRestrictionSentence c.args.track.now c.args.head.lrbg c.args.engine c.args.one.now.number c.args.packet.now)
+    c.args.log.now.items c.push_restriction_sentence.new.log.items c.push_words.new.log.items c.in_ok-push_restriction_sentence.ensures c.push_words.ensures
