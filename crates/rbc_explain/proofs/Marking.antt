@@ -1,9 +1,9 @@
 -- Lines that are added to a log.
-use Rattle.std.proofs.Common.{◌≡◌, ◌==◌, ℕ, false, List, [], ◌∷◌, ◌++◌, codes, flat_map, filter_map, Option, None, refl, sym, ap, subst, ◌∙◌, append_assoc, append-nil, Result, Ok, Err, OnOk, is_ok, if◌then◌else◌}
+use Rattle.std.proofs.Common.{◌≡◌, ◌==◌, ℕ, List, [], ◌∷◌, ◌++◌, codes, flat_map, Option, None, refl, sym, ap, ◌∙◌, append_assoc, append-nil, Result, Ok, Err, OnOk, is_ok, if◌then◌else◌}
 use Rattle.std.specs.List.{cons_option, slice_split, list_any, AllByRecursion}
 use Rattle.std.proofs.lemmas.List.Concat.{flat_map-append}
 use Rattle.std.proofs.lemmas.List.Elements.{filter_map-append}
-use Rattle.rbc_text.specs.BatchText.{is_line_feed, lines_of}
+use Rattle.rbc_text.specs.BatchText.{is_line_feed}
 use Rattle.rbc_explain.specs.Marked.{ended, IsLine, IsPlain, unmarked, AreAdded, IsToldOn}
 use Rattle.rbc_explain.proofs.Lines.{line_then, none_in_first, pieces_are_lines, ended_pieces, none_marked_in}
 
@@ -70,18 +70,3 @@ told_then lines more first second third one two = (
   added_then one.0 two.0 first second third one.1 two.1,
   filter_map-append unmarked one.0 two.0 ∙ (λ i. one.2 i ++ two.2 i),
 )
-
--- words, and then lines
-pub words_then : (more : List (List ℕ)) (first second third : List ℕ) → IsToldOn [] first second → IsToldOn more second third → IsToldOn more first third
-words_then more first second third one two = told_then [] more first second third one two
-
--- lines, and then words
-pub then_words : (lines : List (List ℕ)) (first second third : List ℕ) → IsToldOn lines first second → IsToldOn [] second third → IsToldOn lines first third
-then_words lines first second third one two =
-    subst (λ (ls : List (List ℕ)). IsToldOn ls first third) (append-nil lines) (told_then lines [] first second third one two)
-
--- the same where the words may lack memory
-pub told_ends : (T E : Type 0) (r : Result T E) (lines : List (List ℕ)) (first second third : List ℕ) → IsToldOn lines first second → OnOk r (IsToldOn [] second third)
-    → OnOk r (IsToldOn lines first third)
-told_ends T E (Ok done) lines first second third one two = then_words lines first second third one two
-told_ends T E (Err fault) lines first second third one two = tt

@@ -1,5 +1,5 @@
 -- Sentences among the lines of a log.
-use Rattle.std.proofs.Common.{◌≡◌, ℕ, zero, suc, ◌+◌, ◌<◌, ◌≤◌, true, is_some, List, [], ◌∷◌, ◌++◌, length, get_or, take, drop, map, codes, flat_map, filter_map, Option, Some, None, IfSome, option_copied, refl, sym, ap, subst, ◌∙◌, append_assoc, append-nil, Result, Ok, Err, OnOk, is_ok, if◌then◌else◌, arith}
+use Rattle.std.proofs.Common.{◌≡◌, ℕ, ◌+◌, ◌<◌, ◌≤◌, true, is_some, List, [], ◌∷◌, ◌++◌, length, get_or, drop, map, codes, flat_map, filter_map, Option, Some, None, refl, sym, ap, subst, ◌∙◌, append_assoc, append-nil, Result, Ok, Err, OnOk, is_ok, if◌then◌else◌, arith}
 use Rattle.std.specs.Prelude.{slice_get}
 use Rattle.std.specs.List.{cons_option}
 use Rattle.std.proofs.lemmas.List.{drop_all, drop_more}
@@ -14,7 +14,7 @@ use Rattle.rbc_train.specs.declared.sent.Sent.{Sent}
 use Rattle.rbc_step.specs.declared.outcome.Reply.{Reply}
 use Rattle.rbc_step.specs.Saying.{Said, Says, PacketSays}
 use Rattle.rbc_text.specs.BatchText.{lines_of}
-use Rattle.rbc_text.specs.OutputText.{answer_of, sent_line, result_line}
+use Rattle.rbc_text.specs.OutputText.{answer_of, sent_line}
 use Rattle.rbc_account.specs.declared.told.Told.{Told}
 use Rattle.rbc_account.specs.declared.told.ToldWhat.{ToldWhat}
 use Rattle.rbc_account.specs.declared.told.ToldRestriction.{ToldRestriction}
@@ -369,9 +369,3 @@ module _ (plan : Plan) (number : ℕ) where
           all_still messages told tells.2 more tells.7,
         )
   words_around T E (Err fault) reply messages told first second third fourth before block after = tt
-
--- the lines of the answer stand in a block
-pub answer_told : (T E : Type 0) (r : Result T E) (plan : Plan) (number : ℕ) (reply : Reply) (messages : List Sent) (told : List Told) (old new : List ℕ)
-    → OnOk r (IsBlockOn plan number reply messages told old new) → OnOk r (IsToldOn (lines_of (answer_of number reply messages)) old new)
-answer_told T E (Ok done) plan number reply messages told old new block = (block.0, block.1, block.2)
-answer_told T E (Err fault) plan number reply messages told old new block = tt

@@ -1,4 +1,4 @@
-//! The text of a log while it is written: words, and lines of the output of a run.
+//! The text of a log while it is written: words, and lines of the output of a run, in whole lines.
 
 ghost use Rattle.std.specs.Prelude.{◌≡◌, ◌++◌, [], ◌∷◌, ℕ, List, true, None, codes, OnOk};
 ghost use Rattle.rbc_explain.specs.Marked.{AreAdded, IsLine, IsPlain, IsToldOn, ended, unmarked};

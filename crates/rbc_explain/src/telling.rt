@@ -23,7 +23,8 @@ use std::io::Read;
 /// earlier inputs are run all the same. With no input at all `from` may be 1.
 ///
 /// The log is UTF-8, in lines that end with a line feed. Each line of the output of a run that is an answer to an input
-/// that is told stands in it, in its order, with `= ` before it.
+/// that is told stands in it, in its order, with `= ` before it, and no other line begins so. Before the line of a
+/// message stands what the message says.
 ///
 /// # Errors
 ///

@@ -1,4 +1,4 @@
-use Rattle.std.proofs.Common.{rules, ◌≡◌, ◌≤◌, length, Some, List, ap, sym, ◌∙◌}
+use Rattle.std.proofs.Common.{rules, ◌≤◌, length, List, ap, sym, ◌∙◌}
 use Rattle.std.specs.Prelude.{slice_get}
 use Rattle.rbc_text.specs.BatchText.{lines_of}
 use Rattle.rbc_account.specs.declared.told.Told.{Told}

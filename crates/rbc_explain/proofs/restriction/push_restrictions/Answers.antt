@@ -1,4 +1,4 @@
-use Rattle.std.proofs.Common.{rules, ◌≡◌, ◌<◌, ◌≤◌, length, Some, arith}
+use Rattle.std.proofs.Common.{rules, ◌≡◌, ◌<◌, ◌≤◌, length, Some}
 use Rattle.std.specs.Prelude.{slice_get}
 use Rattle.rbc_explain.proofs.Told.{several_said, single_said, told_of_packets}
 use Rattle.rbc_explain.proofs.restriction.push_restrictions.Goals as goal

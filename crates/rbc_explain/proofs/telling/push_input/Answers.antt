@@ -3,7 +3,6 @@ use Rattle.rbc_live.specs.History.{Taken}
 use Rattle.rbc_explain.specs.Marked.{IsToldOn}
 use Rattle.rbc_explain.proofs.Marking.{told_none}
 use Rattle.rbc_explain.proofs.OneMore.{line_told, line_told_if, inputs_so_far, next_number, not_told}
-use Rattle.rbc_explain.proofs.Told.{answer_told}
 use Rattle.rbc_explain.proofs.telling.push_input.Goals as goal
 
 -- it is not told
@@ -19,6 +18,7 @@ returns-then-saturating_add-from c = λ plan lines few under.
     let below : length lines + 1 < c.args.from = omega (arith, so_far, test, sum, inputs, wide, few) in
     line_told plan c.args.from c.args.account.now c.pass.new.self lines log log c.args.line.now one refl under c.in_ok-_passed.ensures.fed c.in_ok-_passed.ensures.track
     c.in_ok-_passed.ensures.sums (subst (λ (ls : List (List ℕ)). IsToldOn ls log log) (sym (not_told c.args.from (length lines + 1) one below)) (told_none log))
+    (λ reached. absurd (omega (arith, reached, below)))
 
 -- it is told
 pub returns : goal.returns
@@ -33,6 +33,6 @@ returns c = λ plan lines few under.
     let wide = c.from.ensures in
     let reached : c.args.from ≤ length lines + 1 = omega (arith, so_far, test, sum, inputs, wide, few) in
     let next = c.in_ok-block.ensures.number ∙ next_number plan c.args.from c.args.account.now lines log block.reply c.step.new.self.sums under few c.in_ok-block.ensures.sums in
-    line_told_if _ _ c.push_block.result plan c.args.from c.args.account.now c.step.new.self lines log c.push_block.new.log.items c.args.line.now block.number one refl under
-    c.in_ok-block.ensures.fed c.in_ok-block.ensures.track c.in_ok-block.ensures.sums next reached
-    (answer_told _ _ c.push_block.result c.track.result.now block.number block.reply block.messages block.told.items log c.push_block.new.log.items c.push_block.ensures)
+    line_told_if _ _ c.push_block.result plan c.track.result.now c.args.from c.args.account.now c.step.new.self lines log c.push_block.new.log.items c.args.line.now block.number one block.input
+    block.told.items refl under c.in_ok-block.ensures.fed c.in_ok-block.ensures.track c.in_ok-block.ensures.sums next reached c.track.ensures c.in_ok-block.ensures.input
+    c.in_ok-block.ensures.right.told c.push_block.ensures
