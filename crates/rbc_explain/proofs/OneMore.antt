@@ -220,7 +220,7 @@ pub line_told_if : (T E : Type 0) (r : Result T E) (plan of : Plan) (from : ℕ)
     → OnOk r (IsBlockOn of number one.reply one.messages told old new) → OnOk r (IsUnderWay plan from after (lines ++ line ∷ []) new)
 line_told_if T E (Ok done) plan of from before after lines old new line number one input told is under fed track sums next reached same is_input right on_log =
     let block = subst (λ (p : Plan). IsBlockOn p (length lines + 1) one.reply one.messages told old new) (same ∙ track ∙ under.track)
-        (subst (λ (n : ℕ). IsBlockOn of n one.reply one.messages told old new) next on_log) in
+    (subst (λ (n : ℕ). IsBlockOn of n one.reply one.messages told old new) next on_log) in
     line_told plan from before after lines old new line one is under fed track sums
     (block.0, block.1, block.2 ∙ is_told from (length lines + 1) one reached)
     (λ done. record {

@@ -25,8 +25,10 @@ km_is_line units = by_test (units % 10 == 0) (km_in_metres units) (decimal (unit
   by_test : (whole : Bool) (metres rest : List ℕ) → IsLine metres → IsLine rest → IsLine (cond whole metres (metres ++ rest))
   by_test true metres rest one two = one
   by_test false metres rest one two = line_then metres rest one two
+
   d : (n : ℕ) → IsLine (decimal n)
   d = decimal_is_line
+
   metres : IsLine (km_in_metres units)
   metres =
       line_then (decimal (units / 10000)) (codes "." ++ (decimal (units / 1000 % 10) ++ (decimal (units / 100 % 10) ++ decimal (units / 10 % 10)))) (d (units / 10000))

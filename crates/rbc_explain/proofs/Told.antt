@@ -43,7 +43,7 @@ pub stop_said : (T E : Type 0) (r : Result T E) (plan : Plan) (sent : Sent) (num
     → text ≡ stop_sentence sent.engine number words → new ≡ (if is_ok r then old ++ text else old) → OnOk r (IsSaidOn (TellsStop plan sent number) old new)
 stop_said T E (Ok done) plan sent number words text old new spoken is e =
     let said = added_sentence (IsStopSentence plan sent.engine number sent.message) (stop_sentence sent.engine number words) text old new
-        (stop_is_one_line sent.engine number words) is (words, spoken, is) e in
+    (stop_is_one_line sent.engine number words) is (words, spoken, is) e in
     (said.0, said.1, said.2, λ one on says. said.3)
 stop_said T E (Err fault) plan sent number words text old new spoken is e = tt
 
@@ -52,7 +52,7 @@ pub packet_said : (T E : Type 0) (r : Result T E) (plan : Plan) (lrbg number : �
     → OnOk r (IsSaidOn (TellsPacket plan lrbg packet (IsPacketSentence plan lrbg number packet)) old new)
 packet_said T E (Ok done) plan lrbg number packet words text old new spoken is e =
     let said = added_sentence (IsPacketSentence plan lrbg number packet) (packet_sentence number words) text old new
-        (packet_is_one_line number words) is (words, spoken, is) e in
+    (packet_is_one_line number words) is (words, spoken, is) e in
     (said.0, said.1, said.2, λ one says. said.3)
 packet_said T E (Err fault) plan lrbg number packet words text old new spoken is e = tt
 
@@ -61,7 +61,7 @@ pub restriction_said : (T E : Type 0) (r : Result T E) (plan : Plan) (lrbg engin
     → OnOk r (IsSaidOn (TellsPacket plan lrbg packet (IsRestrictionSentence plan lrbg engine number packet)) old new)
 restriction_said T E (Ok done) plan lrbg engine number packet words text old new spoken is e =
     let said = added_sentence (IsRestrictionSentence plan lrbg engine number packet) (restriction_sentence engine number words) text old new
-        (restriction_is_one_line engine number words) is (words, spoken, is) e in
+    (restriction_is_one_line engine number words) is (words, spoken, is) e in
     (said.0, said.1, said.2, λ one says. said.3)
 restriction_said T E (Err fault) plan lrbg engine number packet words text old new spoken is e = tt
 
@@ -337,9 +337,9 @@ module _ (plan : Plan) (number : ℕ) where
         so_far.lines,
         so_far.marked ∙ sym (so_far.left ∙ ap (λ (ms : List Sent). so_far.shown ++ map (line_of_sent number) ms) none ∙ append-nil so_far.shown),
         subst (TellsAll plan number messages told) (append-nil so_far.added)
-        (so_far.goes_on []
-        (subst (λ (ms : List Sent). TellsAll plan number ms (drop at told) []) (sym none)
-        (subst (λ (os : List Told). TellsAll plan number [] os []) (sym none_told) tt))),
+            (so_far.goes_on []
+            (subst (λ (ms : List Sent). TellsAll plan number ms (drop at told) []) (sym none)
+            (subst (λ (os : List Told). TellsAll plan number [] os []) (sym none_told) tt))),
       )
 
   -- words before a block, and behind it

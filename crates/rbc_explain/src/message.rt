@@ -38,7 +38,10 @@ pub(crate) fn push_message(
             unit,
         } => {
             push_stop_sentence(alloc, log, track, sent, *number, false)?;
-            push_words(log, words_before(alloc, sent, &told.place, *before, *edge, *unit))
+            push_words(
+                log,
+                words_before(alloc, sent, &told.place, *before, *edge, *unit),
+            )
         }
         ToldWhat::StopAtOnce { number, why } => {
             push_stop_sentence(alloc, log, track, sent, *number, false)?;

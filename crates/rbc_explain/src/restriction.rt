@@ -34,7 +34,10 @@ pub(crate) fn push_restrictions(
         return Ok(());
     };
     if packets.count() > 1 {
-        push_words(log, several(alloc, sent.engine, packets.count(), *head, place))?;
+        push_words(
+            log,
+            several(alloc, sent.engine, packets.count(), *head, place),
+        )?;
         return push_each(alloc, log, track, head.lrbg, packets, place, all);
     }
     match all.first() {
