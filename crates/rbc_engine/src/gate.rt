@@ -1,6 +1,18 @@
 //! Gates: what a worker calls between the steps of an attempt.
 
 use rbc_records::Key;
+use rbc_window::WindowStats;
+
+/// How many messages a window has, and from when on windows are run.
+#[derive(Clone, Copy, Debug, PartialEq, Eq)]
+pub struct Pace {
+    /// How many identifiers each train that sent one of the first messages holds at the least, taken together.
+    pub held: usize,
+    /// The least number of messages of a window.
+    pub least: usize,
+    /// The greatest number of messages of a window.
+    pub most: usize,
+}
 
 /// Called by a worker between the steps of an attempt, never while it holds the lock of the book. A gate may wait
 /// there, so a test can choose in which order the steps of several workers come. Inputs are numbered from 1.
@@ -17,14 +29,26 @@ pub trait Gate {
     /// After the attempt at an input was deposited, and before anything is committed.
     fn after_deposit(&self, input: u32);
 
-    /// Whether the gate does nothing in any of its calls, so that nobody sees how many workers share the work.
-    fn is_open(&self) -> bool {
-        false
+    /// The pace of a run where the gate does nothing in any of the calls above, so that nobody sees in which steps the
+    /// inputs are done: messages go in windows, and else one input goes after another. `None`: all workers share each
+    /// stretch on a locked book.
+    fn pace(&self) -> Option<Pace> {
+        None
     }
+
+    /// After a window of messages by so many workers.
+    fn after_window(&self, _window: WindowStats, _workers: u8) {}
 }
 
-/// A gate that does nothing. Behind it one worker does all inputs on the desk itself, since several on a locked book
-/// take longer.
+/// The pace of the program (bench/RESULTS.md): below it several workers take longer than one.
+pub const PACE: Pace = Pace {
+    held: 96,
+    least: 1_024,
+    most: 4_096,
+};
+
+/// A gate that does nothing. Behind it several workers do windows of messages, where that pays, and one worker does all
+/// other inputs on the desk itself.
 #[derive(Clone, Copy, Debug)]
 pub struct OpenGate;
 
@@ -37,12 +61,12 @@ impl Gate for OpenGate {
 
     fn after_deposit(&self, _input: u32) {}
 
-    fn is_open(&self) -> bool {
-        true
+    fn pace(&self) -> Option<Pace> {
+        Some(PACE)
     }
 }
 
-/// A gate that does nothing and is not open: all workers share every stretch, though it takes longer.
+/// A gate that does nothing and sets no pace: all workers share every stretch on a locked book, though it takes longer.
 #[derive(Clone, Copy, Debug)]
 pub struct AllWorkers;
 
@@ -81,7 +105,11 @@ impl<'a, G: Gate> Gate for Behind<'a, G> {
         self.gate.after_deposit(self.before.saturating_add(input));
     }
 
-    fn is_open(&self) -> bool {
-        self.gate.is_open()
+    fn pace(&self) -> Option<Pace> {
+        self.gate.pace()
+    }
+
+    fn after_window(&self, window: WindowStats, workers: u8) {
+        self.gate.after_window(window, workers);
     }
 }

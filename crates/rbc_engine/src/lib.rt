@@ -6,9 +6,13 @@ mod gate;
 mod job;
 mod locking;
 mod recorder;
+mod tally;
+mod way;
 mod workers;
 
-pub use gate::{AllWorkers, Gate, OpenGate};
+pub use gate::{AllWorkers, Gate, OpenGate, PACE, Pace};
 pub use rbc_step::MAX_INPUTS;
+pub use rbc_window::WindowStats;
 pub use recorder::Recorder;
+pub use tally::Tally;
 pub use workers::{MAX_WORKERS, RunError, run};

@@ -1,5 +1,5 @@
-//! Runs by several workers, in stretches: each has a book and a log of its own, so that the memory of a log is given
-//! back with it.
+//! Runs by several workers, in stretches: of inputs that one worker does, of a window, or on a book with a log of its
+//! own, whose memory is given back with it.
 
 ghost use Rattle.std.specs.Prelude.{◌≡◌, ◌≤◌, IsTrue, Ok, false, length, drop};
 ghost use Rattle.std.specs.List.{All};
@@ -14,11 +14,13 @@ ghost use Rattle.rbc_engine.specs.Fronts.{IsWaiting, IsGivenUp, IsNext, IsAtItsE
 
 use crate::gate::{Behind, Gate};
 use crate::job::work_together;
+use crate::way::{Road, next_way};
 use rbc_book::{Book, Commit, RunName, Stats};
 use rbc_desk::{Desk, MAX_RESULTS};
 use rbc_step::{Input, MAX_INPUTS};
 use rbc_track::Track;
 use rbc_versions::VersionLog;
+use rbc_window::run_window;
 use std::alloc::Global;
 use std::error::Error;
 use std::marker::Brand;
@@ -28,9 +30,6 @@ use std::{fmt, mem};
 
 /// The greatest number of workers.
 pub const MAX_WORKERS: u8 = 16;
-
-/// The greatest number of inputs of one stretch of a run: a book takes memory for each of its inputs.
-const MAX_STRETCH: usize = 16_384;
 
 /// Why a run did not come to its end.
 #[derive(Clone, Copy, Debug, PartialEq, Eq)]
@@ -194,9 +193,8 @@ fn run_alone(
     })
 }
 
-/// Runs a stretch of a run: by one worker on the desk itself, if nobody sees that, and else by all workers on a log of
-/// its own, which is dropped with it.
-fn run_stretch<G: Gate + Sync, R: Threads + Wait + Sync>(
+/// Takes all inputs of a stretch in as a window of several workers.
+fn run_shared<G: Gate, R: Threads + Sync>(
     rt: &R,
     alloc: Global,
     track: &Track,
@@ -208,16 +206,63 @@ fn run_stretch<G: Gate + Sync, R: Threads + Wait + Sync>(
     requires good { IsGoodRun (record { track = track.now; opening = desk.old; inputs = inputs.now }) }
     ensures { IsStretch (record { track = track.now; opening = desk.old; inputs = inputs.now }) result desk.new }
 {
-    if gate.is_open() {
-        return run_alone(alloc, track, desk, inputs);
+    let workers = workers.max(1);
+    match run_window(rt, alloc, track, desk, inputs, workers) {
+        Ok(window) => {
+            gate.after_window(window, workers);
+            let taken = inputs.len() as u32;
+            Ok(Stats {
+                taken,
+                recomputed: taken - window.taken_over,
+            })
+        }
+        Err(fault) => Err(RunError::OutOfMemory {
+            committed: fault.committed,
+        }),
     }
+}
+
+/// Runs a stretch of a run by all workers on a log of its own, which is dropped with it.
+fn run_on_book<G: Gate + Sync, R: Threads + Wait + Sync>(
+    rt: &R,
+    alloc: Global,
+    track: &Track,
+    desk: &mut Desk,
+    inputs: &[Input],
+    workers: u8,
+    gate: &G,
+) -> Result<Stats, RunError>
+    requires good { IsGoodRun (record { track = track.now; opening = desk.old; inputs = inputs.now }) }
+    ensures { IsStretch (record { track = track.now; opening = desk.old; inputs = inputs.now }) result desk.new }
+{
     let Ok(log) = VersionLog::new(alloc) else {
         return Err(RunError::OutOfMemory { committed: 0 });
     };
     run_named::<Brand, G, R>(rt, alloc, track, desk, inputs, &log, workers, gate)
 }
 
-/// Runs the first of some inputs in one stretch, and not too many of them.
+/// Runs a stretch of a run on the road that it takes.
+fn run_stretch<G: Gate + Sync, R: Threads + Wait + Sync>(
+    rt: &R,
+    alloc: Global,
+    track: &Track,
+    desk: &mut Desk,
+    inputs: &[Input],
+    road: Road,
+    workers: u8,
+    gate: &G,
+) -> Result<Stats, RunError>
+    requires good { IsGoodRun (record { track = track.now; opening = desk.old; inputs = inputs.now }) }
+    ensures { IsStretch (record { track = track.now; opening = desk.old; inputs = inputs.now }) result desk.new }
+{
+    match road {
+        Road::Alone => run_alone(alloc, track, desk, inputs),
+        Road::Window => run_shared(rt, alloc, track, desk, inputs, workers, gate),
+        Road::Book => run_on_book(rt, alloc, track, desk, inputs, workers, gate),
+    }
+}
+
+/// Runs the first of some inputs in one stretch, as many as go the same way.
 fn run_first<G: Gate + Sync, R: Threads + Wait + Sync>(
     rt: &R,
     alloc: Global,
@@ -230,18 +275,12 @@ fn run_first<G: Gate + Sync, R: Threads + Wait + Sync>(
     requires good { IsGoodRun (record { track = track.now; opening = desk.old; inputs = inputs.now }) }
     ensures { IsStretch (record { track = track.now; opening = desk.old; inputs = inputs.now }) result desk.new }
 {
-    if inputs.len() <= MAX_STRETCH {
-        return run_stretch(rt, alloc, track, desk, inputs, workers, gate);
+    let way = next_way(desk, inputs, workers, gate.pace());
+    if inputs.len() <= way.count {
+        return run_stretch(rt, alloc, track, desk, inputs, way.road, workers, gate);
     }
-    run_stretch(
-        rt,
-        alloc,
-        track,
-        desk,
-        &inputs[..MAX_STRETCH],
-        workers,
-        gate,
-    )
+    let first = &inputs[..way.count];
+    run_stretch(rt, alloc, track, desk, first, way.road, workers, gate)
 }
 
 /// Runs a stretch of a run, of which so many inputs are done.

@@ -1,4 +1,4 @@
-use Rattle.rbc_engine.proofs.workers.run_stretch.Given as goal
+use Rattle.rbc_engine.proofs.workers.run_on_book.Given as goal
 
 -- the track, the desk and the inputs that were passed, and a log of its own
 abbrev pub ghosts-run_named : goal.ghosts-run_named

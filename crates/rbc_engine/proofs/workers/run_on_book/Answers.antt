@@ -1,7 +1,7 @@
 use Rattle.std.proofs.Common.{arith}
 use Rattle.rbc_engine.proofs.Ends.{desk_before}
 use Rattle.rbc_engine.proofs.Stretches.{run_of}
-use Rattle.rbc_engine.proofs.workers.run_stretch.Goals as goal
+use Rattle.rbc_engine.proofs.workers.run_on_book.Goals as goal
 
 -- no log was made: nothing was run
 pub returns-in_default : goal.returns-in_default

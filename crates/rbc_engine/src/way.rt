@@ -1,0 +1,123 @@
+//! Which way the next inputs of a run go.
+
+ghost use Rattle.std.specs.Prelude.{◌<◌};
+
+use crate::gate::Pace;
+use ertms_codec::FromTrain;
+use rbc_desk::Desk;
+use rbc_records::{Key, Rec};
+use rbc_step::Input;
+
+/// The greatest number of inputs of one stretch of a run: a book takes memory for each of its inputs.
+const MAX_STRETCH: usize = 16_384;
+
+/// How many of the first messages are looked at.
+const SAMPLE: usize = 64;
+
+/// Who does some inputs.
+#[derive(Clone, Copy, Debug, PartialEq, Eq)]
+pub(crate) enum Road {
+    /// One worker, on the desk itself, one after another.
+    Alone,
+    /// Several workers, in a window.
+    Window,
+    /// All workers, on a locked book.
+    Book,
+}
+
+/// Who does the next inputs, and how many of them there are at the most.
+#[derive(Clone, Copy, Debug, PartialEq, Eq)]
+pub(crate) struct Way {
+    pub(crate) road: Road,
+    pub(crate) count: usize,
+}
+
+/// The way of the next inputs. A window has messages alone, and as many as the pace says; it is run where the trains
+/// that sent the first of them hold many identifiers, since each message takes long then. Only speed hangs on it.
+pub(crate) fn next_way(desk: &Desk, inputs: &[Input], workers: u8, pace: Option<Pace>) -> Way
+    ensures { 0 < result.count }
+{
+    let Some(pace) = pace else {
+        return some_on(Road::Book, MAX_STRETCH);
+    };
+    if workers < 2 {
+        return some_on(Road::Alone, MAX_STRETCH);
+    }
+    let before = before_messages(inputs, pace.least);
+    if before > 0 {
+        return some_on(Road::Alone, before);
+    }
+    let messages = messages_ahead(inputs, pace.most);
+    if are_dear(desk, messages, pace.held) {
+        return some_on(Road::Window, messages.len());
+    }
+    some_on(Road::Alone, messages.len())
+}
+
+/// A road, and how many inputs take it: one at least.
+fn some_on(road: Road, count: usize) -> Way
+    ensures { 0 < result.count }
+{
+    Way {
+        road,
+        count: count.max(1),
+    }
+}
+
+/// How many inputs stand before the first so many messages on end: all of them, if there are none such.
+fn before_messages(inputs: &[Input], least: usize) -> usize {
+    let mut messages = 0usize;
+    for (index, input) in inputs.iter().enumerate() {
+        if sender(input).is_none() {
+            messages = 0;
+            continue;
+        }
+        messages = messages.saturating_add(1);
+        if messages >= least {
+            return index.saturating_add(1).saturating_sub(messages);
+        }
+    }
+    inputs.len()
+}
+
+/// The messages that come first, so many at the most.
+fn messages_ahead(inputs: &[Input], most: usize) -> &[Input] {
+    let ahead = &inputs[..inputs.len().min(most)];
+    match ahead.iter().position(|input| sender(input).is_none()) {
+        Some(behind) => &ahead[..behind],
+        None => ahead,
+    }
+}
+
+/// Whether the trains that sent the first of these messages hold so many identifiers each, taken together.
+fn are_dear(desk: &Desk, messages: &[Input], least: usize) -> bool {
+    let first = &messages[..messages.len().min(SAMPLE)];
+    let mut held = 0usize;
+    for message in first {
+        held = held.saturating_add(identifiers(desk, message));
+    }
+    held >= least.saturating_mul(first.len())
+}
+
+/// How many identifiers the train holds that sent an input; none for other inputs.
+fn identifiers(desk: &Desk, input: &Input) -> usize {
+    let Some(engine) = sender(input) else {
+        return 0;
+    };
+    match desk.store().get(Key::Train(engine)) {
+        Some(Rec::Train(train)) => train.stops.held().saturating_add(train.limits.held()),
+        _ => 0,
+    }
+}
+
+/// The engine of the train that sent an input (NID_ENGINE), if it is a message.
+fn sender(input: &Input) -> Option<u32> {
+    match input {
+        Input::Received(
+            FromTrain::Report { engine, .. }
+            | FromTrain::Ack { engine, .. }
+            | FromTrain::StopAck { engine, .. },
+        ) => Some(*engine),
+        _ => None,
+    }
+}

@@ -1,0 +1,4 @@
+pub mod Keys
+pub mod Seen
+pub mod Tried
+pub mod Commits

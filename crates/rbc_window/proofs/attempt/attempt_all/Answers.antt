@@ -1,0 +1,37 @@
+use Rattle.std.proofs.Common.{◌≡◌, ◌∙◌, ◌++◌, ◌∷◌, [], Some, subst, sym, ap, refl}
+use Rattle.std.specs.Prelude.{slice_get}
+use Rattle.std.proofs.lemmas.Option.{slice_get_read}
+use Rattle.rbc_records.specs.Notes.{record_in}
+use Rattle.rbc_window.specs.Windows.{AreTried}
+use Rattle.rbc_window.proofs.Commits.{at_not_err, at_err}
+use Rattle.rbc_window.proofs.Tried.{tried_push}
+use Rattle.rbc_window.proofs.attempt.attempt_all.Goals as goal
+use Rattle.rbc_window.proofs.attempt.attempt_all.Goals.{then-owner-worker+in-Ok+else-is_err, else-owner-worker}
+use Rattle.rbc_window.proofs.attempt.attempt_all.Goals.{else-loop-index-test, then-loop-index-test+then-owner-worker+in_default, then-loop-index-test+then-owner-worker+in-Ok+then-is_err}
+
+pub loop-index-preserved : goal.loop-index-preserved
+loop-index-preserved c =
+    let track = c.args.track.now in
+    let base = record_in c.args.store.now in
+    let inputs = c.args.inputs.now in
+    let input = c.index-inputs-index.result in
+    elim c.if-owner-worker.branch [
+      | then-owner-worker+in-Ok+else-is_err w ↦ (
+          let a = w.in-Ok.attempt in
+          let kept : w.keep.new.attempts ≡ c.loop-index.attempts ++ a ∷ [] = at_not_err w.keep.result w.keep.ensures.ok (sym w.is_err.ensures.value ∙ w.if-is_err.false) in
+          let there : slice_get inputs c.loop-index.index ≡ Some input = slice_get_read _ _ _ _ refl c.loop-index-test.true c.index-inputs-index.is in
+          let at : slice_get inputs a.index ≡ Some input = ap (slice_get inputs) w.in-Ok.ensures.number.0 ∙ there in
+          subst (AreTried track base inputs) (sym (w.attempts-is ∙ kept)) (tried_push track base inputs c.loop-index.attempts a input c.loop-index.invariant w.in-Ok.ensures.number.1 w.in-Ok.ensures.within at w.in-Ok.ensures.right)
+          )
+      | else-owner-worker w ↦ subst (AreTried track base inputs) (sym w.attempts-is) c.loop-index.invariant
+    ]
+
+-- those that were kept stay, where memory ends too
+pub returns : goal.returns
+returns c =
+    let are = AreTried c.args.track.now (record_in c.args.store.now) c.args.inputs.now in
+    elim c.loop-index-test.branch [
+      | else-loop-index-test w ↦ subst are (sym w.attempts-is) c.loop-index.invariant
+      | then-loop-index-test+then-owner-worker+in_default w ↦ subst are (sym w.attempts-is) c.loop-index.invariant
+      | then-loop-index-test+then-owner-worker+in-Ok+then-is_err w ↦ subst are (sym (w.attempts-is ∙ at_err w.keep.result w.keep.ensures.err (sym w.is_err.ensures.value ∙ w.if-is_err.true))) c.loop-index.invariant
+    ]

@@ -1,0 +1,71 @@
+//! The attempts of one worker, in order.
+
+ghost use Rattle.std.specs.Prelude.{◌≡◌, [], ◌∷◌, ◌++◌, length, slice_get, OnOk, OnErr, IfSome, IfNone, option_copied};
+ghost use Rattle.rbc_step.specs.Gathered.{AreSendable};
+
+use crate::attempt::Attempt;
+use std::alloc::{AllocError, Global};
+use std::collections::VecDeque;
+use std::marker::Model;
+
+/// The attempts of one worker, or what is left of them while they are committed. All that they send can be sent.
+#[derive(Drop)]
+pub(crate) struct Attempts {
+    all: VecDeque<Attempt>,
+}
+
+impl Model for Attempts {
+    ghost use Rattle.std.specs.Prelude.{List, All};
+    ghost use Rattle.rbc_step.specs.Gathered.{AreSendable};
+    ghost use Rattle.rbc_window.specs.declared.attempt.Attempt.{Attempt};
+
+    ghost Value = { List Attempt };
+
+    ghost view = { λ attempts. attempts.all.items };
+
+    ghost invariant = { λ attempts. All (λ attempt. AreSendable attempt.outcome.messages) attempts.all.items };
+}
+
+impl Attempts {
+    /// No attempts. Takes no memory.
+    pub(crate) fn new(alloc: Global) -> Self
+        ensures { result ≡ [] }
+    {
+        Attempts {
+            all: VecDeque::new(alloc),
+        }
+    }
+
+    /// The number of attempts.
+    pub(crate) fn len(&self) -> usize
+        ensures { result ≡ length self.now }
+    {
+        self.all.len()
+    }
+
+    /// The attempt at a place.
+    pub(crate) fn get(&self, place: usize) -> Option<&Attempt>
+        ensures { option_copied result ≡ slice_get self.now place }
+    {
+        self.all.get(place)
+    }
+
+    /// Adds an attempt behind the others. Fails only for lack of memory, and then changes nothing.
+    pub(crate) fn push(&mut self, attempt: Attempt) -> Result<(), AllocError>
+        requires { AreSendable attempt.outcome.messages }
+        ensures ok { OnOk result (self.new ≡ self.old ++ attempt ∷ []) }
+        ensures err { OnErr result (self.new ≡ self.old) }
+    {
+        self.all.push_back(attempt)?;
+        Ok(())
+    }
+
+    /// Takes the first one out.
+    pub(crate) fn pop(&mut self) -> Option<Attempt>
+        ensures first { IfSome result (λ attempt. self.old ≡ attempt ∷ self.new) }
+        ensures none { IfNone result (self.new ≡ self.old) }
+        ensures fit { IfSome result (λ attempt. AreSendable attempt.outcome.messages) }
+    {
+        self.all.pop_front()
+    }
+}

@@ -1,0 +1,95 @@
+//! A window: attempts by several workers at once, and then their commit.
+
+ghost use Rattle.std.specs.Prelude.{◌<◌, ◌≤◌, ◌+◌, ◌^◌, All, length, IfOk};
+ghost use Rattle.rbc_track.specs.Plan.{IsPlan};
+ghost use Rattle.rbc_records.specs.Notes.{record_in};
+ghost use Rattle.rbc_step.specs.Inputs.{Fits};
+ghost use Rattle.rbc_window.specs.Windows.{AreTried};
+ghost use Rattle.rbc_window.specs.Answers.{IsWindow};
+
+use crate::attempt::attempt_all;
+use crate::attempts::Attempts;
+use crate::commit::commit_all;
+use rbc_desk::{Desk, MAX_RESULTS};
+use rbc_records::PlainStore;
+use rbc_step::Input;
+use rbc_track::Track;
+use std::alloc::{AllocError, Global};
+use std::thread::{self, Threads};
+
+/// How many inputs of a window were attempted, and how many of these attempts were taken over. The others were computed
+/// where they were committed.
+#[derive(Clone, Copy, Debug, PartialEq, Eq)]
+pub struct WindowStats {
+    pub attempted: u32,
+    pub taken_over: u32,
+}
+
+/// Memory was refused after so many inputs were committed. The desk is that after these inputs.
+#[derive(Clone, Copy, Debug, PartialEq, Eq)]
+pub struct WindowFault {
+    pub committed: u32,
+}
+
+/// Takes the inputs of a window in, of which each worker attempts those of its trains. The desk is then that of the
+/// rules applied to the inputs one after another, whatever the workers did. There has to be room for their results.
+///
+/// # Errors
+///
+/// Fails only for lack of memory. A worker that lacks it leaves its inputs to be computed where they are committed.
+pub fn run_window<R: Threads + Sync>(
+    rt: &R,
+    alloc: Global,
+    track: &Track,
+    desk: &mut Desk,
+    inputs: &[Input],
+    workers: u8,
+) -> Result<WindowStats, WindowFault>
+    requires some { 0 < workers }
+    requires few { length inputs.now < 2 ^ 32 }
+    requires room { length desk.old.results + length inputs.now ≤ MAX_RESULTS }
+    requires fit { All Fits inputs.now }
+    ensures { IsWindow track.now inputs.now desk.old result desk.new }
+{
+    keeps(track);
+    match attempts_of(rt, alloc, track, desk.store(), inputs, workers) {
+        Ok(queues) => commit_all(alloc, track, desk, inputs, queues, u32::from(workers)),
+        Err(_) => Err(WindowFault { committed: 0 }),
+    }
+}
+
+/// The attempts of each worker, made at the same time. Fails only for lack of memory.
+fn attempts_of<R: Threads + Sync>(
+    rt: &R,
+    alloc: Global,
+    track: &Track,
+    store: &PlainStore,
+    inputs: &[Input],
+    workers: u8,
+) -> Result<Vec<Attempts>, AllocError>
+    requires some { 0 < workers }
+    requires few { length inputs.now < 2 ^ 32 }
+    requires fit { All Fits inputs.now }
+    ensures { IfOk result (λ queues. All (AreTried track.now (record_in store.now) inputs.now) queues.items) }
+{
+    thread::map_indices(
+        rt,
+        alloc,
+        usize::from(workers),
+        &|worker| attempt_all(
+            alloc,
+            track,
+            store,
+            inputs,
+            worker as u32,
+            u32::from(workers),
+        ),
+    )
+}
+
+/// Says in its contract what every track satisfies, because a commit requires it.
+fn keeps(track: &Track)
+    ensures { IsPlan track.now }
+{
+    let _ = track.horizon();
+}
