@@ -3,3 +3,4 @@ mod FirstLines
 mod LineInputs
 mod Transfers
 mod Answering
+mod Joined

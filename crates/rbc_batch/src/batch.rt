@@ -9,12 +9,12 @@ ghost use Rattle.rbc_text.specs.Pieces.{texts_of};
 ghost use Rattle.rbc_batch.specs.Process.{Answers, AreRead, IsBeforeRun, IsRefused, IsRunOf, IsUntouched, max_batch};
 
 use crate::inputs::{first_lines, parse_lines};
+use crate::rendering::text_of_desk;
 use crate::streams::{read_batch, write_text};
 use rbc_book::Stats;
 use rbc_desk::Desk;
 use rbc_engine::{Gate, MAX_INPUTS, MAX_WORKERS, RunError, run};
 use rbc_step::Input;
-use rbc_text::render;
 use rbc_track::Track;
 use std::alloc::{AllocError, Global};
 use std::error::Error;
@@ -172,7 +172,7 @@ pub fn process<R: Read, W: Write, G: Gate + Sync>(
         let inputs = read_inputs(rt, reader, workers)?;
         run_all(rt, track, &inputs, workers, gate)?
     };
-    let text = render(rt.alloc(), &desk)?;
+    let text = text_of_desk(rt, &desk, workers)?;
     match write_text(writer, &text) {
         Ok(()) => Ok(stats),
         Err(sent) => Err(ProcessError::Write { sent: sent as u64 }),

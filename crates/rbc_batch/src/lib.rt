@@ -3,6 +3,7 @@
 
 mod batch;
 mod inputs;
+mod rendering;
 mod streams;
 
 pub use batch::{ProcessError, lines_of_batch, process};

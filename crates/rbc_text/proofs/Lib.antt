@@ -6,3 +6,4 @@ pub mod FirstPlaces
 pub mod ResultLines
 pub mod HexDigits
 pub mod HexWords
+pub mod Ranges

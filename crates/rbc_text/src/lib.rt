@@ -7,5 +7,5 @@ mod output;
 mod words;
 
 pub use line::parse_line;
-pub use output::{render, render_answer};
+pub use output::{render, render_answer, render_outboxes, render_results};
 pub use words::{cut, first_line};

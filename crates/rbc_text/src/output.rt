@@ -1,7 +1,7 @@
 //! Writing answers and messages as output text: those of a desk, or those of one input. What writes a line stands in
 //! line in both: it is a tenth of a batch that sends many messages.
 
-ghost use Rattle.std.specs.Prelude.{◌≡◌, ◌++◌, ◌*◌, ◌≤◌, ◌<◌, ◌^◌, codes, length, OnOk, IfOk, map};
+ghost use Rattle.std.specs.Prelude.{◌≡◌, ◌++◌, ◌*◌, ◌-◌, ◌≤◌, ◌<◌, ◌^◌, codes, drop, length, take, OnOk, IfOk, map};
 ghost use Rattle.std.specs.Fmt.{decimal};
 ghost use Rattle.std.specs.List.{flat_map, enumerate_from};
 ghost use Rattle.hex.specs.Hex.{encode_upper};
@@ -134,6 +134,7 @@ fn push_outbox(
 }
 
 /// Appends the lines of all results, numbered from 1.
+#[inline(always)]
 fn push_results(text: &mut Vec<u8>, results: &[Reply]) -> Result<(), AllocError>
     ensures { OnOk result (text.new.items ≡ text.old.items ++ flat_map result_line (enumerate_from 1 results.now)) }
 {
@@ -143,12 +144,15 @@ fn push_results(text: &mut Vec<u8>, results: &[Reply]) -> Result<(), AllocError>
     Ok(())
 }
 
-/// Appends the lines of all outboxes of a desk.
-fn push_outboxes(text: &mut Vec<u8>, desk: &Desk) -> Result<(), AllocError>
-    ensures { OnOk result (text.new.items ≡ text.old.items ++ flat_map outbox_lines desk.now.outboxes) }
+/// Appends the lines of the outboxes of a desk at the indices of a range.
+fn push_outboxes(text: &mut Vec<u8>, desk: &Desk, from: usize, to: usize) -> Result<(), AllocError>
+    requires in_order { from ≤ to }
+    requires within { to ≤ length desk.now.outboxes }
+    ensures { OnOk result (text.new.items ≡ text.old.items
+        ++ flat_map outbox_lines (take (to - from) (drop from desk.now.outboxes))) }
 {
     let mut buffer = [0u8; 1024];
-    for index in 0..desk.outboxes() {
+    for index in from..to {
         let (engine, mails) = desk.outbox_at(index);
         push_outbox(text, &mut buffer, engine, mails)?;
     }
@@ -161,7 +165,34 @@ pub fn render(alloc: Global, desk: &Desk) -> Result<Vec<u8>, AllocError>
 {
     let mut text = Vec::new(alloc);
     push_results(&mut text, desk.results())?;
-    push_outboxes(&mut text, desk)?;
+    push_outboxes(&mut text, desk, 0, desk.outboxes())?;
+    Ok(text)
+}
+
+/// The lines of all results of a desk, with which its output text begins. Fails only for lack of memory.
+pub fn render_results(alloc: Global, desk: &Desk) -> Result<Vec<u8>, AllocError>
+    ensures { IfOk result (λ text. text.items ≡ flat_map result_line (enumerate_from 1 desk.now.results)) }
+{
+    let mut text = Vec::new(alloc);
+    push_results(&mut text, desk.results())?;
+    Ok(text)
+}
+
+/// The lines of the outboxes of a desk at the indices of a range: a part of its output text. Fails only for lack of
+/// memory.
+pub fn render_outboxes(
+    alloc: Global,
+    desk: &Desk,
+    from: usize,
+    to: usize,
+) -> Result<Vec<u8>, AllocError>
+    requires in_order { from ≤ to }
+    requires within { to ≤ length desk.now.outboxes }
+    ensures { IfOk result (λ text. text.items
+        ≡ flat_map outbox_lines (take (to - from) (drop from desk.now.outboxes))) }
+{
+    let mut text = Vec::new(alloc);
+    push_outboxes(&mut text, desk, from, to)?;
     Ok(text)
 }
 

@@ -1,0 +1,125 @@
+//! The output text of a desk, made by several workers where there is much to write.
+
+ghost use Rattle.std.specs.Prelude.{◌≡◌, ◌<◌, ◌≤◌, ◌++◌, ℕ, length, IfOk, OnOk, slice_index_or};
+ghost use Rattle.std.specs.List.{flat_map};
+ghost use Rattle.rbc_text.specs.OutputText.{output_of};
+ghost use Rattle.rbc_batch.specs.Parts.{AreMade, bytes_of, lines_of_part, part_start};
+
+use rbc_desk::Desk;
+use rbc_text::{render, render_outboxes, render_results};
+use std::alloc::{AllocError, Global};
+use std::thread;
+use std::thread::Threads;
+
+/// From this number of messages on the text is made in threads: for fewer they cost more than they give.
+const SHARED_FROM: usize = 2_000;
+
+/// The text of one part of the outboxes, or that memory was refused to it.
+type Part = Result<Vec<u8>, AllocError>;
+
+/// The output text of a desk, made by so many workers where there is much to write. Fails only for lack of memory.
+pub(crate) fn text_of_desk(
+    rt: &(impl AllocGlobal + Threads + Sync),
+    desk: &Desk,
+    workers: u8,
+) -> Result<Vec<u8>, AllocError>
+    ensures { IfOk result (λ text. text.items ≡ output_of desk.now.results desk.now.outboxes) }
+{
+    if workers < 2 || !sends_many(desk) {
+        render(rt.alloc(), desk)
+    } else {
+        text_in_threads(rt, rt.alloc(), desk, usize::from(workers))
+    }
+}
+
+/// Whether a desk has so many messages that its text is made in threads.
+fn sends_many(desk: &Desk) -> bool {
+    let mut messages = 0usize;
+    for index in 0..desk.outboxes() {
+        let (_, mails) = desk.outbox_at(index);
+        messages = messages.saturating_add(mails.len());
+        if messages >= SHARED_FROM {
+            return true;
+        }
+    }
+    false
+}
+
+/// The output text of a desk, whose outboxes are rendered in as many parts as there are workers.
+fn text_in_threads(
+    rt: &(impl Threads + Sync),
+    alloc: Global,
+    desk: &Desk,
+    workers: usize,
+) -> Result<Vec<u8>, AllocError>
+    requires { 0 < workers }
+    ensures { IfOk result (λ text. text.items ≡ output_of desk.now.results desk.now.outboxes) }
+{
+    let parts = render_parts(rt, alloc, desk, workers)?;
+    let mut text = render_results(alloc, desk)?;
+    text.reserve(total_length(&parts))?;
+    append_parts(&mut text, parts)?;
+    Ok(text)
+}
+
+/// The parts of the outboxes, in their order, each rendered in a thread of its own.
+fn render_parts(
+    rt: &(impl Threads + Sync),
+    alloc: Global,
+    desk: &Desk,
+    parts: usize,
+) -> Result<Vec<Part>, AllocError>
+    requires { 0 < parts }
+    ensures count { IfOk result (λ texts. length texts.items ≡ parts) }
+    ensures each { IfOk result (λ texts. (part : ℕ) (d : _) → part < parts
+        → IfOk (slice_index_or texts.items part d) (λ text. text.items ≡ lines_of_part desk.now.outboxes parts part)) }
+{
+    thread::map_indices(
+        rt,
+        alloc,
+        parts,
+        &|part| render_part(alloc, desk, part, parts),
+    )
+}
+
+/// The lines of one part of the outboxes.
+fn render_part(alloc: Global, desk: &Desk, part: usize, parts: usize) -> Part
+    requires { part < parts }
+    ensures { IfOk result (λ text. text.items ≡ lines_of_part desk.now.outboxes parts part) }
+{
+    let outboxes = desk.outboxes();
+    let from = start_of(outboxes, parts, part);
+    let to = start_of(outboxes, parts, part + 1);
+    render_outboxes(alloc, desk, from, to)
+}
+
+/// The index of the outbox with which a part begins; behind the last part, the number of outboxes.
+fn start_of(outboxes: usize, parts: usize, part: usize) -> usize
+    requires some { 0 < parts }
+    requires within { part ≤ parts }
+    ensures { result ≡ part_start outboxes parts part }
+{
+    (outboxes as u128 * part as u128 / parts as u128) as usize
+}
+
+/// How many bytes the texts of parts have in all.
+fn total_length(parts: &[Part]) -> usize {
+    let mut total = 0usize;
+    for part in parts {
+        if let Ok(text) = part {
+            total = total.saturating_add(text.len());
+        }
+    }
+    total
+}
+
+/// Appends the texts of parts, and frees each. Fails if memory was refused to one of them.
+fn append_parts(text: &mut Vec<u8>, parts: Vec<Part>) -> Result<(), AllocError>
+    ensures appended { OnOk result (text.new.items ≡ text.old.items ++ flat_map bytes_of parts.items) }
+    ensures made { OnOk result (AreMade parts.items) }
+{
+    for part in parts {
+        text.extend_from_slice(&part?)?;
+    }
+    Ok(())
+}
