@@ -4,7 +4,7 @@ use Rattle.clap.specs.Kinds.{Kinds}
 use Rattle.clap.specs.declared.error.kind.ErrorKind.{ErrorKind}
 use Rattle.clap.specs.declared.error.kind.ErrorKind.TheVariants as kind
 use Rattle.clap.proofs.OnLiterals.{clap_on_literals}
-use Rattle.rbc_command_line.specs.Witnesses.{AskFor, AskForNone, AskFrom, AskFromNone, AskToDraw, AskToDrawNone, AskToExplain, AskToExplainNone}
+use Rattle.rbc_command_line.specs.Witnesses.{AskByFlag, AskFor, AskForNone, AskFrom, AskFromNone, AskToDraw, AskToDrawNone, AskToExplain, AskToExplainNone}
 
 pub one : AskFor 1 []
 unfolding clap_on_literals
@@ -54,6 +54,22 @@ no_number workers asked = faulty _ kind.ValueValidation refl asked.0
 pub twice : AskForNone (codes "--workers" ∷ codes "1" ∷ codes "--workers" ∷ codes "1" ∷ [])
 unfolding clap_on_literals
 twice workers asked = faulty _ kind.ArgumentConflict refl asked.0
+
+pub no_figures : AskByFlag (codes "false") []
+unfolding clap_on_literals
+no_figures = (refl, refl)
+
+pub figures : AskByFlag (codes "true") (codes "--stats" ∷ [])
+unfolding clap_on_literals
+figures = (refl, refl)
+
+pub figures_of_four : AskFor 4 (codes "--stats" ∷ codes "--workers" ∷ codes "4" ∷ [])
+unfolding clap_on_literals
+figures_of_four = (refl, refl, refl)
+
+pub figures_twice : AskForNone (codes "--stats" ∷ codes "--stats" ∷ [])
+unfolding clap_on_literals
+figures_twice workers asked = faulty _ kind.ArgumentConflict refl asked.0
 
 pub from_seven : AskFrom 7 (codes "--from" ∷ codes "7" ∷ [])
 unfolding clap_on_literals

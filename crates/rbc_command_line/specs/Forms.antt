@@ -1,9 +1,9 @@
 -- The forms of `run`, `live`, `explain` and `picture`, and what they ask for.
-use Rattle.std.specs.Prelude.{◌≡◌, ◌≢◌, ◌<◌, ℕ, List, [], ◌∷◌, ◌++◌, None, codes}
+use Rattle.std.specs.Prelude.{◌≡◌, ◌≢◌, ◌<◌, ℕ, List, [], ◌∷◌, ◌++◌, None, Some, codes}
 use Rattle.std.specs.List.{AllByRecursion}
 use Rattle.std.specs.Str.Parse.{IsNumeral, digits_value}
 use Rattle.clap.specs.Walk.{Text}
-use Rattle.rbc_command_line.specs.Words.{AsksToDraw, AsksToExplain, AsksToLive, AsksToRun}
+use Rattle.rbc_command_line.specs.Words.{AsksToDraw, AsksToExplain, AsksToLive, AsksToRun, finding_in, flag_after}
 
 -- the word has a first byte, which is no hyphen
 abbrev pub IsPlain : Text → Type 0
@@ -25,6 +25,10 @@ forms_of file word =
 -- without a number there is one worker
 abbrev pub OneByDefault : Type 0
 OneByDefault = (file : Text) → IsPlain file → AsksToRun file 1 (codes "run" ∷ codes "--track" ∷ file ∷ [])
+
+-- without the flag no figures are asked for
+abbrev pub NoFiguresByDefault : Type 0
+NoFiguresByDefault = (file : Text) → IsPlain file → flag_after (codes "run") (codes "stats") (finding_in (codes "run" ∷ codes "--track" ∷ file ∷ [])) ≡ Some (codes "false")
 
 -- without a number answers are written from the first one on
 abbrev pub FromOneByDefault : Type 0

@@ -1,7 +1,8 @@
 -- Worked cases of what words ask for: `run`, `live`, `explain` and `picture`, on the track in the file `t`.
-use Rattle.std.specs.Prelude.{ℕ, List, Option, ◌∷◌, codes}
+use Rattle.std.specs.Prelude.{◌≡◌, ℕ, List, [], Option, Some, ◌∷◌, codes}
 use Rattle.clap.specs.Walk.{Text}
-use Rattle.rbc_command_line.specs.Words.{AsksToDraw, AsksToExplain, AsksToLive, AsksToRun}
+use Rattle.clap.specs.Words.{fault_of}
+use Rattle.rbc_command_line.specs.Words.{AsksToDraw, AsksToExplain, AsksToLive, AsksToRun, command_line, finding_in, flag_after}
 
 -- the words that name the track, and more words
 abbrev pub run_with : List Text → List Text
@@ -14,6 +15,10 @@ AskFor workers more = AsksToRun (codes "t") workers (run_with more)
 -- they ask for no run, by any number of workers
 abbrev pub AskForNone : List Text → Type 0
 AskForNone more = (workers : ℕ) → AskFor workers more → ⊥
+
+-- they have no fault, and the text of their flag is this one
+abbrev pub AskByFlag : Text → List Text → Type 0
+AskByFlag text more = (fault_of command_line (run_with more) ≡ []) × (flag_after (codes "run") (codes "stats") (finding_in (run_with more)) ≡ Some text)
 
 -- the same behind `live`: they ask for the answers from this number on
 abbrev pub AskFrom : ℕ → List Text → Type 0

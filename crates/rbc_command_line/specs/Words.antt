@@ -1,5 +1,5 @@
 -- What the words ask for.
-use Rattle.std.specs.Prelude.{◌≡◌, ℕ, List, [], ◌∷◌, Option, Some, None, Result, MatchResult, option_and_then, unwrap_or, if◌then◌else◌, ◌&&◌, nat_lt, length, pos, true, codes}
+use Rattle.std.specs.Prelude.{◌≡◌, ◌⊎◌, ℕ, Bool, List, [], ◌∷◌, Option, Some, None, Result, MatchResult, option_and_then, unwrap_or, if◌then◌else◌, ◌&&◌, nat_lt, length, pos, true, false, codes}
 use Rattle.std.specs.Option.{option_map_or}
 use Rattle.std.specs.List.{list_all}
 use Rattle.std.specs.Char.{digit_value}
@@ -28,9 +28,13 @@ workers_rule = record (new_rule (codes "workers")) {
   defaults = codes "1" ∷ [];
 }
 
--- `run`, with both options
+-- the option by which it is said how many inputs workers shared
+abbrev pub stats_rule : Rule
+stats_rule = record (new_rule (codes "stats")) { long = Some (codes "stats"); action = Some SetTrue }
+
+-- `run`, with its three options
 abbrev pub run_shape : Shape
-run_shape = (with_rule (with_rule (new_app (codes "run")) track_rule) workers_rule).top
+run_shape = (with_rule (with_rule (with_rule (new_app (codes "run")) track_rule) workers_rule) stats_rule).top
 
 -- the option that says from which number on answers are written: a number from 1 on, which is 1 by default
 abbrev pub from_rule : Rule
@@ -148,6 +152,18 @@ number_in text =
 abbrev pub input_after : Text → Text → Finding → Option ℕ
 input_after name id found = option_and_then number_in (option_and_then (one_of id) (found_after name found))
 
+-- the text of a flag after the subcommand of this name: "true" where the flag stands there, and else "false"
+abbrev pub flag_after : Text → Text → Finding → Option Text
+flag_after name id found = option_and_then (one_of id) (found_after name found)
+
+-- the flag is as its text says
+abbrev pub IsFlag : Option Text → Bool → Type 0
+IsFlag text flag = (text ≡ Some (codes "true") → flag ≡ true) × (text ≡ Some (codes "false") → flag ≡ false)
+
+-- the words name no run, or not its flag
+abbrev pub AsksForNoFigures : List Text → Type 0
+AsksForNoFigures words = (word_after (codes "run") (codes "track") (finding_in words) ≡ None) ⊎ (flag_after (codes "run") (codes "stats") (finding_in words) ≡ Some (codes "false"))
+
 -- words without a fault that ask for the batch, on the track in the file of this name, with so many workers
 abbrev pub AsksToRun : Text → ℕ → List Text → Type 0
 AsksToRun file workers words = (fault_of command_line words ≡ [])
@@ -190,8 +206,9 @@ IsNeither found = (word_after (codes "run") (codes "track") found ≡ None)
 
 -- the task is what was found
 abbrev pub IsFound : Finding → Task → Type 0
-IsFound found (Run track workers) = (word_after (codes "run") (codes "track") found ≡ Some track.now)
+IsFound found (Run track workers stats) = (word_after (codes "run") (codes "track") found ≡ Some track.now)
     × (number_after (codes "run") (codes "workers") found ≡ workers)
+    × IsFlag (flag_after (codes "run") (codes "stats") found) stats
 IsFound found (Live track from) = (word_after (codes "live") (codes "track") found ≡ Some track.now)
     × (count_after (codes "live") (codes "from") found ≡ from)
 IsFound found (Explain track from) = (word_after (codes "explain") (codes "track") found ≡ Some track.now)
@@ -199,6 +216,7 @@ IsFound found (Explain track from) = (word_after (codes "explain") (codes "track
 IsFound found (Picture track after) = (word_after (codes "picture") (codes "track") found ≡ Some track.now)
     × (input_after (codes "picture") (codes "after") found ≡ after)
 IsFound found (Check track other) = IsNeither found × (word_after (codes "check") (codes "track") found ≡ Some track.now)
+    × IsFlag (flag_after (codes "check") (codes "other-keys") found) other
 IsFound found Codes = IsNeither found × (word_after (codes "check") (codes "track") found ≡ None)
 IsFound found (Decode hex) = word_after (codes "decode") (codes "HEX") found ≡ Some hex.now
 
@@ -208,7 +226,7 @@ IsNoTask found = IsNeither found × (word_after (codes "check") (codes "track") 
 
 -- the task is the batch, on the track in the file of this name, with so many workers
 abbrev pub IsRunOn : Text → ℕ → Task → Type 0
-IsRunOn file workers (Run track number) = (track.now ≡ file) × (number ≡ workers)
+IsRunOn file workers (Run track number stats) = (track.now ≡ file) × (number ≡ workers)
 IsRunOn file workers (Live track from) = ⊥
 IsRunOn file workers (Check track other) = ⊥
 IsRunOn file workers (Decode hex) = ⊥
@@ -219,7 +237,7 @@ IsRunOn file workers Codes = ⊥
 -- the task is lines as they come, on the track in the file of this name, from this number on
 abbrev pub IsLiveOn : Text → ℕ → Task → Type 0
 IsLiveOn file from (Live track first) = (track.now ≡ file) × (first ≡ from)
-IsLiveOn file from (Run track number) = ⊥
+IsLiveOn file from (Run track number stats) = ⊥
 IsLiveOn file from (Check track other) = ⊥
 IsLiveOn file from (Decode hex) = ⊥
 IsLiveOn file from (Explain track first) = ⊥
@@ -229,7 +247,7 @@ IsLiveOn file from Codes = ⊥
 -- the task is the log of the batch, on the track in the file of this name, from this input on
 abbrev pub IsExplainOn : Text → ℕ → Task → Type 0
 IsExplainOn file from (Explain track first) = (track.now ≡ file) × (first ≡ from)
-IsExplainOn file from (Run track number) = ⊥
+IsExplainOn file from (Run track number stats) = ⊥
 IsExplainOn file from (Live track first) = ⊥
 IsExplainOn file from (Picture track after) = ⊥
 IsExplainOn file from (Check track other) = ⊥
@@ -239,7 +257,7 @@ IsExplainOn file from Codes = ⊥
 -- the task is the picture of the track in the file of this name, after so many inputs of the batch, or after all
 abbrev pub IsPictureOn : Text → Option ℕ → Task → Type 0
 IsPictureOn file after (Picture track count) = (track.now ≡ file) × (count ≡ after)
-IsPictureOn file after (Run track number) = ⊥
+IsPictureOn file after (Run track number stats) = ⊥
 IsPictureOn file after (Live track from) = ⊥
 IsPictureOn file after (Explain track from) = ⊥
 IsPictureOn file after (Check track other) = ⊥
@@ -248,7 +266,7 @@ IsPictureOn file after Codes = ⊥
 
 -- the task is the text of the message that this word stands for
 abbrev pub IsDecode : Text → Task → Type 0
-IsDecode word (Run track number) = ⊥
+IsDecode word (Run track number stats) = ⊥
 IsDecode word (Live track from) = ⊥
 IsDecode word (Check track other) = ⊥
 IsDecode word (Explain track first) = ⊥
@@ -259,7 +277,7 @@ IsDecode word (Decode hex) = hex.now ≡ word
 -- the task is the report on the track in the file of this name
 abbrev pub IsCheckOf : Text → Task → Type 0
 IsCheckOf file (Check track other) = track.now ≡ file
-IsCheckOf file (Run track number) = ⊥
+IsCheckOf file (Run track number stats) = ⊥
 IsCheckOf file (Live track from) = ⊥
 IsCheckOf file (Decode hex) = ⊥
 IsCheckOf file (Explain track first) = ⊥

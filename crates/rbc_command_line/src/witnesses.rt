@@ -1,14 +1,16 @@
 //! Worked cases of the law of forms, right ones and wrong ones.
 
 ghost use Rattle.std.specs.Prelude.{[], ◌∷◌, Some, codes};
-ghost use Rattle.rbc_command_line.specs.Witnesses.{AskFor, AskForNone, AskFrom, AskFromNone, AskToDraw, AskToDrawNone};
-ghost use Rattle.rbc_command_line.specs.Witnesses.{AskToExplain, AskToExplainNone};
+ghost use Rattle.rbc_command_line.specs.Witnesses.{AskByFlag, AskFor, AskForNone, AskFrom, AskFromNone, AskToDraw};
+ghost use Rattle.rbc_command_line.specs.Witnesses.{AskToDrawNone, AskToExplain, AskToExplainNone};
 
 /// What words behind `run --track t` ask for.
 ///
 /// - No word asks for one worker, and not for two. `--workers 16` asks for 16 workers, and `--workers=007` for 7.
 /// - `--workers 0` asks for none, which the run refuses. `--workers 2` does not ask for one.
 /// - `--workers 256`, `--workers -1`, `--workers x` and a number that is named twice ask for no run.
+/// - The text of the flag is "false" where no word asks for figures, and "true" with `--stats`, which leaves the number
+///   of workers as it is. `--stats` twice asks for no run.
 ///
 /// Behind `live --track t`, `--from 7` asks for the answers from number 7 on, and `--from 0` for none. Behind
 /// `explain --track t`, `--from 4294967295` asks for the log from that input on, and `--from 0` for none. Behind
@@ -24,6 +26,10 @@ pub fn forms_law_witnesses()
     ensures below_zero { AskForNone (codes "--workers" ∷ codes "-1" ∷ []) }
     ensures no_number { AskForNone (codes "--workers" ∷ codes "x" ∷ []) }
     ensures twice { AskForNone (codes "--workers" ∷ codes "1" ∷ codes "--workers" ∷ codes "1" ∷ []) }
+    ensures no_figures { AskByFlag (codes "false") [] }
+    ensures figures { AskByFlag (codes "true") (codes "--stats" ∷ []) }
+    ensures figures_of_four { AskFor 4 (codes "--stats" ∷ codes "--workers" ∷ codes "4" ∷ []) }
+    ensures figures_twice { AskForNone (codes "--stats" ∷ codes "--stats" ∷ []) }
     ensures from_seven { AskFrom 7 (codes "--from" ∷ codes "7" ∷ []) }
     ensures from_zero { AskFromNone (codes "--from" ∷ codes "0" ∷ []) }
     ensures log_from_last { AskToExplain 4294967295 (codes "--from" ∷ codes "4294967295" ∷ []) }

@@ -9,8 +9,9 @@ ghost use Rattle.rbc_command_line.specs.NoTask.{status_of, status_of_kind};
 ghost use Rattle.rbc_command_line.specs.Words.{AsksToCheck, AsksToDecode, AsksToDraw, AsksToExplain, AsksToLive};
 ghost use Rattle.rbc_command_line.specs.Words.{AsksToRun, IsCheckOf, IsDecode, IsExplainOn, IsFound, IsLiveOn};
 ghost use Rattle.rbc_command_line.specs.Words.{IsNoTask, IsPictureOn, IsRunOn, IsTakenFor, IsWantOfMemory, bare_line};
-ghost use Rattle.rbc_command_line.specs.Words.{command_line, count_after, finding_in, input_after, number_after};
-ghost use Rattle.rbc_command_line.specs.Words.{other_keys_rule, track_rule, word_after};
+ghost use Rattle.rbc_command_line.specs.Words.{command_line, count_after, finding_in, flag_after, input_after};
+ghost use Rattle.rbc_command_line.specs.Words.{number_after, other_keys_rule, run_shape, stats_rule, track_rule};
+ghost use Rattle.rbc_command_line.specs.Words.{word_after};
 
 use crate::no_task::NoTask;
 use clap::builder::ValueParser;
@@ -23,21 +24,38 @@ use std::{env, io};
 /// What the arguments ask the program to do.
 #[derive(Clone, Copy)]
 pub enum Task<'a> {
-    /// `dispatch run --track FILE --workers N`: do the batch on standard input, on the track in the
-    /// file of this name, with so many workers, or with one where the arguments name no number.
-    Run { track: &'a str, workers: u8 },
+    /// `dispatch run --track FILE --workers N --stats`: do the batch on standard input, on the track in the file of
+    /// this name, with so many workers, or with one where the arguments name no number. With the option, say how many
+    /// inputs the workers shared.
+    Run {
+        track: &'a str,
+        workers: u8,
+        stats: bool,
+    },
     /// `dispatch live --track FILE --from N`: answer the lines on standard input as they come, on the track in
     /// the file of this name, and write the answers from this number on, or from 1 where the arguments name none.
-    Live { track: &'a str, from: u64 },
+    Live {
+        track: &'a str,
+        from: u64,
+    },
     /// `dispatch explain --track FILE --from N`: tell the batch on standard input in words, on the track in the file of
     /// this name, from this input on, 1 or more, or from 1 where the arguments name none.
-    Explain { track: &'a str, from: u32 },
+    Explain {
+        track: &'a str,
+        from: u32,
+    },
     /// `dispatch picture --track FILE --after N`: draw what stands after so many inputs of the batch on standard input,
     /// on the track in the file of this name, or after all where the arguments name no number.
-    Picture { track: &'a str, after: Option<u32> },
+    Picture {
+        track: &'a str,
+        after: Option<u32>,
+    },
     /// `dispatch check --track FILE --other-keys`: report on the track in the file of this name, with
     /// or without the option.
-    Check { track: &'a str, other_keys: bool },
+    Check {
+        track: &'a str,
+        other_keys: bool,
+    },
     /// `dispatch decode HEX`: write the text of the message whose bytes this word is an encoding of.
     Decode(&'a str),
     /// `dispatch codes`: list what each code and each fault means.
@@ -79,7 +97,8 @@ Reads a batch from standard input, to its end, and writes one line for each inpu
 `INPUT ok COUNT` or `INPUT refused CODE`, and then one line for each message, by engine number:
 `ENGINE INPUT HEX`. Nothing is written before the whole batch is run.
 
-Workers are threads that work on several inputs at once. The output is the same for every number.
+Workers are threads that work on several messages at once. They are used where messages take long:
+where trains are told of many restrictions. The output is the same for every number.
 
 Exit status: 0 done; 1 a fault, one line on standard error; 2 bad arguments.
 `dispatch codes` says what each code and each fault means, `dispatch explain` tells a run in words.",
@@ -160,7 +179,7 @@ const WORKERS: &NumberOption = &NumberOption {
     name: "workers",
     parser: ValueParser::Signed(0, 255),
     default: &["1"],
-    help: "How many inputs are worked on at once, 1 to 16",
+    help: "How many threads may work at once, 1 to 16",
 };
 
 const FIRST_ANSWER: &NumberOption = &NumberOption {
@@ -188,8 +207,7 @@ const LAST_DRAWN: &NumberOption = &NumberOption {
 fn command<'a>(alloc: Global) -> Result<Command<'a>, AllocError>
     ensures { IfOk result (λ command. app_of command ≡ command_line) }
 {
-    let workers = number_option(alloc, WORKERS);
-    let with_run = with_subcommand(bare_command(alloc), with_track(alloc, RUN, workers));
+    let with_run = with_subcommand(bare_command(alloc), run_command(alloc));
     let answer = number_option(alloc, FIRST_ANSWER);
     let with_live = with_subcommand(with_run, with_track(alloc, LIVE, answer));
     let told = number_option(alloc, FIRST_TOLD);
@@ -225,13 +243,22 @@ fn bare_command<'a>(alloc: Global) -> Result<Command<'a>, AllocError>
 {
     Command::new(alloc, "dispatch")
         .no_binary_name(true)
-        .version("3.3.2, rules 3")
+        .version("3.4.0, rules 3")
         .about(
             "Emergency stops and speed restrictions, from a signaller's batch to each train's messages",
         )
         .after_help(AFTER_HELP)
         .subcommand_required(true)
         .bin_name("dispatch")
+}
+
+/// `run`, with its three options.
+fn run_command<'a>(alloc: Global) -> Result<Command<'a>, AllocError>
+    ensures shape { IfOk result (λ command. shape_of command ≡ run_shape) }
+    ensures local { IfOk result (λ command. (fields_of command).has_globals ≡ false) }
+{
+    let workers = number_option(alloc, WORKERS);
+    with_track(alloc, RUN, workers)?.arg(stats_option(alloc))
 }
 
 /// A subcommand that takes a track and one more option.
@@ -282,6 +309,16 @@ fn number_option<'a>(alloc: Global, option: &NumberOption) -> Arg<'a>
         .value_parser(option.parser)
         .default_values(option.default)
         .help(option.help)
+}
+
+fn stats_option<'a>(alloc: Global) -> Arg<'a>
+    ensures rule { rule_of result ≡ stats_rule }
+    ensures local { result.global ≡ false }
+{
+    Arg::new(alloc, "stats")
+        .long("stats")
+        .action(ArgAction::SetTrue)
+        .help("Say on standard error how many inputs workers shared")
 }
 
 fn other_keys_option<'a>(alloc: Global) -> Arg<'a>
@@ -368,7 +405,12 @@ fn task_of<'a>(matches: &ArgMatches<'a>) -> Option<Task<'a>>
 {
     if let Some(track) = word_after(matches, "run", "track") {
         let workers = number_after(matches, "run", "workers");
-        return Some(Task::Run { track, workers });
+        let stats = has_flag_after(matches, "run", "stats");
+        return Some(Task::Run {
+            track,
+            workers,
+            stats,
+        });
     }
     if let Some(track) = word_after(matches, "live", "track") {
         let from = count_after(matches, "live", "from");
@@ -435,7 +477,11 @@ fn input_after<'a>(matches: &ArgMatches<'a>, name: &str, id: &str) -> Option<u32
 }
 
 // Whether a flag stands after the subcommand of this name.
-fn has_flag_after(matches: &ArgMatches<'_>, name: &str, id: &str) -> bool {
+fn has_flag_after(matches: &ArgMatches<'_>, name: &str, id: &str) -> bool
+    ensures set { flag_after name.now id.now (subcommand_rows_of matches.now) ≡ Some (codes "true") → result ≡ true }
+    ensures unset { flag_after name.now id.now (subcommand_rows_of matches.now) ≡ Some (codes "false")
+        → result ≡ false }
+{
     match matches.subcommand_matches(name) {
         Some(found) => found.get_flag(id),
         None => false,

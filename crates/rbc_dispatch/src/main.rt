@@ -6,8 +6,9 @@
 //! `dispatch check --track FILE` says what a track file says, and what is wrong with it.
 //! `dispatch decode HEX` writes the text of one message, and `dispatch codes` what each code means.
 //!
-//! Workers are threads that work on several inputs at once, 1 to 16 of them, and 1 where N is not
-//! given. What is written does not hang on their number.
+//! Workers are threads that work on several messages at once, 1 to 16 of them, and 1 where N is not given. They are
+//! used where messages take long. What `run` writes to standard output does not hang on their number. With `--stats`
+//! it says on standard error how many inputs they shared.
 //!
 //! The exit status is 0 where the task was done, for help and for the version, 1 for a fault, and 2
 //! for bad arguments. A fault is one line on standard error.
@@ -19,6 +20,7 @@ mod decode;
 mod ending;
 mod explain;
 mod fault;
+mod figures;
 mod live;
 mod picture;
 mod program;

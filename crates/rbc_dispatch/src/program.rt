@@ -1,17 +1,18 @@
 //! The program, over any streams.
-ghost use Rattle.std.specs.Prelude.{◌≡◌, ◌≢◌, ◌≤◌, ℕ, List, Option, [], IfErr, OnOk, map, string_bytes};
+ghost use Rattle.std.specs.Prelude.{◌≡◌, ◌≢◌, ◌≤◌, ℕ, List, Option, [], IfErr, OnOk, false, map, string_bytes};
 ghost use Rattle.std.specs.Process.{exit_status};
 ghost use Rattle.clap.specs.Words.{fault_of};
 ghost use Rattle.rbc_account.specs.Telling.{TooFewFor, TooLate};
 ghost use Rattle.rbc_dispatch.specs.Checking.{Checks, IsUnreported};
 ghost use Rattle.rbc_dispatch.specs.Decoding.{Decodes, IsUntouched};
 ghost use Rattle.rbc_dispatch.specs.Ending.{AtTask, status_of};
+ghost use Rattle.rbc_dispatch.specs.Figures.{IsQuiet};
 ghost use Rattle.rbc_dispatch.specs.Living.{Lives};
 ghost use Rattle.rbc_dispatch.specs.Running.{IsUnread, Keeps, Runs, RunsOn};
 ghost use Rattle.rbc_dispatch.specs.Showing.{IsLogFrom, IsPictureAfter, Shows};
 ghost use Rattle.rbc_command_line.specs.Words.{AsksToCheck, AsksToDecode, AsksToDraw, AsksToExplain, AsksToLive};
-ghost use Rattle.rbc_command_line.specs.Words.{AsksToRun, IsCheckOf, IsDecode, IsExplainOn, IsLiveOn, IsPictureOn};
-ghost use Rattle.rbc_command_line.specs.Words.{IsRunOn, command_line};
+ghost use Rattle.rbc_command_line.specs.Words.{AsksForNoFigures, AsksToRun, IsCheckOf, IsDecode, IsExplainOn, IsLiveOn};
+ghost use Rattle.rbc_command_line.specs.Words.{IsPictureOn, IsRunOn, command_line};
 
 use crate::check::check_text;
 use crate::codes::write_codes;
@@ -19,11 +20,12 @@ use crate::decode::decode;
 use crate::ending::Ending;
 use crate::explain::explain_text;
 use crate::fault::Fault;
+use crate::figures::Figures;
 use crate::live::live_text;
 use crate::picture::picture_text;
 use rbc_batch::process;
 use rbc_command_line::Task;
-use rbc_engine::OpenGate;
+use rbc_engine::{PACE, Tally};
 use rbc_track::track_from_toml;
 use std::env::Env;
 use std::fs;
@@ -44,7 +46,7 @@ where
     ensures { exit_status result ≤ 2 }
 {
     let outcome = match rbc_command_line::read(rt) {
-        Ok(words) => perform(rt, words.as_slice(), input, output),
+        Ok(words) => perform(rt, words.as_slice(), input, output, errors),
         Err(no_task) => Err(Ending::from(no_task)),
     };
     conclude(outcome, output, errors)
@@ -68,13 +70,20 @@ where
     }
 }
 
-/// Does the task that the arguments ask for. Arguments that are refused leave the
-/// streams untouched.
-fn perform<R, I, O>(rt: &R, words: &[String], input: &mut I, output: &mut O) -> Result<(), Ending>
+/// Does the task that the arguments ask for. Arguments that are refused leave the streams untouched, and so does each
+/// task `errors`, but a run that is to say its figures there.
+fn perform<R, I, O, E>(
+    rt: &R,
+    words: &[String],
+    input: &mut I,
+    output: &mut O,
+    errors: &mut E,
+) -> Result<(), Ending>
 where
     R: AllocGlobal + Files + Threads + Wait + Sync,
     I: Read,
     O: Write,
+    E: Write,
     ensures run { (file : List ℕ) (workers : ℕ) → AsksToRun file workers (map string_bytes words.now)
         → AtTask (Runs workers (I.remaining input.old) (I.remaining input.new)
         (O.contents output.old) (O.contents output.new)) result }
@@ -103,18 +112,26 @@ where
         → (input.new ≡ input.old) × AtTask Checks result }
     ensures only { OnOk result (fault_of command_line (map string_bytes words.now) ≡ []) }
     ensures refused { fault_of command_line (map string_bytes words.now) ≢ []
-        → (input.new ≡ input.old) × (output.new ≡ output.old) }
+        → (input.new ≡ input.old) × (output.new ≡ output.old) × (errors.new ≡ errors.old) }
+    ensures quiet { AsksForNoFigures (map string_bytes words.now) → errors.new ≡ errors.old }
 {
     let task = rbc_command_line::parse(rt.alloc(), words)?;
-    Ok(carry_out(rt, task, input, output)?)
+    Ok(carry_out(rt, task, input, output, errors)?)
 }
 
 /// Does a task.
-fn carry_out<R, I, O>(rt: &R, task: Task<'_>, input: &mut I, output: &mut O) -> Result<(), Fault>
+fn carry_out<R, I, O, E>(
+    rt: &R,
+    task: Task<'_>,
+    input: &mut I,
+    output: &mut O,
+    errors: &mut E,
+) -> Result<(), Fault>
 where
     R: AllocGlobal + Files + Threads + Wait + Sync,
     I: Read,
     O: Write,
+    E: Write,
     ensures run { (file : List ℕ) (workers : ℕ) → IsRunOn file workers task.entry
         → Runs workers (I.remaining input.old) (I.remaining input.new)
         (O.contents output.old) (O.contents output.new) result }
@@ -140,9 +157,14 @@ where
     ensures unread { (word : List ℕ) → IsDecode word task.entry
         → (input.new ≡ input.old) × IsUntouched result output.old output.new }
     ensures check { (file : List ℕ) → IsCheckOf file task.entry → (input.new ≡ input.old) × Checks result }
+    ensures quiet { IsQuiet task.entry → errors.new ≡ errors.old }
 {
     match task {
-        Task::Run { track, workers } => run_file(rt, track, workers, input, output),
+        Task::Run {
+            track,
+            workers,
+            stats,
+        } => run_file(rt, track, workers, stats, input, output, errors),
         Task::Live { track, from } => live_file(rt, track, from, input, output),
         Task::Explain { track, from } => explain_file(rt, track, from, input, output),
         Task::Picture { track, after } => picture_file(rt, track, after, input, output),
@@ -165,23 +187,27 @@ where
 }
 
 /// Does a batch by so many workers on the track in a file. The track is known before anything of the batch is read.
-fn run_file<R, I, O>(
+fn run_file<R, I, O, E>(
     rt: &R,
     file: &str,
     workers: u8,
+    stats: bool,
     input: &mut I,
     output: &mut O,
+    errors: &mut E,
 ) -> Result<(), Fault>
 where
     R: AllocGlobal + Files + Threads + Wait + Sync,
     I: Read,
     O: Write,
+    E: Write,
     ensures runs { Runs workers (I.remaining input.old) (I.remaining input.new)
         (O.contents output.old) (O.contents output.new) result }
     ensures keeps { Keeps result input.old input.new output.old output.new }
+    ensures quiet { stats ≡ false → errors.new ≡ errors.old }
 {
     let text = track_text(rt, file)?;
-    run_on(rt, text.as_str(), workers, input, output)
+    run_on(rt, text.as_str(), workers, stats, input, output, errors)
 }
 
 /// Answers lines as they come, from this number on, on the track in a file. The track is known before anything is read.
@@ -256,23 +282,32 @@ fn track_text<R: AllocGlobal + Files>(rt: &R, file: &str) -> Result<String, Faul
 }
 
 /// Does a batch by so many workers on the track that a text is. The track is known before anything of the batch is
-/// read. The counts of the run are dropped.
-fn run_on<R, I, O>(
+/// read. With `stats`, the figures of a run that is done go to `errors`; where they cannot be written, the output
+/// stands.
+fn run_on<R, I, O, E>(
     rt: &R,
     text: &str,
     workers: u8,
+    stats: bool,
     input: &mut I,
     output: &mut O,
+    errors: &mut E,
 ) -> Result<(), Fault>
 where
     R: AllocGlobal + Threads + Wait + Sync,
     I: Read,
     O: Write,
+    E: Write,
     ensures runs { RunsOn text.now workers (I.remaining input.old) (I.remaining input.new)
         (O.contents output.old) (O.contents output.new) result }
     ensures keeps { Keeps result input.old input.new output.old output.new }
+    ensures quiet { stats ≡ false → errors.new ≡ errors.old }
 {
     let track = track_from_toml(rt.alloc(), text)?;
-    let _stats = process(rt, &track, input, output, workers, &OpenGate)?;
+    let tally = Tally::new(PACE);
+    let counts = process(rt, &track, input, output, workers, &tally)?;
+    if stats {
+        let _ = writeln!(errors, "{}", Figures::new(counts, &tally));
+    }
     Ok(())
 }

@@ -2,6 +2,7 @@ use Rattle.std.proofs.Common.{subst, ℕ, Option}
 use Rattle.rbc_account.specs.Telling.{TooFewFor, TooLate}
 use Rattle.rbc_command_line.specs.Words.{IsExplainOn, IsLiveOn, IsPictureOn, IsRunOn}
 use Rattle.rbc_command_line.specs.declared.words.Task.{Task}
+use Rattle.rbc_dispatch.specs.Figures.{IsQuiet}
 use Rattle.rbc_dispatch.specs.Living.{Lives}
 use Rattle.rbc_dispatch.specs.Running.{Runs}
 use Rattle.rbc_dispatch.specs.Showing.{IsLogFrom, IsPictureAfter, Shows}
@@ -13,6 +14,10 @@ returns-in-Run-clause-run g c = λ file workers asked.
     let taken = subst (λ (task : Task). IsRunOn file workers task) c.in-Run.is asked in
     subst (λ (n : ℕ). Runs {E = Unit {0}} n (g.I.Read.remaining c.args.input.now) (g.I.Read.remaining c.run_file.new.input)
     (g.O.Write.contents c.args.output.now) (g.O.Write.contents c.run_file.new.output) c.run_file.result) taken.1 c.run_file.ensures.runs
+
+-- figures are said where the task asks for them
+pub returns-in-Run-clause-quiet : goal.returns-in-Run-clause-quiet
+returns-in-Run-clause-quiet g c = λ asked. c.run_file.ensures.quiet (subst (λ (task : Task). IsQuiet task) c.in-Run.is asked)
 
 -- answers are written from the number on that the task names
 pub returns-in-Live-clause-live : goal.returns-in-Live-clause-live

@@ -1,4 +1,4 @@
-use Rattle.std.proofs.Common.{inr, refl}
+use Rattle.std.proofs.Common.{inr, map, refl, string_bytes}
 use Rattle.rbc_account.specs.Telling.{TooFewFor, TooLate}
 use Rattle.rbc_dispatch.specs.Checking.{Checks}
 use Rattle.rbc_dispatch.specs.Decoding.{Decodes, IsUntouched}
@@ -6,6 +6,7 @@ use Rattle.rbc_dispatch.specs.Living.{Lives}
 use Rattle.rbc_dispatch.specs.Running.{Keeps, Runs}
 use Rattle.rbc_dispatch.specs.Showing.{IsLogFrom, IsPictureAfter, Shows}
 use Rattle.rbc_dispatch.proofs.Ends.{at_handed_on, at_memory}
+use Rattle.rbc_dispatch.proofs.Quiet.{quiet_task}
 use Rattle.rbc_dispatch.proofs.program.perform.Goals as goal
 
 -- the task that was carried out is the one that the words ask for
@@ -85,6 +86,14 @@ returns-clause-unread g c = λ word asked. c.in_ok-carry_out.ensures.unread word
 
 pub returns-clause-check : goal.returns-clause-check
 returns-clause-check g c = λ file asked. c.in_ok-carry_out.ensures.check file (c.in_ok-task.ensures.check file asked)
+
+-- words that ask for no figures are taken for a task that says none
+
+pub returns-in_err-carry_out-clause-quiet : goal.returns-in_err-carry_out-clause-quiet
+returns-in_err-carry_out-clause-quiet g c = λ asked. c.in_err-carry_out.ensures.quiet (quiet_task (map string_bytes c.args.words.now) _ c.in_ok-task.ensures.task asked)
+
+pub returns-clause-quiet : goal.returns-clause-quiet
+returns-clause-quiet g c = λ asked. c.in_ok-carry_out.ensures.quiet (quiet_task (map string_bytes c.args.words.now) _ c.in_ok-task.ensures.task asked)
 
 -- the words ask for a message, and memory runs out over them
 
