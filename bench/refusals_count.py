@@ -29,9 +29,16 @@ DESCRIBED = {
     "8806000000FA000001C000E400000287D0500C8019000830": b"136 stamp 1000 engine 7 0 scale 0 lrbg 5 distance 2000 dir 1 side 1 over 100 under 100\n",
 }
 
-# golden batches to which memory is refused, and those to which threads are, with their tracks
+# golden batches to which memory is refused, and those to which threads are, with their tracks. Behind the latter stand the numbers of workers
+# that do windows of them: each window starts its threads anew, and each thread takes two runs.
 SMALL = ("example-unanswered main_line.toml", "example-several main_line.toml")
-GOLDEN = ("contended-1 contended-1.toml", "identifiers identifiers.toml", "limits-1 limits-1.toml")
+GOLDEN = {
+    "contended-1 contended-1.toml": ("2", "4"),
+    "identifiers identifiers.toml": ("2", "4", "16"),
+    "limits-1 limits-1.toml": ("2",),
+}
+# how its workers share them, by its last word
+WAYS = {"0": "on a locked book", "1": "in windows of 1 message", "7": "in windows of 7 messages"}
 
 # the line on standard error of the program, where memory was refused to it, and where it was to the reading of the track
 OF_PROGRAM = re.compile(rb"out of memory( after \d+ inputs)?\n")
@@ -158,21 +165,27 @@ def recv(engine, stamp):
 HEAVY_TRACK = b'horizon = 100000\n[[line]]\nlength = 300000\n[[group]]\nnid = 1\nline = 0\nat = 10000\nnominal = "up"\n'
 
 
-def golden(folder, case):
-    """Leaves one golden batch in a folder. Gives what the program of the golden batches has to write there."""
+def golden(folder, case, words):
+    """Leaves one golden batch in a folder. Gives what the program of the golden batches has to write there by these words: that the output is
+    right, and in how many windows it was run, as it says where nothing is refused. A book has none, and several workers some."""
     with open(f"{folder}/cases.txt", "w", encoding="ascii") as it:
         it.write(case + "\n")
-    return f"{case.replace(' ', ' on ')} right\n".encode()
+    said = subprocess.run(words, capture_output=True, check=True, cwd=folder).stdout
+    told = re.fullmatch(rb"(.*) right, (\d+) windows\n", said)
+    _, _, workers, most = words
+    if not told or told[1].decode() != case.replace(" ", " on ") or (int(told[2]) > 0) != (workers != "1" and most != "0"):
+        sys.exit(f"{case}: {said}")
+    return said
 
 
 def at_golden(root, refuse, folder):
     """Refuses memory to the program of the golden batches, in which each worker takes part."""
     wrong = 0
     for case in SMALL:
-        right = golden(folder, case)
-        for workers in ("1", "2"):
-            name = f"`{case.split()[0]}`, {workers} workers in a locked book"
-            words = [f"{root}/crates/rbc_tests/out/rbc_tests", "1", workers]
+        for workers, most in (("1", "0"), ("2", "0"), ("2", "1"), ("2", "7"), ("3", "7")):
+            name = f"`{case.split()[0]}`, {workers} workers {WAYS[most]}"
+            words = [f"{root}/crates/rbc_tests/out/rbc_tests", "1", workers, most]
+            right = golden(folder, case, words)
             wrong += count(name, words, b"", refuse, lambda ended, right=right: end_of_golden(ended, right), folder)
     return wrong
 
@@ -187,11 +200,11 @@ def at_threads(root, refuse, folder):
     for workers in ("2", "4", "16"):
         name = f"the program, {workers} workers"
         wrong += count_threads(name, [*words, workers], batch, refuse, expected)
-    for case in GOLDEN:
-        right = golden(f"{folder}/golden", case)
-        for workers in ("2", "4", "16"):
-            name = f"`{case.split()[0]}`, {workers} workers"
-            words = [f"{root}/crates/rbc_tests/out/rbc_tests", "1", workers]
+    for case, of_windows in GOLDEN.items():
+        for workers, most in [(count, "0") for count in ("2", "4", "16")] + [(count, "7") for count in of_windows]:
+            name = f"`{case.split()[0]}`, {workers} workers {WAYS[most]}"
+            words = [f"{root}/crates/rbc_tests/out/rbc_tests", "1", workers, most]
+            right = golden(f"{folder}/golden", case, words)
             wrong += count_threads(name, words, b"", refuse, right, f"{folder}/golden")
     return wrong
 

@@ -6,6 +6,7 @@ bench/soak.sh tells what it does and prints.
 import collections
 import concurrent.futures
 import os
+import re
 import statistics
 import subprocess
 import sys
@@ -107,12 +108,12 @@ class Soak:
             with open(f"{cases}/cases.txt", "w", encoding="ascii") as it:
                 it.writelines(f"{batch.name} {batch.track}\n" for batch in batches)
             ended = run([self.golden, str(runs), str(workers)], cases)
-        wanted = b"".join(b"%s on %s right\n" % (batch.name.encode(), batch.track.encode()) for batch in batches)
+        wanted = b"".join(rb"%s on %s right, \d+ windows\n" % (re.escape(batch.name.encode()), re.escape(batch.track.encode())) for batch in batches)
         names = " ".join(f"{batch.name} of {batch.lines} lines" for batch in batches)
         for line in ended.errors.splitlines():
             if line.endswith(b" inputs recomputed"):
                 self.again += int(line.split()[0])
-        return ended, ended.status == 0 and ended.output == wanted, f"{names}, {workers} workers, {runs} runs each"
+        return ended, ended.status == 0 and re.fullmatch(wanted, ended.output) is not None, f"{names}, {workers} workers, {runs} runs each"
 
     def over_and_over(self, batch, workers):
         """Runs a batch by one process for some time. Its memory in the last third of the time must be that in the first third, by the median: a

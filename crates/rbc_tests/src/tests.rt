@@ -9,6 +9,7 @@ mod runs;
 mod setting;
 mod settling;
 mod stretches;
+mod windows;
 
 use std::fmt::Debug;
 use std::process::Abort;
