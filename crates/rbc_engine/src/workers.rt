@@ -20,7 +20,7 @@ use rbc_desk::{Desk, MAX_RESULTS};
 use rbc_step::{Input, MAX_INPUTS};
 use rbc_track::Track;
 use rbc_versions::VersionLog;
-use rbc_window::run_window;
+use rbc_window::{Crew, run_window};
 use std::alloc::Global;
 use std::error::Error;
 use std::marker::Brand;
@@ -201,13 +201,14 @@ fn run_shared<G: Gate, R: Threads + Sync>(
     desk: &mut Desk,
     inputs: &[Input],
     workers: u8,
+    crew: &mut Crew,
     gate: &G,
 ) -> Result<Stats, RunError>
     requires good { IsGoodRun (record { track = track.now; opening = desk.old; inputs = inputs.now }) }
     ensures { IsStretch (record { track = track.now; opening = desk.old; inputs = inputs.now }) result desk.new }
 {
     let workers = workers.max(1);
-    match run_window(rt, alloc, track, desk, inputs, workers) {
+    match run_window(rt, alloc, track, desk, inputs, workers, crew) {
         Ok(window) => {
             gate.after_window(window, workers);
             let taken = inputs.len() as u32;
@@ -250,6 +251,7 @@ fn run_stretch<G: Gate + Sync, R: Threads + Wait + Sync>(
     inputs: &[Input],
     road: Road,
     workers: u8,
+    crew: &mut Crew,
     gate: &G,
 ) -> Result<Stats, RunError>
     requires good { IsGoodRun (record { track = track.now; opening = desk.old; inputs = inputs.now }) }
@@ -257,7 +259,7 @@ fn run_stretch<G: Gate + Sync, R: Threads + Wait + Sync>(
 {
     match road {
         Road::Alone => run_alone(alloc, track, desk, inputs),
-        Road::Window => run_shared(rt, alloc, track, desk, inputs, workers, gate),
+        Road::Window => run_shared(rt, alloc, track, desk, inputs, workers, crew, gate),
         Road::Book => run_on_book(rt, alloc, track, desk, inputs, workers, gate),
     }
 }
@@ -270,6 +272,7 @@ fn run_first<G: Gate + Sync, R: Threads + Wait + Sync>(
     desk: &mut Desk,
     inputs: &[Input],
     workers: u8,
+    crew: &mut Crew,
     gate: &G,
 ) -> Result<Stats, RunError>
     requires good { IsGoodRun (record { track = track.now; opening = desk.old; inputs = inputs.now }) }
@@ -277,10 +280,12 @@ fn run_first<G: Gate + Sync, R: Threads + Wait + Sync>(
 {
     let way = next_way(desk, inputs, workers, gate.pace());
     if inputs.len() <= way.count {
-        return run_stretch(rt, alloc, track, desk, inputs, way.road, workers, gate);
+        return run_stretch(
+            rt, alloc, track, desk, inputs, way.road, workers, crew, gate,
+        );
     }
     let first = &inputs[..way.count];
-    run_stretch(rt, alloc, track, desk, first, way.road, workers, gate)
+    run_stretch(rt, alloc, track, desk, first, way.road, workers, crew, gate)
 }
 
 /// Runs a stretch of a run, of which so many inputs are done.
@@ -292,6 +297,7 @@ fn run_behind<G: Gate + Sync, R: Threads + Wait + Sync>(
     inputs: &[Input],
     before: u32,
     workers: u8,
+    crew: &mut Crew,
     gate: &G,
 ) -> Result<Stats, RunError>
     requires within { before ≤ length inputs.now }
@@ -301,7 +307,7 @@ fn run_behind<G: Gate + Sync, R: Threads + Wait + Sync>(
 {
     let behind = Behind { gate, before };
     let rest = &inputs[before as usize..];
-    run_first(rt, alloc, track, desk, rest, workers, &behind)
+    run_first(rt, alloc, track, desk, rest, workers, crew, &behind)
 }
 
 /// Runs the next stretch of a run, behind those with these counts, and adds its counts to theirs.
@@ -313,6 +319,7 @@ fn run_next<G: Gate + Sync, R: Threads + Wait + Sync>(
     inputs: &[Input],
     all: Stats,
     workers: u8,
+    crew: &mut Crew,
     gate: &G,
 ) -> Result<Stats, RunError>
     requires within { (all.recomputed ≤ all.taken) × (all.taken ≤ length inputs.now) }
@@ -321,7 +328,9 @@ fn run_next<G: Gate + Sync, R: Threads + Wait + Sync>(
     ensures { IsNextStretch (record { track = track.now; opening = desk.old; inputs = inputs.now })
         all result desk.new }
 {
-    match run_behind(rt, alloc, track, desk, inputs, all.taken, workers, gate) {
+    match run_behind(
+        rt, alloc, track, desk, inputs, all.taken, workers, crew, gate,
+    ) {
         Ok(stats) => Ok(Stats {
             taken: all.taken + stats.taken,
             recomputed: all.recomputed + stats.recomputed,
@@ -358,9 +367,12 @@ fn run_stretches<G: Gate + Sync, R: Threads + Wait + Sync>(
         taken: 0,
         recomputed: 0,
     };
+    let mut crew = Crew::new(alloc);
     while (all.taken as usize) < inputs.len() {
         keeps_order(desk);
-        all = run_next(rt, alloc, track, desk, inputs, all, workers, gate)?;
+        all = run_next(
+            rt, alloc, track, desk, inputs, all, workers, &mut crew, gate,
+        )?;
     }
     Ok(all)
 }

@@ -59,6 +59,16 @@ impl<const N: usize> IdTable<N> {
         Ok(IdTable { held })
     }
 
+    /// Makes the table a copy of another. Takes memory only where the other holds more identifiers than this one had
+    /// room for. Fails only for lack of memory; then every identifier is free.
+    pub fn copy_from(&mut self, other: &Self) -> Result<(), AllocError>
+        ensures ok { OnOk result (self.new ≡ other.now) }
+        ensures err { OnErr result (self.new ≡ []) }
+    {
+        self.held.clear();
+        self.held.extend_from_slice(other.held.as_slice())
+    }
+
     /// Returns the slot of an identifier, or `None` if it is free or not below `N`.
     pub fn slot(&self, id: u8) -> Option<Slot>
         ensures value { result ≡ value_of self.now id }

@@ -16,7 +16,7 @@ ghost use Rattle.rbc_step.specs.Gathered.{IsEnough};
 ghost use Rattle.rbc_step.specs.Lists.{AreEnginesOf, AreTrainsKnown, HaveSought, engines_at, is_list, may_stop};
 
 use crate::lists::line_of;
-use rbc_records::{Key, ReadFault, Reader, Sought};
+use rbc_records::{Key, ReadFault, Reader, Sought, Writes};
 use rbc_step::{MAX_TRAINS, RuleFault, Segments, read};
 use rbc_track::Track;
 use rbc_train::Numbers;
@@ -36,6 +36,21 @@ pub(crate) fn fetch<S: Reader>(store: &mut S, key: Key) -> Result<(), RuleFault>
         Err(ReadFault::OutOfMemory) => Err(RuleFault::OutOfMemory),
         Err(ReadFault::Failed) => Err(RuleFault::Reader),
     }
+}
+
+/// Fetches one record, and takes what is spare.
+pub(crate) fn fetch_with_spare<S: Reader>(
+    store: &mut S,
+    key: Key,
+) -> Result<Option<Writes>, RuleFault>
+    requires { S.failed store.old + 1 < 2 ^ 64 }
+    ensures learns { OnOk result (Learns (S.notes store.old) key (S.notes store.new)) }
+    ensures extends { Extends (S.notes store.old) (S.notes store.new) }
+    ensures failed { OnOk result (S.failed store.new ≡ S.failed store.old) }
+    ensures fault { (plan : Plan) → FailsAs plan (S.notes store.new) (S.failed store.old) (S.failed store.new) result }
+{
+    fetch(store, key)?;
+    Ok(store.spare())
 }
 
 /// Fetches the train of each of these engines.

@@ -1,6 +1,6 @@
 //! Decides a message from a train.
 
-ghost use Rattle.std.specs.Prelude.{◌≡◌, ◌+◌, ◌<◌, ◌^◌, IsTrue, IfOk, IfErr, OnOk, Ok, false};
+ghost use Rattle.std.specs.Prelude.{◌≡◌, ◌+◌, ◌<◌, ◌^◌, [], IsTrue, IfOk, IfErr, OnOk, Ok, false};
 ghost use Rattle.rbc_track.specs.Plan.{Plan};
 ghost use Rattle.rbc_records.specs.declared.record.Key.TheVariants as key;
 ghost use Rattle.rbc_records.specs.Notes.{Extends, knows, same_key};
@@ -13,7 +13,7 @@ ghost use Rattle.rbc_step.specs.Faults.{IsFaultOf};
 ghost use Rattle.rbc_step.specs.Lists.{engines_at, is_list, moves};
 ghost use Rattle.rbc_step.specs.Gathered.{AreSendable, heard_outcome};
 
-use crate::fetch::fetch;
+use crate::fetch::{fetch, fetch_with_spare};
 use crate::lists::{list_of, write_with, write_without};
 use crate::train_message::{engine_of, heard};
 use ertms_codec::FromTrain;
@@ -44,30 +44,43 @@ pub fn receive<S: Reader>(
     ensures failed { OnOk result (S.failed store.new ≡ S.failed store.old) }
 {
     let engine = engine_of(message);
-    fetch(store, Key::Train(engine))?;
+    let spare = fetch_with_spare(store, Key::Train(engine))?;
+    let (writes, spare) = emptied(alloc, spare);
     let Some(before) = read::train(store, engine)? else {
         return Ok(Outcome::refused(alloc, Refusal::UnknownTrain));
     };
-    let train = match heard(alloc, track, message, before) {
+    let train = match heard(alloc, track, message, before, spare) {
         Ok(train) => train,
         Err(NotChanged::Refused(refusal)) => return Ok(Outcome::refused(alloc, refusal)),
         Err(NotChanged::OutOfMemory) => return Err(RuleFault::OutOfMemory),
     };
     let (left, entered) = (list_of(before), list_of(&train));
-    let moved = moves(alloc, engine, left, entered, store)?;
+    let moved = moves(alloc, engine, left, entered, writes, store)?;
     received(alloc, track, engine, train, moved, store)
 }
 
-/// Reads the two lists of a train that leaves one and comes into another, and returns what is written to them: nothing
-/// for a train that stays in its list.
+/// An empty list of writes, and the record of a train that is not needed any more: both from writes that are spare, if
+/// there are any.
+fn emptied(alloc: Global, spare: Option<Writes>) -> (Writes, Option<TrainRec>)
+    ensures { result.0 ≡ [] }
+{
+    let mut writes = spare.unwrap_or(Writes::new(alloc));
+    let train = writes.empty();
+    (writes, train)
+}
+
+/// Reads the two lists of a train that leaves one and comes into another, and returns what is written to them, in an
+/// empty list that is given: nothing for a train that stays in its list.
 fn moves<S: Reader>(
     alloc: Global,
     engine: u32,
     left: Key,
     entered: Key,
+    writes: Writes,
     store: &mut S,
 ) -> Result<Writes, RuleFault>
     requires room { S.failed store.old + 1 < 2 ^ 64 }
+    requires empty { writes ≡ [] }
     requires left { IsTrue (is_list left) }
     requires entered { IsTrue (is_list entered) }
     requires comes { (plan : Plan) (w : World) → MayBe plan (S.notes store.old) w → same_key left entered ≡ false
@@ -79,22 +92,24 @@ fn moves<S: Reader>(
     ensures failed { OnOk result (S.failed store.new ≡ S.failed store.old) }
 {
     if left == entered {
-        return Ok(Writes::new(alloc));
+        return Ok(writes);
     }
     fetch(store, left)?;
     fetch(store, entered)?;
-    moved(alloc, engine, left, entered, store)
+    moved(alloc, engine, left, entered, writes, store)
 }
 
 /// Returns what is written to the two lists of a train that leaves one and comes into another, by the records that were
-/// read.
+/// read, in an empty list that is given.
 fn moved<S: Reader>(
     alloc: Global,
     engine: u32,
     left: Key,
     entered: Key,
+    writes: Writes,
     store: &S,
 ) -> Result<Writes, RuleFault>
+    requires empty { writes ≡ [] }
     requires left { IsTrue (is_list left) }
     requires entered { IsTrue (is_list entered) }
     requires left_known { IsTrue (knows (S.notes store.now) left) }
@@ -112,7 +127,7 @@ fn moved<S: Reader>(
     if engines.has(engine) {
         return Err(RuleFault::Torn);
     }
-    let mut writes = Writes::new(alloc);
+    let mut writes = writes;
     write_without(alloc, left, others, engine, &mut writes)?;
     write_with(alloc, entered, engines, engine, &mut writes)?;
     Ok(writes)

@@ -95,12 +95,14 @@ fn answered(train: TrainRec, id: u8, answer: u8) -> Result<TrainRec, NotChanged>
     }
 }
 
-/// Returns the train after its message, or why the message is refused. The given record is unchanged.
+/// Returns the train after its message, in the memory of a record that is spare if there is one, or why the message is
+/// refused. The given record is unchanged.
 pub(crate) fn heard(
     alloc: Global,
     track: &Track,
     message: &FromTrain,
     train: &TrainRec,
+    spare: Option<TrainRec>,
 ) -> Result<TrainRec, NotChanged>
     ensures ok { IfOk result (λ after. Ok after ≡ heard track.now message.now train.now) }
     ensures err { IfErr result (λ why. IsReason (heard track.now message.now train.now) why) }
@@ -108,7 +110,7 @@ pub(crate) fn heard(
     if is_too_high(stamp_of(message)) {
         return Err(NotChanged::Refused(Refusal::StampTooHigh));
     }
-    let mut train = train.copy(alloc)?;
+    let mut train = train.copy_over(alloc, spare)?;
     raise(&mut train, stamp_of(message));
     match message {
         FromTrain::Report { position, .. } => {

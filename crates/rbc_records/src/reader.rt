@@ -1,6 +1,7 @@
 //! Reading single records.
 
 use crate::record::{Key, Rec};
+use crate::writes::Writes;
 use rbc_sought::Sought;
 use rbc_train::Numbers;
 use std::alloc::{AllocError, Global};
@@ -38,6 +39,15 @@ pub trait Reader {
     fn seen(&self, key: Key) -> Option<&Rec>
         requires { IsTrue (knows (notes self.now) key) }
         ensures { option_copied result ≡ noted (notes self.now) key };
+
+    /// Writes that nobody needs any more, in whose memory others can be made; `None` where there are none. What has
+    /// been read stays.
+    fn spare(&mut self) -> Option<Writes>
+        ensures same { notes self.new ≡ notes self.old }
+        ensures failed { failed self.new ≡ failed self.old }
+    {
+        None
+    }
 
     /// The number of reads that have failed.
     fn failures(&self) -> u64

@@ -3,6 +3,7 @@
 ghost use Rattle.std.specs.Prelude.{◌≡◌, ◌<◌, [], ◌∷◌, ◌++◌, length, OnOk, OnErr, Some, slice_get, option_copied};
 
 use crate::record::{Key, Rec};
+use rbc_train::TrainRec;
 use std::alloc::{AllocError, Global};
 use std::marker::Model;
 
@@ -41,6 +42,19 @@ impl Writes {
     {
         self.all.push((key, rec))?;
         Ok(())
+    }
+
+    /// Takes all writes out, and hands back the record of a train if the last of them had one. The memory of the list
+    /// stays.
+    pub fn empty(&mut self) -> Option<TrainRec>
+        ensures { self.new ≡ [] }
+    {
+        let last = self.all.pop();
+        self.all.clear();
+        match last {
+            Some((_key, Some(Rec::Train(train)))) => Some(train),
+            _other => None,
+        }
     }
 
     /// The number of writes.

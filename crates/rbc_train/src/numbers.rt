@@ -100,6 +100,16 @@ impl Numbers {
         })
     }
 
+    /// Makes the list a copy of another. Takes memory only where the other has more numbers than this one had room
+    /// for. Fails only for lack of memory; then the list is empty.
+    pub fn copy_from(&mut self, other: &Self) -> Result<(), AllocError>
+        ensures ok { OnOk result (self.new ≡ other.now) }
+        ensures err { OnErr result (self.new ≡ []) }
+    {
+        self.all.clear();
+        self.all.extend_from_slice(other.all.as_slice())
+    }
+
     /// Copies the list with one more number, which the list must not have; fails only for lack of
     /// memory. The copy takes memory once, and only for its numbers.
     pub fn copy_with(&self, alloc: Global, n: u32) -> Result<Self, AllocError>

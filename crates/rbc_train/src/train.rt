@@ -69,6 +69,28 @@ impl TrainRec {
         })
     }
 
+    /// Copies the record in the memory of another that nobody needs any more, if there is one; fails only for lack of
+    /// memory.
+    pub fn copy_over(&self, alloc: Global, spare: Option<Self>) -> Result<Self, AllocError>
+        ensures { IfOk result (λ copy. copy ≡ self.now) }
+    {
+        let Some(mut copy) = spare else {
+            return self.copy(alloc);
+        };
+        copy.forced.copy_from(&self.forced)?;
+        copy.stops.copy_from(&self.stops)?;
+        copy.limits.copy_from(&self.limits)?;
+        Ok(TrainRec {
+            engine: self.engine,
+            length: self.length,
+            stamp: self.stamp,
+            place: self.place,
+            forced: copy.forced,
+            stops: copy.stops,
+            limits: copy.limits,
+        })
+    }
+
     /// Makes a change to the stops, under the identifier that it names. Fails only for lack of memory.
     pub fn change_stop(&mut self, change: &StopChange) -> Result<(), AllocError>
         requires stamp { self.old.stamp + 1 < 2 ^ 32 }

@@ -13,7 +13,7 @@ use crate::reads::Reads;
 use crate::source::Source;
 use ertms_codec::FromTrain;
 use indexmap::IndexMap;
-use rbc_records::{Key, PlainStore};
+use rbc_records::{Key, PlainStore, Writes};
 use rbc_rule::decide;
 use rbc_step::{Input, Outcome, RuleFault};
 use rbc_track::Track;
@@ -51,13 +51,14 @@ fn sender(message: &FromTrain) -> u32 {
 }
 
 /// Attempts those inputs of a window that are the worker's, in their order, as far as there is memory. The desk stands
-/// still; what an earlier attempt of the worker writes is read in its place.
+/// still; what an earlier attempt of the worker writes is read in its place. What is left of the attempts before is let
+/// go.
 pub(crate) fn attempt_all(
     alloc: Global,
     track: &Track,
     store: &PlainStore,
     inputs: &[Input],
-    worker: u32,
+    attempts: Attempts,
     workers: u32,
 ) -> Attempts
     requires some { 0 < workers }
@@ -65,10 +66,13 @@ pub(crate) fn attempt_all(
     requires fit { All Fits inputs.now }
     ensures { AreTried track.now (record_in store.now) inputs.now result }
 {
-    let mut attempts = Attempts::new(alloc);
+    let worker = attempts.worker();
+    let mut attempts = attempts;
+    attempts.clear();
     let mut latest = IndexMap::new(alloc);
     for (index, input) in inputs.iter().enumerate() {
         if owner(input, workers) == worker {
+            let spare = attempts.spare();
             let Ok(attempt) = attempt_one(
                 alloc,
                 track,
@@ -77,6 +81,7 @@ pub(crate) fn attempt_all(
                 index as u32,
                 &attempts,
                 &latest,
+                spare,
             ) else {
                 break;
             };
@@ -115,6 +120,7 @@ fn attempt_one(
     index: u32,
     attempts: &Attempts,
     latest: &IndexMap<Key, u32>,
+    spare: Option<Writes>,
 ) -> Result<Attempt, RuleFault>
     requires fits { Fits input.now }
     ensures number { IfOk result (λ a. (a.index ≡ index) × (a.place ≡ length attempts.now)) }
@@ -128,7 +134,7 @@ fn attempt_one(
     if place >= 4_294_967_296 {
         return Err(RuleFault::OutOfMemory);
     }
-    let (reads, outcome) = decided::<Brand>(alloc, track, store, input, attempts, latest)?;
+    let (reads, outcome) = decided::<Brand>(alloc, track, store, input, attempts, latest, spare)?;
     Ok(Attempt {
         index,
         place: place as u32,
@@ -145,6 +151,7 @@ fn decided<S: Source>(
     input: &Input,
     attempts: &Attempts,
     latest: &IndexMap<Key, u32>,
+    spare: Option<Writes>,
 ) -> Result<(Reads, Outcome), RuleFault>
     requires store { store.now ≡ S.records }
     requires attempts { attempts.now ≡ S.before }
@@ -155,7 +162,7 @@ fn decided<S: Source>(
         done.1.result done.1.writes done.1.messages) }
     ensures fit { IfOk result (λ done. AreSendable done.1.messages) }
 {
-    let mut reading = Reading::<S>::new(store, attempts, latest);
+    let mut reading = Reading::<S>::new(store, attempts, latest, spare);
     let outcome = decide(alloc, track, input, &mut reading)?;
     Ok((reading.into_reads(), outcome))
 }

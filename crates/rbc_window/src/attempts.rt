@@ -4,14 +4,21 @@ ghost use Rattle.std.specs.Prelude.{◌≡◌, [], ◌∷◌, ◌++◌, length, 
 ghost use Rattle.rbc_step.specs.Gathered.{AreSendable};
 
 use crate::attempt::Attempt;
+use rbc_records::Writes;
 use std::alloc::{AllocError, Global};
 use std::collections::VecDeque;
 use std::marker::Model;
 
-/// The attempts of one worker, or what is left of them while they are committed. All that they send can be sent.
+/// How many spare writes a worker keeps.
+const MOST_SPARE: usize = 4_096;
+
+/// The attempts of one worker, or what is left of them while they are committed. All that they send can be sent. The
+/// memory of what its writes replaced is kept for later attempts.
 #[derive(Drop)]
 pub(crate) struct Attempts {
+    worker: u32,
     all: VecDeque<Attempt>,
+    spare: Vec<Writes>,
 }
 
 impl Model for Attempts {
@@ -27,12 +34,42 @@ impl Model for Attempts {
 }
 
 impl Attempts {
-    /// No attempts. Takes no memory.
-    pub(crate) fn new(alloc: Global) -> Self
+    /// No attempts of a worker. Takes no memory.
+    pub(crate) fn new(alloc: Global, worker: u32) -> Self
         ensures { result ≡ [] }
     {
         Attempts {
+            worker,
             all: VecDeque::new(alloc),
+            spare: Vec::new(alloc),
+        }
+    }
+
+    /// The worker whose attempts these are.
+    pub(crate) fn worker(&self) -> u32 {
+        self.worker
+    }
+
+    /// Takes all of them out. Their memory stays.
+    pub(crate) fn clear(&mut self)
+        ensures { self.new ≡ [] }
+    {
+        self.all.clear();
+    }
+
+    /// Writes that nobody needs any more, if there are any.
+    pub(crate) fn spare(&mut self) -> Option<Writes>
+        ensures { self.new ≡ self.old }
+    {
+        self.spare.pop()
+    }
+
+    /// Keeps the memory of writes that nobody needs any more, unless there is much of it already, or none to note it.
+    pub(crate) fn keep_spare(&mut self, spare: Writes)
+        ensures { self.new ≡ self.old }
+    {
+        if self.spare.len() < MOST_SPARE {
+            let _ = self.spare.push(spare);
         }
     }
 

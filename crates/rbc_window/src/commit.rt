@@ -18,18 +18,19 @@ use crate::attempts::Attempts;
 use crate::since::{Origin, Since};
 use crate::window::{WindowFault, WindowStats};
 use rbc_desk::{Desk, MAX_RESULTS};
+use rbc_records::Writes;
 use rbc_step::{Input, Outcome, RuleFault};
 use rbc_track::Track;
 use std::alloc::Global;
 
 /// Commits the inputs of a window in their order: each by its attempt if all that was read for it is what stands there
-/// now, and else by computing it here.
+/// now, and else by computing it here. What was replaced goes back to the worker of the input, for its memory.
 pub(crate) fn commit_all(
     alloc: Global,
     track: &Track,
     desk: &mut Desk,
     inputs: &[Input],
-    mut queues: Vec<Attempts>,
+    queues: &mut Vec<Attempts>,
     workers: u32,
 ) -> Result<WindowStats, WindowFault>
     requires some { 0 < workers }
@@ -37,7 +38,7 @@ pub(crate) fn commit_all(
     requires room { length desk.old.results + length inputs.now ≤ MAX_RESULTS }
     requires fit { All Fits inputs.now }
     requires plan { IsPlan track.now }
-    requires tried { All (AreTried track.now (record_in desk.old.records) inputs.now) queues.items }
+    requires tried { All (AreTried track.now (record_in desk.old.records) inputs.now) queues.old.items }
     ensures { IsWindow track.now inputs.now desk.old result desk.new }
 {
     let mut since = Since::new(alloc);
@@ -47,18 +48,20 @@ pub(crate) fn commit_all(
     };
     for (index, input) in inputs.iter().enumerate() {
         let worker = owner(input, workers);
-        let attempt = next_of(&mut queues, worker);
+        let attempt = next_of(queues, worker);
         let index = index as u32;
         if attempt.is_some() {
             stats.attempted += 1;
         }
-        match commit_one(
+        let Ok((origin, old)) = commit_one(
             alloc, track, desk, &mut since, input, index, worker, attempt,
-        ) {
-            Ok(Origin::Taken { .. }) => stats.taken_over += 1,
-            Ok(Origin::Computed) => {}
-            Err(_) => return Err(WindowFault { committed: index }),
+        ) else {
+            return Err(WindowFault { committed: index });
+        };
+        if origin != Origin::Computed {
+            stats.taken_over += 1;
         }
+        give_back(queues, worker, old);
     }
     Ok(stats)
 }
@@ -78,7 +81,19 @@ fn next_of(queues: &mut Vec<Attempts>, worker: u32) -> Option<Attempt>
     queues[worker].pop()
 }
 
-/// Commits one input, and tells by what. Fails only for lack of memory, and then changes nothing on the desk.
+/// Gives writes that nobody needs any more to a worker, if there is such a one.
+fn give_back(queues: &mut Vec<Attempts>, worker: u32, old: Writes)
+    ensures keeps { (track : Plan) (base : Records) (ms : ℕ → Meaning) (bounds : ℕ → ℕ) (inputs : List Input)
+        → AllTried track base ms bounds inputs queues.old.items → AllTried track base ms bounds inputs queues.new.items }
+{
+    let place = worker as usize;
+    if place < queues.len() {
+        queues[place].keep_spare(old);
+    }
+}
+
+/// Commits one input, and tells by what, and what its writes replaced. Fails only for lack of memory, and then changes
+/// nothing on the desk.
 fn commit_one(
     alloc: Global,
     track: &Track,
@@ -88,7 +103,7 @@ fn commit_one(
     index: u32,
     worker: u32,
     attempt: Option<Attempt>,
-) -> Result<Origin, RuleFault>
+) -> Result<(Origin, Writes), RuleFault>
     requires fits { Fits input.now }
     requires plan { IsPlan track.now }
     requires room { length desk.old.results < MAX_RESULTS }
@@ -106,8 +121,8 @@ fn commit_one(
     if since.mark(&outcome.writes, origin).is_err() {
         return Err(RuleFault::OutOfMemory);
     }
-    let _ = desk.take_over(alloc, outcome)?;
-    Ok(origin)
+    let old = desk.take_over(alloc, outcome)?;
+    Ok((origin, old))
 }
 
 /// Says in its contract what every desk satisfies, because an input is taken in only by such a desk.

@@ -18,6 +18,7 @@ pub(crate) struct Reading<'a, S: Source> {
     store: &'a PlainStore,
     attempts: &'a Attempts,
     latest: &'a IndexMap<Key, u32>,
+    spare: Option<Writes>,
     reads: Reads,
     of: PhantomData<S>,
 }
@@ -37,11 +38,12 @@ impl<'a, S: Source> Model for Reading<'a, S> {
 }
 
 impl<'a, S: Source> Reading<'a, S> {
-    /// Nothing was read. Takes no memory.
+    /// Nothing was read; the outcome can be made in the memory of spare writes. Takes no memory.
     pub(crate) fn new(
         store: &'a PlainStore,
         attempts: &'a Attempts,
         latest: &'a IndexMap<Key, u32>,
+        spare: Option<Writes>,
     ) -> Self
         requires store { store.now ≡ S.records }
         requires attempts { attempts.now ≡ S.before }
@@ -51,6 +53,7 @@ impl<'a, S: Source> Reading<'a, S> {
             store,
             attempts,
             latest,
+            spare,
             reads: Reads::new(),
             of: PhantomData,
         }
@@ -65,6 +68,7 @@ impl<'a, S: Source> Reading<'a, S> {
             store: _,
             attempts: _,
             latest: _,
+            spare: _,
             reads,
             of: _,
         } = self;
@@ -101,6 +105,10 @@ impl<'a, S: Source> Reader for Reading<'a, S> {
                 Some(attempt) => left_by(&attempt.outcome.writes, key),
             },
         }
+    }
+
+    fn spare(&mut self) -> Option<Writes> {
+        self.spare.take()
     }
 
     fn failures(&self) -> u64 {

@@ -10,6 +10,7 @@ ghost use Rattle.rbc_window.specs.Answers.{IsWindow};
 use crate::attempt::attempt_all;
 use crate::attempts::Attempts;
 use crate::commit::commit_all;
+use crate::crew::Crew;
 use rbc_desk::{Desk, MAX_RESULTS};
 use rbc_records::PlainStore;
 use rbc_step::Input;
@@ -32,7 +33,8 @@ pub struct WindowFault {
 }
 
 /// Takes the inputs of a window in, of which each worker attempts those of its trains. The desk is then that of the
-/// rules applied to the inputs one after another, whatever the workers did. There has to be room for their results.
+/// rules applied to the inputs one after another, whatever the workers did. There has to be room for their results. The
+/// crew keeps memory for the next window.
 ///
 /// # Errors
 ///
@@ -44,6 +46,7 @@ pub fn run_window<R: Threads + Sync>(
     desk: &mut Desk,
     inputs: &[Input],
     workers: u8,
+    crew: &mut Crew,
 ) -> Result<WindowStats, WindowFault>
     requires some { 0 < workers }
     requires few { length inputs.now < 2 ^ 32 }
@@ -52,10 +55,12 @@ pub fn run_window<R: Threads + Sync>(
     ensures { IsWindow track.now inputs.now desk.old result desk.new }
 {
     keeps(track);
-    match attempts_of(rt, alloc, track, desk.store(), inputs, workers) {
-        Ok(queues) => commit_all(alloc, track, desk, inputs, queues, u32::from(workers)),
-        Err(_) => Err(WindowFault { committed: 0 }),
-    }
+    let Ok(mut queues) = attempts_of(rt, alloc, track, desk.store(), inputs, workers, crew) else {
+        return Err(WindowFault { committed: 0 });
+    };
+    let done = commit_all(alloc, track, desk, inputs, &mut queues, u32::from(workers));
+    crew.come_back(queues);
+    done
 }
 
 /// The attempts of each worker, made at the same time. Fails only for lack of memory.
@@ -66,24 +71,18 @@ fn attempts_of<R: Threads + Sync>(
     store: &PlainStore,
     inputs: &[Input],
     workers: u8,
+    crew: &mut Crew,
 ) -> Result<Vec<Attempts>, AllocError>
     requires some { 0 < workers }
     requires few { length inputs.now < 2 ^ 32 }
     requires fit { All Fits inputs.now }
     ensures { IfOk result (λ queues. All (AreTried track.now (record_in store.now) inputs.now) queues.items) }
 {
-    thread::map_indices(
+    let crew = crew.go(alloc, u32::from(workers))?;
+    thread::map_vec(
         rt,
-        alloc,
-        usize::from(workers),
-        &|worker| attempt_all(
-            alloc,
-            track,
-            store,
-            inputs,
-            worker as u32,
-            u32::from(workers),
-        ),
+        crew,
+        &|attempts| attempt_all(alloc, track, store, inputs, attempts, u32::from(workers)),
     )
 }
 

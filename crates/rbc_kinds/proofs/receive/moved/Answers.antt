@@ -19,7 +19,7 @@ pub returns-clause-writes : goal.returns-clause-writes
 returns-clause-writes g c = λ plan w m.
     let others = read_or c.in_ok-engines.field-0 c.unwrap_or-others.result _ _ c.unwrap_or-others.ensures c.new-nobody.ensures ∙ c.in_ok-engines.ensures.engines plan w m in
     let engines = read_or c.in_ok-engines-2.field-0 c.unwrap_or-engines.result _ _ c.unwrap_or-engines.ensures c.new-nobody.ensures ∙ c.in_ok-engines-2.ensures.engines plan w m in
-    let none = c.new-writes.ensures in
+    let none = c.requires.empty in
     let left : Key × Option Rec = (c.args.left, engines_record (without_number c.args.engine (engines_at w c.args.left))) in
     let entered : Key × Option Rec = (c.args.entered, engines_record (with_number c.args.engine (engines_at w c.args.entered))) in
     let first : c.write_without.new.writes ≡ left ∷ [] =

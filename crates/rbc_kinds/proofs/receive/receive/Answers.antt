@@ -17,7 +17,7 @@ use Rattle.rbc_kinds.proofs.receive.receive.Goals as goal
 pub returns-in_err-before-clause-fault : goal.returns-in_err-before-clause-fault
 returns-in_err-before-clause-fault g c =
     let residual = c.from_residual-in_err-before in
-    fault_handed_on c.args.track.now _ _ _ residual.result c.in_err-before.field-0.0 residual.ensures.1 (c.in_err-before.ensures.fault c.args.track.now) c.in_ok-fetch.ensures.failed
+    fault_handed_on c.args.track.now _ _ _ residual.result c.in_err-before.field-0.0 residual.ensures.1 (c.in_err-before.ensures.fault c.args.track.now) c.in_ok-spare.ensures.failed
 
 pub returns-in-Err-Refused-clause-right : goal.returns-in-Err-Refused-clause-right
 returns-in-Err-Refused-clause-right g c = λ w m.

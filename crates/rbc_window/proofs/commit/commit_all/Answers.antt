@@ -7,7 +7,7 @@ use Rattle.rbc_window.specs.declared.window.WindowStats.{WindowStats}
 use Rattle.rbc_window.specs.Windows.{IsTried}
 use Rattle.rbc_window.proofs.Commits.{first_is, at_ok, meanings, bounds_of, one_more_taken_in}
 use Rattle.rbc_window.proofs.commit.commit_all.Goals as goal
-use Rattle.rbc_window.proofs.commit.commit_all.Goals.{then-is_some, else-is_some, in-Ok-Taken, in-Ok-Computed}
+use Rattle.rbc_window.proofs.commit.commit_all.Goals.{then-is_some, else-is_some, then-origin, else-origin}
 
 pub loop-index-preserved : goal.loop-index-preserved
 loop-index-preserved c =
@@ -15,11 +15,11 @@ loop-index-preserved c =
     let track = c.args.track.now in
     let base = record_in c.args.desk.now.records in
     let inputs = c.args.inputs.now in
-    let queues = c.args.queues.items in
+    let queues = c.args.queues.now.items in
     let ms = meanings queues in
     let bounds = bounds_of queues in
     let worker = c.owner-worker.result in
-    let ok : is_ok c.commit_one.result ≡ true = elim c.match-commit_one-2.branch [ in-Ok-Taken w ↦ search rules | in-Ok-Computed w ↦ search rules ] in
+    let ok : is_ok c.commit_one.result ≡ true = search rules in
     let at : slice_get inputs c.loop-index.index ≡ Some c.index-inputs-index.result = slice_get_read _ _ _ _ refl c.loop-index-test.true c.index-inputs-index.is in
     let tried : IfSome c.next_of-attempt.result (IsTried track base (ms worker) (bounds worker) inputs) =
     first_is track base ms bounds inputs c.loop-index.queues.items worker c.next_of-attempt.result c.next_of-attempt.ensures.first i.tried
@@ -37,10 +37,10 @@ loop-index-preserved c =
     in
     let most = counted.0 in
     let same = counted.1 in
-    let taken : (c.match-commit_one-2.stats.taken_over ≤ c.loop-index.index + 1) × (c.match-commit_one-2.stats.attempted ≤ c.loop-index.index + 1) =
-    elim c.match-commit_one-2.branch [
-      | in-Ok-Taken w ↦ (let e = ap (λ (s : WindowStats). s.taken_over) w.stats-is in let f = ap (λ (s : WindowStats). s.attempted) w.stats-is in (omega (arith, over, same, e), omega (arith, most, f)))
-      | in-Ok-Computed w ↦ (let e = ap (λ (s : WindowStats). s.taken_over) w.stats-is in let f = ap (λ (s : WindowStats). s.attempted) w.stats-is in (omega (arith, over, same, e), omega (arith, most, f)))
+    let taken : (c.if-origin.stats.taken_over ≤ c.loop-index.index + 1) × (c.if-origin.stats.attempted ≤ c.loop-index.index + 1) =
+    elim c.if-origin.branch [
+      | then-origin w ↦ (let e = ap (λ (s : WindowStats). s.taken_over) w.stats-is in let f = ap (λ (s : WindowStats). s.attempted) w.stats-is in (omega (arith, over, same, e), omega (arith, most, f)))
+      | else-origin w ↦ (let e = ap (λ (s : WindowStats). s.taken_over) w.stats-is in let f = ap (λ (s : WindowStats). s.attempted) w.stats-is in (omega (arith, over, same, e), omega (arith, most, f)))
     ]
     in
     record {
@@ -49,5 +49,5 @@ loop-index-preserved c =
       over = taken.0;
       few = taken.1;
       means = done.1;
-      tried = c.next_of-attempt.ensures.keeps track base ms bounds inputs i.tried;
+      tried = c.give_back.ensures.keeps track base ms bounds inputs (c.next_of-attempt.ensures.keeps track base ms bounds inputs i.tried);
     }

@@ -1,0 +1,12 @@
+use Rattle.std.proofs.Common.{◌≡◌, ◌<◌, Some, All, slice_get, length, arith, refl, subst, sym}
+use Rattle.std.proofs.lemmas.Option.{slice_get_read}
+use Rattle.rbc_window.specs.Windows.{IsTried}
+use Rattle.rbc_window.proofs.Commits.{tried_set}
+use Rattle.rbc_window.proofs.commit.give_back.Goals as goal
+
+pub returns-clause-keeps : goal.returns-clause-keeps
+returns-clause-keeps c track base ms bounds inputs all =
+    let lt : c.args.worker < length c.args.queues.now.items = omega arith in
+    let at : slice_get c.args.queues.now.items c.args.worker ≡ Some c.index_mut.result.now = slice_get_read _ _ _ _ refl lt c.index_mut.ensures.value in
+    tried_set track base ms bounds inputs c.args.queues.now.items c.args.worker c.keep_spare.new.self all
+    (subst (All (IsTried track base (ms c.args.worker) (bounds c.args.worker) inputs)) (sym c.keep_spare.ensures) (all c.args.worker c.index_mut.result.now at))
