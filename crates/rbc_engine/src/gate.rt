@@ -40,15 +40,15 @@ pub trait Gate {
     fn after_window(&self, _window: WindowStats, _workers: u8) {}
 }
 
-/// The pace of the program (bench/RESULTS.md): below it several workers take longer than one.
+/// The pace of the program (bench/RESULTS.md). Where trains hold less, one worker takes the messages.
 pub const PACE: Pace = Pace {
     held: 96,
     least: 1_024,
-    most: 4_096,
+    most: 2_048,
 };
 
-/// A gate that does nothing. Behind it several workers do windows of messages, where that pays, and one worker does all
-/// other inputs on the desk itself.
+/// A gate that does nothing. Behind it several workers do windows of messages, at the pace of the program, and one
+/// worker does all other inputs on the desk itself.
 #[derive(Clone, Copy, Debug)]
 pub struct OpenGate;
 

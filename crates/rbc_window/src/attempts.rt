@@ -10,7 +10,7 @@ use std::collections::VecDeque;
 use std::marker::Model;
 
 /// How many spare writes a worker keeps.
-const MOST_SPARE: usize = 4_096;
+const MOST_SPARE: usize = 2_048;
 
 /// The attempts of one worker, or what is left of them while they are committed. All that they send can be sent. The
 /// memory of what its writes replaced is kept for later attempts.

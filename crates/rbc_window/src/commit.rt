@@ -83,13 +83,14 @@ fn next_of(queues: &mut Vec<Attempts>, worker: u32) -> Option<Attempt>
 
 /// Gives writes that nobody needs any more to a worker, if there is such a one.
 fn give_back(queues: &mut Vec<Attempts>, worker: u32, old: Writes)
-    ensures keeps { (track : Plan) (base : Records) (ms : ℕ → Meaning) (bounds : ℕ → ℕ) (inputs : List Input)
+    ensures { (track : Plan) (base : Records) (ms : ℕ → Meaning) (bounds : ℕ → ℕ) (inputs : List Input)
         → AllTried track base ms bounds inputs queues.old.items → AllTried track base ms bounds inputs queues.new.items }
 {
     let place = worker as usize;
-    if place < queues.len() {
-        queues[place].keep_spare(old);
+    if place >= queues.len() {
+        return;
     }
+    queues[place].keep_spare(old);
 }
 
 /// Commits one input, and tells by what, and what its writes replaced. Fails only for lack of memory, and then changes

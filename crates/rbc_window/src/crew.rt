@@ -13,8 +13,6 @@ pub struct Crew {
 }
 
 impl Model for Crew {
-    ghost use Rattle.std.specs.Prelude.{Unit, tt};
-
     ghost Value = { Unit {0} };
 
     ghost view = { λ _. tt };

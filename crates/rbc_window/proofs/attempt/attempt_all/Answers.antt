@@ -18,10 +18,12 @@ loop-index-preserved c =
     elim c.if-owner-worker.branch [
       | then-owner-worker+in-Ok+else-is_err w ↦ (
           let a = w.in-Ok.attempt in
-          let kept : w.keep.new.attempts ≡ c.loop-index.attempts ++ a ∷ [] = at_not_err w.keep.result w.keep.ensures.ok (sym w.is_err.ensures.value ∙ w.if-is_err.false) in
+          let before = w.spare-spare.new.self in
+          let tried : AreTried track base inputs before = subst (AreTried track base inputs) (sym w.spare-spare.ensures) c.loop-index.invariant in
+          let kept : w.keep.new.attempts ≡ before ++ a ∷ [] = at_not_err w.keep.result w.keep.ensures.ok (sym w.is_err.ensures.value ∙ w.if-is_err.false) in
           let there : slice_get inputs c.loop-index.index ≡ Some input = slice_get_read _ _ _ _ refl c.loop-index-test.true c.index-inputs-index.is in
           let at : slice_get inputs a.index ≡ Some input = ap (slice_get inputs) w.in-Ok.ensures.number.0 ∙ there in
-          subst (AreTried track base inputs) (sym (w.attempts-is ∙ kept)) (tried_push track base inputs c.loop-index.attempts a input c.loop-index.invariant w.in-Ok.ensures.number.1 w.in-Ok.ensures.within at w.in-Ok.ensures.right)
+          subst (AreTried track base inputs) (sym (w.attempts-is ∙ kept)) (tried_push track base inputs before a input tried w.in-Ok.ensures.number.1 w.in-Ok.ensures.within at w.in-Ok.ensures.right)
           )
       | else-owner-worker w ↦ subst (AreTried track base inputs) (sym w.attempts-is) c.loop-index.invariant
     ]
@@ -32,6 +34,6 @@ returns c =
     let are = AreTried c.args.track.now (record_in c.args.store.now) c.args.inputs.now in
     elim c.loop-index-test.branch [
       | else-loop-index-test w ↦ subst are (sym w.attempts-is) c.loop-index.invariant
-      | then-loop-index-test+then-owner-worker+in_default w ↦ subst are (sym w.attempts-is) c.loop-index.invariant
-      | then-loop-index-test+then-owner-worker+in-Ok+then-is_err w ↦ subst are (sym (w.attempts-is ∙ at_err w.keep.result w.keep.ensures.err (sym w.is_err.ensures.value ∙ w.if-is_err.true))) c.loop-index.invariant
+      | then-loop-index-test+then-owner-worker+in_default w ↦ subst are (sym (w.attempts-is ∙ w.spare-spare.ensures)) c.loop-index.invariant
+      | then-loop-index-test+then-owner-worker+in-Ok+then-is_err w ↦ subst are (sym (w.attempts-is ∙ at_err w.keep.result w.keep.ensures.err (sym w.is_err.ensures.value ∙ w.if-is_err.true) ∙ w.spare-spare.ensures)) c.loop-index.invariant
     ]

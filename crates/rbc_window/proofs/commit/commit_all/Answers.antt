@@ -7,7 +7,7 @@ use Rattle.rbc_window.specs.declared.window.WindowStats.{WindowStats}
 use Rattle.rbc_window.specs.Windows.{IsTried}
 use Rattle.rbc_window.proofs.Commits.{first_is, at_ok, meanings, bounds_of, one_more_taken_in}
 use Rattle.rbc_window.proofs.commit.commit_all.Goals as goal
-use Rattle.rbc_window.proofs.commit.commit_all.Goals.{then-is_some, else-is_some, then-origin, else-origin}
+use Rattle.rbc_window.proofs.commit.commit_all.Goals.{then-is_some, else-is_some, then-ne, else-ne}
 
 pub loop-index-preserved : goal.loop-index-preserved
 loop-index-preserved c =
@@ -37,10 +37,10 @@ loop-index-preserved c =
     in
     let most = counted.0 in
     let same = counted.1 in
-    let taken : (c.if-origin.stats.taken_over ≤ c.loop-index.index + 1) × (c.if-origin.stats.attempted ≤ c.loop-index.index + 1) =
-    elim c.if-origin.branch [
-      | then-origin w ↦ (let e = ap (λ (s : WindowStats). s.taken_over) w.stats-is in let f = ap (λ (s : WindowStats). s.attempted) w.stats-is in (omega (arith, over, same, e), omega (arith, most, f)))
-      | else-origin w ↦ (let e = ap (λ (s : WindowStats). s.taken_over) w.stats-is in let f = ap (λ (s : WindowStats). s.attempted) w.stats-is in (omega (arith, over, same, e), omega (arith, most, f)))
+    let taken : (c.if-ne.stats.taken_over ≤ c.loop-index.index + 1) × (c.if-ne.stats.attempted ≤ c.loop-index.index + 1) =
+    elim c.if-ne.branch [
+      | then-ne w ↦ (let e = ap (λ (s : WindowStats). s.taken_over) w.stats-is in let f = ap (λ (s : WindowStats). s.attempted) w.stats-is in (omega (arith, over, same, e), omega (arith, most, f)))
+      | else-ne w ↦ (let e = ap (λ (s : WindowStats). s.taken_over) w.stats-is in let f = ap (λ (s : WindowStats). s.attempted) w.stats-is in (omega (arith, over, same, e), omega (arith, most, f)))
     ]
     in
     record {
@@ -49,5 +49,5 @@ loop-index-preserved c =
       over = taken.0;
       few = taken.1;
       means = done.1;
-      tried = c.give_back.ensures.keeps track base ms bounds inputs (c.next_of-attempt.ensures.keeps track base ms bounds inputs i.tried);
+      tried = c.give_back.ensures track base ms bounds inputs (c.next_of-attempt.ensures.keeps track base ms bounds inputs i.tried);
     }

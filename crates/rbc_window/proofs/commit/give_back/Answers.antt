@@ -4,8 +4,8 @@ use Rattle.rbc_window.specs.Windows.{IsTried}
 use Rattle.rbc_window.proofs.Commits.{tried_set}
 use Rattle.rbc_window.proofs.commit.give_back.Goals as goal
 
-pub returns-clause-keeps : goal.returns-clause-keeps
-returns-clause-keeps c track base ms bounds inputs all =
+pub returns : goal.returns
+returns c track base ms bounds inputs all =
     let lt : c.args.worker < length c.args.queues.now.items = omega arith in
     let at : slice_get c.args.queues.now.items c.args.worker ≡ Some c.index_mut.result.now = slice_get_read _ _ _ _ refl lt c.index_mut.ensures.value in
     tried_set track base ms bounds inputs c.args.queues.now.items c.args.worker c.keep_spare.new.self all
