@@ -9,3 +9,12 @@ pub mod Listing
 pub mod NothingWaits
 pub mod NoneUntold
 pub mod Keeping
+pub mod Elements
+pub mod StaysTold
+pub mod Meant
+pub mod Subject
+pub mod Found
+pub mod Revoked
+pub mod Heard
+pub mod StepFound
+pub mod NeverUnknown

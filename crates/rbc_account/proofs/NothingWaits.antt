@@ -63,21 +63,21 @@ no_items : {A : Type 0} (xs : List A) → length xs ≤ 0 → xs ≡ []
 no_items [] few = refl
 no_items (x ∷ xs) few = absurd (omega (arith, few))
 
-stops_there : (stops : Stops) → AreNumbered stops → (stops_of (stops_record stops)).active ≡ stops.active
+pub stops_there : (stops : Stops) → AreNumbered stops → (stops_of (stops_record stops)).active ≡ stops.active
 stops_there stops numbered =
     (elim (stops.last == 0) as (λ b. (stops.last == 0) ≡ b → (stops_of (cond b None (Some (rec.Stops stops)))).active ≡ stops.active) [
       | true ↦ λ e. let zero = eqb-true stops.last 0 e in let few = count_within stops numbered in sym (no_items stops.active (omega (arith, zero, few)))
       | false ↦ λ e. refl
     ]) refl
 
-limits_there : (limits : Limits) → AreNumbered limits → (limits_of (limits_record limits)).active ≡ limits.active
+pub limits_there : (limits : Limits) → AreNumbered limits → (limits_of (limits_record limits)).active ≡ limits.active
 limits_there limits numbered =
     (elim (limits.last == 0) as (λ b. (limits.last == 0) ≡ b → (limits_of (cond b None (Some (rec.Limits limits)))).active ≡ limits.active) [
       | true ↦ λ e. let zero = eqb-true limits.last 0 e in let few = count_within limits numbered in sym (no_items limits.active (omega (arith, zero, few)))
       | false ↦ λ e. refl
     ]) refl
 
-train_there : (found : Option TrainRec) → train_of (option_map rec.Train found) ≡ found
+pub train_there : (found : Option TrainRec) → train_of (option_map rec.Train found) ≡ found
 train_there None = refl
 train_there (Some train) = refl
 

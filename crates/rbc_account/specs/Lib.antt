@@ -16,3 +16,4 @@ pub mod Sums
 pub mod Runs
 pub mod Telling
 pub mod Witnesses
+pub mod Found

@@ -1,6 +1,7 @@
 //! A run under way.
 
-ghost use Rattle.std.specs.Prelude.{◌≡◌, ◌⊎◌, ℕ, [], length, IfOk, IfErr, OnOk, option_copied};
+ghost use Rattle.std.specs.Prelude.{◌≡◌, ◌⊎◌, ℕ, false, [], length, IfOk, IfErr, OnOk, option_copied};
+ghost use Rattle.rbc_track.specs.Plan.{IsPlan};
 ghost use Rattle.rbc_track.specs.Reading.{IsTrackOf, RefusesTrack};
 ghost use Rattle.rbc_step.specs.Gathered.{AreSendable};
 ghost use Rattle.rbc_step.specs.Inputs.{Fits};
@@ -8,6 +9,7 @@ ghost use Rattle.rbc_text.specs.BatchText.{line_of, IsInput};
 ghost use Rattle.rbc_live.specs.History.{IsFed, IsStepOf};
 ghost use Rattle.rbc_account.specs.Blocks.{IsRightBlock};
 ghost use Rattle.rbc_account.specs.Coming.{sender_in};
+ghost use Rattle.rbc_account.specs.Found.{has_unknown};
 ghost use Rattle.rbc_account.specs.Standings.{IsStanding};
 ghost use Rattle.rbc_account.specs.Sums.{no_sums, counted, input_count};
 ghost use Rattle.rbc_account.specs.ToldPlaces.{kept_at, kept_after, number_of, of_stamp};
@@ -64,6 +66,13 @@ pub struct Account {
     pub sums: Sums,
     /// The places before which trains were told to stop.
     pub told_places: ToldPlaces,
+}
+
+/// What each track keeps: what each message tells rests on it.
+fn is_plan(track: &Track)
+    ensures { IsPlan track.now }
+{
+    let _ = track.horizon();
 }
 
 impl Account {
@@ -143,7 +152,9 @@ impl Account {
         ensures track { self.new.desk.track ≡ self.old.desk.track }
         ensures right { IfOk result (λ block. IsRightBlock self.new.desk.track self.new.desk.records
             (sender_in self.old.desk.records block.input) block) }
+        ensures known { IfOk result (λ block. has_unknown block.told.items ≡ false) }
     {
+        is_plan(&self.desk.track);
         let input = parse_line(alloc, line)?;
         let before = self.sender(alloc, &input)?;
         let answer = self.take(alloc, &input)?;

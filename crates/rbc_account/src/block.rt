@@ -4,6 +4,8 @@ ghost use Rattle.std.specs.Prelude.{◌≡◌, length, IfOk, option_copied};
 ghost use Rattle.rbc_account.specs.Blocks.{IsRightBlock};
 ghost use Rattle.rbc_account.specs.Coming.{come_to_wait};
 ghost use Rattle.rbc_account.specs.Counting.{counts_after};
+ghost use Rattle.rbc_account.specs.Found.{IsKnown};
+ghost use Rattle.rbc_account.specs.Subjects.{ArePaired};
 
 use crate::coming::come_to_wait;
 use crate::counts::{Counts, counts_after};
@@ -54,6 +56,8 @@ pub(crate) fn block_of(
     ensures paired { IfOk result (λ block. length block.told.items ≡ length block.messages) }
     ensures right { IfOk result (IsRightBlock desk.now.track desk.now.records
         (option_copied before.entry)) }
+    ensures known { IfOk result (λ block. ArePaired
+        (IsKnown desk.now.records input (option_copied before.entry)) block.messages block.told.items) }
 {
     let reply = answer.reply;
     let messages = answer.messages;

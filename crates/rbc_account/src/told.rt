@@ -1,12 +1,20 @@
 //! Why a message was sent.
 
-ghost use Rattle.std.specs.Prelude.{◌≡◌, Option, Some, IfOk, IfSome, option_copied};
+ghost use Rattle.std.specs.Prelude.{◌≡◌, List, Option, Some, true, false, is_some, IfOk, IfSome, option_copied};
+ghost use Rattle.std.specs.Option.{option_map_or};
+ghost use Rattle.rbc_maps.specs.Maps.{value_of};
+ghost use Rattle.rbc_zones.specs.declared.segment.Segment.{Segment};
+ghost use Rattle.rbc_zones.specs.Concerns.{concern_of};
+ghost use Rattle.rbc_train.specs.Numbers.{has_number};
+ghost use Rattle.rbc_train.specs.Settling.{is_clear_of};
 ghost use Rattle.std.specs.List.{All};
 ghost use Rattle.rbc_train.specs.declared.train.TrainRec.{TrainRec};
 ghost use Rattle.rbc_account.specs.declared.told.ToldWhat.TheVariants.{StopAtOnce};
-ghost use Rattle.rbc_account.specs.Known.{number_under};
+ghost use Rattle.rbc_account.specs.Known.{number_under, active_stops, active_limits};
 ghost use Rattle.rbc_account.specs.Subjects.{ArePaired, IsToldOf, IsOf, IsOfStop, IsOfLimit, IsOfNumber, revoked_stop};
 ghost use Rattle.rbc_account.specs.Subjects.{revoked_limit};
+ghost use Rattle.rbc_account.specs.Found.{HasStop, HasLimit, MeansBefore, MeansNow, IsOfConcern, IsRevokedBy, IsLiftedBy};
+ghost use Rattle.rbc_account.specs.Found.{HasSubject, IsKnownPacket, IsKnown, is_unknown, is_unknown_packet};
 ghost use Rattle.rbc_account.specs.Whys.{IsWhat, IsReasonTo, IsEscalated, IsPacket, IsWhyRevoked};
 
 use crate::placing::unit_of;
@@ -58,7 +66,7 @@ pub enum ToldWhat {
     },
     /// Message 24: what each packet tells, in their order.
     Restrictions(Vec<ToldRestriction>),
-    /// What no record accounts for. It never comes of a message that the rules send.
+    /// What no record accounts for. It never comes in a block (`step` of `Account`).
     Unknown,
 }
 
@@ -98,7 +106,7 @@ pub enum RestrictionTold {
     },
     /// Packet 66: it is revoked.
     Revoked(WhyRevoked),
-    /// What no record accounts for. It never comes of a message that the rules send.
+    /// What no record accounts for. It never comes in a block (`step` of `Account`).
     Unknown,
 }
 
@@ -133,8 +141,10 @@ pub(crate) fn told_by(
     before: Option<&TrainRec>,
     messages: &SentList,
 ) -> Result<Vec<Told>, AllocError>
-    ensures { IfOk result (λ told. ArePaired
+    ensures right { IfOk result (λ told. ArePaired
         (IsToldOf desk.now.records input.now (option_copied before.entry)) messages.now told.items) }
+    ensures known { IfOk result (λ told. ArePaired
+        (IsKnown desk.now.records input.now (option_copied before.entry)) messages.now told.items) }
 {
     let mut told = Vec::new(alloc);
     for index in 0..messages.len() {
@@ -151,7 +161,8 @@ fn told_by_one(
     before: Option<&TrainRec>,
     sent: &Sent,
 ) -> Result<Told, AllocError>
-    ensures { IfOk result (IsToldOf desk.now.records input.now (option_copied before.entry) sent.now) }
+    ensures right { IfOk result (IsToldOf desk.now.records input.now (option_copied before.entry) sent.now) }
+    ensures known { IfOk result (IsKnown desk.now.records input.now (option_copied before.entry) sent.now) }
 {
     let engine = sent.engine;
     let Some(train) = train_in(&desk.records, engine) else {
@@ -180,6 +191,10 @@ fn what_of(
 ) -> Result<ToldWhat, AllocError>
     ensures why { IfOk result (IsWhat desk.now.records (option_copied before.entry) train.now) }
     ensures about { IfOk result (IsOf input.now (option_copied before.entry) train.now message.now) }
+    ensures known { IfOk result (λ what. HasSubject (active_stops desk.now.records) (active_limits desk.now.records)
+        train.now (IsRevokedBy input.now (option_copied before.entry)) (IsLiftedBy input.now
+        (option_copied before.entry) (active_limits desk.now.records) train.now.place) message.now
+        → is_unknown what ≡ false) }
 {
     match message {
         ToTrain::StopAt {
@@ -201,24 +216,35 @@ fn what_of(
 fn stop_before(desk: &LiveDesk, train: &TrainRec, id: u8, unit: u32, distance: u16) -> ToldWhat
     ensures why { (before : Option TrainRec) → IsWhat desk.now.records before train.now result }
     ensures about { IsOfStop (number_under train.now.stops id) result }
+    ensures known { HasStop (active_stops desk.now.records) train.now id MeansBefore → is_unknown result ≡ false }
 {
     let Some(number) = number_under(&train.stops, id) else {
         return ToldWhat::Unknown;
     };
-    match (reason_of(&desk.records, train, number), &train.place) {
-        (Some(StopReason::Before(edge)), Some(place)) => ToldWhat::StopBefore {
+    let Some(place) = train.place.as_ref() else {
+        return ToldWhat::Unknown;
+    };
+    match reason_of(&desk.records, train, number) {
+        Some(StopReason::Before(edge)) => ToldWhat::StopBefore {
             number,
             before: onward(place, u32::from(distance).saturating_mul(unit)),
             edge,
             unit,
         },
-        _ => ToldWhat::Unknown,
+        Some(StopReason::NoPlace) => ToldWhat::Unknown,
+        Some(StopReason::Forced) => ToldWhat::Unknown,
+        Some(StopReason::Overlaps(_)) => ToldWhat::Unknown,
+        Some(StopReason::BehindGroup(_)) => ToldWhat::Unknown,
+        Some(StopReason::Nothing) => ToldWhat::Unknown,
+        None => ToldWhat::Unknown,
     }
 }
 
 /// What a stop is to a train. `None` if the stop is not active.
 fn reason_of(records: &PlainStore, train: &TrainRec, number: u32) -> Option<StopReason>
-    ensures { IfSome result (IsReasonTo records.now train.now number) }
+    ensures is { IfSome result (IsReasonTo records.now train.now number) }
+    ensures means { (area : List Segment) → value_of (active_stops records.now) number ≡ Some area
+        → IsOfConcern (concern_of area (has_number train.now.forced number) train.now.place) result }
 {
     let area = active_stop(records, number)?;
     Some(stop_reason(area, train.forced.has(number), train.place.as_ref()))
@@ -236,6 +262,7 @@ fn onward(place: &Place, distance: u32) -> u32 {
 fn stop_at_once(desk: &LiveDesk, before: Option<&TrainRec>, train: &TrainRec, id: u8) -> ToldWhat
     ensures why { IsWhat desk.now.records (option_copied before.entry) train.now result }
     ensures about { IsOfStop (number_under train.now.stops id) result }
+    ensures known { HasStop (active_stops desk.now.records) train.now id MeansNow → is_unknown result ≡ false }
 {
     let Some(number) = number_under(&train.stops, id) else {
         return ToldWhat::Unknown;
@@ -253,13 +280,17 @@ fn stop_at_once(desk: &LiveDesk, before: Option<&TrainRec>, train: &TrainRec, id
 fn stopped_at_once(records: &PlainStore, train: &TrainRec, number: u32) -> ToldWhat
     ensures why { (before : Option TrainRec) → IsWhat records.now before train.now result }
     ensures about { IsOfStop (Some number) result }
+    ensures known { (area : List Segment) → value_of (active_stops records.now) number ≡ Some area
+        → MeansNow (concern_of area (has_number train.now.forced number) train.now.place) → is_unknown result ≡ false }
 {
     match reason_of(records, train, number) {
         Some(StopReason::NoPlace) => at_once(number, WhyAtOnce::NoPlace),
         Some(StopReason::Forced) => at_once(number, WhyAtOnce::Rejected),
         Some(StopReason::Overlaps(segment)) => at_once(number, WhyAtOnce::Overlaps(segment)),
         Some(StopReason::BehindGroup(edge)) => at_once(number, WhyAtOnce::BehindGroup { edge }),
-        Some(StopReason::Before(_) | StopReason::Nothing) | None => ToldWhat::Unknown,
+        Some(StopReason::Before(_)) => ToldWhat::Unknown,
+        Some(StopReason::Nothing) => ToldWhat::Unknown,
+        None => ToldWhat::Unknown,
     }
 }
 
@@ -286,6 +317,7 @@ fn escalated_under(before: Option<&TrainRec>, after: &TrainRec, number: u32) -> 
 fn stop_revoked(desk: &LiveDesk, input: &Input, before: Option<&TrainRec>, id: u8) -> ToldWhat
     ensures why { (old : Option TrainRec) (train : TrainRec) → IsWhat desk.now.records old train result }
     ensures about { IsOfStop (revoked_stop input.now (option_copied before.entry) id) result }
+    ensures known { IsRevokedBy input.now (option_copied before.entry) id → is_unknown result ≡ false }
 {
     match revoked_stop(input, before, id) {
         Some(number) => ToldWhat::StopRevoked {
@@ -330,6 +362,8 @@ fn restrictions(
     ensures each { IfOk result (λ told. All (IsPacket desk.now.records train.now) told.items) }
     ensures about { IfOk result (λ told. ArePaired
         (IsOfLimit input.now (option_copied before.entry) train.now) packets.now told.items) }
+    ensures known { IfOk result (λ told. ArePaired (IsKnownPacket desk.now.records input.now
+        (option_copied before.entry) train.now) packets.now told.items) }
 {
     let mut told = Vec::new(alloc);
     for index in 0..packets.count() {
@@ -348,6 +382,7 @@ fn restriction(
 ) -> ToldRestriction
     ensures why { IsPacket desk.now.records train.now result }
     ensures about { IsOfLimit input.now (option_copied before.entry) train.now part result }
+    ensures known { IsKnownPacket desk.now.records input.now (option_copied before.entry) train.now part result }
 {
     match part {
         Part::Restrict {
@@ -378,18 +413,23 @@ fn limit_told(
 ) -> ToldRestriction
     ensures why { IsPacket desk.now.records train.now result }
     ensures about { IsOfNumber (number_under train.now.limits id) result.number result.what }
+    ensures known { HasLimit (active_limits desk.now.records) train.now id → is_unknown_packet result.what ≡ false }
 {
     let Some(number) = number_under(&train.limits, id) else {
         return UNKNOWN;
     };
-    let (Some(limit), Some(place)) = (active_limit(&desk.records, number), train.place.as_ref())
-    else {
+    let Some(limit) = active_limit(&desk.records, number) else {
+        return UNKNOWN;
+    };
+    let Some(place) = train.place.as_ref() else {
         return UNKNOWN;
     };
     let why = match limit_reason(limit, place) {
         LimitReason::Overlaps => WhyTold::Overlaps,
         LimitReason::Ahead(distance) => WhyTold::Ahead { distance },
-        LimitReason::OtherLine | LimitReason::OtherWay | LimitReason::Passed => return UNKNOWN,
+        LimitReason::OtherLine => return UNKNOWN,
+        LimitReason::OtherWay => return UNKNOWN,
+        LimitReason::Passed => return UNKNOWN,
     };
     ToldRestriction {
         number,
@@ -414,6 +454,8 @@ fn limit_revoked(
     ensures why { IsPacket desk.now.records train.now result }
     ensures about { IsOfNumber (revoked_limit input.now (option_copied before.entry) id)
         result.number result.what }
+    ensures known { IsLiftedBy input.now (option_copied before.entry) (active_limits desk.now.records)
+        train.now.place id → is_unknown_packet result.what ≡ false }
 {
     let Some(number) = revoked_limit(input, before, id) else {
         return UNKNOWN;
@@ -429,7 +471,9 @@ fn limit_revoked(
 
 /// Why a restriction is revoked: it is not active, or is clear of the train. `None` where neither is so.
 fn why_revoked(limit: Option<&Limit>, place: Option<&Place>) -> Option<WhyRevoked>
-    ensures { IfSome result (IsWhyRevoked (option_copied limit.entry) (option_copied place.entry)) }
+    ensures why { IfSome result (IsWhyRevoked (option_copied limit.entry) (option_copied place.entry)) }
+    ensures known { option_map_or (is_clear_of (option_copied place.entry)) (option_copied limit.entry) true ≡ true
+        → is_some result ≡ true }
 {
     let Some(limit) = limit else {
         return Some(WhyRevoked::Lifted);
@@ -445,6 +489,7 @@ fn why_revoked(limit: Option<&Limit>, place: Option<&Place>) -> Option<WhyRevoke
             dirs: limit.dirs(),
         }),
         LimitReason::Passed => Some(WhyRevoked::Passed),
-        LimitReason::Overlaps | LimitReason::Ahead(_) => None,
+        LimitReason::Overlaps => None,
+        LimitReason::Ahead(_) => None,
     }
 }

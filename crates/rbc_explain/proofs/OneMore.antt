@@ -23,6 +23,7 @@ use Rattle.rbc_step.specs.declared.input.Input.{Input}
 use Rattle.rbc_account.specs.declared.told.Told.{Told}
 use Rattle.rbc_account.specs.Coming.{sender_in}
 use Rattle.rbc_account.specs.Subjects.{ArePaired, IsToldOf}
+use Rattle.rbc_account.specs.Found.{has_unknown}
 use Rattle.rbc_explain.specs.Marked.{unmarked, IsToldOn}
 use Rattle.rbc_explain.specs.Telling.{IsBlockOn}
 use Rattle.rbc_explain.specs.Log.{answer_told, answers_told, IsBlockOf, AreBlocks, IsLogOf, IsUnderWay}
@@ -216,9 +217,9 @@ pub line_told_if : (T E : Type 0) (r : Result T E) (plan of : Plan) (from : ℕ)
     (told : List Told) → one.line ≡ line → IsUnderWay plan from before lines old
     → IsFed before.desk.track one.line before.desk.records after.desk.records one.reply one.messages
     → after.desk.track ≡ before.desk.track → after.sums ≡ counted one.reply before.sums → number ≡ length lines + 1 → from ≤ length lines + 1 → of ≡ after.desk.track
-    → IsInput (line_of line) input → ArePaired (IsToldOf after.desk.records input (sender_in before.desk.records input)) one.messages told
+    → IsInput (line_of line) input → ArePaired (IsToldOf after.desk.records input (sender_in before.desk.records input)) one.messages told → has_unknown told ≡ false
     → OnOk r (IsBlockOn of number one.reply one.messages told old new) → OnOk r (IsUnderWay plan from after (lines ++ line ∷ []) new)
-line_told_if T E (Ok done) plan of from before after lines old new line number one input told is under fed track sums next reached same is_input right on_log =
+line_told_if T E (Ok done) plan of from before after lines old new line number one input told is under fed track sums next reached same is_input right known on_log =
     let block = subst (λ (p : Plan). IsBlockOn p (length lines + 1) one.reply one.messages told old new) (same ∙ track ∙ under.track)
     (subst (λ (n : ℕ). IsBlockOn of n one.reply one.messages told old new) next on_log) in
     line_told plan from before after lines old new line one is under fed track sums
@@ -228,7 +229,8 @@ line_told_if T E (Ok done) plan of from before after lines old new line number o
       is_input = subst (λ (l : List ℕ). IsInput (line_of l) input) (sym is) is_input;
       told = told;
       right = right;
+      known = known;
       marked = block.2;
       tells = block.3;
     })
-line_told_if T E (Err fault) plan of from before after lines old new line number one input told is under fed track sums next reached same is_input right on_log = tt
+line_told_if T E (Err fault) plan of from before after lines old new line number one input told is under fed track sums next reached same is_input right known on_log = tt

@@ -1,5 +1,5 @@
 -- The log of a run (own rule).
-use Rattle.std.specs.Prelude.{◌≡◌, ℕ, ◌+◌, ◌≤◌, nat_le, if◌then◌else◌, List, [], ◌∷◌, ◌++◌, map, filter_map, Option}
+use Rattle.std.specs.Prelude.{◌≡◌, ℕ, ◌+◌, ◌≤◌, nat_le, false, if◌then◌else◌, List, [], ◌∷◌, ◌++◌, map, filter_map, Option}
 use Rattle.rbc_track.specs.Plan.{Plan}
 use Rattle.rbc_track.specs.Reading.{IsTrackOf}
 use Rattle.rbc_records.specs.declared.record.Key.{Key}
@@ -12,6 +12,7 @@ use Rattle.rbc_live.specs.History.{Taken, AreSame, IsFed, IsSerialRunOf}
 use Rattle.rbc_account.specs.Runs.{IsAccount}
 use Rattle.rbc_account.specs.Coming.{sender_in}
 use Rattle.rbc_account.specs.Subjects.{ArePaired, IsToldOf}
+use Rattle.rbc_account.specs.Found.{has_unknown}
 use Rattle.rbc_account.specs.declared.account.Account.{Account}
 use Rattle.rbc_account.specs.declared.told.Told.{Told}
 use Rattle.rbc_explain.specs.Marked.{unmarked, IsToldOn}
@@ -27,12 +28,13 @@ answers_told from number [] = []
 answers_told from number (taken ∷ more) = answer_told from number taken ++ answers_told from (number + 1) more
 
 -- The block of a line that was taken, among the lines of a log: its marked lines are those of the answer, and it tells what each message says. What is told is
--- right by the records after the line, and by the train that sent its input, as that was before.
+-- right by the records after the line, and by the train that sent its input, as that was before. They account for each message.
 pub record IsBlockOf (plan : Plan) (number : ℕ) (taken : Taken) (old new : List (Key × Rec)) (block : List (List ℕ)) : Type 0 where
   pub input : Input
   pub is_input : IsInput (line_of taken.line) input
   pub told : List Told
   pub right : ArePaired (IsToldOf new input (sender_in old input)) taken.messages told
+  pub known : has_unknown told ≡ false
   pub marked : filter_map unmarked block ≡ lines_of (answer_of number taken.reply taken.messages)
   pub tells : TellsAll plan number taken.messages told block
 

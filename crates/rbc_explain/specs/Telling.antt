@@ -51,7 +51,7 @@ TellsRestrictions plan engine (message.StopAt head id scale reference dir distan
 TellsRestrictions plan engine (message.Stop head id) all lines = Unit
 TellsRestrictions plan engine (message.Revoke head id) all lines = Unit
 
--- the lines tell what a message says
+-- The lines tell what a message says. No block has one that is `Unknown`.
 abbrev pub Tells : Plan → Sent → ToldWhat → List (List ℕ) → Type 0
 Tells plan sent (what.StopBefore number before edge unit) lines = TellsStop plan sent number lines
 Tells plan sent (what.StopAtOnce number why) lines = TellsStop plan sent number lines

@@ -54,6 +54,7 @@ pub(crate) fn push_message(
         ToldWhat::Restrictions(all) => {
             push_restrictions(alloc, log, track, sent, &told.place, all)
         }
+        // It never comes in a block.
         ToldWhat::Unknown => Ok(()),
     }
 }

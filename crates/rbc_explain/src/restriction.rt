@@ -261,6 +261,7 @@ fn push_why(sheet: &mut Sheet, place: &Option<Place>, one: &ToldRestriction) {
             }
         }
         RestrictionTold::Revoked(why) => push_why_revoked(sheet, one.number, why),
+        // It never comes in a block.
         RestrictionTold::Unknown => {}
     }
 }

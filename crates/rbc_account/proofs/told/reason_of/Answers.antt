@@ -4,8 +4,8 @@ use Rattle.rbc_train.specs.Numbers.{has_number}
 use Rattle.rbc_account.specs.Reasons.{IsStopReason}
 use Rattle.rbc_account.proofs.told.reason_of.Goals as goal
 
-pub returns : goal.returns
-returns c =
+pub returns-clause-is : goal.returns-clause-is
+returns-clause-is c =
     let area = c.in_ok-area.area.now in
     let reason = c.stop_reason.result in (
       area,

@@ -35,4 +35,4 @@ returns c = λ plan lines few under.
     let next = c.in_ok-block.ensures.number ∙ next_number plan c.args.from c.args.account.now lines log block.reply c.step.new.self.sums under few c.in_ok-block.ensures.sums in
     line_told_if _ _ c.push_block.result plan c.track.result.now c.args.from c.args.account.now c.step.new.self lines log c.push_block.new.log.items c.args.line.now block.number one block.input
     block.told.items refl under c.in_ok-block.ensures.fed c.in_ok-block.ensures.track c.in_ok-block.ensures.sums next reached c.track.ensures c.in_ok-block.ensures.input
-    c.in_ok-block.ensures.right.told c.push_block.ensures
+    c.in_ok-block.ensures.right.told c.in_ok-block.ensures.known c.push_block.ensures

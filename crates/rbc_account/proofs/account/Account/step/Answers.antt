@@ -1,6 +1,6 @@
 use Rattle.std.proofs.Common.{◌∙◌}
 use Rattle.rbc_account.specs.ToldPlaces.{kept_at}
-use Rattle.rbc_account.proofs.Feeding.{fed_as, right_as, kept_as}
+use Rattle.rbc_account.proofs.Feeding.{fed_as, right_as, kept_as, known_as}
 use Rattle.rbc_account.proofs.account.Account.step.Goals as goal
 
 pub returns-clause-fed : goal.returns-clause-fed
@@ -17,3 +17,9 @@ pub returns-clause-right : goal.returns-clause-right
 returns-clause-right c =
     right_as c.take.new.self.desk.track c.args.self.now.desk.records c.take.new.self.desk.records c.in_ok-input.input _
     c.block_of.result c.block_of.ensures.input (c.as_ref.ensures.value ∙ c.in_ok-before.ensures) c.block_of.ensures.right
+
+pub returns-clause-known : goal.returns-clause-known
+returns-clause-known c =
+    known_as c.args.self.now.desk.track c.args.self.now.desk.records c.take.new.self.desk.records c.in_ok-input.input _ c.in_ok-answer.answer.reply c.in_ok-answer.answer.messages
+    c.block_of.result c.is_plan.ensures c.in_ok-input.ensures.fits c.args.self.now.desk.serial c.in_ok-answer.ensures.steps (c.as_ref.ensures.value ∙ c.in_ok-before.ensures)
+    c.block_of.ensures.messages c.block_of.ensures.known
