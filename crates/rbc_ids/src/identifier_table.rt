@@ -59,13 +59,17 @@ impl<const N: usize> IdTable<N> {
         Ok(IdTable { held })
     }
 
-    /// Makes the table a copy of another. Takes memory only where the other holds more identifiers than this one had
-    /// room for. Fails only for lack of memory; then every identifier is free.
+    /// Makes the table a copy of another, with room for one more if an identifier is held. Takes memory only where this
+    /// one did not have that room. Fails only for lack of memory; then every identifier is free.
     pub fn copy_from(&mut self, other: &Self) -> Result<(), AllocError>
         ensures ok { OnOk result (self.new ≡ other.now) }
         ensures err { OnErr result (self.new ≡ []) }
     {
         self.held.clear();
+        if other.held.is_empty() {
+            return Ok(());
+        }
+        self.held.reserve_exact(other.held.len() + 1)?;
         self.held.extend_from_slice(other.held.as_slice())
     }
 
