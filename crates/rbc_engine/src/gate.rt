@@ -44,7 +44,7 @@ pub trait Gate {
 pub const PACE: Pace = Pace {
     held: 96,
     least: 1_024,
-    most: 2_048,
+    most: 1_024,
 };
 
 /// A gate that does nothing. Behind it several workers do windows of messages, at the pace of the program, and one

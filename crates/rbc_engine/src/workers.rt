@@ -20,7 +20,7 @@ use rbc_desk::{Desk, MAX_RESULTS};
 use rbc_step::{Input, MAX_INPUTS};
 use rbc_track::Track;
 use rbc_versions::VersionLog;
-use rbc_window::{Crew, run_window};
+use rbc_window::{Shares, run_window};
 use std::alloc::Global;
 use std::error::Error;
 use std::marker::Brand;
@@ -194,21 +194,20 @@ fn run_alone(
 }
 
 /// Takes all inputs of a stretch in as a window of several workers.
-fn run_shared<G: Gate, R: Threads + Sync>(
+fn run_shared<G: Gate, R: Threads + Wait + Sync>(
     rt: &R,
     alloc: Global,
     track: &Track,
     desk: &mut Desk,
     inputs: &[Input],
     workers: u8,
-    crew: &mut Crew,
+    shares: &mut Shares,
     gate: &G,
 ) -> Result<Stats, RunError>
     requires good { IsGoodRun (record { track = track.now; opening = desk.old; inputs = inputs.now }) }
     ensures { IsStretch (record { track = track.now; opening = desk.old; inputs = inputs.now }) result desk.new }
 {
-    let workers = workers.max(1);
-    match run_window(rt, alloc, track, desk, inputs, workers, crew) {
+    match run_window(rt, alloc, track, desk, inputs, workers, shares) {
         Ok(window) => {
             gate.after_window(window, workers);
             let taken = inputs.len() as u32;
@@ -251,7 +250,7 @@ fn run_stretch<G: Gate + Sync, R: Threads + Wait + Sync>(
     inputs: &[Input],
     road: Road,
     workers: u8,
-    crew: &mut Crew,
+    shares: &mut Shares,
     gate: &G,
 ) -> Result<Stats, RunError>
     requires good { IsGoodRun (record { track = track.now; opening = desk.old; inputs = inputs.now }) }
@@ -259,7 +258,7 @@ fn run_stretch<G: Gate + Sync, R: Threads + Wait + Sync>(
 {
     match road {
         Road::Alone => run_alone(alloc, track, desk, inputs),
-        Road::Window => run_shared(rt, alloc, track, desk, inputs, workers, crew, gate),
+        Road::Window => run_shared(rt, alloc, track, desk, inputs, workers, shares, gate),
         Road::Book => run_on_book(rt, alloc, track, desk, inputs, workers, gate),
     }
 }
@@ -272,7 +271,7 @@ fn run_first<G: Gate + Sync, R: Threads + Wait + Sync>(
     desk: &mut Desk,
     inputs: &[Input],
     workers: u8,
-    crew: &mut Crew,
+    shares: &mut Shares,
     gate: &G,
 ) -> Result<Stats, RunError>
     requires good { IsGoodRun (record { track = track.now; opening = desk.old; inputs = inputs.now }) }
@@ -281,11 +280,13 @@ fn run_first<G: Gate + Sync, R: Threads + Wait + Sync>(
     let way = next_way(desk, inputs, workers, gate.pace());
     if inputs.len() <= way.count {
         return run_stretch(
-            rt, alloc, track, desk, inputs, way.road, workers, crew, gate,
+            rt, alloc, track, desk, inputs, way.road, workers, shares, gate,
         );
     }
     let first = &inputs[..way.count];
-    run_stretch(rt, alloc, track, desk, first, way.road, workers, crew, gate)
+    run_stretch(
+        rt, alloc, track, desk, first, way.road, workers, shares, gate,
+    )
 }
 
 /// Runs a stretch of a run, of which so many inputs are done.
@@ -297,7 +298,7 @@ fn run_behind<G: Gate + Sync, R: Threads + Wait + Sync>(
     inputs: &[Input],
     before: u32,
     workers: u8,
-    crew: &mut Crew,
+    shares: &mut Shares,
     gate: &G,
 ) -> Result<Stats, RunError>
     requires within { before ≤ length inputs.now }
@@ -307,7 +308,7 @@ fn run_behind<G: Gate + Sync, R: Threads + Wait + Sync>(
 {
     let behind = Behind { gate, before };
     let rest = &inputs[before as usize..];
-    run_first(rt, alloc, track, desk, rest, workers, crew, &behind)
+    run_first(rt, alloc, track, desk, rest, workers, shares, &behind)
 }
 
 /// Runs the next stretch of a run, behind those with these counts, and adds its counts to theirs.
@@ -319,7 +320,7 @@ fn run_next<G: Gate + Sync, R: Threads + Wait + Sync>(
     inputs: &[Input],
     all: Stats,
     workers: u8,
-    crew: &mut Crew,
+    shares: &mut Shares,
     gate: &G,
 ) -> Result<Stats, RunError>
     requires within { (all.recomputed ≤ all.taken) × (all.taken ≤ length inputs.now) }
@@ -329,7 +330,7 @@ fn run_next<G: Gate + Sync, R: Threads + Wait + Sync>(
         all result desk.new }
 {
     match run_behind(
-        rt, alloc, track, desk, inputs, all.taken, workers, crew, gate,
+        rt, alloc, track, desk, inputs, all.taken, workers, shares, gate,
     ) {
         Ok(stats) => Ok(Stats {
             taken: all.taken + stats.taken,
@@ -367,11 +368,19 @@ fn run_stretches<G: Gate + Sync, R: Threads + Wait + Sync>(
         taken: 0,
         recomputed: 0,
     };
-    let mut crew = Crew::new(alloc);
+    let mut shares = Shares::new(alloc);
     while (all.taken as usize) < inputs.len() {
         keeps_order(desk);
         all = run_next(
-            rt, alloc, track, desk, inputs, all, workers, &mut crew, gate,
+            rt,
+            alloc,
+            track,
+            desk,
+            inputs,
+            all,
+            workers,
+            &mut shares,
+            gate,
         )?;
     }
     Ok(all)

@@ -82,7 +82,7 @@ one_more_taken_in track inputs old n next i mid new at before taken is desk h =
     in
     subst (λ m. Holds track new (serial track desk (take m inputs))) (sym is) (subst (Holds track new) (sym then_one) (taken (serial track desk (take n inputs)) (before desk h)))
 
--- what each worker's attempts mean
+-- what each share's attempts mean
 abbrev pub queue_at : List (List Attempt) → ℕ → List Attempt
 queue_at queues w = unwrap_or (slice_get queues w) []
 
@@ -135,6 +135,10 @@ first_is track base ms bounds inputs queues w (Some a) first all = first track b
 pub at_not_err : {X E P : Type 0} (r : Result X E) → OnOk r P → is_err r ≡ false → P
 at_not_err (Ok x) p h = p
 at_not_err (Err e) p h = absurd (true≢false h)
+
+pub at_no_err : {X E V : Type 0} (r : Result X E) (v x y : V) → v ≡ cond (is_ok r) x y → is_err r ≡ false → v ≡ x
+at_no_err (Ok done) v x y e h = e
+at_no_err (Err e) v x y is h = absurd (true≢false h)
 
 pub at_err : {X E P : Type 0} (r : Result X E) → OnErr r P → is_err r ≡ true → P
 at_err (Ok x) p h = absurd (true≢false (sym h))

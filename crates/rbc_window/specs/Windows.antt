@@ -24,7 +24,7 @@ abbrev pub value_at : {V : Type 0} → List (Key × V) → Key → Option V
 value_at {V} [] k = None
 value_at {V} (entry ∷ entries) k = if same_key k entry.0 then Some entry.1 else value_at entries k
 
--- what the attempt at each place of a worker leaves under a key
+-- what the attempt at each place of a share leaves under a key
 abbrev pub Meaning : Type 0
 Meaning = ℕ → Records
 
@@ -63,11 +63,15 @@ pub record IsTried (track : Plan) (base : Records) (m : Meaning) (bound : ℕ) (
   pub at : slice_get inputs a.index ≡ Some input
   pub right : IsRight track input (Part (read_as base m a.reads)) a.outcome.result a.outcome.writes a.outcome.messages
 
--- the attempts of one worker
+-- the attempts of one share
 abbrev pub AreTried : Plan → Records → List Input → List Attempt → Type 0
 AreTried track base inputs tried = All (IsTried track base (meant tried) (length tried) inputs) tried
 
--- what is left of the attempts of each worker
+-- the attempts of the shares of one worker
+abbrev pub SharesAreTried : Plan → Records → List Input → List (List Attempt) → Type 0
+SharesAreTried track base inputs shares = All (AreTried track base inputs) shares
+
+-- what is left of the attempts of each share
 abbrev pub AllTried : Plan → Records → (ℕ → Meaning) → (ℕ → ℕ) → List Input → List (List Attempt) → Type 0
 AllTried track base ms bounds inputs queues = (w : ℕ) (q : List Attempt) → slice_get queues w ≡ Some q → All (IsTried track base (ms w) (bounds w) inputs) q
 
@@ -75,24 +79,24 @@ AllTried track base ms bounds inputs queues = (w : ℕ) (q : List Attempt) → s
 -- at its commit nothing is said, and nothing was read there.
 abbrev pub IsAt : Records → (ℕ → Meaning) → Records → Key → Option Origin → Type 0
 IsAt base ms s k None = s k ≡ base k
-IsAt base ms s k (Some (Taken worker place)) = s k ≡ ms worker place k
+IsAt base ms s k (Some (Taken share place)) = s k ≡ ms share place k
 IsAt base ms s k (Some Computed) = Unit {0}
 
 abbrev pub Means : Records → (ℕ → Meaning) → List (Key × Origin) → Records → Type 0
 Means base ms since s = (k : Key) → IsAt base ms s k (value_at since k)
 
--- what a worker's attempt read is what stands there
+-- what a share's attempt read is what stands there
 abbrev pub IsSame : ℕ → Option ℕ → Option Origin → Type 0
-IsSame worker None None = Unit {0}
-IsSame worker (Some place) (Some (Taken by at)) = (by ≡ worker) × (at ≡ place)
-IsSame worker (Some place) (Some Computed) = ⊥
-IsSame worker (Some place) None = ⊥
-IsSame worker None (Some origin) = ⊥
+IsSame share None None = Unit {0}
+IsSame share (Some place) (Some (Taken by at)) = (by ≡ share) × (at ≡ place)
+IsSame share (Some place) (Some Computed) = ⊥
+IsSame share (Some place) None = ⊥
+IsSame share None (Some origin) = ⊥
 
 abbrev pub AreCurrent : List (Key × Origin) → ℕ → List (Key × Option ℕ) → Type 0
-AreCurrent since worker reads = All (λ (read : Key × Option ℕ). IsSame worker read.1 (value_at since read.0)) reads
+AreCurrent since share reads = All (λ (read : Key × Option ℕ). IsSame share read.1 (value_at since read.0)) reads
 
 -- the writes are those that the origin names
 abbrev pub IsMeant : (ℕ → Meaning) → Origin → List (Key × Option Rec) → Type 0
-IsMeant ms (Taken worker place) writes = (k : Key) → ms worker place k ≡ written writes nothing k
+IsMeant ms (Taken share place) writes = (k : Key) → ms share place k ≡ written writes nothing k
 IsMeant ms Computed writes = Unit {0}

@@ -1,4 +1,4 @@
-//! The attempts of one worker at the messages of a window, one after another.
+//! The attempts at the messages of one share of a window, one after another.
 
 ghost use Rattle.std.specs.Prelude.{◌≡◌, ◌<◌, ◌^◌, ◌∷◌, ◌++◌, [], length, All, IfOk, OnOk, OnErr, Some, slice_get};
 ghost use Rattle.rbc_records.specs.Notes.{Part, record_in};
@@ -20,7 +20,7 @@ use rbc_track::Track;
 use std::alloc::{AllocError, Global};
 use std::marker::Brand;
 
-/// An attempt at an input of a window: the index of the input, the place of the attempt among those of its worker, what
+/// An attempt at an input of a window: the index of the input, the place of the attempt among those of its share, what
 /// was read, and what the input does where that stands.
 #[derive(Drop)]
 pub(crate) struct Attempt {
@@ -30,13 +30,16 @@ pub(crate) struct Attempt {
     pub(crate) outcome: Outcome,
 }
 
-/// The worker of an input: by the train that sent it, so that each train's messages are attempted by one worker.
-pub(crate) fn owner(input: &Input, workers: u32) -> u32
-    requires { 0 < workers }
-    ensures { result < workers }
+/// In how many shares the messages of a window go. There are more of them than workers, so that a worker that is done
+/// early takes another share.
+pub(crate) const SHARES: u32 = 32;
+
+/// The share of an input: by the train that sent it, so that all messages of a train are in one share.
+pub(crate) fn share_of(input: &Input) -> u32
+    ensures { result < SHARES }
 {
     match input {
-        Input::Received(message) => sender(message) % workers,
+        Input::Received(message) => sender(message) % SHARES,
         _ => 0,
     }
 }
@@ -50,8 +53,8 @@ fn sender(message: &FromTrain) -> u32 {
     }
 }
 
-/// Attempts those inputs of a window that are the worker's, in their order, as far as there is memory. The desk stands
-/// still; what an earlier attempt of the worker writes is read in its place. What is left of the attempts before is let
+/// Attempts those inputs of a window that are in the share, in their order, as far as there is memory. The desk stands
+/// still; what an earlier attempt of the share writes is read in its place. What is left of the attempts before is let
 /// go.
 pub(crate) fn attempt_all(
     alloc: Global,
@@ -59,19 +62,17 @@ pub(crate) fn attempt_all(
     store: &PlainStore,
     inputs: &[Input],
     attempts: Attempts,
-    workers: u32,
 ) -> Attempts
-    requires some { 0 < workers }
     requires few { length inputs.now < 2 ^ 32 }
     requires fit { All Fits inputs.now }
     ensures { AreTried track.now (record_in store.now) inputs.now result }
 {
-    let worker = attempts.worker();
+    let share = attempts.share();
     let mut attempts = attempts;
     attempts.clear();
     let mut latest = IndexMap::new(alloc);
     for (index, input) in inputs.iter().enumerate() {
-        if owner(input, workers) == worker {
+        if share_of(input) == share {
             let spare = attempts.spare();
             let Ok(attempt) = attempt_one(
                 alloc,
@@ -143,7 +144,7 @@ fn attempt_one(
     })
 }
 
-/// Decides an input by what stands for this worker, and tells what was read.
+/// Decides an input by what stands for its share, and tells what was read.
 fn decided<S: Source>(
     alloc: Global,
     track: &Track,

@@ -1,4 +1,4 @@
-//! The attempts of one worker, in order.
+//! The attempts at the messages of one share, in order.
 
 ghost use Rattle.std.specs.Prelude.{◌≡◌, [], ◌∷◌, ◌++◌, length, slice_get, OnOk, OnErr, IfSome, IfNone, option_copied};
 ghost use Rattle.rbc_step.specs.Gathered.{AreSendable};
@@ -9,14 +9,14 @@ use std::alloc::{AllocError, Global};
 use std::collections::VecDeque;
 use std::marker::Model;
 
-/// How many spare writes a worker keeps.
-const MOST_SPARE: usize = 2_048;
+/// How many spare writes a share keeps.
+const MOST_SPARE: usize = 256;
 
-/// The attempts of one worker, or what is left of them while they are committed. All that they send can be sent. The
+/// The attempts of one share, or what is left of them while they are committed. All that they send can be sent. The
 /// memory of what its writes replaced is kept for later attempts.
 #[derive(Drop)]
 pub(crate) struct Attempts {
-    worker: u32,
+    share: u32,
     all: VecDeque<Attempt>,
     spare: Vec<Writes>,
 }
@@ -34,20 +34,20 @@ impl Model for Attempts {
 }
 
 impl Attempts {
-    /// No attempts of a worker. Takes no memory.
-    pub(crate) fn new(alloc: Global, worker: u32) -> Self
+    /// No attempts of a share. Takes no memory.
+    pub(crate) fn new(alloc: Global, share: u32) -> Self
         ensures { result ≡ [] }
     {
         Attempts {
-            worker,
+            share,
             all: VecDeque::new(alloc),
             spare: Vec::new(alloc),
         }
     }
 
-    /// The worker whose attempts these are.
-    pub(crate) fn worker(&self) -> u32 {
-        self.worker
+    /// The share whose attempts these are.
+    pub(crate) fn share(&self) -> u32 {
+        self.share
     }
 
     /// Takes all of them out. Their memory stays.

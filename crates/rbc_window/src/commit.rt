@@ -13,7 +13,7 @@ ghost use Rattle.rbc_desk.specs.Held.{IsInOrder, IsOutcomeOf, IsTakenIn, max_res
 ghost use Rattle.rbc_window.specs.Windows.{Records, Meaning, AreTried, IsTried, AllTried, Means, IsMeant};
 ghost use Rattle.rbc_window.specs.Answers.{IsWindow};
 
-use crate::attempt::{Attempt, owner};
+use crate::attempt::{Attempt, share_of};
 use crate::attempts::Attempts;
 use crate::since::{Origin, Since};
 use crate::window::{WindowFault, WindowStats};
@@ -24,16 +24,14 @@ use rbc_track::Track;
 use std::alloc::Global;
 
 /// Commits the inputs of a window in their order: each by its attempt if all that was read for it is what stands there
-/// now, and else by computing it here. What was replaced goes back to the worker of the input, for its memory.
+/// now, and else by computing it here. What was replaced goes back to the share of the input, for its memory.
 pub(crate) fn commit_all(
     alloc: Global,
     track: &Track,
     desk: &mut Desk,
     inputs: &[Input],
     queues: &mut Vec<Attempts>,
-    workers: u32,
 ) -> Result<WindowStats, WindowFault>
-    requires some { 0 < workers }
     requires few { length inputs.now < 2 ^ 32 }
     requires room { length desk.old.results + length inputs.now ≤ MAX_RESULTS }
     requires fit { All Fits inputs.now }
@@ -47,46 +45,46 @@ pub(crate) fn commit_all(
         taken_over: 0,
     };
     for (index, input) in inputs.iter().enumerate() {
-        let worker = owner(input, workers);
-        let attempt = next_of(queues, worker);
+        let share = share_of(input);
+        let attempt = next_of(queues, share);
         let index = index as u32;
         if attempt.is_some() {
             stats.attempted += 1;
         }
         let Ok((origin, old)) = commit_one(
-            alloc, track, desk, &mut since, input, index, worker, attempt,
+            alloc, track, desk, &mut since, input, index, share, attempt,
         ) else {
             return Err(WindowFault { committed: index });
         };
         if origin != Origin::Computed {
             stats.taken_over += 1;
         }
-        give_back(queues, worker, old);
+        give_back(queues, share, old);
     }
     Ok(stats)
 }
 
-/// The next attempt of a worker.
-fn next_of(queues: &mut Vec<Attempts>, worker: u32) -> Option<Attempt>
+/// The next attempt of a share.
+fn next_of(queues: &mut Vec<Attempts>, share: u32) -> Option<Attempt>
     ensures keeps { (track : Plan) (base : Records) (ms : ℕ → Meaning) (bounds : ℕ → ℕ) (inputs : List Input)
         → AllTried track base ms bounds inputs queues.old.items → AllTried track base ms bounds inputs queues.new.items }
     ensures first { IfSome result (λ a. (track : Plan) (base : Records) (ms : ℕ → Meaning) (bounds : ℕ → ℕ) (inputs : List Input)
-        → AllTried track base ms bounds inputs queues.old.items → IsTried track base (ms worker) (bounds worker) inputs a) }
+        → AllTried track base ms bounds inputs queues.old.items → IsTried track base (ms share) (bounds share) inputs a) }
     ensures fit { IfSome result (λ a. AreSendable a.outcome.messages) }
 {
-    let worker = worker as usize;
-    if worker >= queues.len() {
+    let share = share as usize;
+    if share >= queues.len() {
         return None;
     }
-    queues[worker].pop()
+    queues[share].pop()
 }
 
-/// Gives writes that nobody needs any more to a worker, if there is such a one.
-fn give_back(queues: &mut Vec<Attempts>, worker: u32, old: Writes)
+/// Gives writes that nobody needs any more to a share, if there is such a one.
+fn give_back(queues: &mut Vec<Attempts>, share: u32, old: Writes)
     ensures { (track : Plan) (base : Records) (ms : ℕ → Meaning) (bounds : ℕ → ℕ) (inputs : List Input)
         → AllTried track base ms bounds inputs queues.old.items → AllTried track base ms bounds inputs queues.new.items }
 {
-    let place = worker as usize;
+    let place = share as usize;
     if place >= queues.len() {
         return;
     }
@@ -102,7 +100,7 @@ fn commit_one(
     since: &mut Since,
     input: &Input,
     index: u32,
-    worker: u32,
+    share: u32,
     attempt: Option<Attempt>,
 ) -> Result<(Origin, Writes), RuleFault>
     requires fits { Fits input.now }
@@ -111,14 +109,14 @@ fn commit_one(
     requires fit { IfSome attempt (λ a. AreSendable a.outcome.messages) }
     ensures ok { OnOk result ((base : Records) (ms : ℕ → Meaning) (bound : ℕ) (inputs : List Input)
         → slice_get inputs index ≡ Some input.now → Means base ms since.old (record_in desk.old.records)
-        → IfSome attempt (IsTried track.now base (ms worker) bound inputs)
+        → IfSome attempt (IsTried track.now base (ms share) bound inputs)
         → IsTakenIn track.now input.now (standing desk.old) (standing desk.new)
         × Means base ms since.new (record_in desk.new.records)) }
     ensures one { OnOk result (length desk.new.results ≡ length desk.old.results + 1) }
     ensures err { OnErr result (standing desk.new ≡ standing desk.old) }
 {
     keeps_order(desk);
-    let (outcome, origin) = chosen(alloc, track, desk, since, input, index, worker, attempt)?;
+    let (outcome, origin) = chosen(alloc, track, desk, since, input, index, share, attempt)?;
     if since.mark(&outcome.writes, origin).is_err() {
         return Err(RuleFault::OutOfMemory);
     }
@@ -142,21 +140,21 @@ fn chosen(
     since: &Since,
     input: &Input,
     index: u32,
-    worker: u32,
+    share: u32,
     attempt: Option<Attempt>,
 ) -> Result<(Outcome, Origin), RuleFault>
     requires fits { Fits input.now }
     requires fit { IfSome attempt (λ a. AreSendable a.outcome.messages) }
     ensures right { IfOk result (λ done. (base : Records) (ms : ℕ → Meaning) (bound : ℕ) (inputs : List Input)
         → slice_get inputs index ≡ Some input.now → Means base ms since.now (record_in desk.old.records)
-        → IfSome attempt (IsTried track.now base (ms worker) bound inputs)
+        → IfSome attempt (IsTried track.now base (ms share) bound inputs)
         → IsOutcomeOf track.now input.now (record_in desk.old.records) done.0 × IsMeant ms done.1 done.0.writes) }
     ensures fit { IfOk result (λ done. AreSendable done.0.messages) }
     ensures same { standing desk.new ≡ standing desk.old }
 {
     if let Some(attempt) = attempt
         && attempt.index == index
-        && since.are_current(worker, attempt.reads.as_slice())
+        && since.are_current(share, attempt.reads.as_slice())
     {
         let Attempt {
             index: _,
@@ -164,7 +162,7 @@ fn chosen(
             reads: _,
             outcome,
         } = attempt;
-        return Ok((outcome, Origin::Taken { worker, place }));
+        return Ok((outcome, Origin::Taken { share, place }));
     }
     let outcome = desk.decide(alloc, track, input)?;
     Ok((outcome, Origin::Computed))

@@ -5,12 +5,12 @@
 mod attempt;
 mod attempts;
 mod commit;
-mod crew;
 mod reading;
 mod reads;
+mod shares;
 mod since;
 mod source;
 mod window;
 
-pub use crew::Crew;
+pub use shares::Shares;
 pub use window::{WindowFault, WindowStats, run_window};

@@ -13,8 +13,8 @@ use std::marker::Model;
 /// What wrote the record that stands under a key.
 #[derive(Clone, Copy, Debug, PartialEq, Eq)]
 pub(crate) enum Origin {
-    /// The attempt of this worker at this place, which was taken over.
-    Taken { worker: u32, place: u32 },
+    /// The attempt of this share at this place, which was taken over.
+    Taken { share: u32, place: u32 },
     /// An input that was computed where it was committed.
     Computed,
 }
@@ -53,13 +53,13 @@ impl Since {
         self.all.get(&key).copied()
     }
 
-    /// Whether all that an attempt of a worker read is what stands there now. No records are compared.
-    pub(crate) fn are_current(&self, worker: u32, reads: &[(Key, Option<u32>)]) -> bool
-        ensures { IsTrue result ↔ AreCurrent self.now worker reads.now }
+    /// Whether all that an attempt of a share read is what stands there now. No records are compared.
+    pub(crate) fn are_current(&self, share: u32, reads: &[(Key, Option<u32>)]) -> bool
+        ensures { IsTrue result ↔ AreCurrent self.now share reads.now }
     {
         reads
             .iter()
-            .all(|read| is_same(worker, read.1, self.at(read.0)))
+            .all(|read| is_same(share, read.1, self.at(read.0)))
     }
 
     /// Notes that the keys of these writes are written by this now. After an error some of them may be noted.
@@ -83,9 +83,9 @@ impl Since {
     }
 }
 
-/// Whether what a worker's attempt read at a place, or on the desk, is what this wrote.
-fn is_same(worker: u32, place: Option<u32>, origin: Option<Origin>) -> bool
-    ensures { IsTrue result ↔ IsSame worker place origin }
+/// Whether what a share's attempt read at a place, or on the desk, is what this wrote.
+fn is_same(share: u32, place: Option<u32>, origin: Option<Origin>) -> bool
+    ensures { IsTrue result ↔ IsSame share place origin }
 {
     match (place, origin) {
         (None, None) => true,
@@ -93,11 +93,11 @@ fn is_same(worker: u32, place: Option<u32>, origin: Option<Origin>) -> bool
             Some(place),
             Some(
                 Origin::Taken {
-                    worker: by,
+                    share: by,
                     place: at,
                 },
             ),
-        ) => by == worker && at == place,
+        ) => by == share && at == place,
         _ => false,
     }
 }

@@ -67,11 +67,11 @@ fn worked_batches_in_windows(rt: HostRuntime) {
     }
 }
 
-/// Four trains are enrolled, and there is a restriction on each line.
+/// Four trains are enrolled, and there is a restriction on each line. The messages of 7 and 39 are in one share.
 const BEFORE: &str = "enrol 7 2000
 enrol 8 2000
-enrol 9 2000
 enrol 11 2000
+enrol 39 2000
 restrict 1 0:15000-16000 both 40 1
 restrict 2 1:5000-6000 both 60 1
 ";
@@ -99,12 +99,12 @@ const LINES: &[(&str, &str)] = &[
         "recv 88063FFFFFFFC000020000E400000387D0500C8019000830\n",
     ),
     (
-        "9@5",
-        "recv 88063FFFFFFFC000024000E400000287D0500C8019000830\n",
+        "39@5",
+        "recv 88063FFFFFFFC00009C000E400000287D0500C8019000830\n",
     ),
     (
-        "9@7",
-        "recv 88063FFFFFFFC000024000E400000387D0500C8019000830\n",
+        "39@7",
+        "recv 88063FFFFFFFC00009C000E400000387D0500C8019000830\n",
     ),
     (
         "10@5",
@@ -152,32 +152,31 @@ where
     written
 }
 
-/// Reports, and how many of them are recomputed by 2, 3, 4 and 16 workers. No train has a place at first. A report that
-/// changes the line of its train reads and writes the lists of both lines; what it reads there is stale if another
-/// worker's train came before it, or a report that was recomputed. The remainder of its engine says which worker has a
-/// train.
-const ROWS: &[(&str, [u64; 4])] = &[
-    // the same lists, by one worker or by two
-    ("7@5 8@5", [1, 1, 1, 1]),
-    ("7@5 9@5", [0, 1, 1, 1]),
-    ("7@5 11@5", [0, 1, 0, 1]),
+/// Reports, and how many of them are recomputed. No train has a place at first. A report that changes the line of its
+/// train reads and writes the lists of both lines; what it reads there is stale if a train of another share came before
+/// it, or a report that was recomputed. That hangs on no number of workers.
+const ROWS: &[(&str, u64)] = &[
+    // the same lists, in one share or in two
+    ("7@5 8@5", 1),
+    ("7@5 39@5", 0),
+    ("7@5 11@5", 1),
     // the last one reads what was recomputed: its own train, or the lists
-    ("7@5 8@5 8@5", [2, 2, 2, 2]),
-    ("7@5 8@5 9@5", [2, 2, 2, 2]),
+    ("7@5 8@5 8@5", 2),
+    ("7@5 8@5 39@5", 2),
     // a train changes its line twice, or three times
-    ("7@5 7@7 7@5", [0, 0, 0, 0]),
-    ("7@5 7@7 8@5", [1, 1, 1, 1]),
-    ("7@5 8@5 7@7", [2, 2, 2, 2]),
+    ("7@5 7@7 7@5", 0),
+    ("7@5 7@7 8@5", 1),
+    ("7@5 8@5 7@7", 2),
     // trains that stay on their lines, and trains that change places: the first report alone stands
-    ("7@5 | 8@7 | 7@5 8@7 7@5 8@7", [0, 0, 0, 0]),
-    ("7@5 | 8@7 | 7@7 8@5 7@5 8@7", [3, 3, 3, 3]),
+    ("7@5 | 8@7 | 7@5 8@7 7@5 8@7", 0),
+    ("7@5 | 8@7 | 7@7 8@5 7@5 8@7", 3),
     // a train that is not enrolled
-    ("10@5 7@5 10@5", [0, 0, 0, 0]),
-    ("7@5 8@7 9@5 11@7 7@7 8@5 9@7 11@5", [7, 7, 7, 7]),
+    ("10@5 7@5 10@5", 0),
+    ("7@5 8@7 39@5 11@7 7@7 8@5 39@7 11@5", 7),
 ];
 
 /// Runs a row in windows of one, and in windows of all messages that follow each other.
-fn assert_row<R>(rt: &R, words: &str, by_each: [u64; 4])
+fn assert_row<R>(rt: &R, words: &str, recomputed: u64)
 where
     R: Abort + AllocGlobal + Threads + Wait + Sync,
 {
@@ -185,18 +184,18 @@ where
     let wanted = by_one_worker(rt, &batch);
     let bars = words.split(' ').filter(|word| *word == "|").count() as u64;
     let reports = (words.split(' ').count() as u64).saturating_sub(bars);
-    for (workers, recomputed) in WORKERS.iter().zip(by_each) {
-        let apart = run_at(rt, &batch, *workers, windows_of(1), &wanted);
+    for workers in WORKERS {
+        let apart = run_at(rt, &batch, workers, windows_of(1), &wanted);
         same(rt, apart, (reports, reports, 0));
-        let together = run_at(rt, &batch, *workers, windows_of(256), &wanted);
+        let together = run_at(rt, &batch, workers, windows_of(256), &wanted);
         same(rt, together, (bars.saturating_add(1), reports, recomputed));
     }
 }
 
 #[test]
 fn stale_attempts(rt: HostRuntime) {
-    for (words, by_each) in ROWS {
-        assert_row(&rt, words, *by_each);
+    for (words, recomputed) in ROWS {
+        assert_row(&rt, words, *recomputed);
     }
 }
 
@@ -223,8 +222,8 @@ const CHANGED_PLACES: &str = "1 ok 0
 8 9 1804C0000000600000E82811C0027100FA2300
 8 12 1805C0000000A00000A85007C01050238024E201F44400
 8 14 1805C0000000E00000E85007C05050238044E201F44600
-9 15 1002800000005FFFFFE0
 11 15 1002800000005FFFFFE0
+39 15 1002800000005FFFFFE0
 ";
 
 /// What comes of all four trains, each of which goes to both lines.
@@ -248,20 +247,19 @@ const ALL_GO_TO_BOTH: &str = "1 ok 0
 8 8 1804C0000000600000E82811C0027100FA2300
 8 12 1805C0000000A00000A85007C01050238024E201F44400
 8 15 0F03C0000000C00000A0800028CA00
-9 9 1804C0000000600000A82811C0027100FA2200
-9 13 1805C0000000A00000E85007C01050238024E201F44600
 11 10 1804C0000000600000E82811C0027100FA2300
 11 14 1805C0000000A00000A85007C01050238024E201F44400
 11 15 0F03C0000000C00000A0800028CA00
+39 9 1804C0000000600000A82811C0027100FA2200
+39 13 1805C0000000A00000E85007C01050238024E201F44600
 ";
 
-// The windows of 3 have 7, 8 and 9; 11, 7 and 8; and 9 and 11, which one of two workers has, and one of four has 7 and
-// 11.
+// The windows of 3 have 7, 8 and 39; 11, 7 and 8; and 39 and 11.
 #[test]
 fn stale_attempts_from_outside(rt: HostRuntime) {
     let changed = batch_of(&rt, "7@5 | 8@7 | 7@7 8@5 7@5 8@7");
-    let both = batch_of(&rt, "7@5 8@7 9@5 11@7 7@7 8@5 9@7 11@5");
-    for (workers, of_three) in [(2, 3), (3, 5), (4, 4), (16, 5)] {
+    let both = batch_of(&rt, "7@5 8@7 39@5 11@7 7@7 8@5 39@7 11@5");
+    for workers in WORKERS {
         let counts = run_at(
             &rt,
             &changed,
@@ -270,7 +268,7 @@ fn stale_attempts_from_outside(rt: HostRuntime) {
             CHANGED_PLACES.as_bytes(),
         );
         same(&rt, counts, (3, 6, 3));
-        for (most, wanted) in [(3, (3, 8, of_three)), (7, (2, 8, 6)), (8, (1, 8, 7))] {
+        for (most, wanted) in [(3, (3, 8, 5)), (7, (2, 8, 6)), (8, (1, 8, 7))] {
             let counts = run_at(
                 &rt,
                 &both,
@@ -286,7 +284,7 @@ fn stale_attempts_from_outside(rt: HostRuntime) {
 // The first messages on end are two, and the next three. The train of the other batch holds 15 identifiers.
 #[test]
 fn windows_as_the_pace_says(rt: HostRuntime) {
-    let batch = batch_of(&rt, "7@5 9@5 | 7@5 9@5 7@5");
+    let batch = batch_of(&rt, "7@5 39@5 | 7@5 39@5 7@5");
     let wanted = by_one_worker(&rt, &batch);
     let rows = [
         (0, 0, (5, 5)),

@@ -6,8 +6,8 @@ use Rattle.rbc_window.specs.Windows.{AreTried}
 use Rattle.rbc_window.proofs.Commits.{at_not_err, at_err}
 use Rattle.rbc_window.proofs.Tried.{tried_push}
 use Rattle.rbc_window.proofs.attempt.attempt_all.Goals as goal
-use Rattle.rbc_window.proofs.attempt.attempt_all.Goals.{then-owner-worker+in-Ok+else-is_err, else-owner-worker}
-use Rattle.rbc_window.proofs.attempt.attempt_all.Goals.{else-loop-index-test, then-loop-index-test+then-owner-worker+in_default, then-loop-index-test+then-owner-worker+in-Ok+then-is_err}
+use Rattle.rbc_window.proofs.attempt.attempt_all.Goals.{then-share_of-share+in-Ok+else-is_err, else-share_of-share}
+use Rattle.rbc_window.proofs.attempt.attempt_all.Goals.{else-loop-index-test, then-loop-index-test+then-share_of-share+in_default, then-loop-index-test+then-share_of-share+in-Ok+then-is_err}
 
 pub loop-index-preserved : goal.loop-index-preserved
 loop-index-preserved c =
@@ -15,8 +15,8 @@ loop-index-preserved c =
     let base = record_in c.args.store.now in
     let inputs = c.args.inputs.now in
     let input = c.index-inputs-index.result in
-    elim c.if-owner-worker.branch [
-      | then-owner-worker+in-Ok+else-is_err w ↦ (
+    elim c.if-share_of-share.branch [
+      | then-share_of-share+in-Ok+else-is_err w ↦ (
           let a = w.in-Ok.attempt in
           let before = w.spare-spare.new.self in
           let tried : AreTried track base inputs before = subst (AreTried track base inputs) (sym w.spare-spare.ensures) c.loop-index.invariant in
@@ -25,7 +25,7 @@ loop-index-preserved c =
           let at : slice_get inputs a.index ≡ Some input = ap (slice_get inputs) w.in-Ok.ensures.number.0 ∙ there in
           subst (AreTried track base inputs) (sym (w.attempts-is ∙ kept)) (tried_push track base inputs before a input tried w.in-Ok.ensures.number.1 w.in-Ok.ensures.within at w.in-Ok.ensures.right)
           )
-      | else-owner-worker w ↦ subst (AreTried track base inputs) (sym w.attempts-is) c.loop-index.invariant
+      | else-share_of-share w ↦ subst (AreTried track base inputs) (sym w.attempts-is) c.loop-index.invariant
     ]
 
 -- those that were kept stay, where memory ends too
@@ -34,6 +34,6 @@ returns c =
     let are = AreTried c.args.track.now (record_in c.args.store.now) c.args.inputs.now in
     elim c.loop-index-test.branch [
       | else-loop-index-test w ↦ subst are (sym w.attempts-is) c.loop-index.invariant
-      | then-loop-index-test+then-owner-worker+in_default w ↦ subst are (sym (w.attempts-is ∙ w.spare-spare.ensures)) c.loop-index.invariant
-      | then-loop-index-test+then-owner-worker+in-Ok+then-is_err w ↦ subst are (sym (w.attempts-is ∙ at_err w.keep.result w.keep.ensures.err (sym w.is_err.ensures.value ∙ w.if-is_err.true) ∙ w.spare-spare.ensures)) c.loop-index.invariant
+      | then-loop-index-test+then-share_of-share+in_default w ↦ subst are (sym (w.attempts-is ∙ w.spare-spare.ensures)) c.loop-index.invariant
+      | then-loop-index-test+then-share_of-share+in-Ok+then-is_err w ↦ subst are (sym (w.attempts-is ∙ at_err w.keep.result w.keep.ensures.err (sym w.is_err.ensures.value ∙ w.if-is_err.true) ∙ w.spare-spare.ensures)) c.loop-index.invariant
     ]

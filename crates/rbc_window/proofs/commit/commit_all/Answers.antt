@@ -18,13 +18,13 @@ loop-index-preserved c =
     let queues = c.args.queues.now.items in
     let ms = meanings queues in
     let bounds = bounds_of queues in
-    let worker = c.owner-worker.result in
+    let share = c.share_of-share.result in
     let ok : is_ok c.commit_one.result ≡ true = search rules in
     let at : slice_get inputs c.loop-index.index ≡ Some c.index-inputs-index.result = slice_get_read _ _ _ _ refl c.loop-index-test.true c.index-inputs-index.is in
-    let tried : IfSome c.next_of-attempt.result (IsTried track base (ms worker) (bounds worker) inputs) =
-    first_is track base ms bounds inputs c.loop-index.queues.items worker c.next_of-attempt.result c.next_of-attempt.ensures.first i.tried
+    let tried : IfSome c.next_of-attempt.result (IsTried track base (ms share) (bounds share) inputs) =
+    first_is track base ms bounds inputs c.loop-index.queues.items share c.next_of-attempt.result c.next_of-attempt.ensures.first i.tried
     in
-    let done = at_ok c.commit_one.result c.commit_one.ensures.ok ok base ms (bounds worker) inputs at i.means tried in
+    let done = at_ok c.commit_one.result c.commit_one.ensures.ok ok base ms (bounds share) inputs at i.means tried in
     let one = at_ok c.commit_one.result c.commit_one.ensures.one ok in
     let room = i.room in
     let over = i.over in

@@ -5,13 +5,13 @@ use Rattle.rbc_window.proofs.commit.next_of.Goals as goal
 
 pub returns-clause-keeps : goal.returns-clause-keeps
 returns-clause-keeps c track base ms bounds inputs all =
-    let lt : c.args.worker < length c.args.queues.now.items = omega arith in
-    let at : slice_get c.args.queues.now.items c.args.worker ≡ Some c.index_mut.result.now = slice_get_read _ _ _ _ refl lt c.index_mut.ensures.value in
-    tried_set track base ms bounds inputs c.args.queues.now.items c.args.worker c.pop.new.self all
-    (tried_rest track base (ms c.args.worker) (bounds c.args.worker) inputs c.index_mut.result.now c.pop.new.self c.pop.result c.pop.ensures.first c.pop.ensures.none (all c.args.worker c.index_mut.result.now at))
+    let lt : c.args.share < length c.args.queues.now.items = omega arith in
+    let at : slice_get c.args.queues.now.items c.args.share ≡ Some c.index_mut.result.now = slice_get_read _ _ _ _ refl lt c.index_mut.ensures.value in
+    tried_set track base ms bounds inputs c.args.queues.now.items c.args.share c.pop.new.self all
+    (tried_rest track base (ms c.args.share) (bounds c.args.share) inputs c.index_mut.result.now c.pop.new.self c.pop.result c.pop.ensures.first c.pop.ensures.none (all c.args.share c.index_mut.result.now at))
 
 pub returns-clause-first : goal.returns-clause-first
 returns-clause-first c =
-    let lt : c.args.worker < length c.args.queues.now.items = omega arith in
-    let at : slice_get c.args.queues.now.items c.args.worker ≡ Some c.index_mut.result.now = slice_get_read _ _ _ _ refl lt c.index_mut.ensures.value in
-    tried_first c.args.queues.now.items c.args.worker c.index_mut.result.now c.pop.new.self c.pop.result at c.pop.ensures.first
+    let lt : c.args.share < length c.args.queues.now.items = omega arith in
+    let at : slice_get c.args.queues.now.items c.args.share ≡ Some c.index_mut.result.now = slice_get_read _ _ _ _ refl lt c.index_mut.ensures.value in
+    tried_first c.args.queues.now.items c.args.share c.index_mut.result.now c.pop.new.self c.pop.result at c.pop.ensures.first
