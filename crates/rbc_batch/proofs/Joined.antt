@@ -89,10 +89,10 @@ all_parts outboxes parts some =
     ∙ ap (λ (k : ℕ). flat_map outbox_lines (drop k outboxes)) (start_first (length outboxes) parts some)
 
 -- the texts of all parts behind the lines of the results are the output text
-pub joined : (outboxes : List (ℕ × List Mail)) (parts : ℕ) (texts : List (Result (Vec ℕ Global) AllocError)) (results old new : List ℕ) → 0 < parts → length texts ≡ parts
+pub output_joined : (outboxes : List (ℕ × List Mail)) (parts : ℕ) (texts : List (Result (Vec ℕ Global) AllocError)) (results old new : List ℕ) → 0 < parts → length texts ≡ parts
     → ((i : ℕ) (d : Result (Vec ℕ Global) AllocError) → i < parts → IfOk (slice_index_or texts i d) (λ text. text.items ≡ lines_of_part outboxes parts i))
     → AreMade texts → old ≡ results → new ≡ old ++ flat_map bytes_of texts → new ≡ results ++ flat_map outbox_lines outboxes
-joined outboxes parts texts results old new some count each made same behind =
+output_joined outboxes parts texts results old new some count each made same behind =
     let bytes = all_bytes texts (lines_of_part outboxes parts) made (λ i d within. each i d (omega (arith, count, within))) in
     behind
     ∙ ap₂ (λ (xs ys : List ℕ). xs ++ ys) same (bytes ∙ ap (λ (n : ℕ). spread (lines_of_part outboxes parts) n) count ∙ all_parts outboxes parts some)

@@ -17,6 +17,10 @@ lines_of_part outboxes parts part =
     let from = part_start (length outboxes) parts part in
     flat_map outbox_lines (take (part_start (length outboxes) parts (part + 1) - from) (drop from outboxes))
 
+-- texts, one behind the other
+abbrev pub joined : List (Vec ℕ Global) → List ℕ
+joined texts = flat_map (λ text. text.items) texts
+
 -- the bytes of a text, if it was made
 abbrev pub bytes_of : Result (Vec ℕ Global) AllocError → List ℕ
 bytes_of (Ok text) = text.items

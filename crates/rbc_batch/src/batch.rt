@@ -9,8 +9,8 @@ ghost use Rattle.rbc_text.specs.Pieces.{texts_of};
 ghost use Rattle.rbc_batch.specs.Process.{Answers, AreRead, IsBeforeRun, IsRefused, IsRunOf, IsUntouched, max_batch};
 
 use crate::inputs::{first_lines, parse_lines};
-use crate::rendering::text_of_desk;
-use crate::streams::{read_batch, write_text};
+use crate::rendering::texts_of_desk;
+use crate::streams::{read_batch, write_texts};
 use rbc_book::Stats;
 use rbc_desk::Desk;
 use rbc_engine::{Gate, MAX_INPUTS, MAX_WORKERS, RunError, run};
@@ -172,8 +172,8 @@ pub fn process<R: Read, W: Write, G: Gate + Sync>(
         let inputs = read_inputs(rt, reader, workers)?;
         run_all(rt, track, &inputs, workers, gate)?
     };
-    let text = text_of_desk(rt, &desk, workers)?;
-    match write_text(writer, &text) {
+    let texts = texts_of_desk(rt, &desk, workers)?;
+    match write_texts(writer, &texts) {
         Ok(()) => Ok(stats),
         Err(sent) => Err(ProcessError::Write { sent: sent as u64 }),
     }

@@ -1,9 +1,9 @@
 //! The output text of a desk, made by several workers where there is much to write.
 
-ghost use Rattle.std.specs.Prelude.{◌≡◌, ◌<◌, ◌≤◌, ◌++◌, ℕ, length, IfOk, OnOk, slice_index_or};
+ghost use Rattle.std.specs.Prelude.{◌≡◌, ◌<◌, ◌≤◌, ◌++◌, ◌^◌, ℕ, length, IfOk, OnOk, slice_index_or};
 ghost use Rattle.std.specs.List.{flat_map};
 ghost use Rattle.rbc_text.specs.OutputText.{output_of};
-ghost use Rattle.rbc_batch.specs.Parts.{AreMade, bytes_of, lines_of_part, part_start};
+ghost use Rattle.rbc_batch.specs.Parts.{AreMade, bytes_of, joined, lines_of_part, part_start};
 
 use rbc_desk::Desk;
 use rbc_text::{render, render_outboxes, render_results};
@@ -17,19 +17,33 @@ const SHARED_FROM: usize = 2_000;
 /// The text of one part of the outboxes, or that memory was refused to it.
 type Part = Result<Vec<u8>, AllocError>;
 
-/// The output text of a desk, made by so many workers where there is much to write. Fails only for lack of memory.
-pub(crate) fn text_of_desk(
+/// The output text of a desk, in parts that stand one behind the other. So many workers make them where there is much
+/// to write. Fails only for lack of memory.
+pub(crate) fn texts_of_desk(
     rt: &(impl AllocGlobal + Threads + Sync),
     desk: &Desk,
     workers: u8,
-) -> Result<Vec<u8>, AllocError>
-    ensures { IfOk result (λ text. text.items ≡ output_of desk.now.results desk.now.outboxes) }
+) -> Result<Vec<Vec<u8>>, AllocError>
+    ensures text { IfOk result (λ texts. joined texts.items ≡ output_of desk.now.results desk.now.outboxes) }
+    ensures short { IfOk result (λ texts. length (joined texts.items) < 2 ^ 64) }
 {
-    if workers < 2 || !sends_many(desk) {
-        render(rt.alloc(), desk)
+    let alloc = rt.alloc();
+    let texts = if workers < 2 || !sends_many(desk) {
+        text_in_turn(alloc, desk)?
     } else {
-        text_in_threads(rt, rt.alloc(), desk, usize::from(workers))
-    }
+        texts_in_threads(rt, alloc, desk, usize::from(workers))?
+    };
+    check_length(&texts)?;
+    Ok(texts)
+}
+
+/// The output text of a desk in one part.
+fn text_in_turn(alloc: Global, desk: &Desk) -> Result<Vec<Vec<u8>>, AllocError>
+    ensures { IfOk result (λ texts. joined texts.items ≡ output_of desk.now.results desk.now.outboxes) }
+{
+    let mut texts = Vec::new(alloc);
+    texts.push(render(alloc, desk)?)?;
+    Ok(texts)
 }
 
 /// Whether a desk has so many messages that its text is made in threads.
@@ -45,21 +59,21 @@ fn sends_many(desk: &Desk) -> bool {
     false
 }
 
-/// The output text of a desk, whose outboxes are rendered in as many parts as there are workers.
-fn text_in_threads(
+/// The output text of a desk: the results, and then the outboxes in as many parts as there are workers.
+fn texts_in_threads(
     rt: &(impl Threads + Sync),
     alloc: Global,
     desk: &Desk,
     workers: usize,
-) -> Result<Vec<u8>, AllocError>
+) -> Result<Vec<Vec<u8>>, AllocError>
     requires { 0 < workers }
-    ensures { IfOk result (λ text. text.items ≡ output_of desk.now.results desk.now.outboxes) }
+    ensures { IfOk result (λ texts. joined texts.items ≡ output_of desk.now.results desk.now.outboxes) }
 {
     let parts = render_parts(rt, alloc, desk, workers)?;
-    let mut text = render_results(alloc, desk)?;
-    text.reserve(total_length(&parts))?;
-    append_parts(&mut text, parts)?;
-    Ok(text)
+    let mut texts = Vec::new(alloc);
+    texts.push(render_results(alloc, desk)?)?;
+    append_parts(&mut texts, parts)?;
+    Ok(texts)
 }
 
 /// The parts of the outboxes, in their order, each rendered in a thread of its own.
@@ -102,24 +116,24 @@ fn start_of(outboxes: usize, parts: usize, part: usize) -> usize
     (outboxes as u128 * part as u128 / parts as u128) as usize
 }
 
-/// How many bytes the texts of parts have in all.
-fn total_length(parts: &[Part]) -> usize {
-    let mut total = 0usize;
-    for part in parts {
-        if let Ok(text) = part {
-            total = total.saturating_add(text.len());
-        }
+/// Fails where no number says how many bytes some texts have in all: no memory holds such texts.
+fn check_length(texts: &[Vec<u8>]) -> Result<(), AllocError>
+    ensures { OnOk result (length (joined texts.now) < 2 ^ 64) }
+{
+    let mut length = 0usize;
+    for text in texts {
+        length = length.checked_add(text.len()).ok_or(AllocError)?;
     }
-    total
+    Ok(())
 }
 
-/// Appends the texts of parts, and frees each. Fails if memory was refused to one of them.
-fn append_parts(text: &mut Vec<u8>, parts: Vec<Part>) -> Result<(), AllocError>
-    ensures appended { OnOk result (text.new.items ≡ text.old.items ++ flat_map bytes_of parts.items) }
+/// Appends the texts of parts. Fails if memory was refused to one of them.
+fn append_parts(texts: &mut Vec<Vec<u8>>, parts: Vec<Part>) -> Result<(), AllocError>
+    ensures appended { OnOk result (joined texts.new.items ≡ joined texts.old.items ++ flat_map bytes_of parts.items) }
     ensures made { OnOk result (AreMade parts.items) }
 {
     for part in parts {
-        text.extend_from_slice(&part?)?;
+        texts.push(part?)?;
     }
     Ok(())
 }

@@ -1,7 +1,8 @@
 //! Reading the whole of a batch, and writing the whole of an output text.
 
-ghost use Rattle.std.specs.Prelude.{◌≡◌, ◌++◌, ◌≤◌, ◌<◌, take, length, IfOk, IfErr, OnOk, IsErrOf, IfSome};
+ghost use Rattle.std.specs.Prelude.{◌≡◌, ◌++◌, ◌≤◌, ◌<◌, ◌^◌, take, length, IfOk, IfErr, OnOk, IsErrOf, IfSome};
 ghost use Rattle.std.specs.Io.KnownBytes.{Appends};
+ghost use Rattle.rbc_batch.specs.Parts.{joined};
 ghost use Rattle.rbc_batch.specs.Process.{IsAllRead, IsBeforeWriting, max_batch};
 
 use crate::batch::ProcessError;
@@ -56,15 +57,44 @@ pub fn write_text<W: Write>(writer: &mut W, text: &[u8]) -> Result<(), usize>
     ensures part { IfErr result (λ sent. (sent ≤ length text.now)
         × Appends (W.contents writer.old) (W.contents writer.new) (take sent text.now)) }
 {
+    let mut interruptions = 0;
+    write_on(writer, text, &mut interruptions)
+}
+
+/// Writes texts one behind the other, as `write_text` does one text.
+pub(crate) fn write_texts<W: Write>(writer: &mut W, texts: &[Vec<u8>]) -> Result<(), usize>
+    requires { length (joined texts.now) < 2 ^ 64 }
+    ensures ok { OnOk result (Appends (W.contents writer.old) (W.contents writer.new) (joined texts.now)) }
+    ensures part { IfErr result (λ sent. (sent ≤ length (joined texts.now))
+        × Appends (W.contents writer.old) (W.contents writer.new) (take sent (joined texts.now))) }
+{
     let mut sent = 0;
     let mut interruptions = 0;
+    for text in texts {
+        match write_on(writer, text, &mut interruptions) {
+            Ok(()) => sent += text.len(),
+            Err(more) => return Err(sent + more),
+        }
+    }
+    Ok(())
+}
+
+/// Writes the whole of a text with a writer that was interrupted so many times before, as `write_text` does.
+fn write_on<W: Write>(writer: &mut W, text: &[u8], interruptions: &mut u32) -> Result<(), usize>
+    requires { interruptions.old < 1000 }
+    ensures ok { OnOk result (Appends (W.contents writer.old) (W.contents writer.new) text.now) }
+    ensures fewer { OnOk result (interruptions.new < 1000) }
+    ensures part { IfErr result (λ sent. (sent ≤ length text.now)
+        × Appends (W.contents writer.old) (W.contents writer.new) (take sent text.now)) }
+{
+    let mut sent = 0;
     while sent < text.len() {
         match writer.write(&text[sent..]) {
             Ok(0) => return Err(sent),
             Ok(count) => sent += count,
             Err(error) => {
-                interruptions += 1;
-                if error.kind() != ErrorKind::Interrupted || interruptions >= MAX_INTERRUPTIONS {
+                *interruptions += 1;
+                if error.kind() != ErrorKind::Interrupted || *interruptions >= MAX_INTERRUPTIONS {
                     return Err(sent);
                 }
             }

@@ -7,6 +7,9 @@ use rbc_batch::{ProcessError, process, write_text};
 use rbc_engine::OpenGate;
 use std::io;
 use std::io::{ErrorKind, Read, Write};
+use std::process::Abort;
+use std::sync::Wait;
+use std::thread::Threads;
 
 /// Gives a text in pieces of so many bytes, and fails at one call.
 #[derive(Drop)]
@@ -180,11 +183,12 @@ fn counts_what_is_out_where_the_writer_fails(rt: HostRuntime) {
     }
 }
 
-/// Is interrupted 600 times, takes 5 bytes, is interrupted so many times again, and then takes all.
+/// Is interrupted 600 times, takes so many bytes at the most, is interrupted so many times again, and then takes all.
 #[derive(Drop)]
 struct Stuttering {
     taken: Vec<u8>,
     calls: u32,
+    first: usize,
     again: u32,
 }
 
@@ -196,7 +200,7 @@ impl Write for Stuttering {
             return Err(io::Error::from(ErrorKind::Interrupted));
         }
         let room = if is_between {
-            buf.len().min(5)
+            buf.len().min(self.first)
         } else {
             buf.len()
         };
@@ -217,10 +221,63 @@ fn counts_interruptions_of_all_parts(rt: HostRuntime) {
         let mut writer = Stuttering {
             taken: Vec::new(rt.alloc()),
             calls: 0,
+            first: 5,
             again,
         };
         let result = write_text(&mut writer, text);
         same(&rt, result.err(), (again == 400).then_some(sent));
         same(&rt, writer.taken.as_slice(), &text[..sent]);
+    }
+}
+
+/// 134 trains without a place, and 15 stops of which each of them is told: so many messages that several workers make
+/// the output text in parts, of which the first one has the results.
+fn many_messages<R: Abort + AllocGlobal>(rt: &R) -> String {
+    let mut batch = String::new(rt.alloc());
+    for engine in 1..=134 {
+        writeln!(batch, "enrol {engine} 2000").expect(rt, "memory");
+    }
+    for number in 1..=15 {
+        writeln!(batch, "stop {number} 0:0-10").expect(rt, "memory");
+    }
+    batch
+}
+
+/// What has come out of a batch when a writer has taken all, or has failed.
+fn output_of<R, W>(rt: &R, batch: &str, writer: &mut W, workers: u8) -> Option<ProcessError>
+where
+    R: Abort + AllocGlobal + Threads + Wait + Sync,
+    W: Write,
+{
+    let track = good_track(rt);
+    let mut reader = batch.as_bytes();
+    process(rt, &track, &mut reader, writer, workers, &OpenGate).err()
+}
+
+// The 149 results have 1,263 bytes: 9 with 7, 90 with 8, 35 with 9, and 15 with 11. Interruptions and bytes are counted
+// over the parts of an output text as over those of one part.
+#[test]
+fn counts_interruptions_of_all_texts(rt: HostRuntime) {
+    let batch = many_messages(&rt);
+    let mut whole = Vec::new(rt.alloc());
+    same(&rt, output_of(&rt, &batch, &mut whole, 1), None);
+    for (again, sent) in [(400, 1_263), (399, whole.len())] {
+        let mut writer = Stuttering {
+            taken: Vec::new(rt.alloc()),
+            calls: 0,
+            first: usize::MAX,
+            again,
+        };
+        let fault = ProcessError::Write { sent: sent as u64 };
+        same(
+            &rt,
+            output_of(&rt, &batch, &mut writer, 2),
+            (again == 400).then_some(fault),
+        );
+        same(
+            &rt,
+            writer.taken.as_slice(),
+            &whole[..sent.min(whole.len())],
+        );
     }
 }

@@ -1,6 +1,6 @@
 use Rattle.std.proofs.Common.{◌+◌, ◌-◌, ◌≤◌, take, length}
 use Rattle.std.specs.Io.KnownBytes.{Appends}
-use Rattle.rbc_batch.proofs.streams.write_text.Given as goal
+use Rattle.rbc_batch.proofs.streams.write_on.Given as goal
 
 abbrev pub invariant-loop-sent : goal.invariant-loop-sent
 invariant-loop-sent g l = record {

@@ -3,7 +3,7 @@ use Rattle.std.specs.Io.KnownBytes.{Appends}
 use Rattle.std.proofs.Math.Seq.{take-add}
 use Rattle.std.proofs.lemmas.List.{take_all}
 use Rattle.rbc_batch.proofs.Transfers.{appends_more}
-use Rattle.rbc_batch.proofs.streams.write_text.Goals as goal
+use Rattle.rbc_batch.proofs.streams.write_on.Goals as goal
 
 pub loop-sent-preserved-in-Ok : goal.loop-sent-preserved-in-Ok
 loop-sent-preserved-in-Ok g c =
