@@ -20,7 +20,7 @@ unfolding w16 was weaker where with_items xs zip line_turn ReadLines define alon
 """
 
 # of the kit's other crates
-PORTED = "anyhow boxcar clap hex indexmap itoa memchr rayon thiserror toml toml_parser toml_writer"
+PORTED = "anyhow boxcar clap crossbeam_queue hex indexmap itoa memchr rayon thiserror toml toml_parser toml_writer"
 
 # of rt and of the scripts here, and of the folders and files that they know
 TOOL = """
