@@ -23,7 +23,10 @@ SIZES = (50, 300, 300, 1_000, 3_000, 20_000)  # lines of a batch
 LONG = 20  # seconds that one process runs one batch over and over, so that its memory is seen to stay
 PAUSE = 0.01  # seconds between two looks at the memory of a process
 PATIENCE = 3_600  # seconds that no run takes, on a busy machine too
-SLACK = 8 * 1024  # KiB that memory may grow by in a process that does the same over and over: what the allocator keeps for each thread at first
+SLACK = 4 * 1024  # KiB that memory may grow by in a process that does the same over and over
+# The C library keeps freed memory in up to eight arenas a processor, and threads that come and go fill one after the other. In one arena what grows is
+# the program's own.
+ONE_ARENA = {**os.environ, "MALLOC_ARENA_MAX": "1"}
 
 Ended = collections.namedtuple("Ended", "status output errors looks seconds")
 Batch = collections.namedtuple("Batch", "name lines track text")
@@ -35,13 +38,13 @@ def resident(pid):
         return int(it.read().split()[1]) * os.sysconf("SC_PAGE_SIZE") // 1024
 
 
-def run(words, folder, text=b""):
+def run(words, folder, text=b"", environment=None):
     """Runs a program, and looks at its memory meanwhile."""
     with tempfile.TemporaryFile() as source, tempfile.TemporaryFile() as output, tempfile.TemporaryFile() as errors:
         source.write(text)
         source.seek(0)
         begun, looks = time.monotonic(), []
-        with subprocess.Popen(words, cwd=folder, stdin=source, stdout=output, stderr=errors) as it:
+        with subprocess.Popen(words, cwd=folder, stdin=source, stdout=output, stderr=errors, env=environment) as it:
             while it.poll() is None:
                 looks.append(resident(it.pid))
                 if time.monotonic() - begun > PATIENCE:
@@ -99,7 +102,7 @@ class Soak:
             self.note(ended, is_right and (output != b"") == (batch.text != b""), f"{batch.name} of {batch.lines} lines, {count} workers")
         self.write(f"{batch.name}.expected", output)
 
-    def by_golden(self, batches, runs, workers):
+    def by_golden(self, batches, runs, workers, environment=None):
         """Runs batches so often by so many workers, of which each takes part."""
         with tempfile.TemporaryDirectory(dir=self.folder) as cases:
             for batch in batches:
@@ -107,7 +110,7 @@ class Soak:
                     os.symlink(f"{self.folder}/{batch.name}.{ending}", f"{cases}/{batch.name}.{ending}")
             with open(f"{cases}/cases.txt", "w", encoding="ascii") as it:
                 it.writelines(f"{batch.name} {batch.track}\n" for batch in batches)
-            ended = run([self.golden, str(runs), str(workers)], cases)
+            ended = run([self.golden, str(runs), str(workers)], cases, environment=environment)
         wanted = b"".join(rb"%s on %s right, \d+ windows\n" % (re.escape(batch.name.encode()), re.escape(batch.track.encode())) for batch in batches)
         names = " ".join(f"{batch.name} of {batch.lines} lines" for batch in batches)
         for line in ended.errors.splitlines():
@@ -116,12 +119,12 @@ class Soak:
         return ended, ended.status == 0 and re.fullmatch(wanted, ended.output) is not None, f"{names}, {workers} workers, {runs} runs each"
 
     def over_and_over(self, batch, workers):
-        """Runs a batch by one process for some time. Its memory in the last third of the time must be that in the first third, by the median: a
-        moment in which one worker waits for a processor makes a stretch longer, and its log too."""
+        """Runs a batch by one process for some time, in one arena. Its memory in the last third of the time must be that in the first third, by the
+        median: a moment in which one worker waits for a processor makes a stretch longer, and its log too."""
         once, is_right, what = self.by_golden([batch], 1, workers)
         self.note(once, is_right, what)
         runs = max(6, int(LONG / max(once.seconds, 0.002)))
-        ended, is_right, what = self.by_golden([batch], runs, workers)
+        ended, is_right, what = self.by_golden([batch], runs, workers, ONE_ARENA)
         third = len(ended.looks) // 3
         if third:
             grown = int(statistics.median(ended.looks[-third:]) - statistics.median(ended.looks[:third]))

@@ -136,7 +136,20 @@ impl Desk {
     {
         keeps(track);
         let outcome = self.decide(alloc, track, input)?;
-        let _ = self.take_over(alloc, outcome)?;
+        self.take_over_alone(alloc, outcome)?;
+        Ok(())
+    }
+
+    /// Takes an outcome over, and keeps what it replaced for the memory of the next one.
+    #[inline(always)]
+    fn take_over_alone(&mut self, alloc: Global, outcome: Outcome) -> Result<(), AllocError>
+        requires fit { AreSendable outcome.messages }
+        requires room { length self.old.results < MAX_RESULTS }
+        ensures ok { OnOk result (standing self.new ≡ after_outcome (standing self.old) outcome) }
+        ensures err { OnErr result (self.new ≡ self.old) }
+    {
+        let replaced = self.take_over(alloc, outcome)?;
+        self.records.keep_spare(replaced);
         Ok(())
     }
 

@@ -19,6 +19,8 @@ use std::marker::Model;
 #[derive(Debug, Drop)]
 pub struct PlainStore {
     records: Table,
+    /// What the last input replaced, if that was one record.
+    spare: Option<Writes>,
 }
 
 impl Model for PlainStore {
@@ -38,6 +40,7 @@ impl PlainStore {
     {
         PlainStore {
             records: Table::new(alloc),
+            spare: None,
         }
     }
 
@@ -46,6 +49,16 @@ impl PlainStore {
         ensures { option_copied result ≡ record_in self.now key }
     {
         self.records.get(key)
+    }
+
+    /// Keeps what an input replaced, if that is one record: the next outcome can be made in its memory. It was a train's
+    /// where the input was a message.
+    pub fn keep_spare(&mut self, replaced: Writes)
+        ensures { self.new ≡ self.old }
+    {
+        if replaced.len() == 1 {
+            self.spare = Some(replaced);
+        }
     }
 
     /// The number of records.
@@ -81,6 +94,10 @@ impl Reader for PlainStore {
 
     fn seen(&self, key: Key) -> Option<&Rec> {
         self.get(key)
+    }
+
+    fn spare(&mut self) -> Option<Writes> {
+        self.spare.take()
     }
 
     fn failures(&self) -> u64 {
@@ -138,6 +155,7 @@ pub fn apply(store: &mut PlainStore, writes: Writes) -> Result<(), Writes>
     ensures err { OnErr result (store.new ≡ store.old) }
     ensures back { IfErr result (λ back. back ≡ writes) }
 {
-    let _ = exchange(store, writes)?;
+    let replaced = exchange(store, writes)?;
+    store.keep_spare(replaced);
     Ok(())
 }

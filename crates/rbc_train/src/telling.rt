@@ -70,10 +70,14 @@ pub fn limit_to_tell(
 ) -> Option<(u32, ToldLimit)>
     ensures { result ≡ limit_to_tell horizon train.now (number, limit.now) }
 {
-    let told = told_limit(horizon, train.place.as_ref()?, limit)?;
+    let place = train.place.as_ref()?;
+    if !limit_concerns(limit, place, horizon) {
+        return None;
+    }
     if train.limits.tells(number, near) {
         return None;
     }
+    let told = told_limit(horizon, place, limit)?;
     Some((number, told))
 }
 

@@ -16,7 +16,7 @@ pub returns : goal.returns
 returns c =
     let train = c.args.train.now in
     let is : is_told train.limits c.args.number ≡ false = sym c.tells.ensures ∙ c.if-tells.false in
-    let place : train.place ≡ Some c.in_ok-as_ref.field-0.now = sym c.as_ref.ensures.value ∙ ap option_copied c.in_ok-as_ref.was in
+    let place : train.place ≡ Some c.in_ok-place.place.now = sym c.as_ref.ensures.value ∙ ap option_copied c.in_ok-place.was in
     let told : limit_told_to c.args.horizon train.place c.args.limit.now ≡ Some c.in_ok-told.told =
     ap (λ (p : Option Place). limit_told_to c.args.horizon p c.args.limit.now) place ∙ sym c.told_limit.ensures ∙ c.in_ok-told.was in
     sym (limit_not_told c.args.horizon train (c.args.number, c.args.limit.now) is ∙ ap (option_map (λ (told : Part). (c.args.number, told))) told)
