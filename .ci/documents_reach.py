@@ -13,9 +13,10 @@ A definition belongs to the first class that reaches it.
 
 A crate gives a function away where its lib.rt names it, or the type that its method is of. Of a program with a specs/ of its own each
 contract counts, since a program gives nothing away. From the words of a contract the way goes by the imports (`ghost use` in src/,
-`use` in specs/) to definitions, from the words of a definition to further ones, and from a type of src/ to the types of its fields, or
-to its value in contracts where it has one. How private fields make that value, and what a type keeps, is of the code: a caller
-sees it only through contracts. What the witnesses of laws reach is apart: worked cases, of which nothing has to be named.
+`use` in specs/, also of a file that a specs/Lib.antt passes on by `pub use`) to definitions, from the words of a definition to
+further ones, and from a type of src/ to the types of its fields, or to its value in contracts where it has one. How private fields
+make that value, and what a type keeps, is of the code: a caller sees it only through contracts. What the witnesses of laws reach
+is apart: worked cases, of which nothing has to be named.
 """
 import re
 
@@ -192,6 +193,8 @@ class World:
             yield ("kit", "", module, name)
         elif path[1] not in self.crates:
             yield ("kit", "", module, name)
+        elif path[2] == "specs" and path[3] in self.crates[path[1]].passed:
+            yield from self.resolve(".".join([self.crates[path[1]].passed[path[3]], *path[4:]]), name)
         elif path[2] == "specs" and path[3] == "declared":
             owner = self.crates[path[1]]
             types = [part for part in path[4:] if part in owner.source.types]

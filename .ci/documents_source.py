@@ -270,6 +270,8 @@ class Crate:
         self.source = Source(folder / "src")
         self.is_program = (folder / "src" / "main.rt").exists()
         self.specs = {p.stem: Spec(p) for p in sorted((folder / "specs").glob("*.antt")) if p.stem != "Lib"}
+        lib = folder / "specs" / "Lib.antt"
+        self.passed = Spec(lib).scope.modules if lib.exists() else {}  # what it passes on of the crates below, by its `pub use` lines
         self.edits = [edit for name in ("must-fail", "edits") for edit in sorted((folder / name).glob("*.edit"))]
         self.rust_names = set(self.source.names)
         self.antt_names = set()
