@@ -5,3 +5,4 @@ pub mod Mails
 pub mod Searching
 pub mod Presents
 pub mod Turns
+pub use Rattle.rbc_desk.proofs.Runs

@@ -5,3 +5,7 @@ pub mod Conflicts
 pub mod Forwards
 pub mod Searches
 pub mod Books
+pub use Rattle.rbc_desk.specs.Held
+pub use Rattle.rbc_desk.specs.SaidMails
+pub use Rattle.rbc_desk.specs.Serial
+pub use Rattle.rbc_desk.specs.declared.outbox.Mail

@@ -8,4 +8,5 @@ mod stage;
 
 pub use attempt::Attempt;
 pub use book::{Book, Commit, Stats};
+pub use rbc_desk::{Desk, MAX_RESULTS, decide};
 pub use run_name::RunName;

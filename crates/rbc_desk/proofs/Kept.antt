@@ -1,5 +1,5 @@
 -- Each step keeps a well-formed world.
-use Rattle.rbc_settle.proofs.Keeps.{keeps_trains}
+use Rattle.rbc_rule_laws.proofs.SettleKeeps.{keeps_trains}
 use Rattle.rbc_step.specs.Laws.{EachStepKeepsWorlds}
 use Rattle.rbc_rule_laws.proofs.Keeps as keeps
 

@@ -9,4 +9,6 @@ mod witnesses;
 pub use desk::{Desk, MAX_RESULTS};
 pub use law::mails_law;
 pub use outbox::{Mail, Outbox};
+pub use rbc_rule::decide;
+pub use rbc_rule_laws::step_law;
 pub use witnesses::mails_law_witnesses;

@@ -5,3 +5,4 @@ pub mod Tables
 mod Reported
 mod Acked
 mod Near
+pub use Rattle.rbc_maps.proofs.MapFacts

@@ -6,11 +6,10 @@ ghost use Rattle.rbc_step.specs.Effect.{is_too_high, raised, placed, acknowledge
 ghost use Rattle.rbc_step.specs.Effect.{heard};
 
 use ertms_codec::{FromTrain, Position};
-use rbc_ids::{IdAck, StampAck};
 use rbc_place::place_of;
 use rbc_step::{MAX_STAMP, NotChanged, Refusal};
 use rbc_track::Track;
-use rbc_train::TrainRec;
+use rbc_train::{IdAck, StampAck, TrainRec};
 use std::alloc::Global;
 
 /// T_TRAIN of a message whose time is unknown (SUBSET-026, chapter 7).

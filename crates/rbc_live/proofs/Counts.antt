@@ -14,7 +14,7 @@ use Rattle.rbc_step.specs.declared.input.Input.{Input}
 use Rattle.rbc_step.specs.declared.outcome.Reply.{Reply}
 use Rattle.rbc_step.specs.Right.{IsRight, messages_to}
 use Rattle.rbc_step.specs.Step.{step, count_sent}
-use Rattle.rbc_desk.proofs.Sends.{sent_ascends}
+use Rattle.rbc_text.proofs.Sends.{sent_ascends}
 use Rattle.rbc_text.specs.BatchText.{line_of, IsInput}
 use Rattle.rbc_live.specs.declared.desk.LiveFault.{LiveFault}
 use Rattle.rbc_live.specs.declared.desk.LiveFault.TheVariants.{Memory, Room}

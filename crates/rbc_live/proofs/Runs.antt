@@ -11,12 +11,12 @@ use Rattle.rbc_step.specs.declared.input.Input.{Input}
 use Rattle.rbc_step.specs.declared.outcome.Reply.{Reply}
 use Rattle.rbc_step.specs.Step as rule
 use Rattle.rbc_text.specs.BatchText.{AreInputs}
-use Rattle.rbc_desk.specs.declared.outbox.Mail.{Mail}
-use Rattle.rbc_desk.specs.Held.{AreRecordsOf, Standing, Holds, AreOutboxes, post_each}
-use Rattle.rbc_desk.specs.Serial.{Desk, step, serial, new_desk, post_all}
-use Rattle.rbc_desk.proofs.Begins.{begins}
-use Rattle.rbc_desk.proofs.Posts.{posted_alike, ones_keep}
-use Rattle.rbc_desk.proofs.Sends.{sent_ascends}
+use Rattle.rbc_text.specs.Mail.{Mail}
+use Rattle.rbc_text.specs.Held.{AreRecordsOf, Standing, Holds, AreOutboxes, post_each}
+use Rattle.rbc_text.specs.Serial.{Desk, step, serial, new_desk, post_all}
+use Rattle.rbc_text.proofs.Begins.{begins}
+use Rattle.rbc_text.proofs.Posts.{posted_alike, ones_keep}
+use Rattle.rbc_text.proofs.Sends.{sent_ascends}
 use Rattle.rbc_live.specs.Serial.{IsSerial}
 use Rattle.rbc_live.specs.History.{AreSame, IsStepOf, Taken, IsHistory, posted, EachHistoryIsSerial}
 use Rattle.rbc_live.proofs.Steps.{same_world}

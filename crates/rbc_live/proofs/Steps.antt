@@ -13,7 +13,7 @@ use Rattle.rbc_step.specs.Inputs.{Fits}
 use Rattle.rbc_step.specs.World.{World}
 use Rattle.rbc_step.specs.Right.{MayBe, IsRight, IsStep, IsTorn}
 use Rattle.rbc_step.specs.Laws.{EachStepKeepsWorlds}
-use Rattle.rbc_desk.specs.Held.{AreRecordsOf}
+use Rattle.rbc_text.specs.Held.{AreRecordsOf}
 use Rattle.rbc_live.specs.History.{AreSame, IsStepOf}
 
 -- records that are the same are those of the same worlds

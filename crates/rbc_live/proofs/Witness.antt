@@ -12,7 +12,7 @@ use Rattle.rbc_step.specs.World.{new_world}
 use Rattle.rbc_step.specs.Records.{record_of}
 use Rattle.rbc_step.specs.Right.{messages_to}
 use Rattle.rbc_step.specs.Step.{step}
-use Rattle.rbc_desk.specs.Held.{AreRecordsOf}
+use Rattle.rbc_text.specs.Held.{AreRecordsOf}
 use Rattle.rbc_live.specs.History.{AreSame, IsStepOf, IsFed, IsHistory, IsSerialRunOf}
 use Rattle.rbc_live.specs.Witnesses.{refused, accepted, sending, engines_there}
 use Rattle.rbc_live.proofs.Runs.{no_records, each_history_is_serial}

@@ -11,9 +11,9 @@ use Rattle.rbc_step.specs.declared.outcome.Reply.{Reply}
 use Rattle.rbc_step.specs.World.{World}
 use Rattle.rbc_step.specs.Step.{step, count_sent}
 use Rattle.rbc_step.specs.Right.{messages_to}
-use Rattle.rbc_desk.specs.declared.outbox.Mail.{Mail}
-use Rattle.rbc_desk.specs.Held.{AreRecordsOf, Holds, post_each}
-use Rattle.rbc_desk.specs.Serial.{serial, new_desk}
+use Rattle.rbc_text.specs.Mail.{Mail}
+use Rattle.rbc_text.specs.Held.{AreRecordsOf, Holds, post_each}
+use Rattle.rbc_text.specs.Serial.{serial, new_desk}
 use Rattle.rbc_text.specs.BatchText.{line_of, IsInput, AreInputs}
 use Rattle.rbc_live.specs.declared.desk.LiveFault.{LiveFault}
 use Rattle.rbc_live.specs.declared.desk.LiveFault.TheVariants.{Memory, Room}

@@ -5,8 +5,8 @@ use Rattle.rbc_records.specs.declared.record.Key.{Key}
 use Rattle.rbc_records.specs.declared.record.Rec.{Rec}
 use Rattle.rbc_records.specs.Notes.{record_in}
 use Rattle.rbc_step.specs.declared.input.Input.{Input}
-use Rattle.rbc_desk.specs.Held.{AreRecordsOf}
-use Rattle.rbc_desk.specs.Serial.{serial, new_desk}
+use Rattle.rbc_text.specs.Held.{AreRecordsOf}
+use Rattle.rbc_text.specs.Serial.{serial, new_desk}
 
 -- the records are those after inputs that were taken one after another, from a new desk
 abbrev pub IsSerial : Plan → List (Key × Rec) → Type 0

@@ -9,10 +9,8 @@ ghost use Rattle.rbc_live.specs.Serial.{IsSerial};
 ghost use Rattle.rbc_live.specs.History.{IsFed, IsStepOf, AreSame, IsFaultAt, IsFaultOf};
 
 use rbc_records::{PlainStore, apply};
-use rbc_rule::decide;
-use rbc_rule_laws::step_law;
 use rbc_step::{Input, Reply, RuleFault, SentList};
-use rbc_text::parse_line;
+use rbc_text::{decide, parse_line, step_law};
 use rbc_track::{Track, TrackError, track_from_toml};
 use std::alloc::{AllocError, Global};
 

@@ -8,5 +8,6 @@ mod train_place;
 mod witnesses;
 
 pub use law::place_law;
+pub use rbc_track::{Track, Way};
 pub use train_place::{Place, place_of};
 pub use witnesses::place_law_witnesses;

@@ -2,12 +2,12 @@
 use Rattle.std.proofs.Common.{◌≡◌, ℕ, Bool, true, false, cond, if◌then◌else◌, ◌&&◌, ◌||◌, nat_lt, List, [], ◌∷◌, Option, None, Some, is_some, Result, Ok, Err, IfOk, IfSome, length, suc, arith, refl, sym, ap, ◌∙◌, lt-ltb}
 use Rattle.std.specs.List.{list_any}
 use Rattle.std.specs.Option.{option_map_or}
-use Rattle.rbc_ids.specs.Table.{is_told}
-use Rattle.rbc_place.specs.Placing.{Place}
-use Rattle.rbc_zones.specs.declared.segment.Segment.{Segment}
-use Rattle.rbc_zones.specs.Concerns.{concern_of, concern_at}
-use Rattle.rbc_train.specs.declared.train.TrainRec.{TrainRec}
-use Rattle.rbc_train.specs.Numbers.{has_number}
+use Rattle.rbc_sought.specs.Table.{is_told}
+use Rattle.rbc_sought.specs.Placing.{Place}
+use Rattle.rbc_sought.specs.Segment.{Segment}
+use Rattle.rbc_sought.specs.Concerns.{concern_of, concern_at}
+use Rattle.rbc_sought.specs.TrainRec.{TrainRec}
+use Rattle.rbc_sought.specs.Numbers.{has_number}
 use Rattle.rbc_records.specs.declared.record.Key.{Key}
 use Rattle.rbc_records.specs.declared.record.Key.TheVariants as key
 use Rattle.rbc_records.specs.declared.record.Rec.{Rec}

@@ -10,7 +10,7 @@ mod store;
 mod writes;
 
 pub use noted_records::Notes;
-pub use rbc_sought::Sought;
+pub use rbc_sought::{Limits, Sought, Stops};
 pub use reader::{ReadFault, Reader};
 pub use record::{Key, Rec};
 pub use store::{PlainStore, apply, exchange};

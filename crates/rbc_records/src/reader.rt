@@ -2,8 +2,7 @@
 
 use crate::record::{Key, Rec};
 use crate::writes::Writes;
-use rbc_sought::Sought;
-use rbc_train::Numbers;
+use rbc_sought::{Numbers, Sought};
 use std::alloc::{AllocError, Global};
 
 /// Why a record could not be read.

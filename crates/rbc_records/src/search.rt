@@ -1,7 +1,7 @@
 //! Searches for trains, each by a scan of one column.
 
 ghost use Rattle.std.specs.Prelude.{◌≡◌, ℕ, ◌<◌, ◌||◌, length, slice_get, Some, IfOk, IfSome, IsTrue};
-ghost use Rattle.rbc_train.specs.Numbers.{has_number};
+ghost use Rattle.rbc_sought.specs.Numbers.{has_number};
 ghost use Rattle.rbc_records.specs.declared.record.Key.{Key};
 ghost use Rattle.rbc_records.specs.declared.record.Rec.{Rec};
 ghost use Rattle.rbc_sought.specs.Tolds.{has_bit};
@@ -10,8 +10,7 @@ ghost use Rattle.rbc_records.specs.Columns.{told_of, extent_of, tolds_of, extent
 
 use crate::record::{Key, Rec};
 use indexmap::IndexMap;
-use rbc_sought::{Extent, Told, has_bit};
-use rbc_train::Numbers;
+use rbc_sought::{Extent, Numbers, Told, has_bit};
 use std::alloc::{AllocError, Global};
 
 /// The most trains that a search returns. A command for more of them goes through all as fast.

@@ -10,8 +10,7 @@ use crate::reader::{ReadFault, Reader};
 use crate::record::{Key, Rec};
 use crate::record_table::Table;
 use crate::writes::Writes;
-use rbc_sought::Sought;
-use rbc_train::Numbers;
+use rbc_sought::{Numbers, Sought};
 use std::alloc::{AllocError, Global};
 use std::marker::Model;
 

@@ -3,7 +3,7 @@
 
 mod rule;
 
-pub use rbc_step::{
+pub use rbc_kinds::{
     Input, MAX_ENGINE, MAX_INPUTS, MAX_LENGTH, MAX_LIMITS, MAX_STAMP, MAX_STOPS, MAX_TRAINS,
     Outcome, Refusal, Reply, RuleFault, Segments, SentList,
 };

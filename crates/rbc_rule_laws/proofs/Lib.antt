@@ -12,3 +12,4 @@ pub mod Sendable
 pub mod Tells
 pub mod WitnessSays
 pub mod WitnessWorlds
+pub use Rattle.rbc_settle.proofs.Keeps as SettleKeeps

@@ -3,7 +3,7 @@ use Rattle.std.proofs.Common.{◌≡◌, ℕ, ◌+◌, ◌≤◌, ◌⊎◌, Boo
 use Rattle.std.specs.List.{AllByRecursion}
 use Rattle.std.specs.Option.{option_map_or}
 use Rattle.std.proofs.lemmas.Bool.{or_left, or_right, and_parts, leb-true, eq-eqb, ne_eqb}
-use Rattle.rbc_place.specs.Placing.{Place}
+use Rattle.rbc_train.specs.Placing.{Place}
 use Rattle.rbc_maps.specs.Maps.{has, value_of, keys, rises_from}
 use Rattle.rbc_maps.specs.Numbered.{AreNumbered}
 use Rattle.rbc_maps.proofs.MapFacts.{rises_from-lower}

@@ -3,7 +3,7 @@ use Rattle.std.proofs.Common.{◌≡◌, ℕ, ◌+◌, ◌<◌, ◌≤◌, ◌�
 use Rattle.std.specs.List.{filter, filter_map, cons_option, fold, list_any, zip, AllByRecursion}
 use Rattle.std.proofs.lemmas.Bool.{cases_Bool, cases_lt, or_right, or_from, or_parts}
 use Rattle.std.proofs.lemmas.List.{take_all, length-take-le}
-use Rattle.rbc_place.specs.Placing.{Place}
+use Rattle.rbc_train.specs.Placing.{Place}
 use Rattle.rbc_maps.specs.Maps.{has}
 use Rattle.rbc_maps.specs.Numbered.{AreNumbered}
 use Rattle.rbc_maps.proofs.MapValues.{map_of_numbered}

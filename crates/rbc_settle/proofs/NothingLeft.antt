@@ -3,7 +3,7 @@ use Rattle.std.proofs.Common.{◌≡◌, ℕ, ◌⊎◌, Bool, true, false, cond
 use Rattle.std.specs.List.{AllByRecursion, list_any, slice_get}
 use Rattle.std.proofs.lemmas.Bool.{cases_eq, or_from, le-ltb}
 use Rattle.std.proofs.lemmas.List.Elements.{recursion_from_All}
-use Rattle.rbc_place.specs.Placing.{Place}
+use Rattle.rbc_train.specs.Placing.{Place}
 use Rattle.rbc_ids.specs.Table.{Slots, IsTable, is_told, free_identifiers}
 use Rattle.rbc_ids.proofs.Gaps.{run, least_free-run, run_is_all}
 use Rattle.rbc_zones.specs.declared.segment.Segment.{Segment}

@@ -1,6 +1,6 @@
 -- When a train is judged by what lies on its line alone (own rule).
 use Rattle.std.specs.Prelude.{◌≡◌, ℕ, [], Some}
-use Rattle.rbc_place.specs.Placing.{Place}
+use Rattle.rbc_train.specs.Placing.{Place}
 use Rattle.rbc_train.specs.declared.train.TrainRec.{TrainRec}
 
 -- A train stands on a line and rejected no stop, so that no stop elsewhere concerns it.

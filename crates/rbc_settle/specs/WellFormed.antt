@@ -3,7 +3,7 @@ use Rattle.std.specs.Prelude.{◌≡◌, ℕ, ◌≤◌, Bool, true, false, ◌=
 use Rattle.std.specs.List.{All, filter_map}
 use Rattle.rbc_track.specs.Plan.{Plan, group_of}
 use Rattle.rbc_track.specs.declared.group.Way.TheVariants.{Up, Down}
-use Rattle.rbc_place.specs.Placing.{Place, LiesOnLine}
+use Rattle.rbc_train.specs.Placing.{Place, LiesOnLine}
 use Rattle.rbc_maps.specs.Numbered.{AreNumbered}
 use Rattle.rbc_ids.specs.declared.slot.Slot.{Slot}
 use Rattle.rbc_ids.specs.declared.slot.Slot.TheVariants.{Used, Revoking}

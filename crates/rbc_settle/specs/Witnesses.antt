@@ -2,7 +2,7 @@
 use Rattle.std.specs.Prelude.{ℕ, true, false, [], ◌∷◌, Some}
 use Rattle.rbc_track.specs.Plan.{Plan}
 use Rattle.rbc_track.specs.declared.group.Way.TheVariants.{Up, Down}
-use Rattle.rbc_place.specs.Placing.{Place}
+use Rattle.rbc_train.specs.Placing.{Place}
 use Rattle.rbc_ids.specs.declared.slot.Slot.TheVariants.{Used, Revoking}
 use Rattle.rbc_ids.specs.declared.slot.Kind.TheVariants.{Conditional, Unconditional, Restriction}
 use Rattle.rbc_ids.specs.Table.{Slots, told_now}

@@ -2,10 +2,10 @@
 use Rattle.std.proofs.Common.{◌≡◌, ℕ, Bool, true, false, if◌then◌else◌, ◌&&◌, ◌||◌, nat_lt, List, [], ◌∷◌, length, Option, Some, None, suc, refl, sym, ◌∙◌, arith, lt-ltb}
 use Rattle.std.specs.List.{list_any}
 use Rattle.std.specs.Option.{option_map_or}
-use Rattle.rbc_ids.specs.Table.{is_told}
-use Rattle.rbc_place.specs.Placing.{Place}
-use Rattle.rbc_zones.specs.declared.segment.Segment.{Segment}
-use Rattle.rbc_zones.specs.Concerns.{concern_of, concern_at}
+use Rattle.rbc_train.specs.Table.{is_told}
+use Rattle.rbc_train.specs.Placing.{Place}
+use Rattle.rbc_train.specs.Segment.{Segment}
+use Rattle.rbc_train.specs.Concerns.{concern_of, concern_at}
 use Rattle.rbc_train.specs.declared.train.TrainRec.{TrainRec}
 use Rattle.rbc_train.specs.Numbers.{has_number}
 use Rattle.rbc_sought.specs.declared.bounds.Extent.{Extent}

@@ -5,9 +5,9 @@ use Rattle.std.proofs.lemmas.Nat.Bits.{bit_at_and, bit_at_or, bit_at-zero, bit_a
 use Rattle.std.specs.Int.{bit_at}
 use Rattle.std.specs.Int.Bits.{bit_and}
 use Rattle.std.specs.List.{list_any}
-use Rattle.rbc_ids.specs.Table.{Slots, tells, is_told}
-use Rattle.rbc_ids.specs.declared.slot.Slot.{Slot}
-use Rattle.rbc_ids.specs.declared.slot.Slot.TheVariants.{Used, Revoking}
+use Rattle.rbc_train.specs.Table.{Slots, tells, is_told}
+use Rattle.rbc_train.specs.Slot.{Slot}
+use Rattle.rbc_train.specs.Slot.TheVariants.{Used, Revoking}
 use Rattle.rbc_train.specs.Numbers.{has_number}
 use Rattle.rbc_sought.specs.Tolds.{has_bit, with_bit, with_slot, bits_of_slots, bits_of_few}
 

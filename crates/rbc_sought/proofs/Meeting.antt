@@ -4,10 +4,10 @@ use Rattle.std.specs.List.{list_any}
 use Rattle.std.specs.Int.Bits.{bit_and}
 use Rattle.std.proofs.lemmas.Bool.{and_parts}
 use Rattle.std.proofs.lemmas.Bool.Decides.{Decides-eqb}
-use Rattle.rbc_track.specs.declared.group.Way.{Way}
-use Rattle.rbc_track.specs.declared.group.Way.TheVariants.{Up, Down}
-use Rattle.rbc_place.specs.Placing.{Place}
-use Rattle.rbc_zones.specs.declared.segment.Segment.{Segment}
+use Rattle.rbc_train.specs.Way.{Way}
+use Rattle.rbc_train.specs.Way.TheVariants.{Up, Down}
+use Rattle.rbc_train.specs.Placing.{Place}
+use Rattle.rbc_train.specs.Segment.{Segment}
 use Rattle.rbc_sought.specs.declared.bounds.Extent.{Extent}
 use Rattle.rbc_sought.specs.Tolds.{has_bit, with_bit}
 use Rattle.rbc_sought.specs.Extents.{nowhere, everywhere, ahead_of, with_segment, extent_of_area, meet}

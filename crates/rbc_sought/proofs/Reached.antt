@@ -3,12 +3,12 @@ use Rattle.std.proofs.Common.{◌≡◌, min, max, Bool, true, false, cond, ◌&
 use Rattle.std.specs.List.{filter, list_any}
 use Rattle.std.proofs.lemmas.Bool.{or_parts}
 use Rattle.std.proofs.lemmas.Bool.Decides.{nat_tests}
-use Rattle.rbc_track.specs.declared.group.Way.{Way}
-use Rattle.rbc_track.specs.declared.group.Way.TheVariants.{Up, Down}
-use Rattle.rbc_place.specs.Placing.{Place}
-use Rattle.rbc_zones.specs.declared.segment.Segment.{Segment}
-use Rattle.rbc_zones.specs.declared.stop_meaning.Concern.TheVariants as concern
-use Rattle.rbc_zones.specs.Concerns.{on_its_line, meets, edge_of, is_ahead, edges_ahead, nearest, concern_by_edge, concern_at}
+use Rattle.rbc_train.specs.Way.{Way}
+use Rattle.rbc_train.specs.Way.TheVariants.{Up, Down}
+use Rattle.rbc_train.specs.Placing.{Place}
+use Rattle.rbc_train.specs.Segment.{Segment}
+use Rattle.rbc_train.specs.Concern.TheVariants as concern
+use Rattle.rbc_train.specs.Concerns.{on_its_line, meets, edge_of, is_ahead, edges_ahead, nearest, concern_by_edge, concern_at}
 use Rattle.rbc_sought.specs.Seeking.{is_concern}
 
 -- a segment on its line reaches to where a train stands, or lies ahead of it

@@ -2,10 +2,10 @@
 use Rattle.std.specs.Prelude.{◌-◌, ◌^◌, nat_lt, nat_le, min, max, Bool, not, ◌==◌, ◌&&◌, if◌then◌else◌, List, fold, length}
 use Rattle.std.specs.Option.{option_map_or}
 use Rattle.std.specs.Int.Bits.{bit_and}
-use Rattle.rbc_zones.specs.declared.segment.Segment.{Segment}
-use Rattle.rbc_track.specs.declared.group.Way.{Way}
-use Rattle.rbc_track.specs.declared.group.Way.TheVariants as way
-use Rattle.rbc_place.specs.Placing.{Place}
+use Rattle.rbc_train.specs.Segment.{Segment}
+use Rattle.rbc_train.specs.Way.{Way}
+use Rattle.rbc_train.specs.Way.TheVariants as way
+use Rattle.rbc_train.specs.Placing.{Place}
 use Rattle.rbc_train.specs.declared.train.TrainRec.{TrainRec}
 use Rattle.rbc_sought.specs.Tolds.{with_bit}
 use Rattle.rbc_sought.specs.declared.bounds.Extent.{Extent}

@@ -1,8 +1,8 @@
 -- Which trains a command seeks (own rule).
 use Rattle.std.specs.Prelude.{nat_lt, Bool, true, false, ◌&&◌, ◌||◌, length}
-use Rattle.rbc_ids.specs.Table.{is_told}
-use Rattle.rbc_zones.specs.declared.stop_meaning.Concern.{Concern}
-use Rattle.rbc_zones.specs.declared.stop_meaning.Concern.TheVariants as concern
+use Rattle.rbc_train.specs.Table.{is_told}
+use Rattle.rbc_train.specs.Concern.{Concern}
+use Rattle.rbc_train.specs.Concern.TheVariants as concern
 use Rattle.rbc_train.specs.declared.train.TrainRec.{TrainRec}
 use Rattle.rbc_train.specs.Numbers.{has_number}
 use Rattle.rbc_train.specs.Settling.{concern_to}

@@ -2,9 +2,9 @@
 use Rattle.std.specs.Prelude.{ℕ, ◌-◌, ◌^◌, ◌%◌, nat_lt, Bool, ◌==◌, if◌then◌else◌, fold, length}
 use Rattle.std.specs.Int.{bit_at}
 use Rattle.std.specs.Int.Bits.{bit_or}
-use Rattle.rbc_ids.specs.Table.{Slots}
-use Rattle.rbc_ids.specs.declared.slot.Slot.{Slot}
-use Rattle.rbc_ids.specs.declared.slot.Slot.TheVariants.{Used, Revoking}
+use Rattle.rbc_train.specs.Table.{Slots}
+use Rattle.rbc_train.specs.Slot.{Slot}
+use Rattle.rbc_train.specs.Slot.TheVariants.{Used, Revoking}
 use Rattle.rbc_train.specs.declared.train.TrainRec.{TrainRec}
 use Rattle.rbc_sought.specs.declared.bounds.Told.{Told}
 

@@ -4,11 +4,7 @@ ghost use Rattle.std.specs.Prelude.{◌≡◌, fold};
 ghost use Rattle.rbc_sought.specs.Tolds.{has_bit, with_bit, with_slot, bits_of_slots, bits_of_few, told_of_train};
 ghost use Rattle.rbc_sought.specs.Extents.{nowhere, extent_of_train, ahead_of, extent_of_area, with_segment, meet};
 
-use rbc_ids::{IdTable, Slot};
-use rbc_place::Place;
-use rbc_track::Way;
-use rbc_train::{STOP_IDENTIFIERS, TrainRec};
-use rbc_zones::{Area, Segment};
+use rbc_train::{Area, IdTable, Place, STOP_IDENTIFIERS, Segment, Slot, TrainRec, Way};
 
 /// The most restriction identifiers of a train that are looked at. One that holds more counts as told of every
 /// restriction, so that a write of its record costs no more than a few steps.

@@ -4,3 +4,4 @@
 mod bounds;
 
 pub use bounds::{Extent, Sought, Told, has_bit};
+pub use rbc_train::{Limits, Numbers, Stops, TrainRec};

@@ -15,7 +15,7 @@ use Rattle.rbc_train.specs.declared.train.TrainRec.{TrainRec}
 use Rattle.rbc_train.specs.Numbers.{AreNumbers, has_number}
 use Rattle.rbc_train.specs.Settling.{Stops, Limits}
 use Rattle.rbc_records.specs.declared.record.Key.TheVariants as key
-use Rattle.rbc_sought.specs.declared.bounds.Sought.TheVariants as sought
+use Rattle.rbc_records.specs.Sought.TheVariants as sought
 use Rattle.rbc_records.specs.Notes.{same_key}
 use Rattle.rbc_step.specs.Bounds.{max_trains}
 use Rattle.rbc_step.specs.declared.touch.Change.TheVariants as change

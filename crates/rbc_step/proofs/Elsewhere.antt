@@ -17,7 +17,7 @@ use Rattle.rbc_train.specs.Settling.{Stops, told_limit, limit_told_to}
 use Rattle.rbc_settle.specs.WellFormed.{IsGiven, IsWellFormedTrain}
 use Rattle.rbc_settle.proofs.Labels.{all_has}
 use Rattle.rbc_step.specs.World.{World}
-use Rattle.rbc_sought.specs.Seeking.{is_concern}
+use Rattle.rbc_records.specs.SoughtSeeking.{is_concern}
 use Rattle.rbc_step.specs.Touching.{is_stop_for, is_limit_for, HasBegun}
 
 -- ---- a stop

@@ -23,3 +23,4 @@ pub mod WorldMaps
 pub mod WorldReading
 pub mod WorldSettling
 pub mod Worlds
+pub use Rattle.rbc_settle.proofs.Addressed

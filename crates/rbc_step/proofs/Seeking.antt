@@ -9,9 +9,9 @@ use Rattle.rbc_train.specs.Settling.{Stops, Limits}
 use Rattle.rbc_settle.proofs.Labels.{all_from}
 use Rattle.rbc_records.specs.declared.record.Key.TheVariants as key
 use Rattle.rbc_records.specs.declared.record.Rec.TheVariants as rec
-use Rattle.rbc_sought.specs.declared.bounds.Sought.{Sought}
+use Rattle.rbc_records.specs.Sought.{Sought}
 use Rattle.rbc_records.specs.Notes.{Notes, knows}
-use Rattle.rbc_sought.specs.Seeking.{is_sought}
+use Rattle.rbc_records.specs.SoughtSeeking.{is_sought}
 use Rattle.rbc_records.specs.Seeking.{AreFound}
 use Rattle.rbc_step.specs.declared.touch.Change.{Change}
 use Rattle.rbc_step.specs.World.{World}

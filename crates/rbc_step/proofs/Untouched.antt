@@ -38,7 +38,7 @@ use Rattle.rbc_step.specs.declared.touch.Change.TheVariants as change
 use Rattle.rbc_step.specs.World.{World}
 use Rattle.rbc_step.specs.Effect.{with_next, with_less}
 use Rattle.rbc_step.specs.Gathered.{is_forced_by, is_same, sent_of}
-use Rattle.rbc_sought.specs.Seeking.{is_concern}
+use Rattle.rbc_records.specs.SoughtSeeking.{is_concern}
 use Rattle.rbc_step.specs.Touching.{is_stop_for, is_limit_for, touches, HasBegun, HasChanged, released_by}
 use Rattle.rbc_step.proofs.AllTrains.{forgotten_same}
 

@@ -10,9 +10,9 @@ use Rattle.rbc_records.specs.declared.record.Key.{Key}
 use Rattle.rbc_records.specs.declared.record.Key.TheVariants as key
 use Rattle.rbc_records.specs.declared.record.Rec.{Rec}
 use Rattle.rbc_records.specs.declared.record.Rec.TheVariants as rec
-use Rattle.rbc_sought.specs.declared.bounds.Sought.{Sought}
+use Rattle.rbc_records.specs.Sought.{Sought}
 use Rattle.rbc_records.specs.Notes.{Notes, knows, same_key}
-use Rattle.rbc_sought.specs.Seeking.{is_sought}
+use Rattle.rbc_records.specs.SoughtSeeking.{is_sought}
 use Rattle.rbc_step.specs.World.{World}
 use Rattle.rbc_step.specs.Records.{engines_record, list_of, record_of}
 

@@ -10,7 +10,7 @@ use Rattle.rbc_zones.specs.Limits.{Limit}
 use Rattle.rbc_train.specs.declared.train.TrainRec.{TrainRec}
 use Rattle.rbc_train.specs.Numbers.{has_number}
 use Rattle.rbc_train.specs.Settling.{Stops, Limits, concern_to, limit_told_to}
-use Rattle.rbc_sought.specs.Seeking.{is_concern}
+use Rattle.rbc_records.specs.SoughtSeeking.{is_concern}
 use Rattle.rbc_step.specs.declared.restriction.Restriction.{Restriction}
 use Rattle.rbc_step.specs.declared.touch.Change.{Change}
 use Rattle.rbc_step.specs.declared.touch.Change.TheVariants as change

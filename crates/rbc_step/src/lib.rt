@@ -15,6 +15,7 @@ pub use limits::{
     MAX_ENGINE, MAX_INPUTS, MAX_LENGTH, MAX_LIMITS, MAX_STAMP, MAX_STOPS, MAX_TRAINS,
 };
 pub use outcome::{Outcome, Reply, RuleFault, SentList};
+pub use rbc_settle::settle;
 pub use refuse::{NotChanged, Refusal};
 pub use restriction::Restriction;
 pub use touch::Change;

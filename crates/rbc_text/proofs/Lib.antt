@@ -7,3 +7,6 @@ pub mod ResultLines
 pub mod HexDigits
 pub mod HexWords
 pub mod Ranges
+pub use Rattle.rbc_desk.proofs.Begins
+pub use Rattle.rbc_desk.proofs.Posts
+pub use Rattle.rbc_desk.proofs.Sends

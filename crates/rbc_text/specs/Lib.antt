@@ -1,3 +1,6 @@
 pub mod BatchText
 pub mod Pieces
 pub mod OutputText
+pub use Rattle.rbc_desk.specs.Held
+pub use Rattle.rbc_desk.specs.Serial
+pub use Rattle.rbc_desk.specs.declared.outbox.Mail

@@ -8,4 +8,5 @@ mod words;
 
 pub use line::parse_line;
 pub use output::{render, render_answer, render_outboxes, render_results};
+pub use rbc_desk::{decide, step_law};
 pub use words::{cut, first_line};

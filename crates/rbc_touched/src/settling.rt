@@ -17,12 +17,10 @@ ghost use Rattle.rbc_step.specs.Lists.{AreTrainsKnown};
 ghost use Rattle.rbc_train.specs.Settling.{most_messages};
 ghost use Rattle.rbc_step.specs.Gathered.{write_of, sent_of, write_at, sent_at, AreSendable};
 
-use rbc_records::{Key, Reader, Rec, Writes};
-use rbc_settle::settle;
-use rbc_step::{Change, RuleFault, SentList, read};
+use rbc_records::{Key, Limits, Reader, Rec, Stops, Writes};
+use rbc_step::{Change, RuleFault, SentList, read, settle};
 use rbc_track::Track;
 use rbc_train::{Numbers, Sent, TrainRec};
-use rbc_zones::{Limits, Stops};
 use std::alloc::{AllocError, Global};
 
 /// The records that settling trains writes, and the messages that it sends.

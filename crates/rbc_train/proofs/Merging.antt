@@ -4,7 +4,7 @@ use Rattle.std.proofs.Common.{refl, sym, ap, ◌∙◌, subst, arith, append_ass
 use Rattle.std.proofs.lemmas.List.{drop_all, take_rest, append-nil}
 use Rattle.std.proofs.lemmas.List.Folds.{list_any-append}
 use Rattle.std.proofs.lemmas.Bool.{cases_lt}
-use Rattle.rbc_maps.specs.Maps.{rises_from}
+use Rattle.rbc_ids.specs.Maps.{rises_from}
 use Rattle.rbc_train.specs.Numbers.{has_number}
 use Rattle.rbc_train.proofs.NumberLists.{rising, rises-cons}
 

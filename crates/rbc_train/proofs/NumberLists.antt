@@ -5,8 +5,8 @@ use Rattle.std.specs.List.Sorted.{IsNonDecreasingBy, IsPartitionPoint}
 use Rattle.std.proofs.lemmas.Bool.{cases_lt, or_from, or_left, or_parts, ne_eqb, eq-eqb, eqb-true, eqb-false, or_cases, and_from, and_left, and_right, and_parts, leb-true, le-leb, lt-leb, lt-ltb, le-ltb, ltb-true, ltb-false}
 use Rattle.std.proofs.lemmas.Bool.Decides.{nat_tests}
 use Rattle.std.proofs.lemmas.List.Sums.{position_or_len_is}
-use Rattle.rbc_maps.specs.Maps.{rises_from}
-use Rattle.rbc_maps.proofs.MapFacts.{rises_from-lower}
+use Rattle.rbc_ids.specs.Maps.{rises_from}
+use Rattle.rbc_ids.proofs.MapFacts.{rises_from-lower}
 use Rattle.rbc_train.specs.Numbers.{has_number, with_number, without_number}
 
 -- where a number stands, or would stand

@@ -1,6 +1,6 @@
 -- When an action may be carried out, and when a list of them may be, one after another.
 use Rattle.std.specs.Prelude.{◌≡◌, ℕ, ◌+◌, ◌<◌, false, List, [], ◌∷◌, IsTrue}
-use Rattle.rbc_maps.specs.Maps.{has}
+use Rattle.rbc_ids.specs.Maps.{has}
 use Rattle.rbc_ids.specs.Table.{Slots, is_told, is_used_at}
 use Rattle.rbc_train.specs.declared.train.TrainRec.{TrainRec}
 use Rattle.rbc_train.specs.declared.change.StopChange.TheVariants as stop_change

@@ -5,3 +5,10 @@ pub mod InField
 pub mod Actions
 pub mod Settling
 pub mod Following
+pub use Rattle.rbc_ids.specs.Table
+pub use Rattle.rbc_ids.specs.declared.slot.Slot
+pub use Rattle.rbc_zones.specs.Concerns
+pub use Rattle.rbc_zones.specs.Placing
+pub use Rattle.rbc_zones.specs.Way
+pub use Rattle.rbc_zones.specs.declared.segment.Segment
+pub use Rattle.rbc_zones.specs.declared.stop_meaning.Concern

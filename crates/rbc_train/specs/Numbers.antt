@@ -1,7 +1,7 @@
 -- Ascending lists of numbers, each of them once (own rule).
 use Rattle.std.specs.Prelude.{ℕ, Bool, ◌≡◌, ◌==◌, ◌||◌, not, nat_lt, if◌then◌else◌, List, [], ◌∷◌, IsTrue}
 use Rattle.std.specs.List.{list_any, filter}
-use Rattle.rbc_maps.specs.Maps.{rises_from}
+use Rattle.rbc_ids.specs.Maps.{rises_from}
 
 -- each number is above the one before it
 abbrev pub AreNumbers : List ℕ → Type 0

@@ -8,11 +8,11 @@ use Rattle.ertms_codec.specs.declared.packets.Part.TheVariants as packet
 use Rattle.ertms_codec.specs.declared.to_train.Head.{Head}
 use Rattle.ertms_codec.specs.declared.to_train.ToTrain.{ToTrain}
 use Rattle.ertms_codec.specs.declared.to_train.ToTrain.TheVariants as message
-use Rattle.rbc_track.specs.Plan.{Plan}
-use Rattle.rbc_track.specs.declared.group.Way.{Way}
-use Rattle.rbc_place.specs.Placing.{Place, is_up}
-use Rattle.rbc_maps.specs.Maps.{has, value_of, with_value, keys}
-use Rattle.rbc_maps.specs.Numbered.{Numbered}
+use Rattle.rbc_zones.specs.Plan.{Plan}
+use Rattle.rbc_zones.specs.Way.{Way}
+use Rattle.rbc_zones.specs.Placing.{Place, is_up}
+use Rattle.rbc_ids.specs.Maps.{has, value_of, with_value, keys}
+use Rattle.rbc_ids.specs.Numbered.{Numbered}
 use Rattle.rbc_ids.specs.declared.slot.Slot.{Slot}
 use Rattle.rbc_ids.specs.declared.slot.Slot.TheVariants.{Used, Revoking}
 use Rattle.rbc_ids.specs.declared.slot.Kind.{Kind}

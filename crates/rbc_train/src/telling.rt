@@ -7,9 +7,9 @@ ghost use Rattle.rbc_train.specs.Settling.{limit_to_tell};
 
 use crate::change::{ToldEdge, ToldLimit, ToldStop};
 use crate::train::TrainRec;
-use rbc_place::Place;
-use rbc_track::Way;
-use rbc_zones::{Area, Concern, Limit, concern, limit_concerns, limit_fields, stop_field};
+use rbc_zones::{
+    Area, Concern, Limit, Place, Way, concern, limit_concerns, limit_fields, stop_field,
+};
 use std::cell::Cell;
 
 /// Returns a stop and how it is told, if it is not told yet and concerns the train. Whether it is told is searched for

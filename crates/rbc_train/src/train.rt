@@ -9,7 +9,7 @@ ghost use Rattle.rbc_train.specs.Trains.{new_train};
 use crate::change::{StopChange, ToldStop};
 use crate::numbers::Numbers;
 use rbc_ids::{IdTable, Kind};
-use rbc_place::Place;
+use rbc_zones::Place;
 use std::alloc::{AllocError, Global};
 
 /// How many stop identifiers (NID_EM) a train has.

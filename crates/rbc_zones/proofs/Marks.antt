@@ -4,8 +4,8 @@ use Rattle.std.specs.List.{filter, list_any, range_with_len}
 use Rattle.std.specs.Option.{option_map_or}
 use Rattle.std.proofs.lemmas.Bool.{or_parts, eq-eqb, eqb-true}
 use Rattle.rbc_maps.specs.OnLines.{mark_of, has_mark}
-use Rattle.rbc_track.specs.declared.group.Way.{Way}
-use Rattle.rbc_track.specs.declared.group.Way.TheVariants.{Up, Down}
+use Rattle.rbc_place.specs.Way.{Way}
+use Rattle.rbc_place.specs.Way.TheVariants.{Up, Down}
 use Rattle.rbc_place.specs.Placing.{Place}
 use Rattle.rbc_zones.specs.declared.segment.Segment.{Segment}
 use Rattle.rbc_zones.specs.declared.stop_meaning.Concern.TheVariants as concern

@@ -3,8 +3,8 @@ use Rattle.std.proofs.Common.{◌⊎◌, ◌≡◌, ℕ, ◌≤◌, min, max, Bo
 use Rattle.std.specs.List.{fold, list_any, All}
 use Rattle.std.proofs.lemmas.Bool.{eqb-true, eq-eqb, cases_lt}
 use Rattle.std.proofs.lemmas.List.Elements.{All-nil, All-cons, All-head, All-tail, All-weaker, All-map, All-filter}
-use Rattle.rbc_track.specs.declared.group.Way.{Way}
-use Rattle.rbc_track.specs.declared.group.Way.TheVariants.{Up, Down}
+use Rattle.rbc_place.specs.Way.{Way}
+use Rattle.rbc_place.specs.Way.TheVariants.{Up, Down}
 use Rattle.rbc_place.specs.Placing.{Place}
 use Rattle.rbc_zones.specs.declared.segment.Segment.{Segment}
 use Rattle.rbc_zones.specs.declared.stop_meaning.Concern.TheVariants as concern

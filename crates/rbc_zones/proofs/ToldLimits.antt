@@ -1,8 +1,8 @@
 -- What is told of a restriction, from distances to places.
 use Rattle.std.proofs.Common.{◌≡◌, ℕ, ◌+◌, ◌-◌, ◌*◌, ◌<◌, ◌≤◌, min, max, Bool, true, ◌&&◌, not, IsTrue, arith, refl, sym, subst}
 use Rattle.std.proofs.lemmas.Grind.{common_steps}
-use Rattle.rbc_track.specs.declared.group.Way.{Way}
-use Rattle.rbc_track.specs.declared.group.Way.TheVariants.{Up, Down}
+use Rattle.rbc_place.specs.Way.{Way}
+use Rattle.rbc_place.specs.Way.TheVariants.{Up, Down}
 use Rattle.rbc_place.specs.Placing.{Place}
 use Rattle.rbc_place.specs.Reach.{IsAhead}
 use Rattle.rbc_zones.specs.declared.segment.Segment.{Segment}

@@ -1,8 +1,8 @@
 -- What a stop means for a train at its place, and what the train is told of it (own rule).
 use Rattle.std.specs.Prelude.{◌≡◌, ℕ, ◌+◌, ◌-◌, ◌*◌, ◌/◌, ◌^◌, ◌<◌, ◌≤◌, min, max, Bool, true, ◌==◌, ◌||◌, ◌&&◌, nat_lt, nat_le, if◌then◌else◌, List, [], ◌∷◌, map, Option, Some, None}
 use Rattle.std.specs.List.{filter, fold, list_any, All}
-use Rattle.rbc_track.specs.declared.group.Way.{Way}
-use Rattle.rbc_track.specs.declared.group.Way.TheVariants.{Up, Down}
+use Rattle.rbc_place.specs.Way.{Way}
+use Rattle.rbc_place.specs.Way.TheVariants.{Up, Down}
 use Rattle.rbc_place.specs.Placing.{Place, IsSound}
 use Rattle.rbc_place.specs.Reach.{IsAhead}
 use Rattle.rbc_zones.specs.declared.segment.Segment.{Segment}

@@ -6,3 +6,6 @@ pub mod Nearer
 pub mod Limits
 pub mod Marks
 pub mod Witnesses
+pub use Rattle.rbc_place.specs.Placing
+pub use Rattle.rbc_place.specs.Plan
+pub use Rattle.rbc_place.specs.Way

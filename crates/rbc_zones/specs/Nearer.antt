@@ -1,8 +1,8 @@
 -- How the code finds the nearest edge ahead, one segment after another.
 use Rattle.std.specs.Prelude.{ℕ, min, max, if◌then◌else◌, Option, Some}
 use Rattle.std.specs.Option.{option_map_or}
-use Rattle.rbc_track.specs.declared.group.Way.{Way}
-use Rattle.rbc_track.specs.declared.group.Way.TheVariants.{Up, Down}
+use Rattle.rbc_place.specs.Way.{Way}
+use Rattle.rbc_place.specs.Way.TheVariants.{Up, Down}
 use Rattle.rbc_place.specs.Placing.{Place}
 use Rattle.rbc_zones.specs.declared.segment.Segment.{Segment}
 use Rattle.rbc_zones.specs.Concerns.{edge_of, is_ahead}

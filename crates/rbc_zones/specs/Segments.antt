@@ -2,7 +2,7 @@
 use Rattle.std.specs.Prelude.{ℕ, ◌≤◌, Bool, false, ◌&&◌, nat_le, List, length, slice_get}
 use Rattle.std.specs.List.{list_all, All}
 use Rattle.std.specs.Option.{option_map_or}
-use Rattle.rbc_track.specs.Plan.{Plan, max_length}
+use Rattle.rbc_place.specs.Plan.{Plan, max_length}
 use Rattle.rbc_zones.specs.declared.segment.Segment.{Segment}
 
 -- the most segments that an area has

@@ -1,7 +1,7 @@
 -- Worked cases of what is told of stops and restrictions. Places are in units of 10 cm. The trains count from a
 -- balise group at 10000 on line 0, whose nominal direction is up.
 use Rattle.std.specs.Prelude.{ℕ, true, false, List, [], ◌∷◌}
-use Rattle.rbc_track.specs.declared.group.Way.TheVariants.{Up, Down}
+use Rattle.rbc_place.specs.Way.TheVariants.{Up, Down}
 use Rattle.rbc_place.specs.Placing.{Place}
 use Rattle.rbc_zones.specs.declared.segment.Segment.{Segment}
 use Rattle.rbc_zones.specs.declared.limit.Dirs.TheVariants as dirs

@@ -7,7 +7,7 @@ ghost use Rattle.std.specs.List.{All};
 
 use crate::segment::{Segment, is_good_segment};
 use rbc_maps::{OnLines, mark_of};
-use rbc_track::Track;
+use rbc_place::Track;
 use std::array;
 use std::marker::Model;
 

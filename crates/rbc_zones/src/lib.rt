@@ -16,6 +16,7 @@ pub use area::{Area, BadArea};
 pub use law::{limit_law, stop_law};
 pub use limit::{BadLimit, Dirs, Limit, limit_clear, limit_concerns};
 use rbc_maps::Numbered;
+pub use rbc_place::{Place, Way};
 pub use restricted_stretch::limit_fields;
 pub use segment::Segment;
 pub use stop::concern;

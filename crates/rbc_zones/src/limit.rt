@@ -5,8 +5,7 @@ ghost use Rattle.rbc_zones.specs.Limits.{Limit, IsLimit, is_good_limit, is_for, 
 
 use crate::segment::{Segment, is_good_segment};
 use rbc_maps::{OnLines, mark_of};
-use rbc_place::Place;
-use rbc_track::{Track, Way};
+use rbc_place::{Place, Track, Way};
 use std::marker::Model;
 
 /// The greatest speed of a restriction, in km/h.

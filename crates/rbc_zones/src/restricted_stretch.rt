@@ -1,7 +1,7 @@
 //! The interval in a message with a temporary speed restriction.
 
 ghost use Rattle.std.specs.Prelude.{◌≡◌, ◌-◌, ◌/◌, ◌<◌, ◌≤◌, ◌&&◌, false, nat_le, IsTrue};
-ghost use Rattle.rbc_track.specs.Plan.{max_length};
+ghost use Rattle.rbc_place.specs.Plan.{max_length};
 ghost use Rattle.rbc_zones.specs.Concerns.{max_units};
 ghost use Rattle.rbc_zones.specs.Limits.{is_clear, ends_beyond, ends_beyond_group, begins_at, ends_at, divided_up};
 ghost use Rattle.rbc_zones.specs.Limits.{told_of_part, told_part, IsToldPart};
@@ -9,8 +9,7 @@ ghost use Rattle.rbc_zones.specs.Limits.{told_of_part, told_part, IsToldPart};
 use crate::limit::Limit;
 use crate::segment::Segment;
 use crate::stop_distance::MAX_UNITS;
-use rbc_place::Place;
-use rbc_track::Way;
+use rbc_place::{Place, Way};
 
 /// The distances from the balise group at which a segment begins and ends, without the part that is behind the group.
 fn distances(segment: Segment, place: &Place) -> (u32, u32)

@@ -3,7 +3,7 @@
 ghost use Rattle.std.specs.Prelude.{◌≡◌, IsTrue};
 ghost use Rattle.rbc_zones.specs.Segments.{is_good_segment, IsSegment};
 
-use rbc_track::Track;
+use rbc_place::Track;
 
 /// A stretch of one line, from one place to another, both included. Places are whole units of 10 cm.
 #[derive(Clone, Copy, Debug, PartialEq, Eq)]

@@ -1,7 +1,7 @@
 //! What a stop means for a train.
 
 ghost use Rattle.std.specs.Prelude.{◌≡◌, ◌≤◌, ℕ, false, option_copied};
-ghost use Rattle.rbc_track.specs.Plan.{max_length};
+ghost use Rattle.rbc_place.specs.Plan.{max_length};
 ghost use Rattle.rbc_zones.specs.declared.stop_meaning.Concern.TheVariants.{Before};
 ghost use Rattle.rbc_zones.specs.Concerns.{concern_of, concern_at, concern_by_edge, meets, is_behind_group};
 ghost use Rattle.rbc_zones.specs.Nearer.{nearer};
@@ -9,8 +9,7 @@ ghost use Rattle.rbc_zones.specs.Nearer.{nearer};
 use crate::area::Area;
 use crate::segment::Segment;
 use crate::stop_meaning::Concern;
-use rbc_place::Place;
-use rbc_track::Way;
+use rbc_place::{Place, Way};
 
 /// What a stop means for a train (own rule). Takes no memory.
 ///

@@ -1,7 +1,7 @@
 //! The distance in a conditional emergency stop message.
 
 ghost use Rattle.std.specs.Prelude.{◌≡◌, ◌≤◌};
-ghost use Rattle.rbc_track.specs.Plan.{max_length};
+ghost use Rattle.rbc_place.specs.Plan.{max_length};
 ghost use Rattle.rbc_zones.specs.Concerns.{told_distance, IsToldFor};
 
 /// The greatest value of D_EMERGENCYSTOP, D_TSR and L_TSR.

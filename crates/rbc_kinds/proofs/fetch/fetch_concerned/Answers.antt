@@ -1,7 +1,7 @@
 use Rattle.std.proofs.Common.{rules, refl, subst, sym, ap, ◌∙◌, IfSome, option_copied}
 use Rattle.rbc_track.specs.Plan.{Plan}
 use Rattle.rbc_train.specs.Numbers.{AreNumbers}
-use Rattle.rbc_sought.specs.declared.bounds.Sought.TheVariants as sought
+use Rattle.rbc_records.specs.Sought.TheVariants as sought
 use Rattle.rbc_step.specs.World.{World}
 use Rattle.rbc_step.specs.Right.{MayBe}
 use Rattle.rbc_step.specs.Lists.{AreEnginesOf, HaveSought, may_stop}

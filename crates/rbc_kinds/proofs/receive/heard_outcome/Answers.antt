@@ -1,6 +1,6 @@
 use Rattle.std.proofs.Common.{◌≡◌, ◌++◌, ◌∷◌, [], List, Option, Some, ◌∙◌}
 use Rattle.rbc_train.specs.Settling.{settled, messages_of, to_engine}
-use Rattle.rbc_settle.proofs.Addressed.{sent_is}
+use Rattle.rbc_step.proofs.Addressed.{sent_is}
 use Rattle.rbc_records.specs.declared.record.Key.{Key}
 use Rattle.rbc_records.specs.declared.record.Key.TheVariants as key
 use Rattle.rbc_records.specs.declared.record.Rec.{Rec}

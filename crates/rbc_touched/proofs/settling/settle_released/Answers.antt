@@ -3,7 +3,7 @@ use Rattle.std.proofs.lemmas.Result.{on_ok_weaker, IfOk-equal}
 use Rattle.rbc_train.specs.declared.train.TrainRec.{TrainRec}
 use Rattle.rbc_train.specs.declared.sent.Sent.{Sent}
 use Rattle.rbc_train.specs.Settling.{settled, messages_of, to_engine}
-use Rattle.rbc_settle.proofs.Addressed.{sent_is}
+use Rattle.rbc_step.proofs.Addressed.{sent_is}
 use Rattle.rbc_records.specs.declared.record.Key.{Key}
 use Rattle.rbc_records.specs.declared.record.Key.TheVariants as key
 use Rattle.rbc_records.specs.declared.record.Rec.{Rec}

@@ -1,6 +1,6 @@
 use Rattle.std.proofs.Common.{◌≡◌, true, false, Option, Some, option_map, option_copied, sym, ap, ◌∙◌}
 use Rattle.rbc_ids.specs.Table.{is_told}
-use Rattle.rbc_place.specs.Placing.{Place}
+use Rattle.rbc_zones.specs.Placing.{Place}
 use Rattle.rbc_train.specs.Told.{Part}
 use Rattle.rbc_train.specs.Settling.{limit_told_to}
 use Rattle.rbc_train.proofs.ToTell.{limit_told_already, limit_not_told}

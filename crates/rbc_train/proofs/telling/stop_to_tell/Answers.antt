@@ -1,5 +1,5 @@
 use Rattle.std.proofs.Common.{◌≡◌, true, false, Option, Some, option_map, option_copied, sym, ap, ◌∙◌}
-use Rattle.rbc_place.specs.Placing.{Place}
+use Rattle.rbc_zones.specs.Placing.{Place}
 use Rattle.rbc_zones.specs.Concerns.{concern_of}
 use Rattle.rbc_ids.specs.Table.{is_told}
 use Rattle.rbc_train.specs.Numbers.{has_number}

@@ -5,7 +5,7 @@ use Rattle.rbc_records.specs.Columns.{Kept, told_of, extent_of}
 use Rattle.rbc_sought.specs.Seeking.{is_sought}
 use Rattle.rbc_sought.specs.declared.bounds.Extent.{Extent}
 use Rattle.rbc_records.specs.declared.record.Rec.TheVariants as rec
-use Rattle.rbc_train.specs.declared.train.TrainRec.{TrainRec}
+use Rattle.rbc_sought.specs.TrainRec.{TrainRec}
 use Rattle.rbc_records.specs.declared.record.Rec.{Rec}
 use Rattle.rbc_sought.specs.declared.bounds.Sought.TheVariants as sought
 use Rattle.rbc_sought.proofs.Asked.{asked_by_stop, asked_by_limit, asked_by_place}
