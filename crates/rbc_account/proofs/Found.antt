@@ -24,7 +24,7 @@ use Rattle.rbc_step.specs.declared.input.Input.{Input}
 use Rattle.rbc_step.specs.World.{World}
 use Rattle.rbc_step.specs.Step.{settle_all, sent_to_all}
 use Rattle.rbc_step.specs.Right.{messages_to}
-use Rattle.rbc_desk.specs.Held.{AreRecordsOf}
+use Rattle.rbc_live.specs.Held.{AreRecordsOf}
 use Rattle.rbc_account.specs.Known.{train_of, stops_of, limits_of, train_in, active_stops, active_limits}
 use Rattle.rbc_account.specs.Found.{PacketHasSubject, HasSubject, IsRevokedBy, IsLiftedBy, IsFound}
 use Rattle.rbc_account.proofs.Elements.{each-weaker}

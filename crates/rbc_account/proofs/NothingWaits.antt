@@ -19,8 +19,8 @@ use Rattle.rbc_records.specs.Notes.{record_in}
 use Rattle.rbc_step.specs.World.{World}
 use Rattle.rbc_step.specs.Records.{stops_record, limits_record}
 use Rattle.rbc_step.proofs.KeepsLists.{All-value_of}
-use Rattle.rbc_desk.specs.Held.{AreRecordsOf}
-use Rattle.rbc_desk.specs.Serial.{serial, new_desk}
+use Rattle.rbc_live.specs.Held.{AreRecordsOf}
+use Rattle.rbc_live.specs.DeskSerial.{serial, new_desk}
 use Rattle.rbc_live.specs.Serial.{IsSerial}
 use Rattle.rbc_account.specs.declared.waiting.Waiting.{Waiting}
 use Rattle.rbc_account.specs.declared.waiting.Waits.{Waits}

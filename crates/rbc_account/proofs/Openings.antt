@@ -5,9 +5,9 @@ use Rattle.std.proofs.lemmas.List.{length-map}
 use denote.Ref.{Bor}
 use Rattle.rbc_track.specs.Plan.{Plan}
 use Rattle.rbc_track.specs.Reading.{IsTrackOf}
-use Rattle.rbc_engine.specs.Answers.{max_inputs}
-use Rattle.rbc_text.specs.BatchText.{lines_of}
-use Rattle.rbc_text.specs.Pieces.{texts_of}
+use Rattle.rbc_batch.specs.Answers.{max_inputs}
+use Rattle.rbc_batch.specs.BatchText.{lines_of}
+use Rattle.rbc_batch.specs.Pieces.{texts_of}
 use Rattle.rbc_batch.specs.Process.{IsAllRead, IsBeforeRun, IsBeforeWriting, IsRefused, max_batch}
 use Rattle.rbc_batch.specs.declared.batch.ProcessError.{ProcessError}
 use Rattle.rbc_batch.specs.declared.batch.ProcessError.TheVariants as process

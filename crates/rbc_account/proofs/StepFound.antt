@@ -33,8 +33,8 @@ use Rattle.rbc_step.specs.WellFormed.{IsGoodTrain, IsWellFormed}
 use Rattle.rbc_step.proofs.KeepsLists.{All-value_of}
 use Rattle.rbc_step.proofs.WorldMaps.{value_of-with_value, value_of-without}
 use Rattle.rbc_rule_laws.proofs.KeepsWorlds.{IsKept, ReadyIfOk, effect_ready}
-use Rattle.rbc_desk.specs.Held.{AreRecordsOf}
-use Rattle.rbc_desk.specs.Serial.{serial, new_desk}
+use Rattle.rbc_live.specs.Held.{AreRecordsOf}
+use Rattle.rbc_live.specs.DeskSerial.{serial, new_desk}
 use Rattle.rbc_live.specs.Serial.{IsSerial}
 use Rattle.rbc_live.specs.History.{IsStepOf}
 use Rattle.rbc_account.specs.Known.{train_of, number_under}

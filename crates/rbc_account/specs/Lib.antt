@@ -17,3 +17,6 @@ pub mod Runs
 pub mod Telling
 pub mod Witnesses
 pub mod Found
+pub use Rattle.rbc_batch.specs.Answers
+pub use Rattle.rbc_batch.specs.Process
+pub use Rattle.rbc_live.specs.History

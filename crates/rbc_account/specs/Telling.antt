@@ -3,8 +3,8 @@ use Rattle.std.specs.Prelude.{◌≡◌, ◌⊎◌, ◌<◌, ◌≤◌, ⊤, ℕ
 use Rattle.rbc_track.specs.Plan.{Plan}
 use Rattle.rbc_track.specs.Reading.{IsTrackOf, RefusesTrack}
 use Rattle.rbc_track.specs.declared.error.TrackError.TheVariants as track
-use Rattle.rbc_engine.specs.Answers.{max_inputs}
-use Rattle.rbc_text.specs.BatchText.{lines_of}
+use Rattle.rbc_batch.specs.Answers.{max_inputs}
+use Rattle.rbc_batch.specs.BatchText.{lines_of}
 use Rattle.rbc_batch.specs.Process.{IsAllRead, IsBeforeRun, max_batch}
 use Rattle.rbc_account.specs.declared.fault.TellError.{TellError}
 use Rattle.rbc_account.specs.declared.fault.TellError.TheVariants.{Track, Batch, OnlyInputs}

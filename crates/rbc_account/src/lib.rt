@@ -29,6 +29,7 @@ pub use distances::{unit_told, way_told};
 pub use fault::TellError;
 pub use law::{account_law, waiting_law};
 pub use placing::{NoPlace, Placing};
+pub use rbc_batch::{lines_of_batch, read_batch};
 pub use state::{Sharing, Standing, TrainStanding};
 pub use told::{RestrictionTold, Told, ToldRestriction, ToldWhat, WhyAtOnce, WhyRevoked, WhyTold};
 pub use told_place::{ToldPlace, ToldPlaces};

@@ -6,11 +6,11 @@ use Rattle.std.proofs.lemmas.List.{take_all}
 use Rattle.rbc_track.specs.Plan.{Plan}
 use Rattle.rbc_step.specs.declared.input.Input.{Input}
 use Rattle.rbc_step.specs.declared.outcome.Reply.{Reply}
-use Rattle.rbc_desk.specs.declared.outbox.Mail.{Mail}
-use Rattle.rbc_desk.specs.Serial.{serial, new_desk}
-use Rattle.rbc_desk.specs.Held.{Held, Holds, standing}
-use Rattle.rbc_desk.specs.SaidMails.{AreSaidMails}
-use Rattle.rbc_book.specs.declared.book.Stats.{Stats}
+use Rattle.rbc_engine.specs.Mail.{Mail}
+use Rattle.rbc_engine.specs.Serial.{serial, new_desk}
+use Rattle.rbc_engine.specs.Held.{Held, Holds, standing}
+use Rattle.rbc_engine.specs.SaidMails.{AreSaidMails}
+use Rattle.rbc_engine.specs.Stats.{Stats}
 use Rattle.rbc_engine.specs.declared.workers.RunError.{RunError}
 use Rattle.rbc_engine.specs.declared.workers.RunError.TheVariants.{Workers, TooManyInputs, OutOfMemory}
 use Rattle.rbc_engine.specs.Answers.{IsRun}

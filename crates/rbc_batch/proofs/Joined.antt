@@ -8,7 +8,7 @@ use Rattle.std.specs.declared.alloc.Global.{Global}
 use Rattle.std.proofs.lemmas.List.{drop-drop, drop_all, take-append-drop}
 use Rattle.std.proofs.lemmas.List.Concat.{flat_map-append}
 use Rattle.std.proofs.lemmas.Nat.{mul-le, mul-add-lt, div-mul-add, div-add-mod', div_below, row-Below, le-div}
-use Rattle.rbc_desk.specs.declared.outbox.Mail.{Mail}
+use Rattle.rbc_engine.specs.Mail.{Mail}
 use Rattle.rbc_text.specs.OutputText.{outbox_lines}
 use Rattle.rbc_batch.specs.Parts.{part_start, lines_of_part, bytes_of, AreMade}
 

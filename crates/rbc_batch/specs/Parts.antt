@@ -4,7 +4,7 @@ use Rattle.std.specs.List.{flat_map}
 use Rattle.std.specs.declared.vec.Vec.{Vec}
 use Rattle.std.specs.declared.alloc.AllocError.{AllocError}
 use Rattle.std.specs.declared.alloc.Global.{Global}
-use Rattle.rbc_desk.specs.declared.outbox.Mail.{Mail}
+use Rattle.rbc_engine.specs.Mail.{Mail}
 use Rattle.rbc_text.specs.OutputText.{outbox_lines}
 
 -- the index of the outbox with which one of so many parts begins

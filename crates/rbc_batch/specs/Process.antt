@@ -7,10 +7,10 @@ use Rattle.rbc_batch.specs.declared.batch.ProcessError.{ProcessError}
 use Rattle.rbc_batch.specs.declared.batch.ProcessError.TheVariants as fault
 use Rattle.rbc_step.specs.declared.input.Input.{Input}
 use Rattle.rbc_text.specs.BatchText.{lines_of, AreInputsOf}
-use Rattle.rbc_book.specs.declared.book.Stats.{Stats}
-use Rattle.rbc_desk.specs.Serial.{serial, new_desk}
-use Rattle.rbc_desk.specs.Held.{Held, Holds, standing}
-use Rattle.rbc_desk.specs.SaidMails.{AreSaidMails}
+use Rattle.rbc_engine.specs.Stats.{Stats}
+use Rattle.rbc_engine.specs.Serial.{serial, new_desk}
+use Rattle.rbc_engine.specs.Held.{Held, Holds, standing}
+use Rattle.rbc_engine.specs.SaidMails.{AreSaidMails}
 use Rattle.rbc_engine.specs.declared.workers.RunError.{RunError}
 use Rattle.rbc_engine.specs.declared.workers.RunError.TheVariants.{Workers, TooManyInputs, OutOfMemory}
 use Rattle.rbc_engine.specs.Answers.{MayWork, max_inputs, fault_text as run_fault_text}

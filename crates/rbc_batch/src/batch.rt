@@ -11,9 +11,7 @@ ghost use Rattle.rbc_batch.specs.Process.{Answers, AreRead, IsBeforeRun, IsRefus
 use crate::inputs::{first_lines, parse_lines};
 use crate::rendering::texts_of_desk;
 use crate::streams::{read_batch, write_texts};
-use rbc_book::Stats;
-use rbc_desk::Desk;
-use rbc_engine::{Gate, MAX_INPUTS, MAX_WORKERS, RunError, run};
+use rbc_engine::{Desk, Gate, MAX_INPUTS, MAX_WORKERS, RunError, Stats, run};
 use rbc_step::Input;
 use rbc_track::Track;
 use std::alloc::{AllocError, Global};

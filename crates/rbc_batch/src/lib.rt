@@ -8,5 +8,6 @@ mod streams;
 
 pub use batch::{ProcessError, lines_of_batch, process};
 pub use inputs::parse_batch;
+pub use rbc_engine::{PACE, Stats, Tally};
 pub use rbc_text::{parse_line, render};
 pub use streams::{read_batch, write_text};

@@ -5,7 +5,7 @@ ghost use Rattle.std.specs.List.{flat_map};
 ghost use Rattle.rbc_text.specs.OutputText.{output_of};
 ghost use Rattle.rbc_batch.specs.Parts.{AreMade, bytes_of, joined, lines_of_part, part_start};
 
-use rbc_desk::Desk;
+use rbc_engine::Desk;
 use rbc_text::{render, render_outboxes, render_results};
 use std::alloc::{AllocError, Global};
 use std::thread;

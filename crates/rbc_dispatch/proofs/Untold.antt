@@ -1,9 +1,9 @@
 -- How a run ends that is not told.
 use Rattle.std.proofs.Common.{◌≡◌, ℕ, List, Option, Result, Ok, Err, refl}
 use Rattle.std.specs.Result.{IsErrAnd}
-use Rattle.rbc_account.specs.Telling.{LeavesUnread, Tells}
-use Rattle.rbc_account.specs.declared.fault.TellError.{TellError}
-use Rattle.rbc_account.specs.declared.fault.TellError.TheVariants as telling
+use Rattle.rbc_explain.specs.AccountTelling.{LeavesUnread, Tells}
+use Rattle.rbc_explain.specs.TellError.{TellError}
+use Rattle.rbc_explain.specs.TellError.TheVariants as telling
 use Rattle.rbc_batch.specs.Process.{IsUntouched}
 use Rattle.rbc_batch.specs.declared.batch.ProcessError.{ProcessError}
 use Rattle.rbc_batch.specs.declared.batch.ProcessError.TheVariants as process

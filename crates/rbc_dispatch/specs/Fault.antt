@@ -8,8 +8,8 @@ use Rattle.ertms_codec.specs.declared.text.DescribeError.{DescribeError}
 use Rattle.ertms_codec.specs.declared.text.DescribeError.TheVariants as describing
 use Rattle.hex.specs.declared.error.FromHexError.{FromHexError}
 use Rattle.hex.specs.declared.error.FromHexError.TheVariants as hex
-use Rattle.rbc_account.specs.declared.fault.TellError.{TellError}
-use Rattle.rbc_account.specs.declared.fault.TellError.TheVariants as telling
+use Rattle.rbc_explain.specs.TellError.{TellError}
+use Rattle.rbc_explain.specs.TellError.TheVariants as telling
 use Rattle.rbc_batch.specs.Process.{fault_text}
 use Rattle.rbc_prompt.specs.Answers as prompt
 use Rattle.rbc_track.specs.Plan.{name_of as name_of_track}

@@ -2,7 +2,7 @@
 use Rattle.std.specs.Prelude.{◌≡◌, ◌⊎◌, ⊤, ℕ, List, Option, Result, Ok, Err}
 use Rattle.rbc_batch.specs.Process.{Answers, IsUntouched as IsUnwritten}
 use Rattle.rbc_batch.specs.declared.batch.ProcessError.{ProcessError}
-use Rattle.rbc_book.specs.declared.book.Stats.{Stats}
+use Rattle.rbc_batch.specs.Stats.{Stats}
 use Rattle.rbc_track.specs.Plan.{Plan}
 use Rattle.rbc_track.specs.Reading.{IsTrackOf, RefusesTrack}
 use Rattle.rbc_track.specs.declared.error.TrackError.{TrackError}

@@ -1,8 +1,8 @@
 -- What `explain` and `picture` do with a batch.
 use Rattle.std.specs.Prelude.{◌⊎◌, ◌≤◌, ℕ, List, Option, Result, Ok, Err, take, length}
 use Rattle.std.specs.Io.KnownBytes.{Appends}
-use Rattle.rbc_account.specs.Telling.{Tells}
-use Rattle.rbc_account.specs.declared.fault.TellError.TheVariants as telling
+use Rattle.rbc_explain.specs.AccountTelling.{Tells}
+use Rattle.rbc_explain.specs.TellError.TheVariants as telling
 use Rattle.rbc_explain.specs.Log.{IsLogOfRun}
 use Rattle.rbc_picture.specs.Drawn.{IsPictureOfRun}
 use Rattle.rbc_dispatch.specs.Running.{IsErrUnread}

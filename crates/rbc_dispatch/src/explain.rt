@@ -1,6 +1,6 @@
 //! A run in words.
 
-ghost use Rattle.rbc_account.specs.Telling.{TooLate};
+ghost use Rattle.rbc_explain.specs.AccountTelling.{TooLate};
 ghost use Rattle.rbc_dispatch.specs.Running.{Keeps};
 ghost use Rattle.rbc_dispatch.specs.Showing.{IsLogFrom, ShowsOn};
 

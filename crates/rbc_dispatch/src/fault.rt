@@ -1,8 +1,8 @@
 //! What can keep the program from its task.
 use ertms_codec::{DecodeError, DescribeError};
 use hex::FromHexError;
-use rbc_account::TellError;
 use rbc_batch::ProcessError;
+use rbc_explain::TellError;
 use rbc_prompt::PromptError;
 use rbc_track::TrackError;
 use rbc_words::Count;

@@ -1,6 +1,5 @@
 //! How the workers of a run shared its inputs, in one line.
-use rbc_book::Stats;
-use rbc_engine::Tally;
+use rbc_batch::{Stats, Tally};
 use rbc_words::Count;
 use std::fmt;
 

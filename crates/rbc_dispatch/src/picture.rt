@@ -1,6 +1,6 @@
 //! What stands on the track, as a picture.
 
-ghost use Rattle.rbc_account.specs.Telling.{TooFewFor};
+ghost use Rattle.rbc_explain.specs.AccountTelling.{TooFewFor};
 ghost use Rattle.rbc_dispatch.specs.Running.{Keeps};
 ghost use Rattle.rbc_dispatch.specs.Showing.{IsPictureAfter, ShowsOn};
 

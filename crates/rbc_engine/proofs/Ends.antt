@@ -1,6 +1,6 @@
 -- What a run leaves.
 use Rattle.std.proofs.Common.{◌≡◌, ◌⊎◌, ℕ, ◌<◌, length, Result, Ok, Err, inl, inr, ⊎_elim, ap, sym, ◌∙◌, subst, arith}
-use Rattle.rbc_desk.specs.Held.{Held, standing}
+use Rattle.rbc_book.specs.Held.{Held, standing}
 use Rattle.rbc_book.specs.declared.book.Stats.{Stats}
 use Rattle.rbc_book.specs.Runs.{Run, IsGoodRun, IsSerialRun, IsSaidSince}
 use Rattle.rbc_book.specs.declared.book.Commit.TheVariants.{NotReady}

@@ -5,9 +5,9 @@ use Rattle.std.proofs.lemmas.List.{length-take-le}
 use Rattle.std.proofs.lemmas.Option.{get_or_from_slice_get}
 use Rattle.rbc_step.specs.declared.input.Input.{Input}
 use Rattle.rbc_step.specs.declared.outcome.Reply.{Reply}
-use Rattle.rbc_desk.specs.Serial.{Desk, step, serial}
-use Rattle.rbc_desk.specs.Held.{Held, Standing, Holds, IsTakenIn, standing, max_results}
-use Rattle.rbc_desk.proofs.Runs.{fold_more}
+use Rattle.rbc_book.specs.Serial.{Desk, step, serial}
+use Rattle.rbc_book.specs.Held.{Held, Standing, Holds, IsTakenIn, standing, max_results}
+use Rattle.rbc_book.proofs.Runs.{fold_more}
 use Rattle.rbc_book.specs.Runs.{Run, IsGoodRun, IsSerialRun}
 use Rattle.rbc_book.proofs.Mails.{said_since}
 use Rattle.rbc_book.specs.declared.book.Stats.{Stats}

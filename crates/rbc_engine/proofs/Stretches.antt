@@ -10,8 +10,8 @@ use Rattle.rbc_step.specs.declared.input.Input.{Input}
 use Rattle.rbc_step.specs.declared.outcome.Reply.{Reply}
 use Rattle.rbc_step.specs.Inputs.{Fits}
 use Rattle.rbc_step.specs.Step as rule
-use Rattle.rbc_desk.specs.Serial.{Desk, step, serial}
-use Rattle.rbc_desk.specs.Held.{Held, Holds, AreOutboxes, standing}
+use Rattle.rbc_book.specs.Serial.{Desk, step, serial}
+use Rattle.rbc_book.specs.Held.{Held, Holds, AreOutboxes, standing}
 use Rattle.rbc_book.specs.declared.book.Stats.{Stats}
 use Rattle.rbc_book.specs.Runs.{Run, IsGoodRun, IsSerialRun}
 use Rattle.rbc_book.proofs.Mails.{said_since}

@@ -1,6 +1,6 @@
 -- What a window leaves is what a stretch of a run leaves.
 use Rattle.std.proofs.Common.{◌≡◌, ◌≤◌, length, Ok, Err, inl, sym, subst, arith}
-use Rattle.rbc_desk.specs.Held.{Held, standing}
+use Rattle.rbc_book.specs.Held.{Held, standing}
 use Rattle.rbc_book.specs.declared.book.Stats.{Stats}
 use Rattle.rbc_book.specs.Runs.{Run, IsGoodRun, IsSerialRun}
 use Rattle.rbc_book.proofs.Mails.{said_since}

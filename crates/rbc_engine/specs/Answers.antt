@@ -2,8 +2,8 @@
 use Rattle.std.specs.Prelude.{◌≡◌, ◌⊎◌, ℕ, ◌+◌, ◌<◌, ◌≤◌, List, [], ◌∷◌, ◌++◌, codes, length, drop, Result, Ok, Err}
 use Rattle.std.specs.Fmt.{decimal}
 use Rattle.rbc_track.specs.Plan.{Plan}
-use Rattle.rbc_desk.specs.Serial.{Desk}
-use Rattle.rbc_desk.specs.Held.{Held, Holds, standing, max_results}
+use Rattle.rbc_book.specs.Serial.{Desk}
+use Rattle.rbc_book.specs.Held.{Held, Holds, standing, max_results}
 use Rattle.rbc_book.specs.declared.book.Stats.{Stats}
 use Rattle.rbc_book.specs.Runs.{Run, IsSerialRun, IsSaidSince}
 use Rattle.rbc_engine.specs.declared.workers.RunError.{RunError}

@@ -2,3 +2,8 @@ pub mod Reading
 pub mod Facts
 pub mod Fronts
 pub mod Answers
+pub use Rattle.rbc_book.specs.Held
+pub use Rattle.rbc_book.specs.Mail
+pub use Rattle.rbc_book.specs.SaidMails
+pub use Rattle.rbc_book.specs.Serial
+pub use Rattle.rbc_book.specs.declared.book.Stats

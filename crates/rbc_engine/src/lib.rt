@@ -11,6 +11,7 @@ mod way;
 mod workers;
 
 pub use gate::{AllWorkers, Gate, OpenGate, PACE, Pace};
+pub use rbc_book::{Desk, Stats};
 pub use rbc_step::MAX_INPUTS;
 pub use rbc_window::WindowStats;
 pub use recorder::Recorder;

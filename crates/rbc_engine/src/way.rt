@@ -4,7 +4,7 @@ ghost use Rattle.std.specs.Prelude.{◌<◌};
 
 use crate::gate::Pace;
 use ertms_codec::FromTrain;
-use rbc_desk::Desk;
+use rbc_book::Desk;
 use rbc_records::{Key, Rec};
 use rbc_step::Input;
 

@@ -5,7 +5,7 @@ ghost use Rattle.std.specs.Prelude.{◌≡◌, ◌≤◌, IsTrue, Ok, false, len
 ghost use Rattle.std.specs.List.{All};
 ghost use Rattle.rbc_track.specs.Plan.{IsPlan};
 ghost use Rattle.rbc_step.specs.Inputs.{Fits};
-ghost use Rattle.rbc_desk.specs.Held.{IsInOrder};
+ghost use Rattle.rbc_book.specs.Held.{IsInOrder};
 ghost use Rattle.rbc_book.specs.Books.{state_of};
 ghost use Rattle.rbc_book.specs.Core.{front};
 ghost use Rattle.rbc_book.specs.Runs.{IsGoodRun};
@@ -15,8 +15,7 @@ ghost use Rattle.rbc_engine.specs.Fronts.{IsWaiting, IsGivenUp, IsNext, IsAtItsE
 use crate::gate::{Behind, Gate};
 use crate::job::work_together;
 use crate::way::{Road, next_way};
-use rbc_book::{Book, Commit, RunName, Stats};
-use rbc_desk::{Desk, MAX_RESULTS};
+use rbc_book::{Book, Commit, Desk, MAX_RESULTS, RunName, Stats};
 use rbc_step::{Input, MAX_INPUTS};
 use rbc_track::Track;
 use rbc_versions::VersionLog;

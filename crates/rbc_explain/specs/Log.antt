@@ -7,8 +7,8 @@ use Rattle.rbc_records.specs.declared.record.Rec.{Rec}
 use Rattle.rbc_step.specs.declared.input.Input.{Input}
 use Rattle.rbc_text.specs.BatchText.{line_of, lines_of, IsInput}
 use Rattle.rbc_text.specs.OutputText.{answer_of}
-use Rattle.rbc_batch.specs.Process.{IsAllRead}
-use Rattle.rbc_live.specs.History.{Taken, AreSame, IsFed, IsSerialRunOf}
+use Rattle.rbc_account.specs.Process.{IsAllRead}
+use Rattle.rbc_account.specs.History.{Taken, AreSame, IsFed, IsSerialRunOf}
 use Rattle.rbc_account.specs.Runs.{IsAccount}
 use Rattle.rbc_account.specs.Coming.{sender_in}
 use Rattle.rbc_account.specs.Subjects.{ArePaired, IsToldOf}

@@ -18,4 +18,5 @@ mod sentence;
 mod telling;
 mod waiting_in_words;
 
+pub use rbc_account::TellError;
 pub use telling::explain;

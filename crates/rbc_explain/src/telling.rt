@@ -2,7 +2,7 @@
 
 ghost use Rattle.std.specs.Prelude.{◌≡◌, ◌≤◌, ◌<◌, ◌+◌, ◌^◌, ◌++◌, ◌∷◌, [], ℕ, List, length, IfOk, OnOk};
 ghost use Rattle.rbc_track.specs.Plan.{Plan};
-ghost use Rattle.rbc_engine.specs.Answers.{max_inputs};
+ghost use Rattle.rbc_account.specs.Answers.{max_inputs};
 ghost use Rattle.rbc_text.specs.Pieces.{texts_of};
 ghost use Rattle.rbc_account.specs.Sums.{no_sums};
 ghost use Rattle.rbc_account.specs.Telling.{LeavesUnread, Tells, TooLate};
@@ -12,8 +12,7 @@ use crate::input_block::{TrackOfRun, push_block};
 use crate::log::push_words;
 use crate::log_end::push_end;
 use crate::log_head::push_head;
-use rbc_account::{Account, TellError, account_law};
-use rbc_batch::{lines_of_batch, read_batch};
+use rbc_account::{Account, TellError, account_law, lines_of_batch, read_batch};
 use rbc_track_report::{NamedTrack, Sheet, named_track};
 use std::alloc::{AllocError, Global};
 use std::io::Read;

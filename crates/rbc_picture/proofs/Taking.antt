@@ -7,9 +7,9 @@ use Rattle.rbc_track.specs.Plan.{Plan}
 use Rattle.rbc_records.specs.declared.record.Key.{Key}
 use Rattle.rbc_records.specs.declared.record.Rec.{Rec}
 use Rattle.rbc_records.specs.Notes.{record_in}
-use Rattle.rbc_engine.specs.Answers.{max_inputs}
+use Rattle.rbc_account.specs.Answers.{max_inputs}
 use Rattle.rbc_text.specs.Pieces.{texts_of}
-use Rattle.rbc_live.specs.History.{IsFed, Taken, IsHistory}
+use Rattle.rbc_account.specs.History.{IsFed, Taken, IsHistory}
 use Rattle.rbc_account.specs.declared.account.Sums.{Sums}
 use Rattle.rbc_account.specs.declared.account.Account.{Account}
 use Rattle.rbc_account.specs.Sums.{no_sums, counted}

@@ -3,7 +3,7 @@
 ghost use Rattle.std.specs.Prelude.{◌≡◌, ◌≤◌, ◌++◌, ◌∷◌, [], true, List, ℕ, IfOk, IfNone, IfSome, OnOk, OnSome};
 ghost use Rattle.std.specs.Prelude.{length, take, string_bytes};
 ghost use Rattle.rbc_track.specs.Plan.{Plan};
-ghost use Rattle.rbc_engine.specs.Answers.{max_inputs};
+ghost use Rattle.rbc_account.specs.Answers.{max_inputs};
 ghost use Rattle.rbc_text.specs.Pieces.{texts_of};
 ghost use Rattle.rbc_account.specs.Sums.{no_sums};
 ghost use Rattle.rbc_account.specs.Telling.{LeavesUnread, Tells, TooFewFor};
@@ -13,8 +13,7 @@ ghost use Rattle.rbc_picture.specs.Shown.{StandIn};
 use crate::plan::document_of;
 use crate::scene::{Scene, Sums};
 use crate::train_state::trains_of;
-use rbc_account::{Account, TellError, account_law};
-use rbc_batch::{lines_of_batch, read_batch};
+use rbc_account::{Account, TellError, account_law, lines_of_batch, read_batch};
 use rbc_track::Track;
 use rbc_track_report::{NamedTrack, named_track};
 use std::alloc::{AllocError, Global};

@@ -7,3 +7,4 @@ mod session;
 mod stand_in;
 
 pub use prompt::{PromptError, answer_lines};
+pub use rbc_live::LiveDesk;

@@ -6,8 +6,8 @@ ghost use Rattle.rbc_versions.specs.Entries.{AreOf};
 ghost use Rattle.rbc_book.specs.Runs.{IsInput};
 
 use rbc_book::{Attempt, Book, RunName};
+use rbc_desk::decide;
 use rbc_records::{Key, ReadFault, Reader, Rec};
-use rbc_rule::decide;
 use rbc_step::{Input, RuleFault};
 use rbc_track::Track;
 use rbc_versions::{Notes, Published, Ticket, VersionLog, publish_all};

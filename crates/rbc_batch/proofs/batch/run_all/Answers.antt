@@ -1,4 +1,4 @@
-use Rattle.rbc_desk.specs.Serial.{new_desk}
+use Rattle.rbc_engine.specs.Serial.{new_desk}
 use Rattle.rbc_batch.proofs.Answering.{ran, ran_not}
 use Rattle.rbc_batch.proofs.batch.run_all.Goals as goal
 

@@ -1,5 +1,5 @@
 use Rattle.std.proofs.Common.{ℕ, List}
-use Rattle.rbc_account.specs.Telling.{TooLate}
+use Rattle.rbc_explain.specs.AccountTelling.{TooLate}
 use Rattle.rbc_dispatch.specs.Showing.{IsLogFrom}
 use Rattle.rbc_dispatch.proofs.Untold.{kept, not_told}
 use Rattle.rbc_dispatch.proofs.explain.explain_text.Goals as goal

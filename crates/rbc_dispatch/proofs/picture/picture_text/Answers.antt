@@ -1,5 +1,5 @@
 use Rattle.std.proofs.Common.{ℕ, List}
-use Rattle.rbc_account.specs.Telling.{TooFewFor}
+use Rattle.rbc_explain.specs.AccountTelling.{TooFewFor}
 use Rattle.rbc_dispatch.specs.Showing.{IsPictureAfter}
 use Rattle.rbc_dispatch.proofs.Untold.{kept, not_told}
 use Rattle.rbc_dispatch.proofs.picture.picture_text.Goals as goal

@@ -1,5 +1,5 @@
 use Rattle.std.proofs.Common.{subst, ℕ, Option}
-use Rattle.rbc_account.specs.Telling.{TooFewFor, TooLate}
+use Rattle.rbc_explain.specs.AccountTelling.{TooFewFor, TooLate}
 use Rattle.rbc_command_line.specs.Words.{IsExplainOn, IsLiveOn, IsPictureOn, IsRunOn}
 use Rattle.rbc_command_line.specs.declared.words.Task.{Task}
 use Rattle.rbc_dispatch.specs.Figures.{IsQuiet}

@@ -1,5 +1,5 @@
 use Rattle.std.proofs.Common.{inr, map, refl, string_bytes}
-use Rattle.rbc_account.specs.Telling.{TooFewFor, TooLate}
+use Rattle.rbc_explain.specs.AccountTelling.{TooFewFor, TooLate}
 use Rattle.rbc_dispatch.specs.Checking.{Checks}
 use Rattle.rbc_dispatch.specs.Decoding.{Decodes, IsUntouched}
 use Rattle.rbc_dispatch.specs.Living.{Lives}

@@ -1,5 +1,5 @@
 use Rattle.std.proofs.Common.{◌∙◌, ◌<◌, ◌≤◌, ◌+◌, ℕ, List, length, refl, sym, subst, arith}
-use Rattle.rbc_live.specs.History.{Taken}
+use Rattle.rbc_account.specs.History.{Taken}
 use Rattle.rbc_explain.specs.Marked.{IsToldOn}
 use Rattle.rbc_explain.proofs.Marking.{told_none}
 use Rattle.rbc_explain.proofs.OneMore.{line_told, line_told_if, inputs_so_far, next_number, not_told}
