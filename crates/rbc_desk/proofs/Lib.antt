@@ -1,6 +1,8 @@
 pub mod Begins
+pub mod EachAnswer
 pub mod Kept
 pub mod Posts
+pub mod PostsAnswers
 pub mod Runs
 pub mod Sends
 pub mod Stands

@@ -1,6 +1,7 @@
 -- Which desks are held.
 use Rattle.std.proofs.Common.{◌≡◌, ℕ, ◌+◌, List, [], ◌∷◌, ◌++◌, length, Option, refl, sym, ap, ◌∙◌, subst, arith}
 use Rattle.rbc_track.specs.Plan.{Plan, IsPlan}
+use Rattle.rbc_train.specs.declared.sent.Sent.{Sent}
 use Rattle.rbc_records.specs.declared.record.Key.{Key}
 use Rattle.rbc_records.specs.declared.record.Rec.{Rec}
 use Rattle.rbc_records.specs.Notes.{Whole, Extends, record_in}
@@ -12,10 +13,10 @@ use Rattle.rbc_step.specs.declared.outcome.RuleFault.{RuleFault}
 use Rattle.rbc_step.specs.declared.outcome.RuleFault.TheVariants as fault
 use Rattle.rbc_step.specs.Inputs.{Fits}
 use Rattle.rbc_step.specs.World.{World}
-use Rattle.rbc_step.specs.Right.{MayBe, IsRight, IsFault}
+use Rattle.rbc_step.specs.Right.{MayBe, IsRight, IsStep, IsFault}
 use Rattle.rbc_step.specs.Step as rule
 use Rattle.rbc_desk.specs.declared.outbox.Mail.{Mail}
-use Rattle.rbc_desk.specs.Held.{Standing, Holds, AreRecordsOf, AreOutboxes, IsOutcomeOf, IsTakenIn, IsMemoryOf, after_outcome}
+use Rattle.rbc_desk.specs.Held.{Standing, Holds, AreRecordsOf, AreOutboxes, IsOutcomeOf, IsTakenIn, IsMemoryOf, after_outcome, post_each}
 use Rattle.rbc_desk.specs.Serial.{Desk, step, post_all}
 use Rattle.rbc_desk.proofs.Kept.{step_keeps}
 use Rattle.rbc_desk.proofs.Posts.{posted_alike, ones_keep}
@@ -46,21 +47,26 @@ module _ (track : Plan) where
       never : (n : ℕ) → n ≡ n + 1 → ⊥
       never n e = omega (arith, e)
 
-  -- the desk after an outcome of its world is the one after the step
-  pub holds_after : (input : Input) (held : Standing) (outcome : Outcome) (desk : Desk) → IsPlan track → Fits input → AreOutboxes held.outboxes
-      → IsOutcomeOf track input held.records outcome → Holds track held desk → Holds track (after_outcome held outcome) (step track desk input)
-  holds_after input held outcome desk good fits boxes right h =
-      let is = right desk.world h.world in
+  -- the desk after what a step of its world answers, writes and sends is the one after the step
+  pub holds_step : (input : Input) (held : Standing) (reply : Reply) (writes : List (Key × Option Rec)) (messages : List Sent) (desk : Desk) → IsPlan track → Fits input → AreOutboxes held.outboxes
+      → IsStep track input desk.world reply writes messages → Holds track held desk
+      → Holds track (record { records = written writes held.records; results = held.results ++ reply ∷ []; outboxes = post_each (length held.results + 1) held.outboxes messages }) (step track desk input)
+  holds_step input held reply writes messages desk good fits boxes is h =
       let sent = (rule.step track desk.world input).sent in
       record {
         world = record {
           well_formed = step_keeps track desk.world input good fits h.world.well_formed;
-          same = λ k. (λ i. written outcome.writes (λ j. h.world.same j i) k) ∙ is.after k;
+          same = λ k. (λ i. written writes (λ j. h.world.same j i) k) ∙ is.after k;
         };
-        results = ap (λ (rs : List Reply). rs ++ outcome.result ∷ []) h.results ∙ ap (λ (r : Reply). desk.results ++ r ∷ []) is.answer;
-        outboxes = posted_alike (length held.results + 1) held.outboxes outcome.messages sent boxes (sent_ascends track desk.world input h.world.well_formed.ascending) is.sent
+        results = ap (λ (rs : List Reply). rs ++ reply ∷ []) h.results ∙ ap (λ (r : Reply). desk.results ++ r ∷ []) is.answer;
+        outboxes = posted_alike (length held.results + 1) held.outboxes messages sent boxes (sent_ascends track desk.world input h.world.well_formed.ascending) is.sent
             ∙ ap (λ (rs : List Reply). post_all (length rs + 1) sent held.outboxes) h.results ∙ ap (λ (b : List (ℕ × List Mail)). post_all (length desk.results + 1) sent b) h.outboxes;
       }
+
+  -- so it is after an outcome of its world
+  pub holds_after : (input : Input) (held : Standing) (outcome : Outcome) (desk : Desk) → IsPlan track → Fits input → AreOutboxes held.outboxes
+      → IsOutcomeOf track input held.records outcome → Holds track held desk → Holds track (after_outcome held outcome) (step track desk input)
+  holds_after input held outcome desk good fits boxes right h = holds_step input held outcome.result outcome.writes outcome.messages desk good fits boxes (right desk.world h.world) h
 
   -- so an input is taken in by its outcome
   pub taken_in : (input : Input) (old new : Standing) (outcome : Outcome) → IsPlan track → Fits input → AreOutboxes old.outboxes → IsOutcomeOf track input old.records outcome → new ≡ after_outcome old outcome

@@ -1,6 +1,7 @@
 //! The desk: everything that is known, every answer given, and every message sent.
 
-ghost use Rattle.std.specs.Prelude.{◌≡◌, ◌+◌, ◌<◌, [], length, IfOk, IfErr, OnOk, OnErr, Some, slice_get};
+ghost use Rattle.std.specs.Prelude.{◌≡◌, ◌+◌, ◌<◌, ◌≤◌, [], length, IfOk, IfErr, OnOk, OnErr, Some, slice_get};
+ghost use Rattle.std.specs.List.{All};
 ghost use Rattle.rbc_track.specs.Plan.{Plan, IsPlan};
 ghost use Rattle.rbc_maps.specs.Maps.{value_or};
 ghost use Rattle.rbc_records.specs.Notes.{record_in};
@@ -9,8 +10,11 @@ ghost use Rattle.rbc_step.specs.Inputs.{Fits};
 ghost use Rattle.rbc_step.specs.Gathered.{AreSendable};
 ghost use Rattle.rbc_desk.specs.Serial as serial;
 ghost use Rattle.rbc_desk.specs.Held.{Holds, IsInOrder, IsTakenIn, standing, IsOutcomeOf, IsMemoryOf, after_outcome};
+ghost use Rattle.rbc_desk.specs.Answers.{after_answers};
 ghost use Rattle.rbc_desk.specs.Sendable as mails;
 
+use crate::answer::Answer;
+use crate::answers::{post_answers, push_results, take_back_answers};
 use crate::outbox::{self, Mail, Outbox};
 use rbc_records::{PlainStore, Writes, exchange};
 use rbc_rule::decide;
@@ -178,6 +182,33 @@ impl Desk {
             return Err(AllocError);
         };
         self.results.push_reserved(result);
+        Ok(old)
+    }
+
+    /// Takes over what some inputs do, one after another: their results, their messages, and at once the records that
+    /// stand after the last of them. There has to be room for the results. Hands back the records that the writes
+    /// replaced, in their place. Fails only for lack of memory: then nothing is changed.
+    pub fn take_over_all(
+        &mut self,
+        alloc: Global,
+        answers: Vec<Answer>,
+        writes: Writes,
+    ) -> Result<Writes, AllocError>
+        requires fit { All (λ answer. AreSendable answer.messages.items) answers.items }
+        requires room { length self.old.results + length answers.items ≤ MAX_RESULTS }
+        ensures ok { OnOk result (standing self.new ≡ after_answers (standing self.old) answers.items writes) }
+        ensures old { IfOk result (λ old. old ≡ replaced writes (record_in self.old.records)) }
+        ensures err { OnErr result (self.new ≡ self.old) }
+    {
+        self.results.reserve(answers.len())?;
+        let first = self.results.len() as u32 + 1;
+        let mut answers = answers;
+        post_answers(alloc, &mut self.outboxes, first, &mut answers)?;
+        let Ok(old) = exchange(&mut self.records, writes) else {
+            take_back_answers(&mut self.outboxes, &answers, answers.len());
+            return Err(AllocError);
+        };
+        push_results(&mut self.results, &answers);
         Ok(old)
     }
 }

@@ -202,6 +202,7 @@ pub(crate) fn take_back_all(outboxes: &mut Vec<(u32, Outbox)>, messages: &[Sent]
     requires outboxes { AreOutboxes outboxes.old.items }
     requires within { count ≤ length messages.now }
     ensures back { AreTakenBack messages.now count outboxes.old.items outboxes.new.items }
+    ensures outboxes { AreOutboxes outboxes.new.items }
 {
     for done in 0..count {
         take_back(outboxes, messages[count - 1 - done].engine);
