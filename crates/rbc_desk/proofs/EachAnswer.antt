@@ -1,16 +1,13 @@
 -- Answers of inputs, one after another, lead from desk to desk of the rules.
-use Rattle.std.proofs.Common.{◌≡◌, ℕ, ◌+◌, List, [], ◌∷◌, ◌++◌, length, Option, refl, sym, ap, ◌∙◌, subst}
-use Rattle.std.specs.List.{fold}
+use Rattle.std.proofs.Common.{◌≡◌, ◌+◌, List, [], ◌∷◌, ◌++◌, length, Option, refl, sym, subst}
 use Rattle.rbc_track.specs.Plan.{Plan, IsPlan}
 use Rattle.rbc_records.specs.declared.record.Key.{Key}
 use Rattle.rbc_records.specs.declared.record.Rec.{Rec}
 use Rattle.rbc_records.specs.Writes.{written}
 use Rattle.rbc_step.specs.declared.input.Input.{Input}
-use Rattle.rbc_step.specs.declared.outcome.Reply.{Reply}
 use Rattle.rbc_step.specs.Inputs.{Fits}
 use Rattle.rbc_step.specs.Right.{IsStep}
 use Rattle.rbc_desk.specs.declared.answer.Answer.{Answer}
-use Rattle.rbc_desk.specs.declared.outbox.Mail.{Mail}
 use Rattle.rbc_desk.specs.Held.{Standing, Holds, AreOutboxes}
 use Rattle.rbc_desk.specs.Answers.{after_answer, after_each, after_answers}
 use Rattle.rbc_desk.specs.Serial.{Desk, step}
