@@ -204,12 +204,12 @@ impl Desk {
         let first = self.results.len() as u32 + 1;
         let mut answers = answers;
         post_answers(alloc, &mut self.outboxes, first, &mut answers)?;
-        let Ok(old) = exchange(&mut self.records, writes) else {
+        let Ok(replaced) = exchange(&mut self.records, writes) else {
             take_back_answers(&mut self.outboxes, &answers, answers.len());
             return Err(AllocError);
         };
         push_results(&mut self.results, &answers);
-        Ok(old)
+        Ok(replaced)
     }
 }
 
