@@ -97,8 +97,9 @@ Reads a batch from standard input, to its end, and writes one line for each inpu
 `INPUT ok COUNT` or `INPUT refused CODE`, and then one line for each message, by engine number:
 `ENGINE INPUT HEX`. Nothing is written before the whole batch is run.
 
-Workers are threads that work on several messages at once. They are used where messages take long:
-where trains are told of many restrictions. The output is the same for every number.
+Workers are threads that work on several messages at once. They are used where many messages come
+on end, and sooner where trains are told of many restrictions. The output is the same for every
+number.
 
 Exit status: 0 done; 1 a fault, one line on standard error; 2 bad arguments.
 `dispatch codes` says what each code and each fault means, `dispatch explain` tells a run in words.",
@@ -243,7 +244,7 @@ fn bare_command<'a>(alloc: Global) -> Result<Command<'a>, AllocError>
 {
     Command::new(alloc, "dispatch")
         .no_binary_name(true)
-        .version("3.4.3, rules 3")
+        .version("3.5.0, rules 3")
         .about(
             "Emergency stops and speed restrictions, from a signaller's batch to each train's messages",
         )

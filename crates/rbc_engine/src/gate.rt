@@ -1,7 +1,14 @@
 //! Gates: what a worker calls between the steps of an attempt.
 
 use rbc_records::Key;
-use rbc_window::WindowStats;
+
+/// How many messages of a window were attempted by their trains' shares, and for how many of them the desk took over
+/// what came of it: for all, or for none if there was not the memory for it.
+#[derive(Clone, Copy, Debug, PartialEq, Eq)]
+pub struct WindowStats {
+    pub attempted: u32,
+    pub taken_over: u32,
+}
 
 /// How many messages a window has, and from when on windows are run.
 #[derive(Clone, Copy, Debug, PartialEq, Eq)]
@@ -10,6 +17,8 @@ pub struct Pace {
     pub held: usize,
     /// The least number of messages of a window.
     pub least: usize,
+    /// The number of messages from which on a window is run whatever the trains hold.
+    pub many: usize,
     /// The greatest number of messages of a window.
     pub most: usize,
 }
@@ -40,11 +49,12 @@ pub trait Gate {
     fn after_window(&self, _window: WindowStats, _workers: u8) {}
 }
 
-/// The pace of the program (bench/RESULTS.md). Where trains hold less, one worker takes the messages.
+/// The pace of the program (bench/RESULTS.md). One worker takes fewer messages, and messages of trains that hold less.
 pub const PACE: Pace = Pace {
     held: 96,
     least: 1_024,
-    most: 1_024,
+    many: 16_384,
+    most: 100_000,
 };
 
 /// A gate that does nothing. Behind it several workers do windows of messages, at the pace of the program, and one

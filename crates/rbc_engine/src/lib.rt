@@ -10,10 +10,9 @@ mod tally;
 mod way;
 mod workers;
 
-pub use gate::{AllWorkers, Gate, OpenGate, PACE, Pace};
+pub use gate::{AllWorkers, Gate, OpenGate, PACE, Pace, WindowStats};
 pub use rbc_book::{Desk, Stats};
 pub use rbc_step::MAX_INPUTS;
-pub use rbc_window::WindowStats;
 pub use recorder::Recorder;
 pub use tally::Tally;
 pub use workers::{MAX_WORKERS, RunError, run};

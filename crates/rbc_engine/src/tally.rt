@@ -1,8 +1,7 @@
 //! A gate that counts windows.
 
-use crate::gate::{Gate, Pace};
+use crate::gate::{Gate, Pace, WindowStats};
 use rbc_records::Key;
-use rbc_window::WindowStats;
 use std::sync::atomic::{AtomicU64, Ordering};
 
 /// A gate that does nothing but set a pace and count windows. Nothing is proved of the counts.

@@ -32,8 +32,9 @@ pub(crate) struct Way {
     pub(crate) count: usize,
 }
 
-/// The way of the next inputs. A window has messages alone, and as many as the pace says; it is run where the trains
-/// that sent the first of them hold many identifiers, since each message takes long then. Only speed hangs on it.
+/// The way of the next inputs. A window has messages alone, and as many as the pace says. It is run where they are many,
+/// or where the trains that sent the first of them hold many identifiers, since each message takes long then. Else one
+/// worker takes a few of them, before it is asked again. Only speed hangs on it.
 pub(crate) fn next_way(desk: &Desk, inputs: &[Input], workers: u8, pace: Option<Pace>) -> Way
     ensures { 0 < result.count }
 {
@@ -48,10 +49,10 @@ pub(crate) fn next_way(desk: &Desk, inputs: &[Input], workers: u8, pace: Option<
         return some_on(Road::Alone, before);
     }
     let messages = messages_ahead(inputs, pace.most);
-    if are_dear(desk, messages, pace.held) {
+    if messages.len() >= pace.many || are_dear(desk, messages, pace.held) {
         return some_on(Road::Window, messages.len());
     }
-    some_on(Road::Alone, messages.len())
+    some_on(Road::Alone, messages.len().min(pace.least))
 }
 
 /// A road, and how many inputs take it: one at least.

@@ -12,14 +12,14 @@ ghost use Rattle.rbc_book.specs.Runs.{IsGoodRun};
 ghost use Rattle.rbc_engine.specs.Answers.{IsOpening, IsRun, IsStretch, IsNextStretch, IsFinished};
 ghost use Rattle.rbc_engine.specs.Fronts.{IsWaiting, IsGivenUp, IsNext, IsAtItsEnd};
 
-use crate::gate::{Behind, Gate};
+use crate::gate::{Behind, Gate, WindowStats};
 use crate::job::work_together;
 use crate::way::{Road, next_way};
 use rbc_book::{Book, Commit, Desk, MAX_RESULTS, RunName, Stats};
 use rbc_step::{Input, MAX_INPUTS};
 use rbc_track::Track;
 use rbc_versions::VersionLog;
-use rbc_window::{Shares, run_window};
+use rbc_window::run_window;
 use std::alloc::Global;
 use std::error::Error;
 use std::marker::Brand;
@@ -192,7 +192,8 @@ fn run_alone(
     })
 }
 
-/// Takes all inputs of a stretch in as a window of several workers.
+/// Takes all inputs of a stretch in as a window of several workers, or by one worker if there is not the memory for a
+/// window.
 fn run_shared<G: Gate, R: Threads + Wait + Sync>(
     rt: &R,
     alloc: Global,
@@ -200,25 +201,35 @@ fn run_shared<G: Gate, R: Threads + Wait + Sync>(
     desk: &mut Desk,
     inputs: &[Input],
     workers: u8,
-    shares: &mut Shares,
     gate: &G,
 ) -> Result<Stats, RunError>
     requires good { IsGoodRun (record { track = track.now; opening = desk.old; inputs = inputs.now }) }
     ensures { IsStretch (record { track = track.now; opening = desk.old; inputs = inputs.now }) result desk.new }
 {
-    match run_window(rt, alloc, track, desk, inputs, workers, shares) {
-        Ok(window) => {
-            gate.after_window(window, workers);
-            let taken = inputs.len() as u32;
-            Ok(Stats {
-                taken,
-                recomputed: taken - window.taken_over,
-            })
-        }
-        Err(fault) => Err(RunError::OutOfMemory {
-            committed: fault.committed,
-        }),
+    let attempted = inputs.len() as u32;
+    if run_window(rt, alloc, track, desk, inputs, workers).is_err() {
+        let taken_over = 0;
+        gate.after_window(
+            WindowStats {
+                attempted,
+                taken_over,
+            },
+            workers,
+        );
+        return run_alone(alloc, track, desk, inputs);
     }
+    let taken_over = attempted;
+    gate.after_window(
+        WindowStats {
+            attempted,
+            taken_over,
+        },
+        workers,
+    );
+    Ok(Stats {
+        taken: attempted,
+        recomputed: 0,
+    })
 }
 
 /// Runs a stretch of a run by all workers on a log of its own, which is dropped with it.
@@ -249,7 +260,6 @@ fn run_stretch<G: Gate + Sync, R: Threads + Wait + Sync>(
     inputs: &[Input],
     road: Road,
     workers: u8,
-    shares: &mut Shares,
     gate: &G,
 ) -> Result<Stats, RunError>
     requires good { IsGoodRun (record { track = track.now; opening = desk.old; inputs = inputs.now }) }
@@ -257,7 +267,7 @@ fn run_stretch<G: Gate + Sync, R: Threads + Wait + Sync>(
 {
     match road {
         Road::Alone => run_alone(alloc, track, desk, inputs),
-        Road::Window => run_shared(rt, alloc, track, desk, inputs, workers, shares, gate),
+        Road::Window => run_shared(rt, alloc, track, desk, inputs, workers, gate),
         Road::Book => run_on_book(rt, alloc, track, desk, inputs, workers, gate),
     }
 }
@@ -270,7 +280,6 @@ fn run_first<G: Gate + Sync, R: Threads + Wait + Sync>(
     desk: &mut Desk,
     inputs: &[Input],
     workers: u8,
-    shares: &mut Shares,
     gate: &G,
 ) -> Result<Stats, RunError>
     requires good { IsGoodRun (record { track = track.now; opening = desk.old; inputs = inputs.now }) }
@@ -278,14 +287,10 @@ fn run_first<G: Gate + Sync, R: Threads + Wait + Sync>(
 {
     let way = next_way(desk, inputs, workers, gate.pace());
     if inputs.len() <= way.count {
-        return run_stretch(
-            rt, alloc, track, desk, inputs, way.road, workers, shares, gate,
-        );
+        return run_stretch(rt, alloc, track, desk, inputs, way.road, workers, gate);
     }
     let first = &inputs[..way.count];
-    run_stretch(
-        rt, alloc, track, desk, first, way.road, workers, shares, gate,
-    )
+    run_stretch(rt, alloc, track, desk, first, way.road, workers, gate)
 }
 
 /// Runs a stretch of a run, of which so many inputs are done.
@@ -297,7 +302,6 @@ fn run_behind<G: Gate + Sync, R: Threads + Wait + Sync>(
     inputs: &[Input],
     before: u32,
     workers: u8,
-    shares: &mut Shares,
     gate: &G,
 ) -> Result<Stats, RunError>
     requires within { before ≤ length inputs.now }
@@ -307,7 +311,7 @@ fn run_behind<G: Gate + Sync, R: Threads + Wait + Sync>(
 {
     let behind = Behind { gate, before };
     let rest = &inputs[before as usize..];
-    run_first(rt, alloc, track, desk, rest, workers, shares, &behind)
+    run_first(rt, alloc, track, desk, rest, workers, &behind)
 }
 
 /// Runs the next stretch of a run, behind those with these counts, and adds its counts to theirs.
@@ -319,7 +323,6 @@ fn run_next<G: Gate + Sync, R: Threads + Wait + Sync>(
     inputs: &[Input],
     all: Stats,
     workers: u8,
-    shares: &mut Shares,
     gate: &G,
 ) -> Result<Stats, RunError>
     requires within { (all.recomputed ≤ all.taken) × (all.taken ≤ length inputs.now) }
@@ -328,9 +331,7 @@ fn run_next<G: Gate + Sync, R: Threads + Wait + Sync>(
     ensures { IsNextStretch (record { track = track.now; opening = desk.old; inputs = inputs.now })
         all result desk.new }
 {
-    match run_behind(
-        rt, alloc, track, desk, inputs, all.taken, workers, shares, gate,
-    ) {
+    match run_behind(rt, alloc, track, desk, inputs, all.taken, workers, gate) {
         Ok(stats) => Ok(Stats {
             taken: all.taken + stats.taken,
             recomputed: all.recomputed + stats.recomputed,
@@ -367,20 +368,9 @@ fn run_stretches<G: Gate + Sync, R: Threads + Wait + Sync>(
         taken: 0,
         recomputed: 0,
     };
-    let mut shares = Shares::new(alloc);
     while (all.taken as usize) < inputs.len() {
         keeps_order(desk);
-        all = run_next(
-            rt,
-            alloc,
-            track,
-            desk,
-            inputs,
-            all,
-            workers,
-            &mut shares,
-            gate,
-        )?;
+        all = run_next(rt, alloc, track, desk, inputs, all, workers, gate)?;
     }
     Ok(all)
 }

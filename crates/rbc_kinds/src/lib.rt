@@ -11,9 +11,11 @@ pub mod receive;
 mod train_message;
 pub mod withdraw;
 
+pub use lists::list_of;
 pub use rbc_records::{Key, Reader, Writes};
 pub use rbc_step::{
     Input, MAX_ENGINE, MAX_INPUTS, MAX_LENGTH, MAX_LIMITS, MAX_STAMP, MAX_STOPS, MAX_TRAINS,
     Outcome, Refusal, Reply, Restriction, RuleFault, Segments, SentList,
 };
 pub use rbc_track::Track;
+pub use train_message::{engine_of, heard};

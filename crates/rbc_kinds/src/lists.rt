@@ -15,7 +15,7 @@ use rbc_zones::Segment;
 use std::alloc::{AllocError, Global};
 
 /// Returns the key of the list in which a train stands: that of its line, or that of the trains without a place.
-pub(crate) fn list_of(train: &TrainRec) -> Key
+pub fn list_of(train: &TrainRec) -> Key
     ensures list { result ≡ list_of train.now }
     ensures is_list { IsTrue (is_list result) }
 {

@@ -16,7 +16,7 @@ use std::alloc::Global;
 const UNKNOWN_STAMP: u32 = 4_294_967_295;
 
 /// Returns the engine number in a message.
-pub(crate) fn engine_of(message: &FromTrain) -> u32
+pub fn engine_of(message: &FromTrain) -> u32
     ensures { result ≡ engine_of message.now }
 {
     match message {
@@ -96,7 +96,7 @@ fn answered(train: TrainRec, id: u8, answer: u8) -> Result<TrainRec, NotChanged>
 
 /// Returns the train after its message, in the memory of a record that is spare if there is one, or why the message is
 /// refused. The given record is unchanged.
-pub(crate) fn heard(
+pub fn heard(
     alloc: Global,
     track: &Track,
     message: &FromTrain,

@@ -79,6 +79,7 @@ where
     let tally = Tally::new(Pace {
         held: 0,
         least: 1,
+        many: usize::MAX,
         most,
     });
     let counts = run_by(rt, case, workers, &tally, counts)?;

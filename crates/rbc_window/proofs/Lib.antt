@@ -1,4 +1,8 @@
-pub mod Keys
-pub mod Seen
-pub mod Tried
-pub mod Commits
+pub mod Hearings
+pub mod Taking
+pub mod Gathers
+pub mod Shared
+pub mod Serial
+pub mod Pushed
+pub mod ChangedLists
+pub mod Done

@@ -1,19 +1,30 @@
 -- What a window leaves (own rule).
-use Rattle.std.specs.Prelude.{ℕ, ◌≤◌, List, length, take, Result, Ok, Err}
+use Rattle.std.specs.Prelude.{◌≡◌, List, Option, All}
 use Rattle.rbc_track.specs.Plan.{Plan}
+use Rattle.rbc_records.specs.declared.record.Key.{Key}
+use Rattle.rbc_records.specs.declared.record.Rec.{Rec}
+use Rattle.rbc_records.specs.Writes.{written}
 use Rattle.rbc_step.specs.declared.input.Input.{Input}
+use Rattle.rbc_step.specs.World.{World}
+use Rattle.rbc_desk.specs.declared.answer.Answer.{Answer}
 use Rattle.rbc_desk.specs.Serial.{Desk, serial}
-use Rattle.rbc_desk.specs.Held.{Held, Standing, Holds, standing}
-use Rattle.rbc_window.specs.declared.window.WindowStats.{WindowStats}
-use Rattle.rbc_window.specs.declared.window.WindowFault.{WindowFault}
+use Rattle.rbc_desk.specs.Held.{Standing, Holds, AreRecordsOf}
+use Rattle.rbc_window.specs.Messages.{Records, Setting, IsMessage, records_after}
+use Rattle.rbc_window.specs.Kept.{AreAnswers}
 
--- so many first inputs were taken in, one after another: what stood there was a desk of the rules, and what stands there now is that desk
--- after them
-abbrev pub AreTakenIn : Plan → List Input → Standing → ℕ → Standing → Type 0
-AreTakenIn track inputs old count new = (desk : Desk) → Holds track old desk → Holds track new (serial track desk (take count inputs))
+-- inputs are taken in, one after another: what stood there was a desk of the rules, and what stands there now is that desk after them
+abbrev pub AreTakenIn : Plan → List Input → Standing → Standing → Type 0
+AreTakenIn track inputs old new = (desk : Desk) → Holds track old desk → Holds track new (serial track desk inputs)
 
--- All inputs were taken in, some of them by attempts; or memory was refused after the first of them.
-abbrev pub IsWindow : Plan → List Input → Held → Result WindowStats WindowFault → Held → Type 0
-IsWindow track inputs old (Ok stats) new =
-    AreTakenIn track inputs (standing old) (length inputs) (standing new) × (stats.taken_over ≤ length inputs) × (stats.attempted ≤ length inputs)
-IsWindow track inputs old (Err fault) new = AreTakenIn track inputs (standing old) fault.committed (standing new) × (fault.committed ≤ length inputs)
+-- by what messages are taken in, in a world
+abbrev pub setting_of : Plan → World → Setting
+setting_of track w = record { track = track; stops = w.stops; limits = w.limits }
+
+-- The answers of messages, and what is written after all of them, in whatever world has these records.
+pub record AreDone (track : Plan) (w : World) (records : Records) (inputs : List Input) (answers : List Answer) (writes : List (Key × Option Rec)) : Type 0 where
+  pub are_messages : All IsMessage inputs
+  pub are_answers : AreAnswers (setting_of track w) records inputs answers
+  pub leaves : (k : Key) → written writes records k ≡ records_after (setting_of track w) records inputs k
+
+abbrev pub AreDoneInAny : Plan → Records → List Input → List Answer → List (Key × Option Rec) → Type 0
+AreDoneInAny track records inputs answers writes = (w : World) → AreRecordsOf track records w → AreDone track w records inputs answers writes

@@ -1,16 +1,14 @@
-//! Windows: messages from trains that several workers attempt at once on a desk that stands still, and that are then
-//! committed in their order, each by its attempt if what was read for it is what stands there.
+//! Windows: messages from trains that several workers take in side by side, each for trains of its own. A message
+//! concerns its train alone, so what comes of them is what comes of one after another.
 #![tactic(auto)]
 
-mod attempt;
-mod attempts;
-mod commit;
-mod reading;
-mod reads;
+mod gathering;
+mod hearing;
+mod kept;
+mod lists;
+mod share;
 mod shares;
-mod since;
-mod source;
+mod trains;
 mod window;
 
-pub use shares::Shares;
-pub use window::{WindowFault, WindowStats, run_window};
+pub use window::{NotRun, run_window};

@@ -1,46 +1,61 @@
-//! A window: attempts by several workers at once, and then their commit.
+//! A window: the shares' messages taken in side by side, and then their commit.
 
-ghost use Rattle.std.specs.Prelude.{◌<◌, ◌≤◌, ◌+◌, ◌^◌, All, length, IfOk};
+ghost use Rattle.std.specs.Prelude.{◌≡◌, ◌≤◌, ◌+◌, All, length, IfOk, OnOk, OnErr};
 ghost use Rattle.rbc_track.specs.Plan.{IsPlan};
 ghost use Rattle.rbc_records.specs.Notes.{record_in};
-ghost use Rattle.rbc_step.specs.Inputs.{Fits};
-ghost use Rattle.rbc_window.specs.Windows.{AreTried, SharesAreTried};
-ghost use Rattle.rbc_window.specs.Answers.{IsWindow};
+ghost use Rattle.rbc_records.specs.Writes.{written};
+ghost use Rattle.rbc_step.specs.Gathered.{AreSendable};
+ghost use Rattle.rbc_desk.specs.Held.{IsInOrder, standing};
+ghost use Rattle.rbc_window.specs.Messages.{IsMessage, records_after};
+ghost use Rattle.rbc_window.specs.Kept.{AreAnswers};
+ghost use Rattle.rbc_window.specs.Hearing.{setting};
+ghost use Rattle.rbc_window.specs.Shares.{HaveTakenIfDone};
+ghost use Rattle.rbc_window.specs.Answers.{AreDoneInAny, AreTakenIn};
 
-use crate::attempt::{SHARES, attempt_all};
-use crate::attempts::Attempts;
-use crate::commit::commit_all;
-use crate::shares::{Shares, in_order};
+use crate::gathering::answers_in_order;
+use crate::hearing::Scene;
+use crate::lists::Lists;
+use crate::share::{SHARES, Share};
+use crate::shares::{all_shares, are_done, in_order, write_trains};
 use crossbeam_queue::ArrayQueue;
-use rbc_desk::{Desk, MAX_RESULTS};
-use rbc_records::PlainStore;
-use rbc_step::Input;
+use rbc_desk::{Answer, Desk, MAX_RESULTS};
+use rbc_records::{PlainStore, Writes};
+use rbc_step::{Input, RuleFault, read};
 use rbc_track::Track;
-use std::alloc::{AllocError, Global};
+use rbc_zones::{Limits, Stops};
+use std::alloc::{AllocError, AllocFailed, Global};
 use std::sync::Wait;
 use std::thread::{self, Threads};
 
-/// How many inputs of a window were attempted, and how many of these attempts were taken over. The others were computed
-/// where they were committed.
+/// A window was not run, and nothing is changed: there was not the memory for it, or not all inputs are messages.
 #[derive(Clone, Copy, Debug, PartialEq, Eq)]
-pub struct WindowStats {
-    pub attempted: u32,
-    pub taken_over: u32,
+pub struct NotRun;
+
+impl From<AllocError> for NotRun {
+    fn from(_: AllocError) -> NotRun {
+        NotRun
+    }
 }
 
-/// Memory was refused after so many inputs were committed. The desk is that after these inputs.
-#[derive(Clone, Copy, Debug, PartialEq, Eq)]
-pub struct WindowFault {
-    pub committed: u32,
+impl<T: Drop> From<AllocFailed<T>> for NotRun {
+    fn from(_: AllocFailed<T>) -> NotRun {
+        NotRun
+    }
 }
 
-/// Takes the inputs of a window in. The messages are in shares, each with all messages of its trains, and each of so
-/// many workers attempts one share after another. The desk is then that of the rules applied to the inputs one after
-/// another, whatever the workers did. There has to be room for the results. The shares keep memory for the next window.
+impl From<RuleFault> for NotRun {
+    fn from(_: RuleFault) -> NotRun {
+        NotRun
+    }
+}
+
+/// Takes messages from trains in. The trains are in shares, and each of so many workers takes the messages of one share
+/// after another in. The desk is then that of the rules applied to the messages one after another. There has to be room
+/// for the results.
 ///
 /// # Errors
 ///
-/// Fails only for lack of memory. A worker that lacks it leaves its inputs to be computed where they are committed.
+/// See [`NotRun`].
 pub fn run_window<R: Threads + Wait + Sync>(
     rt: &R,
     alloc: Global,
@@ -48,66 +63,92 @@ pub fn run_window<R: Threads + Wait + Sync>(
     desk: &mut Desk,
     inputs: &[Input],
     workers: u8,
-    shares: &mut Shares,
-) -> Result<WindowStats, WindowFault>
-    requires few { length inputs.now < 2 ^ 32 }
+) -> Result<(), NotRun>
     requires room { length desk.old.results + length inputs.now ≤ MAX_RESULTS }
-    requires fit { All Fits inputs.now }
-    ensures { IsWindow track.now inputs.now desk.old result desk.new }
+    ensures ok { OnOk result (AreTakenIn track.now inputs.now (standing desk.old) (standing desk.new)) }
+    ensures err { OnErr result (desk.new ≡ desk.old) }
 {
     keeps(track);
-    let Ok(mut queues) = attempts_of(rt, alloc, track, desk.store(), inputs, workers, shares) else {
-        return Err(WindowFault { committed: 0 });
-    };
-    let done = commit_all(alloc, track, desk, inputs, &mut queues);
-    shares.keep(queues);
-    done
+    keeps_order(desk);
+    let (answers, writes) = attempted(rt, alloc, track, desk.store(), inputs, workers)?;
+    if answers.len() > inputs.len() {
+        return Err(NotRun);
+    }
+    desk.take_over_all(alloc, answers, writes)?;
+    Ok(())
 }
 
-/// The attempts of each share, made by so many workers at the same time. Fails only for lack of memory.
-fn attempts_of<R: Threads + Wait + Sync>(
+/// The answers to all messages in order, and what is then to be written.
+fn attempted<R: Threads + Wait + Sync>(
     rt: &R,
     alloc: Global,
     track: &Track,
     store: &PlainStore,
     inputs: &[Input],
     workers: u8,
-    shares: &mut Shares,
-) -> Result<Vec<Attempts>, AllocError>
-    requires few { length inputs.now < 2 ^ 32 }
-    requires fit { All Fits inputs.now }
-    ensures { IfOk result (λ queues. All (AreTried track.now (record_in store.now) inputs.now) queues.items) }
+) -> Result<(Vec<Answer>, Writes), NotRun>
+    ensures done { IfOk result (λ done. AreDoneInAny track.now (record_in store.now) inputs.now done.0.items done.1) }
+    ensures fit { IfOk result (λ done. All (λ answer. AreSendable answer.messages.items) done.0.items) }
 {
-    let left = shares.lend(rt, alloc)?;
+    let no_stops = Stops::new(alloc);
+    let no_limits = Limits::new(alloc);
+    let (stops, limits) = read::stops_and_limits(store, &no_stops, &no_limits)?;
+    let scene = Scene {
+        track,
+        stops,
+        limits,
+    };
+    let mut all = taken_in(rt, alloc, &scene, store, inputs, workers)?;
+    if !are_done(&all) {
+        return Err(NotRun);
+    }
+    let mut lists = Lists::new(alloc);
+    let answers = answers_in_order(alloc, store, inputs, &mut all, &mut lists)?;
+    let mut writes = Writes::new(alloc);
+    lists.write(&mut writes)?;
+    write_trains(all, &mut writes)?;
+    Ok((answers, writes))
+}
+
+/// The shares, whose messages so many workers take in at the same time. Fails only for lack of memory.
+fn taken_in<R: Threads + Wait + Sync>(
+    rt: &R,
+    alloc: Global,
+    scene: &Scene<'_>,
+    store: &PlainStore,
+    inputs: &[Input],
+    workers: u8,
+) -> Result<Vec<Share>, AllocError>
+    ensures { IfOk result (λ all. HaveTakenIfDone (setting scene.now) (record_in store.now) inputs.now all.items) }
+{
+    let left = all_shares(rt, alloc)?;
     let workers = thread::map_indices(
         rt,
         alloc,
         usize::from(workers),
-        &|_worker| work(rt, alloc, track, store, inputs, &left),
+        &|_worker| work(rt, alloc, scene, store, inputs, &left),
     )?;
     in_order(alloc, workers)
 }
 
-/// The work of one worker: the attempts of one share after another, as long as there is one that nobody has taken. It
-/// ends before that where memory is refused.
+/// The work of one worker: one share after another, as long as there is one that nobody has taken. It ends before that
+/// where memory is refused.
 fn work<R: Wait>(
     rt: &R,
     alloc: Global,
-    track: &Track,
+    scene: &Scene<'_>,
     store: &PlainStore,
     inputs: &[Input],
-    left: &ArrayQueue<Attempts>,
-) -> Vec<Attempts>
-    requires few { length inputs.now < 2 ^ 32 }
-    requires fit { All Fits inputs.now }
-    ensures { SharesAreTried track.now (record_in store.now) inputs.now result.items }
+    left: &ArrayQueue<Share>,
+) -> Vec<Share>
+    ensures { HaveTakenIfDone (setting scene.now) (record_in store.now) inputs.now result.items }
 {
     let mut done = Vec::new(alloc);
     for _ in 0..SHARES {
         let Some(share) = left.pop(rt) else {
             break;
         };
-        let share = attempt_all(alloc, track, store, inputs, share);
+        let share = share.take_in(alloc, scene, store, inputs);
         if done.push(share).is_err() {
             break;
         }
@@ -120,4 +161,11 @@ fn keeps(track: &Track)
     ensures { IsPlan track.now }
 {
     let _ = track.horizon();
+}
+
+/// Says in its contract what every desk satisfies, because inputs are taken in only by such a desk.
+fn keeps_order(desk: &Desk)
+    ensures { IsInOrder desk.now }
+{
+    let _ = desk.results();
 }

@@ -1,5 +1,5 @@
-//! Runs in windows of messages. What trains are told is from outside or from a run by one worker; which attempts are
-//! stale is worked out from the records that each input reads and writes.
+//! Runs in windows of messages, by trains that stay in their lists and by trains that move from list to list. What trains
+//! are told is from outside or from a run by one worker.
 
 use super::batches::{FULL, STOPPED};
 use super::same;
@@ -19,6 +19,7 @@ fn windows_of(most: usize) -> Pace {
     Pace {
         held: 0,
         least: 1,
+        many: usize::MAX,
         most,
     }
 }
@@ -37,18 +38,17 @@ where
     stats.expect(rt, "an output")
 }
 
-/// Runs a batch at a pace, and asserts its output. Returns how many windows there were, how many inputs were attempted,
-/// and how many of these were recomputed.
-fn run_at<R>(rt: &R, batch: &str, workers: u8, pace: Pace, wanted: &[u8]) -> (u64, u64, u64)
+/// Runs a batch at a pace, and asserts its output, and that no input was computed twice. Returns how many windows there
+/// were, and of how many inputs.
+fn run_at<R>(rt: &R, batch: &str, workers: u8, pace: Pace, wanted: &[u8]) -> (u64, u64)
 where
     R: Abort + AllocGlobal + Threads + Wait + Sync,
 {
     let tally = Tally::new(pace);
     let stats = assert_output(rt, batch, workers, &tally, wanted);
-    let recomputed = u64::from(stats.recomputed);
-    let attempted = tally.attempted();
-    same(rt, tally.taken_over().saturating_add(recomputed), attempted);
-    (tally.windows(), attempted, recomputed)
+    same(rt, stats.recomputed, 0);
+    same(rt, tally.taken_over(), tally.attempted());
+    (tally.windows(), tally.attempted())
 }
 
 // The one batch has no message, the other one has one.
@@ -58,12 +58,12 @@ fn worked_batches_in_windows(rt: HostRuntime) {
         for workers in WORKERS {
             let pace = windows_of(most);
             let stopped = run_at(&rt, STOPPED.batch, workers, pace, STOPPED.output.as_bytes());
-            same(&rt, stopped, (0, 0, 0));
+            same(&rt, stopped, (0, 0));
             let full = run_at(&rt, FULL.batch, workers, pace, FULL.output.as_bytes());
-            same(&rt, full, (1, 1, 0));
+            same(&rt, full, (1, 1));
         }
         let alone = run_at(&rt, FULL.batch, 1, windows_of(most), FULL.output.as_bytes());
-        same(&rt, alone, (0, 0, 0));
+        same(&rt, alone, (0, 0));
     }
 }
 
@@ -152,31 +152,28 @@ where
     written
 }
 
-/// Reports, and how many of them are recomputed. No train has a place at first. A report that changes the line of its
-/// train reads and writes the lists of both lines; what it reads there is stale if a train of another share came before
-/// it, or a report that was recomputed. That hangs on no number of workers.
-const ROWS: &[(&str, u64)] = &[
-    // the same lists, in one share or in two
-    ("7@5 8@5", 1),
-    ("7@5 39@5", 0),
-    ("7@5 11@5", 1),
-    // the last one reads what was recomputed: its own train, or the lists
-    ("7@5 8@5 8@5", 2),
-    ("7@5 8@5 39@5", 2),
+/// Reports. No train has a place at first, so the first report of each moves it from list to list.
+const ROWS: &[&str] = &[
+    // into the same list, from one share or from two
+    "7@5 8@5",
+    "7@5 39@5",
+    "7@5 11@5",
+    "7@5 8@5 8@5",
+    "7@5 8@5 39@5",
     // a train changes its line twice, or three times
-    ("7@5 7@7 7@5", 0),
-    ("7@5 7@7 8@5", 1),
-    ("7@5 8@5 7@7", 2),
-    // trains that stay on their lines, and trains that change places: the first report alone stands
-    ("7@5 | 8@7 | 7@5 8@7 7@5 8@7", 0),
-    ("7@5 | 8@7 | 7@7 8@5 7@5 8@7", 3),
+    "7@5 7@7 7@5",
+    "7@5 7@7 8@5",
+    "7@5 8@5 7@7",
+    // trains that stay on their lines, and trains that change places
+    "7@5 | 8@7 | 7@5 8@7 7@5 8@7",
+    "7@5 | 8@7 | 7@7 8@5 7@5 8@7",
     // a train that is not enrolled
-    ("10@5 7@5 10@5", 0),
-    ("7@5 8@7 39@5 11@7 7@7 8@5 39@7 11@5", 7),
+    "10@5 7@5 10@5",
+    "7@5 8@7 39@5 11@7 7@7 8@5 39@7 11@5",
 ];
 
 /// Runs a row in windows of one, and in windows of all messages that follow each other.
-fn assert_row<R>(rt: &R, words: &str, recomputed: u64)
+fn assert_row<R>(rt: &R, words: &str)
 where
     R: Abort + AllocGlobal + Threads + Wait + Sync,
 {
@@ -186,16 +183,16 @@ where
     let reports = (words.split(' ').count() as u64).saturating_sub(bars);
     for workers in WORKERS {
         let apart = run_at(rt, &batch, workers, windows_of(1), &wanted);
-        same(rt, apart, (reports, reports, 0));
+        same(rt, apart, (reports, reports));
         let together = run_at(rt, &batch, workers, windows_of(256), &wanted);
-        same(rt, together, (bars.saturating_add(1), reports, recomputed));
+        same(rt, together, (bars.saturating_add(1), reports));
     }
 }
 
 #[test]
-fn stale_attempts(rt: HostRuntime) {
-    for (words, recomputed) in ROWS {
-        assert_row(&rt, words, *recomputed);
+fn trains_that_move(rt: HostRuntime) {
+    for words in ROWS {
+        assert_row(&rt, words);
     }
 }
 
@@ -256,7 +253,7 @@ const ALL_GO_TO_BOTH: &str = "1 ok 0
 
 // The windows of 3 have 7, 8 and 39; 11, 7 and 8; and 39 and 11.
 #[test]
-fn stale_attempts_from_outside(rt: HostRuntime) {
+fn trains_that_move_from_outside(rt: HostRuntime) {
     let changed = batch_of(&rt, "7@5 | 8@7 | 7@7 8@5 7@5 8@7");
     let both = batch_of(&rt, "7@5 8@7 39@5 11@7 7@7 8@5 39@7 11@5");
     for workers in WORKERS {
@@ -267,8 +264,8 @@ fn stale_attempts_from_outside(rt: HostRuntime) {
             windows_of(7),
             CHANGED_PLACES.as_bytes(),
         );
-        same(&rt, counts, (3, 6, 3));
-        for (most, wanted) in [(3, (3, 8, 5)), (7, (2, 8, 6)), (8, (1, 8, 7))] {
+        same(&rt, counts, (3, 6));
+        for (most, wanted) in [(3, (3, 8)), (7, (2, 8)), (8, (1, 8))] {
             let counts = run_at(
                 &rt,
                 &both,
@@ -300,18 +297,20 @@ fn windows_as_the_pace_says(rt: HostRuntime) {
         let pace = Pace {
             held: 0,
             least,
+            many: usize::MAX,
             most,
         };
         let counts = run_at(&rt, &batch, 2, pace, &wanted);
-        same(&rt, (counts.0, counts.1), (windows, attempted));
+        same(&rt, counts, (windows, attempted));
     }
     for (held, windows) in [(15, 1), (16, 0), (usize::MAX, 0)] {
         let pace = Pace {
             held,
             least: 1,
+            many: usize::MAX,
             most: 1,
         };
         let counts = run_at(&rt, FULL.batch, 2, pace, FULL.output.as_bytes());
-        same(&rt, counts, (windows, windows, 0));
+        same(&rt, counts, (windows, windows));
     }
 }
