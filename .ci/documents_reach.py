@@ -23,7 +23,7 @@ import re
 from documents_source import TOKEN, Crate
 
 # the crates that the program calls, and the one function of another crate that it calls
-CALLED = {"rbc_batch", "ertms_codec"}
+CALLED = {"rbc_batch", "rbc_inputs", "ertms_codec"}
 CALLED_FUNCTIONS = {("rbc_track", "track_from_toml")}
 
 # what the contract of `process` says of what messages say

@@ -1,5 +1,5 @@
 #!/usr/bin/env bash
-# Runs batches over and over by 1, 2 and 16 workers, and compares every output: bench/stress.sh [RUNS]
+# Runs batches over and over by 1, 2, 3, 4 and 16 workers, and compares every output: bench/stress.sh [RUNS]
 #
 # The batch in which a train has no identifier left is run RUNS times (1,000 if no number is given) by each number of workers, on a locked book
 # and in windows of 7 and of 256 messages; the closure of examples/ and a contended batch a tenth as often. Says of each whether every output was

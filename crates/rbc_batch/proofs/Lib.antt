@@ -1,6 +1,5 @@
 mod Existing
 mod FirstLines
-mod LineInputs
 mod Texts
 mod Transfers
 mod Answering

@@ -8,10 +8,10 @@ ghost use Rattle.rbc_text.specs.BatchText.{lines_of};
 ghost use Rattle.rbc_text.specs.Pieces.{texts_of};
 ghost use Rattle.rbc_batch.specs.Process.{Answers, AreRead, IsBeforeRun, IsRefused, IsRunOf, IsUntouched, max_batch};
 
-use crate::inputs::{first_lines, parse_lines};
 use crate::rendering::texts_of_desk;
 use crate::streams::{read_batch, write_texts};
 use rbc_engine::{Desk, Gate, MAX_INPUTS, MAX_WORKERS, RunError, Stats, run};
+use rbc_inputs::{first_lines, parse_lines};
 use rbc_step::Input;
 use rbc_track::Track;
 use std::alloc::{AllocError, Global};

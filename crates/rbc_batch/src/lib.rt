@@ -2,12 +2,11 @@
 #![tactic(auto)]
 
 mod batch;
-mod inputs;
 mod rendering;
 mod streams;
 
 pub use batch::{ProcessError, lines_of_batch, process};
-pub use inputs::parse_batch;
 pub use rbc_engine::{PACE, Stats, Tally};
-pub use rbc_text::{parse_line, render};
+pub use rbc_inputs::{parse_batch, parse_line};
+pub use rbc_text::render;
 pub use streams::{read_batch, write_text};

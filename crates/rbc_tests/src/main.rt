@@ -1,10 +1,10 @@
-//! Runs golden batches by 1, 2 and 16 workers: on a locked book, of which each takes part, and in windows of 7 and of
-//! 256 messages. An independent model of the rules has given their outputs. It says of each batch whether every output
-//! is right, and how many windows there were.
+//! Runs golden batches by 1, 2, 3, 4 and 16 workers: on a locked book, of which each takes part, and in windows of 7
+//! and of 256 messages, or of as many as its line in cases.txt says. An independent model of the rules has given their
+//! outputs. It says of each batch whether every output is right, and how many windows there were.
 //!
-//! `rbc_tests RUNS WORKERS MOST` runs each batch so many times, once if no number is given; by so many workers, by 1, 2
-//! and 16 if no number is given; and in windows of so many messages at the most, or on the book alone if that is 0. If
-//! there are more runs than one, it says on standard error how many inputs of a batch were recomputed.
+//! `rbc_tests RUNS WORKERS MOST` runs each batch so many times, once if no number is given; by so many workers, by all
+//! of those if no number is given; and in windows of so many messages at the most, or on the book alone if MOST is 0.
+//! If there are more runs than one, it says on standard error how many inputs of a batch were recomputed.
 //!
 //! Its tests show what a batch cannot: a book, with inputs attempted out of turn; runs by several workers, with gates
 //! that hold a worker until another one has come by; whole batches over readers and writers that fail; and trains
@@ -18,10 +18,19 @@ use anyhow::{Context, Result};
 use rbc_batch::process;
 use rbc_engine::{AllWorkers, Gate, Pace, Tally};
 use rbc_track::{Track, track_from_toml};
+use std::env::Env;
+use std::io::Write;
 use std::rt::Files;
 use std::sync::Wait;
 use std::thread::Threads;
 use std::{env, fs};
+
+/// How many workers run each batch, where no number is named.
+const WORKERS: &str = "1 2 3 4 16";
+
+/// The most messages of a window for each way in which a batch is run, where neither its line nor a word names some. On
+/// a locked book that is 0.
+const WAYS: &str = "0 7 256";
 
 /// A batch on a track, and the output that is wanted.
 #[derive(Drop)]
@@ -29,6 +38,15 @@ struct Case {
     track: Track,
     batch: Vec<u8>,
     wanted: Vec<u8>,
+}
+
+/// How often a batch is run, by how many workers, and in which ways: numbers with spaces between them. Where no way is
+/// named, the last text is empty.
+#[derive(Clone, Copy)]
+struct Plan<'a> {
+    runs: u32,
+    workers: &'a str,
+    ways: &'a str,
 }
 
 /// What came of several runs: whether every output was right, how many inputs were recomputed, and how many windows
@@ -40,12 +58,24 @@ struct Counts {
     windows: u64,
 }
 
+/// The track in a file.
+fn track_of<R: Files + AllocGlobal>(rt: &R, file: &str) -> Result<Track> {
+    Ok(track_from_toml(rt.alloc(), &fs::read_to_string(rt, file)?)?)
+}
+
+/// The bytes of a file of a case.
+fn bytes_of<R: Files + AllocGlobal>(rt: &R, case: &str, kind: &str) -> Result<Vec<u8>> {
+    Ok(fs::read(rt, format!(in rt.alloc(); "{case}.{kind}")?)?)
+}
+
 /// Reads a case, whose track is in a file of its own.
 fn case_of<R: Files + AllocGlobal>(rt: &R, case: &str, track: &str) -> Result<Case> {
+    let batch = bytes_of(rt, case, "batch")?;
+    let wanted = bytes_of(rt, case, "expected")?;
     Ok(Case {
-        track: track_from_toml(rt.alloc(), &fs::read_to_string(rt, track)?)?,
-        batch: fs::read(rt, format!(in rt.alloc(); "{case}.batch")?)?,
-        wanted: fs::read(rt, format!(in rt.alloc(); "{case}.expected")?)?,
+        track: track_of(rt, track)?,
+        batch,
+        wanted,
     })
 }
 
@@ -84,34 +114,28 @@ where
     });
     let counts = run_by(rt, case, workers, &tally, counts)?;
     Ok(Counts {
-        is_right: counts.is_right,
+        is_right: counts.is_right && tally.taken_over() == tally.attempted(),
         recomputed: counts.recomputed,
         windows: counts.windows.saturating_add(tally.windows()),
     })
 }
 
-/// Runs a case by each number of workers, each way, and adds what came of it.
-fn run_by_each<R>(
-    rt: &R,
-    case: &Case,
-    workers: &[u8],
-    ways: &[usize],
-    counts: Counts,
-) -> Result<Counts>
+/// Runs a case by so many workers in each way, and adds what came of it.
+fn run_ways<R>(rt: &R, case: &Case, workers: &str, ways: &str, counts: Counts) -> Result<Counts>
 where
     R: AllocGlobal + Threads + Wait + Sync,
 {
+    let workers = workers.parse::<u8>().context("a number of workers")?;
     let mut counts = counts;
-    for count in workers {
-        for most in ways {
-            counts = run_in(rt, case, *count, *most, counts)?;
-        }
+    for most in ways.split(' ') {
+        let most = most.parse::<usize>().context("a number of messages")?;
+        counts = run_in(rt, case, workers, most, counts)?;
     }
     Ok(counts)
 }
 
-/// Runs a case so many times by each number of workers, each way.
-fn run_case<R>(rt: &R, case: &Case, runs: u32, workers: &[u8], ways: &[usize]) -> Result<Counts>
+/// Runs a case as a plan says.
+fn run_case<R>(rt: &R, case: &Case, plan: Plan<'_>) -> Result<Counts>
 where
     R: AllocGlobal + Threads + Wait + Sync,
 {
@@ -120,34 +144,104 @@ where
         recomputed: 0,
         windows: 0,
     };
-    for _ in 0..runs {
-        counts = run_by_each(rt, case, workers, ways, counts)?;
+    for _ in 0..plan.runs {
+        for workers in plan.workers.split(' ') {
+            counts = run_ways(rt, case, workers, plan.ways, counts)?;
+        }
     }
     Ok(counts)
 }
 
-fn main(rt: HostRuntime) -> Result<()> {
-    let runs = match env::args(&rt)?.nth(1) {
-        Some(word) => word.parse::<u32>().context("a number of runs")?,
-        None => 1,
-    };
-    let workers = match env::args(&rt)?.nth(2) {
-        Some(word) => vec![in rt.alloc(); word.parse::<u8>().context("a number of workers")?]?,
-        None => vec![in rt.alloc(); 1u8, 2, 16]?,
-    };
-    let ways = match env::args(&rt)?.nth(3) {
-        Some(word) => vec![in rt.alloc(); word.parse::<usize>().context("a number of messages")?]?,
-        None => vec![in rt.alloc(); 0usize, 7, 256]?,
-    };
-    let cases = fs::read_to_string(&rt, "cases.txt")?;
+/// Reads a case, and runs it as a plan says.
+fn counts_of<R>(rt: &R, name: &str, track: &str, plan: Plan<'_>) -> Result<Counts>
+where
+    R: AllocGlobal + Files + Threads + Wait + Sync,
+{
+    let case = case_of(rt, name, track)?;
+    run_case(rt, &case, plan)
+}
+
+/// Runs the case in a line of cases.txt: its name, the file of its track, and maybe the ways in which it is run, where
+/// the plan names none. Returns what to say of it.
+fn answer<R>(rt: &R, line: &str, plan: Plan<'_>) -> Result<(String, Counts)>
+where
+    R: AllocGlobal + Files + Threads + Wait + Sync,
+{
+    let (name, rest) = line.split_once(' ').context("a case and its track")?;
+    let (track, own) = rest.split_once(' ').unwrap_or((rest, WAYS));
+    let Plan {
+        runs,
+        workers,
+        ways,
+    } = plan;
+    let ways = if ways.is_empty() { own } else { ways };
+    let counts = counts_of(
+        rt,
+        name,
+        track,
+        Plan {
+            runs,
+            workers,
+            ways,
+        },
+    )?;
+    let answer = if counts.is_right { "right" } else { "wrong" };
+    let text = format!(in rt.alloc(); "{name} on {track} {answer}, {} windows", counts.windows)?;
+    Ok((text, counts))
+}
+
+/// Runs the case in each line of a text, and writes what came of it.
+fn answer_each<R, O, E>(
+    rt: &R,
+    cases: &str,
+    plan: Plan<'_>,
+    output: &mut O,
+    errors: &mut E,
+) -> Result<()>
+where
+    R: AllocGlobal + Files + Threads + Wait + Sync,
+    O: Write,
+    E: Write,
+{
     for line in cases.lines() {
-        let (name, track) = line.split_once(' ').context("a case and its track")?;
-        let counts = run_case(&rt, &case_of(&rt, name, track)?, runs, &workers, &ways)?;
-        let answer = if counts.is_right { "right" } else { "wrong" };
-        println!(rt; "{name} on {track} {answer}, {} windows", counts.windows)?;
-        if runs > 1 {
-            eprintln!(rt; "{} inputs recomputed", counts.recomputed)?;
+        let (text, counts) = answer(rt, line, plan)?;
+        writeln!(output, "{text}")?;
+        if plan.runs > 1 {
+            writeln!(errors, "{} inputs recomputed", counts.recomputed)?;
         }
     }
     Ok(())
+}
+
+/// A word of the arguments, if there are so many.
+fn word_at<R: AllocGlobal + Env>(rt: &R, index: usize) -> Result<Option<String>> {
+    Ok(env::args(rt)?.nth(index))
+}
+
+/// How often each batch is run.
+fn runs_named<R: AllocGlobal + Env>(rt: &R) -> Result<u32> {
+    match word_at(rt, 1)? {
+        Some(word) => word.parse::<u32>().context("a number of runs"),
+        None => Ok(1),
+    }
+}
+
+/// A word, or the text that stands for it where it is not named.
+fn text_or<'a>(word: &'a Option<String>, other: &'a str) -> &'a str {
+    match word {
+        Some(word) => word.as_str(),
+        None => other,
+    }
+}
+
+fn main(rt: HostRuntime) -> Result<()> {
+    let workers = word_at(&rt, 2)?;
+    let ways = word_at(&rt, 3)?;
+    let cases = fs::read_to_string(&rt, "cases.txt")?;
+    let plan = Plan {
+        runs: runs_named(&rt)?,
+        workers: text_or(&workers, WORKERS),
+        ways: text_or(&ways, ""),
+    };
+    answer_each(&rt, &cases, plan, &mut rt.stdout(), &mut rt.stderr())
 }

@@ -8,7 +8,7 @@ ghost use Rattle.rbc_book.specs.Runs.{IsInput};
 use rbc_book::{Attempt, Book, RunName};
 use rbc_desk::decide;
 use rbc_records::{Key, ReadFault, Reader, Rec};
-use rbc_step::{Input, RuleFault};
+use rbc_step::Input;
 use rbc_track::Track;
 use rbc_versions::{Notes, Published, Ticket, VersionLog, publish_all};
 use std::alloc::{AllocError, Global};
@@ -222,18 +222,16 @@ pub(crate) fn attempt<N: RunName, R: Abort + Wait>(
     scene: &Scene<'_, N, R>,
     book: &Book<'_, N>,
     ahead: Ahead<N>,
-) -> Result<Tried<N>, RuleFault> {
+) -> Tried<N> {
     let (rt, alloc, track, log) = (scene.rt, scene.alloc, scene.track, scene.log);
     let number = ahead.input();
     let input = scene.input(number);
     assert!(rt; input.fits());
     let mut reader = Direct::new(rt, log, book, ahead);
-    let outcome = decide(alloc, track, input, &mut reader)?;
+    let outcome = decide(alloc, track, input, &mut reader).expect(rt, "memory");
     let notes = reader.into_notes();
-    let Ok(published) = publish_all(rt, alloc, log, &outcome.writes) else {
-        return Err(RuleFault::OutOfMemory);
-    };
-    let numbers = numbers_of(alloc, &published)?;
+    let published = publish_all(rt, alloc, log, &outcome.writes).expect(rt, "memory");
+    let numbers = numbers_of(alloc, &published).expect(rt, "memory");
     let attempt = Attempt::of(track, number, input, notes, outcome, published);
-    Ok(Tried { attempt, numbers })
+    Tried { attempt, numbers }
 }

@@ -66,7 +66,7 @@ fn attempted<N: RunName, R: Abort + Wait>(
     number: u32,
 ) -> Attempt<N> {
     let ahead = kept.take_ahead(scene.alloc, number);
-    let Tried { attempt, numbers } = attempt(scene, book, ahead).expect(scene.rt, "memory");
+    let Tried { attempt, numbers } = attempt(scene, book, ahead);
     kept.numbers.publish(scene.rt, number, &numbers);
     attempt
 }

@@ -32,48 +32,42 @@ impl Read for Pieces<'_> {
     }
 }
 
-// The batch is given in 42 pieces, and the next call gives the end.
+/// Runs the longer batch, which is given in pieces of so many bytes, and fails at one call. Asserts that nothing is
+/// written where the reading fails, and else all.
+fn assert_pieces<R>(rt: &R, size: usize, fails_at: u32, kind: ErrorKind)
+where
+    R: Abort + AllocGlobal + Threads + Wait + Sync,
+{
+    let track = good_track(rt);
+    let mut reader = Pieces {
+        text: FULL.batch.as_bytes(),
+        size,
+        calls: 0,
+        fails_at,
+        kind,
+    };
+    let mut written = Vec::new(rt.alloc());
+    let fault = process(rt, &track, &mut reader, &mut written, 1, &OpenGate).err();
+    if kind == ErrorKind::Other && fails_at != 0 && fails_at <= reader.calls {
+        same(rt, fault, Some(ProcessError::Read));
+        same(rt, written.len(), 0);
+    } else {
+        same(rt, fault, None);
+        same(rt, written.as_slice(), FULL.output.as_bytes());
+    }
+}
+
+// The batch is given in 42 pieces, and the next call gives the end. Then it is given one byte a call, and as many as
+// there is room for.
 #[test]
 fn fails_where_the_reader_fails(rt: HostRuntime) {
-    let track = good_track(&rt);
-    let batch = FULL.batch;
-    same(&rt, batch.len().div_ceil(7), 42);
-    let whole = FULL.output.as_bytes();
+    same(&rt, FULL.batch.len().div_ceil(7), 42);
     for fails_at in 1..=44 {
-        for kind in [ErrorKind::Other, ErrorKind::Interrupted] {
-            let mut reader = Pieces {
-                text: batch.as_bytes(),
-                size: 7,
-                calls: 0,
-                fails_at,
-                kind,
-            };
-            let mut written = Vec::new(rt.alloc());
-            let result = process(&rt, &track, &mut reader, &mut written, 1, &OpenGate);
-            let calls = reader.calls;
-            if kind == ErrorKind::Other && fails_at <= calls {
-                same(&rt, result, Err(ProcessError::Read));
-                same(&rt, written.len(), 0);
-            } else {
-                same(&rt, result.is_ok(), true);
-                same(&rt, written.as_slice(), whole);
-            }
-        }
+        assert_pieces(&rt, 7, fails_at, ErrorKind::Other);
+        assert_pieces(&rt, 7, fails_at, ErrorKind::Interrupted);
     }
-    // One byte a call, and as many as there is room for.
-    for size in [1, usize::MAX] {
-        let mut reader = Pieces {
-            text: batch.as_bytes(),
-            size,
-            calls: 0,
-            fails_at: 0,
-            kind: ErrorKind::Other,
-        };
-        let mut written = Vec::new(rt.alloc());
-        let result = process(&rt, &track, &mut reader, &mut written, 1, &OpenGate);
-        same(&rt, result.is_ok(), true);
-        same(&rt, written.as_slice(), whole);
-    }
+    assert_pieces(&rt, 1, 0, ErrorKind::Other);
+    assert_pieces(&rt, usize::MAX, 0, ErrorKind::Other);
 }
 
 /// Is always interrupted, and counts it.

@@ -168,40 +168,38 @@ const AT_THE_END: &[Call] = &[
     Call::Take(None),
 ];
 
+/// Runs the enrolments of two trains, 7 behind one with a higher number, and a stop, by these calls of a book. Both are
+/// told.
+fn assert_two_told<R: Abort + AllocGlobal + Wait>(
+    rt: &R,
+    higher: u32,
+    calls: &[Call],
+    recomputed: u32,
+) {
+    let inputs = [
+        enrol(higher),
+        enrol(7),
+        stop(rt.alloc(), 1).expect(rt, "memory"),
+    ];
+    let (desk, stats) = run(rt, &inputs, calls);
+    let wanted = Stats {
+        taken: 3,
+        recomputed,
+    };
+    same(rt, stats, wanted);
+    same(rt, desk.results(), [DONE, DONE, Reply::Done(2)].as_slice());
+    same(rt, desk.outboxes(), 2);
+    let mails = [stopped(3, 1, 0)];
+    assert_outbox(rt, &desk, 0, 7, &mails);
+    assert_outbox(rt, &desk, 1, higher, &mails);
+    assert!(rt; desk.outbox(10).is_empty());
+}
+
 // both trains are told: where two attempts are misled, and in a book at whose end each call is made once more
 #[test]
 fn two_trains_are_told(rt: HostRuntime) {
-    let inputs = [
-        enrol(8),
-        enrol(7),
-        stop(rt.alloc(), 1).expect(&rt, "memory"),
-    ];
-    let (desk, stats) = run(&rt, &inputs, MISLED);
-    let wanted = Stats {
-        taken: 3,
-        recomputed: 2,
-    };
-    same(&rt, stats, wanted);
-    same(&rt, desk.results(), [DONE, DONE, Reply::Done(2)].as_slice());
-    same(&rt, desk.outboxes(), 2);
-    let mails = [stopped(3, 1, 0)];
-    assert_outbox(&rt, &desk, 0, 7, &mails);
-    assert_outbox(&rt, &desk, 1, 8, &mails);
-    let last_inputs = [
-        enrol(9),
-        enrol(7),
-        stop(rt.alloc(), 1).expect(&rt, "memory"),
-    ];
-    let (last_desk, _) = run(&rt, &last_inputs, AT_THE_END);
-    same(
-        &rt,
-        last_desk.results(),
-        [DONE, DONE, Reply::Done(2)].as_slice(),
-    );
-    same(&rt, last_desk.outboxes(), 2);
-    assert_outbox(&rt, &last_desk, 0, 7, &mails);
-    assert_outbox(&rt, &last_desk, 1, 9, &mails);
-    assert!(rt; last_desk.outbox(8).is_empty());
+    assert_two_told(&rt, 8, MISLED, 2);
+    assert_two_told(&rt, 9, AT_THE_END, 1);
 }
 
 #[test]

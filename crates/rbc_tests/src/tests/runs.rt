@@ -17,7 +17,7 @@ use std::sync::Wait;
 use std::thread::Threads;
 
 /// Asserts what comes of a batch, by so many workers.
-fn assert_answers<R, G>(rt: &R, batch: &str, workers: u8, gate: &G, text: &str) -> Stats
+pub(super) fn assert_answers<R, G>(rt: &R, batch: &str, workers: u8, gate: &G, text: &str) -> Stats
 where
     R: Abort + AllocGlobal + Threads + Wait + Sync,
     G: Gate + Sync,
@@ -178,31 +178,35 @@ fn tells_the_gate_each_input(rt: HostRuntime) {
     }
 }
 
+/// Runs so many lines of the longer batch, behind the first ones.
+fn run_part<R>(rt: &R, track: &Track, desk: &mut Desk, from: usize, count: usize, workers: u8)
+where
+    R: Abort + AllocGlobal + Threads + Wait + Sync,
+    requires { IsOpening track.now desk.old }
+    ensures { IsOpening track.now desk.new }
+{
+    let part = stops(rt, from, count);
+    let stats = run_lines(rt, track, desk, &part, workers, &AllWorkers);
+    same(rt, stats.is_ok(), true);
+}
+
+/// Runs a batch in two parts by so many workers.
+fn assert_parts<R>(rt: &R, workers: u8)
+where
+    R: Abort + AllocGlobal + Threads + Wait + Sync,
+{
+    let track = good_track(rt);
+    let mut desk = new_desk(rt.alloc(), &track);
+    run_part(rt, &track, &mut desk, 0, 9, workers);
+    run_part(rt, &track, &mut desk, 9, 10, workers);
+    assert_desk(rt, &desk, FULL.output);
+}
+
 // Two runs of parts of a batch leave what a run of all its lines leaves.
 #[test]
 fn goes_on_from_the_desk_of_an_earlier_run(rt: HostRuntime) {
-    let alloc = rt.alloc();
-    let track = good_track(&rt);
     for workers in [1, 2, 16] {
-        let mut parts = new_desk(alloc, &track);
-        let first = run_lines(
-            &rt,
-            &track,
-            &mut parts,
-            &stops(&rt, 0, 9),
-            workers,
-            &AllWorkers,
-        );
-        let second = run_lines(
-            &rt,
-            &track,
-            &mut parts,
-            &stops(&rt, 9, 10),
-            workers,
-            &AllWorkers,
-        );
-        same(&rt, (first.is_ok(), second.is_ok()), (true, true));
-        assert_desk(&rt, &parts, FULL.output);
+        assert_parts(&rt, workers);
     }
 }
 

@@ -1,7 +1,7 @@
 use Rattle.std.proofs.Common.{◌≡◌, drop, length, arith}
 use Rattle.std.proofs.lemmas.List.{length-drop}
-use Rattle.rbc_batch.proofs.LineInputs.{all_read}
-use Rattle.rbc_batch.proofs.inputs.inputs_in_turn.Goals as goal
+use Rattle.rbc_inputs.proofs.LineInputs.{all_read}
+use Rattle.rbc_inputs.proofs.inputs.inputs_in_turn.Goals as goal
 
 -- no line is left
 pub returns-clause-inputs : goal.returns-clause-inputs

@@ -4,7 +4,7 @@ use Rattle.rbc_step.specs.declared.input.Input.{Input}
 use Rattle.rbc_step.specs.Inputs.{Fits}
 use Rattle.rbc_text.specs.BatchText.{AreInputs}
 use Rattle.rbc_text.specs.Pieces.{texts_of}
-use Rattle.rbc_batch.proofs.inputs.inputs_in_turn.Given as goal
+use Rattle.rbc_inputs.proofs.inputs.inputs_in_turn.Given as goal
 
 -- the inputs so far, and any inputs of the lines that are left, are inputs of all
 abbrev pub invariant-loop-line : goal.invariant-loop-line

@@ -1,7 +1,7 @@
 use Rattle.std.proofs.Common.{◌≡◌, ◌≤◌, ◌+◌, ◌++◌, length}
 use Rattle.rbc_text.specs.BatchText.{lines_of}
 use Rattle.rbc_text.specs.Pieces.{texts_of}
-use Rattle.rbc_batch.proofs.inputs.first_lines.Given as goal
+use Rattle.rbc_inputs.proofs.inputs.first_lines.Given as goal
 
 -- the lines so far, and those of what is left, are those of the whole
 abbrev pub invariant-loop-rest : goal.invariant-loop-rest

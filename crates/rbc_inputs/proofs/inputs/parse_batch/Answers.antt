@@ -1,8 +1,8 @@
 use Rattle.std.proofs.Common.{List, ℕ, subst, arith}
 use Rattle.std.specs.Result.{IfOk}
 use Rattle.rbc_text.specs.BatchText.{AreInputs}
-use Rattle.rbc_batch.proofs.LineInputs.{as_few}
-use Rattle.rbc_batch.proofs.inputs.parse_batch.Goals as goal
+use Rattle.rbc_inputs.proofs.LineInputs.{as_few}
+use Rattle.rbc_inputs.proofs.inputs.parse_batch.Goals as goal
 
 pub returns-clause-inputs : goal.returns-clause-inputs
 returns-clause-inputs g c =

@@ -16,7 +16,7 @@ use std::thread::Threads;
 const PARALLEL_FROM: usize = 10_000;
 
 /// The first lines of a text, so many at most. Fails only for lack of memory.
-pub(crate) fn first_lines(alloc: Global, text: &[u8], most: usize) -> Result<Vec<&[u8]>, AllocError>
+pub fn first_lines(alloc: Global, text: &[u8], most: usize) -> Result<Vec<&[u8]>, AllocError>
     ensures cut { IfOk result (λ lines. texts_of lines.items ≡ take most (lines_of text.now)) }
     ensures whole { length text.now ≤ most → IfOk result (λ lines. texts_of lines.items ≡ lines_of text.now) }
     ensures few { IfOk result (λ lines. length lines.items ≤ length text.now) }
@@ -59,7 +59,7 @@ fn inputs_in_threads(
 }
 
 /// The inputs of lines, in their order. Many lines are read in threads, each by itself. Fails only for lack of memory.
-pub(crate) fn parse_lines(
+pub fn parse_lines(
     rt: &(impl AllocGlobal + Threads + Sync),
     lines: &[&[u8]],
 ) -> Result<Vec<Input>, AllocError>

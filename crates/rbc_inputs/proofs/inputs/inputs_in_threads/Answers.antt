@@ -1,8 +1,8 @@
 use Rattle.std.proofs.Common.{ap, ◌∙◌, rules}
 use Rattle.rayon.proofs.ListFacts.{AllZip-weaken}
 use Rattle.rayon.proofs.ToStd.{slice-AllZip}
-use Rattle.rbc_batch.proofs.LineInputs.{IsRead, all_are_inputs, all_fit}
-use Rattle.rbc_batch.proofs.inputs.inputs_in_threads.Goals as goal
+use Rattle.rbc_inputs.proofs.LineInputs.{IsRead, all_are_inputs, all_fit}
+use Rattle.rbc_inputs.proofs.inputs.inputs_in_threads.Goals as goal
 
 -- what each line came to, in order
 pub returns : goal.returns

@@ -1,0 +1,2 @@
+mod FirstLines
+mod LineInputs
