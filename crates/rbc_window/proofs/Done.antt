@@ -14,10 +14,11 @@ use Rattle.rbc_desk.specs.Answers.{after_answers}
 use Rattle.rbc_desk.specs.Serial.{Desk, serial}
 use Rattle.rbc_desk.proofs.EachAnswer.{all_answered}
 use Rattle.rbc_desk.proofs.Runs.{All-get}
-use Rattle.rbc_window.specs.declared.share.Share.{Share}
-use Rattle.rbc_window.specs.Messages.{Records, Setting, records_after}
-use Rattle.rbc_window.specs.Moving.{list_or}
-use Rattle.rbc_window.specs.Shares.{AreInPlaces, HasTaken, HasTakenIfDone, HaveTakenIfDone, HaveTrains, KeepRest}
+use Rattle.rbc_share.specs.declared.share.Share.{Share}
+use Rattle.rbc_share.specs.Messages.{Records, Setting, records_after}
+use Rattle.rbc_share.specs.Moving.{list_or}
+use Rattle.rbc_share.specs.Shares.{AreInPlaces, HasTaken, HasTakenIfDone, HaveTakenIfDone}
+use Rattle.rbc_window.specs.Gathering.{HaveTrains, KeepRest}
 use Rattle.rbc_window.specs.Answers.{AreDone, setting_of}
 use Rattle.rbc_window.proofs.Serial.{all_messages}
 use Rattle.rbc_window.proofs.Shared.{all_train_writes, all_written}

@@ -13,14 +13,15 @@ use Rattle.rbc_step.specs.Records.{engines_record}
 use Rattle.rbc_step.specs.Lists.{is_list, engines_in}
 use Rattle.rbc_step.specs.Gathered.{AreSendable}
 use Rattle.rbc_desk.specs.declared.answer.Answer.{Answer}
-use Rattle.rbc_window.specs.declared.kept.Kept.{Kept}
-use Rattle.rbc_window.specs.declared.share.Share.{Share}
-use Rattle.rbc_window.specs.Messages.{Records, Setting, moves_in, outcome_of, next_records, records_after, sender}
-use Rattle.rbc_window.specs.Kept.{AreAnswers, AreKept, BeginsWith, IsKept, engine_or_none, has_engine, share_of}
-use Rattle.rbc_window.specs.Moving.{list_or}
-use Rattle.rbc_window.specs.Shares.{HaveTrains, KeepRest, TrainsStand}
-use Rattle.rbc_window.proofs.Hearings.{moves_elsewhere, train_no_list}
-use Rattle.rbc_window.proofs.Taking.{drop_at_place, records_then}
+use Rattle.rbc_share.specs.declared.kept.Kept.{Kept}
+use Rattle.rbc_share.specs.declared.share.Share.{Share}
+use Rattle.rbc_share.specs.Messages.{Records, Setting, moves_in, outcome_of, next_records, records_after, sender}
+use Rattle.rbc_share.specs.Kept.{AreKept, BeginsWith, IsKept, engine_or_none, has_engine, share_of}
+use Rattle.rbc_share.specs.Moving.{list_or}
+use Rattle.rbc_share.specs.Shares.{TrainsStand}
+use Rattle.rbc_share.proofs.Hearings.{moves_elsewhere, train_no_list}
+use Rattle.rbc_share.proofs.Taking.{drop_at_place, records_then}
+use Rattle.rbc_window.specs.Gathering.{AreAnswers, HaveTrains, KeepRest}
 
 -- what the first inputs leave: whatever answers the others have come behind the answers, and the lists stand as they do after the first
 pub record IsGathered (s : Setting) (records : Records) (inputs : List Input) (at : ℕ) (all : List Share) (lists : List (Key × List ℕ)) (answers : List Answer) : Type 0 where

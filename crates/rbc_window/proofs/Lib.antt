@@ -1,8 +1,4 @@
-pub mod Hearings
-pub mod Taking
 pub mod Gathers
 pub mod Shared
 pub mod Serial
-pub mod Pushed
-pub mod ChangedLists
 pub mod Done

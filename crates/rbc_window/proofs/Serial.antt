@@ -26,8 +26,9 @@ use Rattle.rbc_desk.specs.Held.{Standing, Holds, AreOutboxes}
 use Rattle.rbc_desk.specs.Answers.{after_answer, after_each}
 use Rattle.rbc_desk.specs.Serial.{Desk, step, serial}
 use Rattle.rbc_desk.proofs.EachAnswer.{with_records, one_answered, boxes_after_answer}
-use Rattle.rbc_window.specs.Messages.{Records, Setting, train_in, outcome_of, outcome_of_message, outcome_of_train, next_records, records_after, IsMessage}
-use Rattle.rbc_window.specs.Kept.{AreAnswers, IsAnswerOf}
+use Rattle.rbc_share.specs.Messages.{Records, Setting, train_in, outcome_of, outcome_of_message, outcome_of_train, next_records, records_after}
+use Rattle.rbc_share.specs.Kept.{IsAnswerOf}
+use Rattle.rbc_window.specs.Gathering.{IsMessage, AreAnswers}
 
 -- the train in a record of a world
 found_in : (train : Option TrainRec) → train_in (option_map rec.Train train) ≡ train

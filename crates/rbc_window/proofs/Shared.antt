@@ -21,11 +21,12 @@ use Rattle.rbc_step.specs.Records.{list_of}
 use Rattle.rbc_step.specs.Lists.{is_list}
 use Rattle.rbc_step.proofs.AllGathered.{written-append}
 use Rattle.rbc_step.proofs.WorldMaps.{eqb_turned}
-use Rattle.rbc_window.specs.declared.share.Share.{Share}
-use Rattle.rbc_window.specs.Messages.{Records, Setting, next_records, records_after}
-use Rattle.rbc_window.specs.Kept.{share_of}
-use Rattle.rbc_window.specs.Shares.{HaveTrains, train_or, train_write, train_writes}
-use Rattle.rbc_window.proofs.Hearings.{stays}
+use Rattle.rbc_share.specs.declared.share.Share.{Share}
+use Rattle.rbc_share.specs.Messages.{Records, Setting, next_records, records_after}
+use Rattle.rbc_share.specs.Kept.{share_of}
+use Rattle.rbc_share.specs.Shares.{train_or, train_write, train_writes}
+use Rattle.rbc_share.proofs.Hearings.{stays}
+use Rattle.rbc_window.specs.Gathering.{HaveTrains}
 
 -- what all shares write
 abbrev pub all_train_writes : List Share → List (Key × Option Rec)

@@ -9,8 +9,8 @@ use Rattle.rbc_step.specs.World.{World}
 use Rattle.rbc_desk.specs.declared.answer.Answer.{Answer}
 use Rattle.rbc_desk.specs.Serial.{Desk, serial}
 use Rattle.rbc_desk.specs.Held.{Standing, Holds, AreRecordsOf}
-use Rattle.rbc_window.specs.Messages.{Records, Setting, IsMessage, records_after}
-use Rattle.rbc_window.specs.Kept.{AreAnswers}
+use Rattle.rbc_share.specs.Messages.{Records, Setting, records_after}
+use Rattle.rbc_window.specs.Gathering.{IsMessage, AreAnswers}
 
 -- inputs are taken in, one after another: what stood there was a desk of the rules, and what stands there now is that desk after them
 abbrev pub AreTakenIn : Plan → List Input → Standing → Standing → Type 0

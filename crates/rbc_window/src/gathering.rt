@@ -6,18 +6,16 @@ ghost use Rattle.rbc_records.specs.declared.record.Key.{Key};
 ghost use Rattle.rbc_step.specs.declared.input.Input.{Input};
 ghost use Rattle.rbc_step.specs.Gathered.{AreSendable};
 ghost use Rattle.rbc_step.specs.Lists.{is_list};
-ghost use Rattle.rbc_window.specs.Messages.{Records, Setting, IsMessage, sender, outcome_of, next_records, records_after};
-ghost use Rattle.rbc_window.specs.Kept.{AreAnswers, IsKept};
-ghost use Rattle.rbc_window.specs.Moving.{list_or};
-ghost use Rattle.rbc_window.specs.Shares.{HaveTrains, KeepRest};
+ghost use Rattle.rbc_share.specs.Messages.{Records, Setting, sender, outcome_of, next_records, records_after};
+ghost use Rattle.rbc_share.specs.Kept.{IsKept};
+ghost use Rattle.rbc_share.specs.Moving.{list_or};
+ghost use Rattle.rbc_window.specs.Gathering.{IsMessage, AreAnswers, HaveTrains, KeepRest};
 
-use crate::kept::Kept;
-use crate::lists::Lists;
-use crate::share::{Share, share_of};
 use crate::window::NotRun;
 use rbc_desk::Answer;
 use rbc_kinds::engine_of;
 use rbc_records::PlainStore;
+use rbc_share::{Kept, Lists, Share, share_of};
 use rbc_step::Input;
 use std::alloc::Global;
 

@@ -3,12 +3,6 @@
 #![tactic(auto)]
 
 mod gathering;
-mod hearing;
-mod kept;
-mod lists;
-mod share;
-mod shares;
-mod trains;
 mod window;
 
 pub use window::{NotRun, run_window};

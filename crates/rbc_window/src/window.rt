@@ -3,29 +3,20 @@
 ghost use Rattle.std.specs.Prelude.{◌≡◌, ◌≤◌, ◌+◌, All, length, IfOk, OnOk, OnErr};
 ghost use Rattle.rbc_track.specs.Plan.{IsPlan};
 ghost use Rattle.rbc_records.specs.Notes.{record_in};
-ghost use Rattle.rbc_records.specs.Writes.{written};
 ghost use Rattle.rbc_step.specs.Gathered.{AreSendable};
 ghost use Rattle.rbc_desk.specs.Held.{IsInOrder, standing};
-ghost use Rattle.rbc_window.specs.Messages.{IsMessage, records_after};
-ghost use Rattle.rbc_window.specs.Kept.{AreAnswers};
-ghost use Rattle.rbc_window.specs.Hearing.{setting};
-ghost use Rattle.rbc_window.specs.Shares.{HaveTakenIfDone};
 ghost use Rattle.rbc_window.specs.Answers.{AreDoneInAny, AreTakenIn};
 
 use crate::gathering::answers_in_order;
-use crate::hearing::Scene;
-use crate::lists::Lists;
-use crate::share::{SHARES, Share};
-use crate::shares::{all_shares, are_done, in_order, write_trains};
-use crossbeam_queue::ArrayQueue;
 use rbc_desk::{Answer, Desk, MAX_RESULTS};
 use rbc_records::{PlainStore, Writes};
+use rbc_share::{Lists, Scene, are_done, taken_in, write_trains};
 use rbc_step::{Input, RuleFault, read};
 use rbc_track::Track;
 use rbc_zones::{Limits, Stops};
 use std::alloc::{AllocError, AllocFailed, Global};
 use std::sync::Wait;
-use std::thread::{self, Threads};
+use std::thread::Threads;
 
 /// A window was not run, and nothing is changed: there was not the memory for it, or not all inputs are messages.
 #[derive(Clone, Copy, Debug, PartialEq, Eq)]
@@ -108,52 +99,6 @@ fn attempted<R: Threads + Wait + Sync>(
     lists.write(&mut writes)?;
     write_trains(all, &mut writes)?;
     Ok((answers, writes))
-}
-
-/// The shares, whose messages so many workers take in at the same time. Fails only for lack of memory.
-fn taken_in<R: Threads + Wait + Sync>(
-    rt: &R,
-    alloc: Global,
-    scene: &Scene<'_>,
-    store: &PlainStore,
-    inputs: &[Input],
-    workers: u8,
-) -> Result<Vec<Share>, AllocError>
-    ensures { IfOk result (λ all. HaveTakenIfDone (setting scene.now) (record_in store.now) inputs.now all.items) }
-{
-    let left = all_shares(rt, alloc)?;
-    let workers = thread::map_indices(
-        rt,
-        alloc,
-        usize::from(workers),
-        &|_worker| work(rt, alloc, scene, store, inputs, &left),
-    )?;
-    in_order(alloc, workers)
-}
-
-/// The work of one worker: one share after another, as long as there is one that nobody has taken. It ends before that
-/// where memory is refused.
-fn work<R: Wait>(
-    rt: &R,
-    alloc: Global,
-    scene: &Scene<'_>,
-    store: &PlainStore,
-    inputs: &[Input],
-    left: &ArrayQueue<Share>,
-) -> Vec<Share>
-    ensures { HaveTakenIfDone (setting scene.now) (record_in store.now) inputs.now result.items }
-{
-    let mut done = Vec::new(alloc);
-    for _ in 0..SHARES {
-        let Some(share) = left.pop(rt) else {
-            break;
-        };
-        let share = share.take_in(alloc, scene, store, inputs);
-        if done.push(share).is_err() {
-            break;
-        }
-    }
-    done
 }
 
 /// Says in its contract what every track satisfies, because a commit requires it.

@@ -3,10 +3,10 @@ use Rattle.std.proofs.lemmas.Option.{slice_get_read}
 use Rattle.std.proofs.lemmas.List.Elements.{All-push}
 use Rattle.rbc_records.specs.Notes.{record_in}
 use Rattle.rbc_step.specs.declared.input.Input.{Input}
-use Rattle.rbc_window.specs.Messages.{IsMessage, records_after, sender}
-use Rattle.rbc_window.specs.Shares.{KeepRest}
-use Rattle.rbc_window.proofs.Taking.{drop_at_place, take_then}
-use Rattle.rbc_window.proofs.Gathers.{one_gathered, gathered_answers}
+use Rattle.rbc_share.specs.Messages.{records_after, sender}
+use Rattle.rbc_share.proofs.Taking.{drop_at_place, take_then}
+use Rattle.rbc_window.specs.Gathering.{IsMessage, KeepRest}
+use Rattle.rbc_window.proofs.Gathers.{one_gathered, gathered_answers, gathered_lists}
 use Rattle.rbc_window.proofs.gathering.answers_in_order.Goals as goal
 
 -- one answer more
@@ -35,6 +35,19 @@ loop-input-preserved c =
 pub returns-clause-answers : goal.returns-clause-answers
 returns-clause-answers c = λ s keep.
     gathered_answers s (record_in c.args.store.now) c.args.inputs.now c.loop-input.input-index c.loop-input.all.items c.loop-input.lists c.loop-input.answers.items c.loop-input-test.false (c.loop-input.invariant.gathered s keep)
+
+pub returns-clause-lists : goal.returns-clause-lists
+returns-clause-lists c = λ s keep.
+    gathered_lists s (record_in c.args.store.now) c.args.inputs.now c.loop-input.input-index c.loop-input.all.items c.loop-input.lists c.loop-input.answers.items c.loop-input-test.false (c.loop-input.invariant.gathered s keep)
+
+pub returns-clause-others : goal.returns-clause-others
+returns-clause-others c = λ s keep. (c.loop-input.invariant.gathered s keep).others
+
+pub returns-clause-fit : goal.returns-clause-fit
+returns-clause-fit c = λ s keep. (c.loop-input.invariant.gathered s keep).fit
+
+pub returns-clause-trains : goal.returns-clause-trains
+returns-clause-trains c = c.loop-input.invariant.trains
 
 pub returns-clause-messages : goal.returns-clause-messages
 returns-clause-messages c = subst (λ (first : List Input). All IsMessage first) (take_all c.loop-input.input-index c.args.inputs.now c.loop-input-test.false) c.loop-input.invariant.messages

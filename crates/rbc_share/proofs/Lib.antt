@@ -1,0 +1,4 @@
+pub mod Hearings
+pub mod Taking
+pub mod Pushed
+pub mod ChangedLists

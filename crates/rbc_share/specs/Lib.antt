@@ -1,0 +1,5 @@
+pub mod Messages
+pub mod Kept
+pub mod Hearing
+pub mod Moving
+pub mod Shares

@@ -1,0 +1,12 @@
+//! What is kept of a message until it is committed.
+
+use rbc_desk::Answer;
+use rbc_records::Key;
+
+/// The answer to a message, and the lists of trains that its train leaves and comes into: the same where it stays.
+#[derive(Debug, Drop)]
+pub struct Kept {
+    pub answer: Answer,
+    pub left: Key,
+    pub entered: Key,
+}
