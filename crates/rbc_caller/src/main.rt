@@ -6,19 +6,22 @@
 //! which they are sent.
 #![tactic(auto)]
 
+ghost use Rattle.std.specs.Prelude.{IfOk};
+ghost use Rattle.rbc_step.specs.Gathered.{AreSendable};
+
 mod office;
 
 use anyhow::{Context, Result, bail};
-use office::{Office, sent_line};
+use office::{Done, Office, sent_line};
 use rbc_step::Reply;
 use rbc_text::{first_line, parse_line};
-use rbc_track::track_from_toml;
+use rbc_track::{Track, track_from_toml};
 use std::alloc::{AllocError, Global};
 use std::fs;
 use std::io::Read;
 use std::rt::Files;
 
-/// The track of this example.
+/// The track file of this example.
 const TRACK: &str = "main_line.toml";
 
 /// The lines of a batch, of which there are no more than bytes.
@@ -36,16 +39,20 @@ fn lines_of(alloc: Global, batch: &[u8]) -> Result<Vec<&[u8]>, AllocError> {
     Ok(lines)
 }
 
-/// Takes the input of a line, and prints its result and sends its messages: here, they are printed.
-fn take_and_send<R: AllocGlobal + Print>(
-    rt: &R,
-    office: &mut Office,
-    number: usize,
-    line: &[u8],
-) -> Result<()> {
-    let Ok(done) = office.take_again(&parse_line(rt.alloc(), line)?) else {
-        bail!("input {number} could not be decided");
-    };
+/// Takes the input of a line.
+fn take(alloc: Global, office: &mut Office, number: usize, line: &[u8]) -> Result<Done>
+    ensures { IfOk result (λ done. AreSendable done.messages.items) }
+{
+    match office.take_again(&parse_line(alloc, line)?) {
+        Ok(done) => Ok(done),
+        Err(_) => bail!("input {number} could not be decided"),
+    }
+}
+
+/// Prints the result of an input, and sends its messages: here, they are printed.
+fn send<R: AllocGlobal + Print>(rt: &R, number: usize, done: &Done) -> Result<()>
+    requires { AreSendable done.now.messages.items }
+{
     match done.result {
         Reply::Done(count) => println!(rt; "{number} ok {count}")?,
         Reply::Refused(code) => println!(rt; "{number} refused {code}")?,
@@ -67,7 +74,7 @@ fn replay(alloc: Global, office: &mut Office, log: &[&[u8]]) -> Result<()> {
     Ok(())
 }
 
-/// Takes the inputs of lines for the first time; the first of them has this number.
+/// Takes the inputs of lines for the first time, and sends what comes of each; the first of them has this number.
 fn go_on<R: AllocGlobal + Print>(
     rt: &R,
     office: &mut Office,
@@ -75,26 +82,50 @@ fn go_on<R: AllocGlobal + Print>(
     lines: &[&[u8]],
 ) -> Result<()> {
     for (index, line) in lines.iter().enumerate() {
-        take_and_send(rt, office, first.saturating_add(index), line)?;
+        let number = first.saturating_add(index);
+        let done = take(rt.alloc(), office, number, line)?;
+        send(rt, number, &done)?;
     }
     Ok(())
 }
 
+/// Takes the first lines, and then loses everything but them.
+fn begin<R: AllocGlobal + Print>(rt: &R, track: &Track, log: &[&[u8]]) -> Result<()> {
+    let mut office = Office::new(rt.alloc(), track);
+    go_on(rt, &mut office, 1, log)
+}
+
+/// Replays the log, and goes on with the other lines.
+fn restart<R: AllocGlobal + Print>(
+    rt: &R,
+    track: &Track,
+    log: &[&[u8]],
+    rest: &[&[u8]],
+) -> Result<()> {
+    let mut office = Office::new(rt.alloc(), track);
+    replay(rt.alloc(), &mut office, log)?;
+    go_on(rt, &mut office, log.len().saturating_add(1), rest)
+}
+
+/// Takes all lines, with a restart in the middle.
+fn run<R: AllocGlobal + Print>(rt: &R, track: &Track, lines: &[&[u8]]) -> Result<()> {
+    let half = lines.len() / 2;
+    let (log, rest) = lines.split_at(half);
+    begin(rt, track, log)?;
+    println!(rt; "restart after {half} inputs")?;
+    restart(rt, track, log, rest)
+}
+
+/// The track of this example.
+fn example_track<R: AllocGlobal + Files>(rt: &R) -> Result<Track> {
+    let text = fs::read_to_string(rt, TRACK).context("reading the track")?;
+    Ok(track_from_toml(rt.alloc(), text.as_str())?)
+}
+
 fn main(rt: HostRuntime) -> Result<()> {
-    let text = fs::read_to_string(&rt, TRACK).context("reading the track")?;
-    let track = track_from_toml(rt.alloc(), text.as_str())?;
+    let track = example_track(&rt)?;
     let mut batch = Vec::new(rt.alloc());
     rt.stdin().read_to_end(&mut batch)?;
     let lines = lines_of(rt.alloc(), batch.as_slice())?;
-    let half = lines.len() / 2;
-    let (log, rest) = lines.split_at(half);
-
-    let mut office = Office::new(rt.alloc(), &track);
-    go_on(&rt, &mut office, 1, log)?;
-    drop(office);
-
-    println!(rt; "restart after {half} inputs")?;
-    let mut office = Office::new(rt.alloc(), &track);
-    replay(rt.alloc(), &mut office, log)?;
-    go_on(&rt, &mut office, half.saturating_add(1), rest)
+    run(&rt, &track, &lines)
 }
