@@ -10,7 +10,7 @@ use std::marker::Model;
 pub struct ShortBits;
 
 /// The bits of some bytes that are not yet taken, most significant first.
-#[derive(Debug, Drop)]
+#[derive(Drop)]
 pub struct BitReader<'a> {
     bytes: &'a [u8],
     /// The byte in which the next bit is.

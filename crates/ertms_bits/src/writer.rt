@@ -11,7 +11,7 @@ use std::marker::Model;
 pub struct FullBits;
 
 /// A place in a buffer that each call is lent, counted in bits from its start.
-#[derive(Debug, Drop)]
+#[derive(Drop)]
 pub struct BitWriter {
     /// The byte at which the next bit goes.
     byte: usize,

@@ -65,7 +65,7 @@ impl Part {
 
 /// The packets of a message 24, in their order. A message may have several (SUBSET-026, 8.4.4); here it has 1 to 100
 /// (own rule). One alone takes no memory.
-#[derive(Debug, Drop)]
+#[derive(Drop)]
 pub struct Packets {
     first: Part,
     more: Vec<Part>,

@@ -16,7 +16,7 @@ pub struct Head {
 }
 
 /// A message to a train.
-#[derive(Debug, Drop)]
+#[derive(Drop)]
 pub enum ToTrain {
     /// Message 15, conditional emergency stop (SUBSET-026, 8.7; own table of variables): the train stops
     /// before a place, if it has not passed it.

@@ -1,7 +1,7 @@
 //! How far an input is.
 
 /// How far an input is.
-#[derive(Debug, Drop)]
+#[derive(Drop)]
 pub enum Stage<A> {
     /// It was not taken yet, or it is committed.
     Free,

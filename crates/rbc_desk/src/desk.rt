@@ -27,7 +27,7 @@ use std::marker::Model;
 pub const MAX_RESULTS: usize = 4_000_000_000;
 
 /// The outcome of all inputs so far: the records, at most `MAX_RESULTS` results, and the outboxes.
-#[derive(Debug, Drop)]
+#[derive(Drop)]
 pub struct Desk {
     records: PlainStore,
     results: Vec<Reply>,

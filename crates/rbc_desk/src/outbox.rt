@@ -20,14 +20,14 @@ use std::marker::Model;
 use std::mem;
 
 /// A message that was sent, and the number of the input, from 1, that caused it.
-#[derive(Debug, Drop)]
+#[derive(Drop)]
 pub struct Mail {
     pub input: u32,
     pub message: ToTrain,
 }
 
 /// The messages that were sent to one engine, in order. In contracts a list of mails.
-#[derive(Debug, Drop)]
+#[derive(Drop)]
 pub struct Outbox {
     mails: Vec<Mail>,
 }

@@ -15,7 +15,7 @@ const MAX_STRETCH: usize = 16_384;
 const SAMPLE: usize = 64;
 
 /// Who does some inputs.
-#[derive(Clone, Copy, Debug, PartialEq, Eq)]
+#[derive(Clone, Copy, PartialEq, Eq)]
 pub(crate) enum Road {
     /// One worker, on the desk itself, one after another.
     Alone,
@@ -26,7 +26,7 @@ pub(crate) enum Road {
 }
 
 /// Who does the next inputs, and how many of them there are at the most.
-#[derive(Clone, Copy, Debug, PartialEq, Eq)]
+#[derive(Clone, Copy, PartialEq, Eq)]
 pub(crate) struct Way {
     pub(crate) road: Road,
     pub(crate) count: usize,

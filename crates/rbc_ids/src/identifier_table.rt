@@ -19,7 +19,7 @@ use std::marker::Model;
 
 /// The identifiers 0 to `N - 1` of one train. Each is free, or held by a slot. Takes memory only for those that are
 /// held.
-#[derive(Debug, Drop)]
+#[derive(Drop)]
 pub struct IdTable<const N: usize> {
     /// The held identifiers in ascending order, each with its slot.
     held: Vec<(u8, Slot)>,

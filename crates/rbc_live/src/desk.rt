@@ -45,7 +45,7 @@ impl From<AllocError> for LiveFault {
 }
 
 /// What a line led to: the answer to it, and the messages that it sent, in the order in which they are sent.
-#[derive(Debug, Drop)]
+#[derive(Drop)]
 pub struct Answer {
     pub reply: Reply,
     pub messages: SentList,

@@ -16,7 +16,7 @@ use std::marker::Model;
 /// The active values by their numbers, which are above 0, and the last number that was ever given. A number that was
 /// removed is not given again. Beside the values stand the marks of the lines on which they lie, `N` of each, and where
 /// the next value stands that carries each of them, so that those of one line are found without a look at the others.
-#[derive(Debug, Drop)]
+#[derive(Drop)]
 pub struct Numbered<V: OnLines<N>, const N: usize> {
     last: u32,
     active: Vec<(u32, V)>,

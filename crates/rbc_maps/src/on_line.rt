@@ -42,7 +42,7 @@ pub fn mark_of(line: u32) -> u8
 
 /// The values of a list that carry a mark, with their numbers, in the order of the list. Seen as the list of those that
 /// are left.
-#[derive(Debug, Drop)]
+#[derive(Drop)]
 pub struct OnLine<'a, V: OnLines<N>, const N: usize> {
     mark: u8,
     /// The place of the first one that is left, or the place behind the last value of the list.

@@ -11,7 +11,7 @@ use std::marker::Model;
 
 /// Notes of what was read under some keys: a record, or that there is none. They stand in the order of reading, and no
 /// key occurs twice. In contracts a list of pairs.
-#[derive(Debug, Drop)]
+#[derive(Drop)]
 pub struct Notes {
     all: IndexMap<Key, Option<Rec>>,
 }

@@ -23,7 +23,7 @@ pub enum Key {
 }
 
 /// A record.
-#[derive(Debug, Drop)]
+#[derive(Drop)]
 pub enum Rec {
     /// Numbers of engines, ascending.
     Engines(Numbers),

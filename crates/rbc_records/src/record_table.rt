@@ -18,7 +18,7 @@ use std::mem;
 
 /// Records by their keys. Two columns, whose entries have the indices of the records, hold the little of each that a
 /// search reads, so that it goes over contiguous memory.
-#[derive(Debug, Drop)]
+#[derive(Drop)]
 pub struct Table {
     entries: IndexMap<Key, Rec>,
     tolds: Vec<Told>,

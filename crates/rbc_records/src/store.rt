@@ -15,7 +15,7 @@ use std::alloc::{AllocError, Global};
 use std::marker::Model;
 
 /// All records by their keys. In contracts a list of pairs, of which the first with a key counts.
-#[derive(Debug, Drop)]
+#[derive(Drop)]
 pub struct PlainStore {
     records: Table,
     /// What the last input replaced, if that was one record.

@@ -9,7 +9,7 @@ use std::marker::Model;
 
 /// Writes in order. Each puts a new record under a key, or removes the record there; the last write to a key counts. In
 /// contracts a list of pairs.
-#[derive(Debug, Drop)]
+#[derive(Drop)]
 pub struct Writes {
     pub(crate) all: Vec<(Key, Option<Rec>)>,
 }

@@ -4,7 +4,7 @@ use rbc_train::{LimitChange, StopChange};
 
 /// What has to be done to a train: first the changes to its stop identifiers, then those to its restriction
 /// identifiers.
-#[derive(Debug, Drop)]
+#[derive(Drop)]
 pub struct Changes {
     pub stops: Vec<StopChange>,
     pub limits: Vec<LimitChange>,

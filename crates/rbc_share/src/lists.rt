@@ -17,7 +17,7 @@ use std::alloc::{AllocError, Global};
 use std::marker::Model;
 
 /// Those lists of engines that have changed since a window began, by their keys.
-#[derive(Debug, Drop)]
+#[derive(Drop)]
 pub struct Lists {
     all: Vec<(Key, Numbers)>,
 }

@@ -11,7 +11,7 @@ use std::marker::Model;
 use std::mem;
 
 /// Records of trains by engine number (NID_ENGINE), in ascending order.
-#[derive(Debug, Drop)]
+#[derive(Drop)]
 pub(crate) struct Trains {
     all: Vec<(u32, TrainRec)>,
 }

@@ -11,7 +11,7 @@ use rbc_train::{Area, IdTable, Place, STOP_IDENTIFIERS, Segment, Slot, TrainRec,
 const FEW: usize = 16;
 
 /// The trains for which a command may have something to do.
-#[derive(Clone, Copy, Debug)]
+#[derive(Clone, Copy)]
 pub enum Sought<'a> {
     /// Those that were told of the stop of this number, or that stop at once for it.
     ToldOfStop(u32),
@@ -23,7 +23,7 @@ pub enum Sought<'a> {
 
 /// The numbers that a train was told, by bits: bit `n % 64` stands for the number n. So a bit that is not set tells
 /// that no such number was told.
-#[derive(Clone, Copy, Debug)]
+#[derive(Clone, Copy)]
 pub struct Told {
     /// The numbers of the stops that the train was told or that it rejected.
     pub stops: u64,
@@ -99,7 +99,7 @@ fn limit_bits(limits: &IdTable<255>) -> u64
 }
 
 /// Places on some lines, from the least to the most, both among them.
-#[derive(Clone, Copy, Debug)]
+#[derive(Clone, Copy)]
 pub struct Extent {
     /// The lines, by bits: bit `n % 64` stands for line n. None of them: no place.
     pub lines: u64,

@@ -13,7 +13,7 @@ use std::marker::Model;
 const MAX_BAD: u8 = 6;
 
 /// The segments of a stop, in the order in which they were given. Contracts see a list.
-#[derive(Debug, Drop)]
+#[derive(Drop)]
 pub struct Segments {
     all: Vec<Segment>,
 }
@@ -55,7 +55,7 @@ impl Segments {
 }
 
 /// An input: an enrolment, a command of the signaller, or a message from a train.
-#[derive(Debug, Drop)]
+#[derive(Drop)]
 pub enum Input {
     /// A train is enrolled: its engine number, at most 16,777,215, and its length, 1 to 40,000 units of 10 cm.
     Enrol {

@@ -27,7 +27,7 @@ pub enum Reply {
 }
 
 /// Messages to trains, in the order in which they are sent. Contracts see a list.
-#[derive(Debug, Drop)]
+#[derive(Drop)]
 pub struct SentList {
     all: Vec<Sent>,
 }
@@ -127,7 +127,7 @@ impl SentList {
 }
 
 /// The answer to an input, the records that it writes and the messages that it sends.
-#[derive(Debug, Drop)]
+#[derive(Drop)]
 pub struct Outcome {
     pub result: Reply,
     pub writes: Writes,

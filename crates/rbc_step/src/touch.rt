@@ -8,7 +8,7 @@ use rbc_train::{LIMIT_IDENTIFIERS, STOP_IDENTIFIERS, TrainRec};
 use rbc_zones::{Area, Concern, Limit, concern, limit_concerns};
 
 /// The stop or the restriction that begins or ends, by its number: `Some` if it begins, `None` if it ends.
-#[derive(Clone, Copy, Debug)]
+#[derive(Clone, Copy)]
 pub enum Change<'a> {
     Stop(u32, Option<&'a Area>),
     Limit(u32, Option<&'a Limit>),

@@ -24,7 +24,7 @@ use rbc_train::{Numbers, Sent, TrainRec};
 use std::alloc::{AllocError, Global};
 
 /// The records that settling trains writes, and the messages that it sends.
-#[derive(Debug, Drop)]
+#[derive(Drop)]
 pub struct Gathered {
     pub writes: Writes,
     pub messages: SentList,

@@ -28,7 +28,7 @@ pub const MAX_LENGTH: u32 = 3_000_000;
 
 /// A track: its lines, its balise groups, and its horizon, which is how far ahead of a train a restriction concerns
 /// it.
-#[derive(Debug, Drop)]
+#[derive(Drop)]
 pub struct Track {
     horizon: u32,
     lines: Vec<u32>,

@@ -3,7 +3,7 @@
 use std::marker::Model;
 
 /// How a stop is told.
-#[derive(Clone, Copy, Debug, PartialEq, Eq)]
+#[derive(Clone, Copy, PartialEq, Eq)]
 pub enum ToldStop {
     /// By message 16: the train stops at once.
     AtOnce,
@@ -12,7 +12,7 @@ pub enum ToldStop {
 }
 
 /// The edge before which a train stops, as message 15 tells it: Q_DIR, Q_SCALE and D_EMERGENCYSTOP.
-#[derive(Clone, Copy, Debug, PartialEq, Eq)]
+#[derive(Clone, Copy, PartialEq, Eq)]
 pub struct ToldEdge {
     pub dir: u8,
     pub scale: u8,
@@ -33,7 +33,7 @@ impl Model for ToldEdge {
 }
 
 /// A restriction as packet 65 tells it: Q_DIR, Q_SCALE, D_TSR, L_TSR, Q_FRONT and V_TSR.
-#[derive(Clone, Copy, Debug, PartialEq, Eq)]
+#[derive(Clone, Copy, PartialEq, Eq)]
 pub struct ToldLimit {
     pub dir: u8,
     pub scale: u8,
@@ -78,7 +78,7 @@ impl Model for ToldLimit {
 }
 
 /// One change to a train's stop identifiers, made by one message.
-#[derive(Clone, Copy, Debug, PartialEq, Eq)]
+#[derive(Clone, Copy, PartialEq, Eq)]
 pub enum StopChange {
     /// Revokes the stop under an identifier. The number of one that is escalated is told at once from then on.
     Revoke { id: u8, number: Option<u32> },
@@ -87,7 +87,7 @@ pub enum StopChange {
 }
 
 /// One change to a train's restriction identifiers, made by one packet.
-#[derive(Clone, Copy, Debug, PartialEq, Eq)]
+#[derive(Clone, Copy, PartialEq, Eq)]
 pub enum LimitChange {
     /// Revokes the restriction under an identifier.
     Revoke {

@@ -8,7 +8,7 @@ use std::alloc::{AllocError, Global};
 use std::marker::Model;
 
 /// Numbers in ascending order, each of them once.
-#[derive(Debug, Drop)]
+#[derive(Drop)]
 pub struct Numbers {
     all: Vec<u32>,
 }

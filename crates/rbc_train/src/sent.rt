@@ -3,7 +3,7 @@
 use ertms_codec::ToTrain;
 
 /// A message that is sent to a train.
-#[derive(Debug, Drop)]
+#[derive(Drop)]
 pub struct Sent {
     /// NID_ENGINE of the train.
     pub engine: u32,

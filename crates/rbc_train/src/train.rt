@@ -19,7 +19,7 @@ pub const STOP_IDENTIFIERS: usize = 15;
 pub const LIMIT_IDENTIFIERS: usize = 255;
 
 /// An enrolled train.
-#[derive(Debug, Drop)]
+#[derive(Drop)]
 pub struct TrainRec {
     /// The number of its on-board equipment (NID_ENGINE).
     pub engine: u32,

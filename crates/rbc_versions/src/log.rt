@@ -14,7 +14,7 @@ use std::sync::Wait;
 pub struct OutOfMemory;
 
 /// A record, and the key under which it was published.
-#[derive(Debug, Drop)]
+#[derive(Drop)]
 pub struct Version {
     pub key: Key,
     pub rec: Rec,
