@@ -1,6 +1,7 @@
 //! Runs golden batches by 1, 2, 3, 4 and 16 workers: on a locked book, of which each takes part, and in windows of 7
 //! and of 256 messages, or of as many as its line in cases.txt says. An independent model of the rules has given their
-//! outputs. It says of each batch whether every output is right, and how many windows there were.
+//! outputs. It says of each batch whether every output is right, and how many windows there were, and if the desk did not
+//! take all their messages over, how many.
 //!
 //! `rbc_tests RUNS WORKERS MOST` runs each batch so many times, once if no number is given; by so many workers, by all
 //! of those if no number is given; and in windows of so many messages at the most, or on the book alone if MOST is 0.
@@ -18,6 +19,7 @@ use anyhow::{Context, Result};
 use rbc_batch::process;
 use rbc_engine::{AllWorkers, Gate, Pace, Tally};
 use rbc_track::{Track, track_from_toml};
+use std::alloc::{AllocError, Global};
 use std::env::Env;
 use std::io::Write;
 use std::rt::Files;
@@ -49,13 +51,14 @@ struct Plan<'a> {
     ways: &'a str,
 }
 
-/// What came of several runs: whether every output was right, how many inputs were recomputed, and how many windows
-/// there were.
+/// What came of several runs: whether every output was right, how many inputs were recomputed, how many windows there
+/// were, and how many messages of windows the desk did not take over, as where memory is refused.
 #[derive(Clone, Copy)]
 struct Counts {
     is_right: bool,
     recomputed: u64,
     windows: u64,
+    left: u64,
 }
 
 /// The track in a file.
@@ -94,6 +97,7 @@ where
             .recomputed
             .saturating_add(u64::from(stats.recomputed)),
         windows: counts.windows,
+        left: counts.left,
     })
 }
 
@@ -113,10 +117,12 @@ where
         most,
     });
     let counts = run_by(rt, case, workers, &tally, counts)?;
+    let left = tally.attempted().saturating_sub(tally.taken_over());
     Ok(Counts {
-        is_right: counts.is_right && tally.taken_over() == tally.attempted(),
+        is_right: counts.is_right,
         recomputed: counts.recomputed,
         windows: counts.windows.saturating_add(tally.windows()),
+        left: counts.left.saturating_add(left),
     })
 }
 
@@ -143,6 +149,7 @@ where
         is_right: true,
         recomputed: 0,
         windows: 0,
+        left: 0,
     };
     for _ in 0..plan.runs {
         for workers in plan.workers.split(' ') {
@@ -185,9 +192,20 @@ where
             ways,
         },
     )?;
+    Ok((said_of(rt.alloc(), name, track, counts)?, counts))
+}
+
+/// What is said of a case: whether every output is right, in how many windows it was run, and how many of their messages
+/// the desk did not take over, if there are some.
+fn said_of(alloc: Global, name: &str, track: &str, counts: Counts) -> Result<String, AllocError> {
+    let Counts { windows, left, .. } = counts;
     let answer = if counts.is_right { "right" } else { "wrong" };
-    let text = format!(in rt.alloc(); "{name} on {track} {answer}, {} windows", counts.windows)?;
-    Ok((text, counts))
+    if left > 0 {
+        return format!(in alloc;
+            "{name} on {track} {answer}, {windows} windows, {left} messages not taken over"
+        );
+    }
+    format!(in alloc; "{name} on {track} {answer}, {windows} windows")
 }
 
 /// Runs the case in each line of a text, and writes what came of it.
