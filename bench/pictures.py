@@ -27,13 +27,12 @@ def misdrawn(drawn):
         return {str(error)}
     width, height = picture.get("viewBox").split()[2:]
     found = {element.tag for element in picture.iter()} - ELEMENTS
-    found |= {f"x {x}" for x in re.findall(rb' x[12]?="([^"]*)"', drawn) if not 0 <= float(x) <= float(width)}
-    found |= {f"y {y}" for y in re.findall(rb' y[12]?="([^"]*)"', drawn) if not 0 <= float(y) <= float(height)}
-    for points in re.findall(rb' points="([^"]*)"', drawn):
-        for point in points.split():
-            x, y = (float(at) for at in point.split(b","))
-            if not (0 <= x <= float(width) and 0 <= y <= float(height)):
-                found.add(f"point {point}")
+    found |= {f"x {x}" for x in set(re.findall(rb' x[12]?="([^"]*)"', drawn)) if not 0 <= float(x) <= float(width)}
+    found |= {f"y {y}" for y in set(re.findall(rb' y[12]?="([^"]*)"', drawn)) if not 0 <= float(y) <= float(height)}
+    for point in {point for points in re.findall(rb' points="([^"]*)"', drawn) for point in points.split()}:
+        x, y = (float(at) for at in point.split(b","))
+        if not (0 <= x <= float(width) and 0 <= y <= float(height)):
+            found.add(f"point {point}")
     return found
 
 
