@@ -13,14 +13,15 @@ import sys
 import tempfile
 import time
 
-WORKERS = (1, 2, 4)
+# the columns of this program, and the words for each
+WAYS = {"by 1": ("1",), "by 2": ("2",), "by 4": ("4",), "by train, 4": ("4", "--by-train")}
 
 
 class Variant:
-    """A program by a number of workers, and what its runs of one batch took: least wall ms."""
+    """A program by a number of workers, in some way, and what its runs of one batch took: least wall ms."""
 
-    def __init__(self, program, workers):
-        self.words = [program, "run", "--workers", str(workers)]
+    def __init__(self, program, workers, *more):
+        self.words = [program, "run", "--workers", workers, *more]
         self.least = float("inf")
 
     def run(self, name, output):
@@ -48,8 +49,8 @@ class Variant:
 
 def row(name, runs, other, program, output):
     """The row of a batch, and whether all outputs were equal."""
-    base = Variant(other, 1)
-    ours = [Variant(program, workers) for workers in WORKERS]
+    base = Variant(other, "1")
+    ours = [Variant(program, *words) for words in WAYS.values()]
     digests = {variant.run(name, output) for _ in range(runs) for variant in [base, *ours]}
     times = [f"{variant.least:.0f}" for variant in ours]
     cells = [os.path.basename(name), f"{base.least:.0f}", *times, f"{ours[0].least / base.least:.1f}"]
@@ -58,8 +59,8 @@ def row(name, runs, other, program, output):
 
 
 def main(folder, runs, other, program):
-    print(f"| batch | the other | {' | '.join(f'by {workers}' for workers in WORKERS)} | ratio by one | 1 : 4 workers | peak MB |")
-    print("|---|---|---|---|---|---|---|---|")
+    print(f"| batch | the other | {' | '.join(WAYS)} | ratio by one | 1 : 4 by train | peak MB |")
+    print("|---|---|---|---|---|---|---|---|---|")
     equal = True
     with tempfile.TemporaryDirectory() as room:
         for batch in sorted(glob.glob(f"{folder}/*.batch")):

@@ -1,12 +1,13 @@
-"""Finds from how many identifiers on several workers are faster than one.
+"""Finds from how many identifiers on several workers that share messages by train are faster than one.
 
 Called as `python3 crossover.py FOLDER RUNS PROGRAM`. For each number of restrictions it writes a batch to FOLDER: 2,000
 trains are enrolled, so many restrictions begin, each train reports that it stands where they concern it, and then come
-60,000 more reports. It prints the least time of each number of workers over RUNS runs, in turn, and the windows that
-`--stats` shows with 4 workers. All outputs are compared.
+60,000 more reports. It prints the least time of each number of workers with `--by-train` over RUNS runs, in turn, and how
+many messages `--stats` shows in windows with 4 workers. All outputs are compared.
 """
 
 import os
+import re
 import subprocess
 import sys
 import time
@@ -50,9 +51,10 @@ def batch(restrictions):
 def seconds(program, folder, name, workers):
     with open(f"{folder}/{name}.batch", "rb") as source, open(f"{folder}/{name}.out.{workers}", "wb") as out:
         begun = time.monotonic()
-        words = [program, "run", "--stats", "--track", f"{folder}/crossover.toml", "--workers", str(workers)]
+        words = [program, "run", "--stats", "--track", f"{folder}/crossover.toml", "--by-train", "--workers", str(workers)]
         ran = subprocess.run(words, stdin=source, stdout=out, stderr=subprocess.PIPE, check=True, text=True)
-        return time.monotonic() - begun, ran.stderr.strip()
+        took = time.monotonic() - begun
+        return took, re.search(r"^shared by train: (.*)$", ran.stderr, re.MULTILINE)[1]
 
 
 def main(folder, runs, program):

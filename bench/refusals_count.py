@@ -29,6 +29,9 @@ DESCRIBED = {
     "8806000000FA000001C000E400000287D0500C8019000830": b"136 stamp 1000 engine 7 0 scale 0 lrbg 5 distance 2000 dir 1 side 1 over 100 under 100\n",
 }
 
+# how several workers run a batch of the program: on the book, and by train
+WAYS_OF_PROGRAM = {"on the book": (), "by train": ("--by-train",)}
+
 # golden batches to which memory is refused, and those to which threads are, with their tracks. Behind the latter stand the numbers of workers
 # that do windows of them: each window starts its threads anew, and each thread takes two runs.
 SMALL = ("example-unanswered main_line.toml", "example-several main_line.toml")
@@ -141,6 +144,10 @@ def at_program(root, refuse):
         words = [program, "run", "--track", f"{root}/examples/main_line.toml"]
         name = f"the program on `{os.path.basename(batch)}`"
         wrong += count(name, words, text, refuse, lambda ended: end_of_program(ended, expected))
+        for way, more in WAYS_OF_PROGRAM.items():
+            for workers in ("2", "4", "16"):
+                some = [*words, "--workers", workers, *more]
+                wrong += count(f"{name}, {workers} workers {way}", some, text, refuse, lambda ended: end_of_program(ended, expected))
         for task in ("explain", "picture"):
             words = [program, task, "--track", f"{root}/examples/main_line.toml"]
             shown = subprocess.run(words, input=text, capture_output=True, check=True).stdout
@@ -198,9 +205,10 @@ def at_threads(root, refuse, folder):
     wrong, batch = 0, heavy_batch()
     words = [program_of(root), "run", "--track", f"{folder}/heavy.toml", "--workers"]
     expected = subprocess.run([*words, "1"], input=batch, capture_output=True, check=True).stdout
-    for workers in ("2", "4", "16"):
-        name = f"the program, {workers} workers"
-        wrong += count_threads(name, [*words, workers], batch, refuse, expected)
+    for way, more in WAYS_OF_PROGRAM.items():
+        for workers in ("2", "4", "16"):
+            name = f"the program, {workers} workers {way}"
+            wrong += count_threads(name, [*words, workers, *more], batch, refuse, expected)
     for case, of_windows in GOLDEN.items():
         for workers, most in [(count, "0") for count in ("2", "4", "16")] + [(count, "7") for count in of_windows]:
             name = f"`{case.split()[0]}`, {workers} workers {WAYS[most]}"

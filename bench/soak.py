@@ -19,6 +19,8 @@ from soak_batches import PROFILES, made
 from program import program_of
 
 WORKERS = (1, 2, 4, 16)
+# the words by which the program runs each batch: one worker, several on the book, and several by train
+WAYS = [("--workers", str(count), *more) for more in ((), ("--by-train",)) for count in WORKERS if count > 1 or not more]
 SIZES = (50, 300, 300, 1_000, 3_000, 20_000)  # lines of a batch
 LONG = 20  # seconds that one process runs one batch over and over, so that its memory is seen to stay
 PAUSE = 0.01  # seconds between two looks at the memory of a process
@@ -93,17 +95,17 @@ class Soak:
             it.write(text)
 
     def by_program(self, batch):
-        """Runs a batch by the program, by each number of workers side by side; the outputs have to be equal, and are what is expected."""
-        words = [self.dispatch, "run", "--track", batch.track, "--workers"]
-        all_ended = list(self.pool.map(lambda count: run([*words, str(count)], self.folder, batch.text), WORKERS))
+        """Runs a batch by the program, in each way side by side; the outputs have to be equal, and are what is expected."""
+        words = [self.dispatch, "run", "--track", batch.track]
+        all_ended = list(self.pool.map(lambda way: run([*words, *way], self.folder, batch.text), WAYS))
         output = all_ended[0].output
-        for count, ended in zip(WORKERS, all_ended):
+        for way, ended in zip(WAYS, all_ended):
             is_right = ended.status == 0 and ended.output == output and not ended.errors
-            self.note(ended, is_right and (output != b"") == (batch.text != b""), f"{batch.name} of {batch.lines} lines, {count} workers")
+            self.note(ended, is_right and (output != b"") == (batch.text != b""), f"{batch.name} of {batch.lines} lines, {' '.join(way)}")
         self.write(f"{batch.name}.expected", output)
 
     def by_golden(self, batches, runs, workers, environment=None):
-        """Runs batches so often by so many workers, of which each takes part."""
+        """Runs batches so often by so many workers, on a locked book and in windows."""
         with tempfile.TemporaryDirectory(dir=self.folder) as cases:
             for batch in batches:
                 for ending in ("toml", "batch", "expected"):
@@ -134,7 +136,7 @@ class Soak:
         self.note(ended, is_right, what)
 
     def round(self, number):
-        """A batch of each profile, by the program, by all workers a few times, and one of them over and over."""
+        """A batch of each profile, by the program in each way, by rbc_tests a few times, and one of them over and over."""
         batches = [self.batch(profile, number) for profile in PROFILES]
         for batch in batches:
             self.by_program(batch)

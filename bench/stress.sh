@@ -2,8 +2,9 @@
 # Runs batches over and over by 1, 2, 3, 4 and 16 workers, and compares every output: bench/stress.sh [RUNS]
 #
 # The batch in which a train has no identifier left is run RUNS times (1,000 if no number is given) by each number of workers, on a locked book
-# and in windows of 7 and of 256 messages; the closure of examples/ and a contended batch a tenth as often. Says of each whether every output was
-# right, in how many windows it was run, and how many inputs were computed again in all. By hand, not by the gate.
+# (the program's --workers) and in windows of 7 and of 256 messages (its --by-train); the closure of examples/ and a contended batch a tenth as
+# often. Says of each whether every output was right, in how many windows it was run, and how many inputs were recomputed in all. By hand, not
+# by the gate.
 set -euo pipefail
 cd "$(dirname "$0")/../crates/rbc_tests"
 

@@ -10,7 +10,9 @@ ghost use Rattle.rbc_batch.specs.Process.{Answers, AreRead, IsBeforeRun, IsRefus
 
 use crate::rendering::texts_of_desk;
 use crate::streams::{read_batch, write_texts};
-use rbc_engine::{Desk, Gate, MAX_INPUTS, MAX_WORKERS, RunError, Stats, run};
+use rbc_engine::{
+    Desk, Gate, MAX_INPUTS, MAX_WORKERS, Pace, RunError, Stats, Windows, run, run_by_train,
+};
 use rbc_inputs::{first_lines, parse_lines};
 use rbc_step::Input;
 use rbc_track::Track;
@@ -144,8 +146,29 @@ fn run_all<G: Gate + Sync>(
     }
 }
 
+/// Runs inputs on a track from the empty state, with messages shared by train, and returns the desk with the counts of
+/// the run.
+fn run_all_by_train(
+    rt: &(impl AllocGlobal + Threads + Wait + Sync),
+    track: &Track,
+    inputs: &[Input],
+    workers: u8,
+    pace: Pace,
+    windows: &mut Windows,
+) -> Result<(Desk, Stats), RunError>
+    requires fit { All Fits inputs.now }
+    ensures { IsRunOf track.now inputs.now workers result }
+{
+    let mut desk = Desk::new(rt.alloc());
+    match run_by_train(rt, track, &mut desk, inputs, workers, pace, windows) {
+        Ok(stats) => Ok((desk, stats)),
+        Err(error) => Err(error),
+    }
+}
+
 /// Reads a batch to its end, runs its lines on a track, from the empty state, by so many workers (1 to 16), and writes
-/// the output text: that of the lines run one after another. Nothing is written before the whole output is known.
+/// the output text: that of the lines run one after another. Nothing is written before the whole output is known. The
+/// workers attempt many inputs at once, and recompute what went stale (`run` of rbc_engine).
 ///
 /// # Errors
 ///
@@ -169,6 +192,38 @@ pub fn process<R: Read, W: Write, G: Gate + Sync>(
     let (desk, stats) = {
         let inputs = read_inputs(rt, reader, workers)?;
         run_all(rt, track, &inputs, workers, gate)?
+    };
+    let texts = texts_of_desk(rt, &desk, workers)?;
+    match write_texts(writer, &texts) {
+        Ok(()) => Ok(stats),
+        Err(sent) => Err(ProcessError::Write { sent: sent as u64 }),
+    }
+}
+
+/// Does the same, with the same output, without attempts: one worker takes the inputs in order, and long runs of messages
+/// are shared by train among all workers, at a pace (`run_by_train` of rbc_engine). Counts the windows of messages.
+///
+/// # Errors
+///
+/// Those of [`process`].
+pub fn process_by_train<R: Read, W: Write>(
+    rt: &(impl AllocGlobal + Threads + Wait + Sync),
+    track: &Track,
+    reader: &mut R,
+    writer: &mut W,
+    workers: u8,
+    pace: Pace,
+    windows: &mut Windows,
+) -> Result<Stats, ProcessError>
+    ensures answers { Answers track.now workers (R.remaining reader.old) (R.remaining reader.new)
+        (W.contents writer.old) (W.contents writer.new) result }
+    ensures too_long { IsErrOf result ProcessError.TooLong
+        → IfSome (R.remaining reader.old) (λ batch. max_batch < length batch) }
+    ensures untouched { IsUntouched result writer.old writer.new }
+{
+    let (desk, stats) = {
+        let inputs = read_inputs(rt, reader, workers)?;
+        run_all_by_train(rt, track, &inputs, workers, pace, windows)?
     };
     let texts = texts_of_desk(rt, &desk, workers)?;
     match write_texts(writer, &texts) {

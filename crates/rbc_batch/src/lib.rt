@@ -5,8 +5,8 @@ mod batch;
 mod rendering;
 mod streams;
 
-pub use batch::{ProcessError, lines_of_batch, process};
-pub use rbc_engine::{PACE, Stats, Tally};
+pub use batch::{ProcessError, lines_of_batch, process, process_by_train};
+pub use rbc_engine::{Gate, OpenGate, PACE, Pace, Stats, Windows};
 pub use rbc_inputs::{parse_batch, parse_line};
 pub use rbc_text::render;
 pub use streams::{read_batch, write_text};

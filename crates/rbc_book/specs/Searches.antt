@@ -1,6 +1,7 @@
 -- The latest attempt that writes a key (own rule).
-use Rattle.std.specs.Prelude.{◌≡◌, ℕ, ◌+◌, ◌<◌, ◌≤◌, List, Option, Some, None, slice_get}
+use Rattle.std.specs.Prelude.{◌≡◌, ℕ, ◌+◌, ◌<◌, ◌≤◌, ◌%◌, List, length, Option, Some, None, slice_get, slice_index}
 use Rattle.rbc_records.specs.declared.record.Key.{Key}
+use Rattle.rbc_records.specs.declared.record.Key.TheVariants as key
 use Rattle.rbc_versions.specs.Entries.{number_for}
 use Rattle.rbc_book.specs.declared.stage.Stage.{Stage}
 use Rattle.rbc_book.specs.declared.stage.Stage.TheVariants.{Free, Out, Tried, Void}
@@ -21,3 +22,20 @@ NoneWritesIn stages first last k = (i : ℕ) (g : Stage Try) → first ≤ i →
 abbrev pub IsLatestIn : List (Stage Try) → ℕ → ℕ → Key → ℕ → Type 0
 IsLatestIn stages first last k number =
     (i : ℕ) × (g : Stage Try) × (first ≤ i) × (i < last) × (slice_get stages i ≡ Some g) × (number_put g k ≡ Some number) × NoneWritesIn stages (i + 1) last k
+
+-- the bucket of a key
+abbrev pub bucket_of : Key → ℕ
+bucket_of (key.Train engine) = engine % 1024
+bucket_of (key.Line line) = line
+bucket_of key.Roster = 1020
+bucket_of key.Stops = 1021
+bucket_of key.Limits = 1022
+bucket_of key.Unplaced = 1023
+
+-- the bound of a key's bucket
+abbrev pub bound_of : List ℕ → Key → ℕ
+bound_of bounds k = slice_index bounds (bucket_of k)
+
+-- no input whose number is above the bound of a key has an attempt that writes the key: an index is the number less 1
+abbrev pub AreBound : List ℕ → List (Stage Try) → Type 0
+AreBound bounds stages = (k : Key) → NoneWritesIn stages (bound_of bounds k) (length stages) k

@@ -1,7 +1,8 @@
 //! Attempts at inputs.
 
-ghost use Rattle.std.specs.Prelude.{◌≡◌, ◌↔◌, IsTrue};
+ghost use Rattle.std.specs.Prelude.{◌≡◌, ◌↔◌, ◌≤◌, ℕ, IsTrue, Some};
 ghost use Rattle.std.specs.Option.{option_map};
+ghost use Rattle.rbc_records.specs.declared.record.Key.{Key};
 ghost use Rattle.rbc_records.specs.Notes.{Part, AreNow};
 ghost use Rattle.rbc_versions.specs.Log.{number_of};
 ghost use Rattle.rbc_versions.specs.Entries.{AreOf, AreKeyedOf, AreOfWrites, AreCurrent, StandIn, numbered, number_for};
@@ -11,7 +12,9 @@ ghost use Rattle.rbc_step.specs.Right.{IsRight};
 ghost use Rattle.rbc_step.specs.Gathered.{AreSendable};
 ghost use Rattle.rbc_book.specs.Runs.{IsInput};
 ghost use Rattle.rbc_book.specs.Core.{IsRightTry};
+ghost use Rattle.rbc_book.specs.Searches.{bound_of};
 
+use crate::bounds::Bounds;
 use crate::run_name::RunName;
 use rbc_records::Key;
 use rbc_step::{Input, Outcome};
@@ -110,10 +113,28 @@ impl<N: RunName> Attempt<N> {
     }
 
     /// The number that it puts under a key: 0 where it removes what stands there. `None` if it does not write the key.
-    pub(crate) fn number_for(&self, key: Key) -> Option<u64>
-        ensures { result ≡ number_for self.now.writes key }
+    pub fn number_for(&self, key: Key) -> Option<u64>
+        ensures number { result ≡ number_for self.now.writes key }
+        ensures right { IsRightTry N.run self.now }
     {
         self.published.number(key)
+    }
+
+    /// What was published for it.
+    pub fn published(&self) -> &Published
+        ensures published { numbered result.now ≡ self.now.writes }
+        ensures right { IsRightTry N.run self.now }
+    {
+        &self.published
+    }
+
+    /// Raises the bounds of the keys that it writes to the number of its input. Takes no memory.
+    pub(crate) fn raise(&self, bounds: &mut Bounds)
+        ensures raised { (k : Key) (n : ℕ) → number_for self.now.writes k ≡ Some n
+            → self.now.number ≤ bound_of bounds.new k }
+        ensures rises { (k : Key) → bound_of bounds.old k ≤ bound_of bounds.new k }
+    {
+        bounds.raise_all(&self.published, self.number);
     }
 
     /// Whether the numbers of all that was read, also of absent records, are the present ones. Nothing but numbers is
@@ -128,8 +149,8 @@ impl<N: RunName> Attempt<N> {
         present.are_current(log, &self.notes)
     }
 
-    /// What the input does where what was read stands, and the publication of what it writes.
-    pub(crate) fn into_parts(self) -> (Outcome, Published)
+    /// What the input does where what was read stands, the publication of what it writes, and what was read.
+    pub(crate) fn into_parts(self) -> (Outcome, Published, Notes)
         ensures outcome { result.0 ≡ self.outcome }
         ensures writes { numbered result.1 ≡ self.writes }
         ensures published { AreKeyedOf N.log result.1 }
@@ -137,11 +158,11 @@ impl<N: RunName> Attempt<N> {
     {
         let Attempt {
             number: _,
-            notes: _,
+            notes,
             outcome,
             published,
             of: _,
         } = self;
-        (outcome, published)
+        (outcome, published, notes)
     }
 }

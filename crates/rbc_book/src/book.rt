@@ -15,16 +15,18 @@ ghost use Rattle.rbc_book.specs.Runs.{IsGoodRun, IsSerialRun, IsSaidSince};
 ghost use Rattle.rbc_book.specs.Core.{Try, opening};
 ghost use Rattle.rbc_book.specs.Books.{IsBook, ArePresent, state_of, number_now, IsOutIn, IsJudged, Judges};
 ghost use Rattle.rbc_book.specs.Books.{IsOutcomeAt, IsCarriedOut};
-ghost use Rattle.rbc_book.specs.Searches.{IsLatestIn, NoneWritesIn, number_put};
+ghost use Rattle.rbc_book.specs.Searches.{AreBound, IsLatestIn, NoneWritesIn, number_put};
 ghost use Rattle.rbc_book.specs.Forwards.{IsLatest};
 ghost use Rattle.rbc_book.specs.Events.{Happens, Commits};
 ghost use Rattle.rbc_book.specs.Events.Event.{Takes, Reads, Deposits, Voids};
 
 use crate::attempt::Attempt;
+use crate::bounds::Bounds;
+use crate::leavings::{Leaving, Leavings};
 use crate::run_name::RunName;
 use crate::stage::Stage;
 use rbc_desk::{Desk, MAX_RESULTS};
-use rbc_records::Key;
+use rbc_records::{Key, PlainStore, Writes};
 use rbc_step::{Input, Outcome, RuleFault};
 use rbc_track::Track;
 use rbc_versions::{Present, Published, VersionLog, publish_all};
@@ -65,16 +67,19 @@ pub struct Book<'a, N: RunName> {
     desk: Desk,
     present: Present,
     stages: Vec<Stage<Attempt<N>>>,
+    bounds: Bounds,
     committed: u32,
     taken: u32,
     recomputed: u32,
     is_closed: bool,
     weight: usize,
+    leavings: Leavings,
 }
 
 impl<'a, N: RunName> Model for Book<'a, N> {
     ghost use Rattle.std.specs.Prelude.{◌≡◌};
     ghost use Rattle.rbc_book.specs.Books as books;
+    ghost use Rattle.rbc_book.specs.Searches as searches;
 
     ghost Value = { books.BookValue };
 
@@ -88,7 +93,8 @@ impl<'a, N: RunName> Model for Book<'a, N> {
       closed = b.is_closed;
     } };
 
-    // The inputs and the log are those of the run, and what is held is the serial run of the inputs that are committed.
+    // The inputs and the log are those of the run, what is held is the serial run of the inputs that are committed, and
+    // no attempt writes a key above the key's bound.
     ghost invariant = { λ b. (b.log.now ≡ N.log) × (b.inputs.now ≡ N.run.inputs)
         × books.IsBook N.run N.log (record {
           desk = b.desk;
@@ -98,7 +104,7 @@ impl<'a, N: RunName> Model for Book<'a, N> {
           taken = b.taken;
           recomputed = b.recomputed;
           closed = b.is_closed;
-        }) };
+        }) × searches.AreBound b.bounds b.stages.items };
 }
 
 impl<'a, N: RunName> Book<'a, N> {
@@ -127,6 +133,9 @@ impl<'a, N: RunName> Book<'a, N> {
         let Ok(stages) = all_free(alloc, inputs.len()) else {
             return Err(desk);
         };
+        let Ok(bounds) = Bounds::new(alloc) else {
+            return Err(desk);
+        };
         let Ok(present) = Present::of_store(rt, alloc, log, desk.store()) else {
             return Err(desk);
         };
@@ -136,11 +145,13 @@ impl<'a, N: RunName> Book<'a, N> {
             desk,
             present,
             stages,
+            bounds,
             committed: 0,
             taken: 0,
             recomputed: 0,
             is_closed: false,
             weight: 0,
+            leavings: Leavings::new(alloc),
         })
     }
 
@@ -159,14 +170,15 @@ impl<'a, N: RunName> Book<'a, N> {
 
     /// The number of the record that stands under a key as an input is to see it, or 0 if there is none: what the
     /// attempt at the latest earlier input puts there, of those that were deposited, are not committed and write the
-    /// key; and else what stands there now. It takes no memory.
+    /// key; and else what stands there now. It takes no memory. Where the bound of the key's bucket is not above the
+    /// number of committed inputs, nothing is searched.
     pub fn present(&self, input: u32, key: Key) -> u64
         ensures event { Happens N.run (state_of self.now) (Reads input key result) (state_of self.now) }
         ensures latest { IsLatest (state_of self.now) input key result }
         ensures book { IsBook N.run N.log self.now }
     {
         let last = last_before(input, self.taken);
-        match forwarded(&self.stages, self.committed, last, key) {
+        match latest_put(&self.stages, &self.bounds, self.committed, last, key) {
             Some(number) => number,
             None => self.present.number(key),
         }
@@ -183,6 +195,7 @@ impl<'a, N: RunName> Book<'a, N> {
             return Err(attempt);
         }
         self.weight = self.weight.saturating_add(attempt.weight());
+        attempt.raise(&mut self.bounds);
         set_stage(&mut self.stages, number as usize - 1, Stage::Tried(attempt));
         Ok(())
     }
@@ -226,7 +239,8 @@ impl<'a, N: RunName> Book<'a, N> {
         };
         let desk = &mut self.desk;
         let present = &mut self.present;
-        let Ok(weight) = carry_out(rt, alloc, track, inputs, log, turn, desk, present) else {
+        let left = &mut self.leavings;
+        let Ok(weight) = carry_out(rt, alloc, track, inputs, log, turn, desk, present, left) else {
             self.is_closed = true;
             return Commit::Failed;
         };
@@ -238,6 +252,22 @@ impl<'a, N: RunName> Book<'a, N> {
         self.recomputed += 1;
         self.weight = self.weight.saturating_add(weight);
         Commit::Recomputed
+    }
+
+    /// The records of the desk now.
+    pub fn records(&self) -> &PlainStore
+        ensures records { result.now ≡ self.now.desk.records }
+        ensures book { IsBook N.run N.log self.now }
+    {
+        self.desk.store()
+    }
+
+    /// Swaps the leavings of the book for others. A commit keeps what it leaves in the leavings that the book has then. A
+    /// new book has leavings with no room, so its commits free everything at once.
+    pub fn exchange_leavings(&mut self, leavings: &mut Leavings)
+        ensures { self.new ≡ self.old }
+    {
+        mem::swap(&mut self.leavings, leavings);
     }
 
     /// How many inputs are committed.
@@ -280,11 +310,13 @@ impl<'a, N: RunName> Book<'a, N> {
             desk,
             present: _,
             stages: _,
+            bounds: _,
             committed: _,
             taken: _,
             recomputed: _,
             is_closed: _,
             weight: _,
+            leavings: _,
         } = self;
         desk
     }
@@ -362,6 +394,24 @@ fn forwarded<N: RunName>(
     None
 }
 
+/// The number that `forwarded` finds. The search begins at the bound of the key, if that is below the last input, since
+/// no attempt above the bound writes the key.
+fn latest_put<N: RunName>(
+    stages: &Vec<Stage<Attempt<N>>>,
+    bounds: &Bounds,
+    committed: u32,
+    last: u32,
+    key: Key,
+) -> Option<u64>
+    requires within { last ≤ length stages.now.items }
+    requires bound { AreBound bounds.now stages.now.items }
+    ensures some { IfSome result (λ number. IsLatestIn stages.now.items committed last key number) }
+    ensures none { result ≡ None → NoneWritesIn stages.now.items committed last key }
+{
+    let highest = bounds.of(key).min(last);
+    forwarded(stages, committed, highest, key)
+}
+
 /// Whether the next input is ready to be committed, and then whether by its attempt.
 fn judge<N: RunName>(
     stages: &Vec<Stage<Attempt<N>>>,
@@ -399,7 +449,7 @@ struct Turn<N: RunName> {
 }
 
 /// The outcome of the next input and its publication: those of its attempt if it is fresh, and else as they are
-/// computed here. Fails only for lack of memory.
+/// computed here. Keeps what was read for the attempt, and the rest of it if it is stale. Fails only for lack of memory.
 fn outcome_of<N: RunName>(
     rt: &impl Wait,
     alloc: Global,
@@ -408,6 +458,7 @@ fn outcome_of<N: RunName>(
     log: &VersionLog,
     turn: Turn<N>,
     desk: &mut Desk,
+    leaving: &mut Leaving,
 ) -> Result<(Outcome, Published), RuleFault>
     requires run { (track.now ≡ N.run.track) × (inputs.now ≡ N.run.inputs) × (log.now ≡ N.log) × IsGoodRun N.run }
     requires within { turn.front < length inputs.now }
@@ -426,10 +477,12 @@ fn outcome_of<N: RunName>(
         is_fresh,
     } = turn;
     if let Stage::Tried(attempt) = stage {
-        let (outcome, published) = attempt.into_parts();
+        let (outcome, published, notes) = attempt.into_parts();
+        leaving.keep_notes(notes);
         if is_fresh {
             return Ok((outcome, published));
         }
+        leaving.keep_stale(outcome, published);
     }
     computed(rt, alloc, track, &inputs[front], log, desk)
 }
@@ -458,8 +511,8 @@ fn computed(
     }
 }
 
-/// Does what the next input does, and tells how much is published for it. Fails only for lack of memory, and then
-/// changes nothing.
+/// Does what the next input does, keeps what is left of it, and tells how much is published for it. Fails only for lack
+/// of memory, and then changes nothing.
 fn carry_out<N: RunName>(
     rt: &impl Wait,
     alloc: Global,
@@ -469,6 +522,7 @@ fn carry_out<N: RunName>(
     turn: Turn<N>,
     desk: &mut Desk,
     present: &mut Present,
+    leavings: &mut Leavings,
 ) -> Result<usize, RuleFault>
     requires run { (track.now ≡ N.run.track) × (inputs.now ≡ N.run.inputs) × (log.now ≡ N.log) × IsGoodRun N.run }
     requires within { turn.front < length inputs.now }
@@ -482,19 +536,24 @@ fn carry_out<N: RunName>(
     ensures err { OnErr result (standing desk.new ≡ standing desk.old) }
     ensures kept { OnErr result (present.new.tickets ≡ present.old.tickets) }
 {
-    let (outcome, published) = outcome_of(rt, alloc, track, inputs, log, turn, desk)?;
-    hand_over(alloc, outcome, &published, desk, present)?;
-    Ok(published.weight())
+    let mut leaving = Leaving::nothing();
+    let (outcome, published) = outcome_of(rt, alloc, track, inputs, log, turn, desk, &mut leaving)?;
+    let weight = published.weight();
+    let replaced = hand_over(alloc, outcome, &published, desk, present)?;
+    leaving.keep_taken_over(published, replaced);
+    leavings.keep(leaving);
+    Ok(weight)
 }
 
-/// Takes an outcome and its publication over. Fails only for lack of memory, and then changes nothing.
+/// Takes an outcome and its publication over, and returns the records that it replaced. Fails only for lack of memory,
+/// and then changes nothing.
 fn hand_over(
     alloc: Global,
     outcome: Outcome,
     published: &Published,
     desk: &mut Desk,
     present: &mut Present,
-) -> Result<(), AllocError>
+) -> Result<Writes, AllocError>
     requires fit { AreSendable outcome.messages }
     requires room { length desk.old.results < MAX_RESULTS }
     ensures desk { OnOk result (standing desk.new ≡ after_outcome (standing desk.old) outcome) }
@@ -506,7 +565,7 @@ fn hand_over(
     if present.reserve(published.len()).is_err() {
         return Err(AllocError);
     }
-    desk.take_over(alloc, outcome)?;
+    let replaced = desk.take_over(alloc, outcome)?;
     present.take_over(published);
-    Ok(())
+    Ok(replaced)
 }

@@ -3,10 +3,13 @@
 
 mod attempt;
 mod book;
+mod bounds;
+mod leavings;
 mod run_name;
 mod stage;
 
 pub use attempt::Attempt;
 pub use book::{Book, Commit, Stats};
+pub use leavings::Leavings;
 pub use rbc_desk::{Desk, MAX_RESULTS, decide};
 pub use run_name::RunName;

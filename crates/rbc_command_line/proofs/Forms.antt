@@ -19,8 +19,8 @@ use Rattle.clap.specs.declared.builder.value_parser.ValueParser.TheVariants as v
 use Rattle.clap.proofs.OnLiterals.{clap_on_literals}
 use Rattle.clap.proofs.ValueTestLemmas.{Accepts-accepts}
 use Rattle.clap.proofs.WalkLemmas.{byte_read}
-use Rattle.rbc_command_line.specs.Forms.{AfterAllByDefault, AsManyAsNamed, BeginAtOneByDefault, FromOneByDefault, NoFiguresByDefault, OneByDefault, WritesByte}
-use Rattle.rbc_command_line.specs.Words.{AsksToDraw, AsksToExplain, AsksToLive, AsksToRun, check_shape, codes_shape, command_line, decode_shape, explain_shape, finding_in, flag_after, found_after, live_shape, picture_shape, stats_rule, track_rule, word_after, workers_rule}
+use Rattle.rbc_command_line.specs.Forms.{AfterAllByDefault, AsManyAsNamed, BeginAtOneByDefault, FromOneByDefault, NoFiguresByDefault, NotByTrainByDefault, OneByDefault, WritesByte}
+use Rattle.rbc_command_line.specs.Words.{AsksToDraw, AsksToExplain, AsksToLive, AsksToRun, by_train_rule, check_shape, codes_shape, command_line, decode_shape, explain_shape, finding_in, flag_after, found_after, live_shape, picture_shape, stats_rule, track_rule, word_after, workers_rule}
 
 no_hyphen : (c : ℕ) → c ≢ 45 → (c == 45) ≡ false
 no_hyphen c plain = ne_eqb c 45 plain
@@ -28,7 +28,7 @@ no_hyphen c plain = ne_eqb c 45 plain
 -- the command line, with any parser of the number of workers
 abbrev line_with : ValueParser → App
 line_with q =
-    let run = (with_rule (with_rule (with_rule (new_app (codes "run")) track_rule) (record workers_rule { parser = Some q })) stats_rule).top in
+    let run = (with_rule (with_rule (with_rule (with_rule (new_app (codes "run")) track_rule) (record workers_rule { parser = Some q })) by_train_rule) stats_rule).top in
     let without_name = on_top (λ top. record top { no_binary_name = true; subcommand_required = true; has_version = true }) in
     let inputs = with_subcommand (with_subcommand (with_subcommand (with_subcommand (without_name (new_app (codes "dispatch"))) run) live_shape) explain_shape) picture_shape in
     with_subcommand (with_subcommand (with_subcommand inputs check_shape) decode_shape) codes_shape
@@ -101,6 +101,10 @@ module _ (c : ℕ) (rest : Text) (plain : (c == 45) ≡ false) where
   unfolding clap_on_literals
   unasked_alone = simp plain
 
+  unshared_alone : flag_after (codes "run") (codes "by-train") (finding_in (codes "run" ∷ track_alone)) ≡ Some (codes "false")
+  unfolding clap_on_literals
+  unshared_alone = simp plain
+
   live_alone : AsksToLive (c ∷ rest) 1 (codes "live" ∷ track_alone)
   unfolding clap_on_literals
   live_alone = (live_takes (codes "--track") (c ∷ rest) (simp plain) track_pending (simp plain) refl, simp plain, simp plain)
@@ -120,6 +124,10 @@ one_by_default (c ∷ rest) plain = run_alone c rest (no_hyphen c plain)
 pub no_figures_by_default : NoFiguresByDefault
 no_figures_by_default [] plain = absurd plain
 no_figures_by_default (c ∷ rest) plain = unasked_alone c rest (no_hyphen c plain)
+
+pub not_by_train_by_default : NotByTrainByDefault
+not_by_train_by_default [] plain = absurd plain
+not_by_train_by_default (c ∷ rest) plain = unshared_alone c rest (no_hyphen c plain)
 
 pub from_one_by_default : FromOneByDefault
 from_one_by_default [] plain = absurd plain

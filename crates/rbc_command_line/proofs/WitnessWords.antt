@@ -4,7 +4,7 @@ use Rattle.clap.specs.Kinds.{Kinds}
 use Rattle.clap.specs.declared.error.kind.ErrorKind.{ErrorKind}
 use Rattle.clap.specs.declared.error.kind.ErrorKind.TheVariants as kind
 use Rattle.clap.proofs.OnLiterals.{clap_on_literals}
-use Rattle.rbc_command_line.specs.Witnesses.{AskByFlag, AskFor, AskForNone, AskFrom, AskFromNone, AskToDraw, AskToDrawNone, AskToExplain, AskToExplainNone}
+use Rattle.rbc_command_line.specs.Witnesses.{AskByFlag, AskByTrain, AskFor, AskForNone, AskFrom, AskFromNone, AskToDraw, AskToDrawNone, AskToExplain, AskToExplainNone}
 
 pub one : AskFor 1 []
 unfolding clap_on_literals
@@ -70,6 +70,18 @@ figures_of_four = (refl, refl, refl)
 pub figures_twice : AskForNone (codes "--stats" ∷ codes "--stats" ∷ [])
 unfolding clap_on_literals
 figures_twice workers asked = faulty _ kind.ArgumentConflict refl asked.0
+
+pub by_train : AskByTrain (codes "true") (codes "--by-train" ∷ [])
+unfolding clap_on_literals
+by_train = (refl, refl)
+
+pub by_train_of_four : AskFor 4 (codes "--workers" ∷ codes "4" ∷ codes "--by-train" ∷ [])
+unfolding clap_on_literals
+by_train_of_four = (refl, refl, refl)
+
+pub by_train_twice : AskForNone (codes "--by-train" ∷ codes "--by-train" ∷ [])
+unfolding clap_on_literals
+by_train_twice workers asked = faulty _ kind.ArgumentConflict refl asked.0
 
 pub from_seven : AskFrom 7 (codes "--from" ∷ codes "7" ∷ [])
 unfolding clap_on_literals

@@ -26,9 +26,13 @@ forms_of file word =
 abbrev pub OneByDefault : Type 0
 OneByDefault = (file : Text) → IsPlain file → AsksToRun file 1 (codes "run" ∷ codes "--track" ∷ file ∷ [])
 
--- without the flag no figures are asked for
+-- without `--stats` no figures are asked for
 abbrev pub NoFiguresByDefault : Type 0
 NoFiguresByDefault = (file : Text) → IsPlain file → flag_after (codes "run") (codes "stats") (finding_in (codes "run" ∷ codes "--track" ∷ file ∷ [])) ≡ Some (codes "false")
+
+-- without `--by-train` no sharing by train is asked for
+abbrev pub NotByTrainByDefault : Type 0
+NotByTrainByDefault = (file : Text) → IsPlain file → flag_after (codes "run") (codes "by-train") (finding_in (codes "run" ∷ codes "--track" ∷ file ∷ [])) ≡ Some (codes "false")
 
 -- without a number answers are written from the first one on
 abbrev pub FromOneByDefault : Type 0

@@ -16,9 +16,13 @@ AskFor workers more = AsksToRun (codes "t") workers (run_with more)
 abbrev pub AskForNone : List Text → Type 0
 AskForNone more = (workers : ℕ) → AskFor workers more → ⊥
 
--- they have no fault, and the text of their flag is this one
+-- they have no fault, and the text of the flag that asks for figures is this one
 abbrev pub AskByFlag : Text → List Text → Type 0
 AskByFlag text more = (fault_of command_line (run_with more) ≡ []) × (flag_after (codes "run") (codes "stats") (finding_in (run_with more)) ≡ Some text)
+
+-- they have no fault, and the text of the flag that asks for sharing by train is this one
+abbrev pub AskByTrain : Text → List Text → Type 0
+AskByTrain text more = (fault_of command_line (run_with more) ≡ []) × (flag_after (codes "run") (codes "by-train") (finding_in (run_with more)) ≡ Some text)
 
 -- the same behind `live`: they ask for the answers from this number on
 abbrev pub AskFrom : ℕ → List Text → Type 0

@@ -28,13 +28,17 @@ workers_rule = record (new_rule (codes "workers")) {
   defaults = codes "1" ∷ [];
 }
 
--- the option by which it is said how many inputs workers shared
+-- the flag that has workers share messages by train
+abbrev pub by_train_rule : Rule
+by_train_rule = record (new_rule (codes "by-train")) { long = Some (codes "by-train"); action = Some SetTrue }
+
+-- the flag that reports what the workers did
 abbrev pub stats_rule : Rule
 stats_rule = record (new_rule (codes "stats")) { long = Some (codes "stats"); action = Some SetTrue }
 
--- `run`, with its three options
+-- `run`, with its four options
 abbrev pub run_shape : Shape
-run_shape = (with_rule (with_rule (with_rule (new_app (codes "run")) track_rule) workers_rule) stats_rule).top
+run_shape = (with_rule (with_rule (with_rule (with_rule (new_app (codes "run")) track_rule) workers_rule) by_train_rule) stats_rule).top
 
 -- the option that says from which number on answers are written: a number from 1 on, which is 1 by default
 abbrev pub from_rule : Rule
@@ -160,7 +164,7 @@ flag_after name id found = option_and_then (one_of id) (found_after name found)
 abbrev pub IsFlag : Option Text → Bool → Type 0
 IsFlag text flag = (text ≡ Some (codes "true") → flag ≡ true) × (text ≡ Some (codes "false") → flag ≡ false)
 
--- the words name no run, or not its flag
+-- the words name no run, or not the flag that asks for figures
 abbrev pub AsksForNoFigures : List Text → Type 0
 AsksForNoFigures words = (word_after (codes "run") (codes "track") (finding_in words) ≡ None) ⊎ (flag_after (codes "run") (codes "stats") (finding_in words) ≡ Some (codes "false"))
 
@@ -206,8 +210,9 @@ IsNeither found = (word_after (codes "run") (codes "track") found ≡ None)
 
 -- the task is what was found
 abbrev pub IsFound : Finding → Task → Type 0
-IsFound found (Run track workers stats) = (word_after (codes "run") (codes "track") found ≡ Some track.now)
+IsFound found (Run track workers by_train stats) = (word_after (codes "run") (codes "track") found ≡ Some track.now)
     × (number_after (codes "run") (codes "workers") found ≡ workers)
+    × IsFlag (flag_after (codes "run") (codes "by-train") found) by_train
     × IsFlag (flag_after (codes "run") (codes "stats") found) stats
 IsFound found (Live track from) = (word_after (codes "live") (codes "track") found ≡ Some track.now)
     × (count_after (codes "live") (codes "from") found ≡ from)
@@ -226,7 +231,7 @@ IsNoTask found = IsNeither found × (word_after (codes "check") (codes "track") 
 
 -- the task is the batch, on the track in the file of this name, with so many workers
 abbrev pub IsRunOn : Text → ℕ → Task → Type 0
-IsRunOn file workers (Run track number stats) = (track.now ≡ file) × (number ≡ workers)
+IsRunOn file workers (Run track number by_train stats) = (track.now ≡ file) × (number ≡ workers)
 IsRunOn file workers (Live track from) = ⊥
 IsRunOn file workers (Check track other) = ⊥
 IsRunOn file workers (Decode hex) = ⊥
@@ -237,7 +242,7 @@ IsRunOn file workers Codes = ⊥
 -- the task is lines as they come, on the track in the file of this name, from this number on
 abbrev pub IsLiveOn : Text → ℕ → Task → Type 0
 IsLiveOn file from (Live track first) = (track.now ≡ file) × (first ≡ from)
-IsLiveOn file from (Run track number stats) = ⊥
+IsLiveOn file from (Run track number by_train stats) = ⊥
 IsLiveOn file from (Check track other) = ⊥
 IsLiveOn file from (Decode hex) = ⊥
 IsLiveOn file from (Explain track first) = ⊥
@@ -247,7 +252,7 @@ IsLiveOn file from Codes = ⊥
 -- the task is the log of the batch, on the track in the file of this name, from this input on
 abbrev pub IsExplainOn : Text → ℕ → Task → Type 0
 IsExplainOn file from (Explain track first) = (track.now ≡ file) × (first ≡ from)
-IsExplainOn file from (Run track number stats) = ⊥
+IsExplainOn file from (Run track number by_train stats) = ⊥
 IsExplainOn file from (Live track first) = ⊥
 IsExplainOn file from (Picture track after) = ⊥
 IsExplainOn file from (Check track other) = ⊥
@@ -257,7 +262,7 @@ IsExplainOn file from Codes = ⊥
 -- the task is the picture of the track in the file of this name, after so many inputs of the batch, or after all
 abbrev pub IsPictureOn : Text → Option ℕ → Task → Type 0
 IsPictureOn file after (Picture track count) = (track.now ≡ file) × (count ≡ after)
-IsPictureOn file after (Run track number stats) = ⊥
+IsPictureOn file after (Run track number by_train stats) = ⊥
 IsPictureOn file after (Live track from) = ⊥
 IsPictureOn file after (Explain track from) = ⊥
 IsPictureOn file after (Check track other) = ⊥
@@ -266,7 +271,7 @@ IsPictureOn file after Codes = ⊥
 
 -- the task is the text of the message that this word stands for
 abbrev pub IsDecode : Text → Task → Type 0
-IsDecode word (Run track number stats) = ⊥
+IsDecode word (Run track number by_train stats) = ⊥
 IsDecode word (Live track from) = ⊥
 IsDecode word (Check track other) = ⊥
 IsDecode word (Explain track first) = ⊥
@@ -277,7 +282,7 @@ IsDecode word (Decode hex) = hex.now ≡ word
 -- the task is the report on the track in the file of this name
 abbrev pub IsCheckOf : Text → Task → Type 0
 IsCheckOf file (Check track other) = track.now ≡ file
-IsCheckOf file (Run track number stats) = ⊥
+IsCheckOf file (Run track number by_train stats) = ⊥
 IsCheckOf file (Live track from) = ⊥
 IsCheckOf file (Decode hex) = ⊥
 IsCheckOf file (Explain track first) = ⊥

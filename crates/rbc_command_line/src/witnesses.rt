@@ -1,8 +1,8 @@
 //! Worked cases of the law of forms, right ones and wrong ones.
 
 ghost use Rattle.std.specs.Prelude.{[], ◌∷◌, Some, codes};
-ghost use Rattle.rbc_command_line.specs.Witnesses.{AskByFlag, AskFor, AskForNone, AskFrom, AskFromNone, AskToDraw};
-ghost use Rattle.rbc_command_line.specs.Witnesses.{AskToDrawNone, AskToExplain, AskToExplainNone};
+ghost use Rattle.rbc_command_line.specs.Witnesses.{AskByFlag, AskByTrain, AskFor, AskForNone, AskFrom, AskFromNone};
+ghost use Rattle.rbc_command_line.specs.Witnesses.{AskToDraw, AskToDrawNone, AskToExplain, AskToExplainNone};
 
 /// What words behind `run --track t` ask for.
 ///
@@ -11,6 +11,8 @@ ghost use Rattle.rbc_command_line.specs.Witnesses.{AskToDrawNone, AskToExplain, 
 /// - `--workers 256`, `--workers -1`, `--workers x` and a number that is named twice ask for no run.
 /// - The text of the flag is "false" where no word asks for figures, and "true" with `--stats`, which leaves the number
 ///   of workers as it is. `--stats` twice asks for no run.
+/// - `--by-train` asks for sharing by train, and leaves the number of workers as it is. `--by-train` twice asks for no
+///   run.
 ///
 /// Behind `live --track t`, `--from 7` asks for the answers from number 7 on, and `--from 0` for none. Behind
 /// `explain --track t`, `--from 4294967295` asks for the log from that input on, and `--from 0` for none. Behind
@@ -30,6 +32,9 @@ pub fn forms_law_witnesses()
     ensures figures { AskByFlag (codes "true") (codes "--stats" ∷ []) }
     ensures figures_of_four { AskFor 4 (codes "--stats" ∷ codes "--workers" ∷ codes "4" ∷ []) }
     ensures figures_twice { AskForNone (codes "--stats" ∷ codes "--stats" ∷ []) }
+    ensures by_train { AskByTrain (codes "true") (codes "--by-train" ∷ []) }
+    ensures by_train_of_four { AskFor 4 (codes "--workers" ∷ codes "4" ∷ codes "--by-train" ∷ []) }
+    ensures by_train_twice { AskForNone (codes "--by-train" ∷ codes "--by-train" ∷ []) }
     ensures from_seven { AskFrom 7 (codes "--from" ∷ codes "7" ∷ []) }
     ensures from_zero { AskFromNone (codes "--from" ∷ codes "0" ∷ []) }
     ensures log_from_last { AskToExplain 4294967295 (codes "--from" ∷ codes "4294967295" ∷ []) }

@@ -9,9 +9,9 @@ ghost use Rattle.rbc_command_line.specs.NoTask.{status_of, status_of_kind};
 ghost use Rattle.rbc_command_line.specs.Words.{AsksToCheck, AsksToDecode, AsksToDraw, AsksToExplain, AsksToLive};
 ghost use Rattle.rbc_command_line.specs.Words.{AsksToRun, IsCheckOf, IsDecode, IsExplainOn, IsFound, IsLiveOn};
 ghost use Rattle.rbc_command_line.specs.Words.{IsNoTask, IsPictureOn, IsRunOn, IsTakenFor, IsWantOfMemory, bare_line};
-ghost use Rattle.rbc_command_line.specs.Words.{command_line, count_after, finding_in, flag_after, input_after};
-ghost use Rattle.rbc_command_line.specs.Words.{number_after, other_keys_rule, run_shape, stats_rule, track_rule};
-ghost use Rattle.rbc_command_line.specs.Words.{word_after};
+ghost use Rattle.rbc_command_line.specs.Words.{by_train_rule, command_line, count_after, finding_in, flag_after};
+ghost use Rattle.rbc_command_line.specs.Words.{input_after, number_after, other_keys_rule, run_shape, stats_rule};
+ghost use Rattle.rbc_command_line.specs.Words.{track_rule, word_after};
 
 use crate::no_task::NoTask;
 use clap::builder::ValueParser;
@@ -24,12 +24,17 @@ use std::{env, io};
 /// What the arguments ask the program to do.
 #[derive(Clone, Copy)]
 pub enum Task<'a> {
-    /// `dispatch run --track FILE --workers N --stats`: do the batch on standard input, on the track in the file of
-    /// this name, with so many workers, or with one where the arguments name no number. With the option, say how many
-    /// inputs the workers shared.
+    /// `dispatch run --track FILE --workers N --by-train --stats`: run the batch on standard input, on the track in
+    /// FILE.
+    ///
+    /// - `workers`: the number of workers, 1 by default. One worker takes the inputs in order. Several workers attempt
+    ///   many inputs at once, commit them in input order, and recompute the attempts that went stale.
+    /// - `by_train`: several workers share runs of messages by train instead.
+    /// - `stats`: report on standard error what the workers did.
     Run {
         track: &'a str,
         workers: u8,
+        by_train: bool,
         stats: bool,
     },
     /// `dispatch live --track FILE --from N`: answer the lines on standard input as they come, on the track in
@@ -97,9 +102,11 @@ Reads a batch from standard input, to its end, and writes one line for each inpu
 `INPUT ok COUNT` or `INPUT refused CODE`, and then one line for each message, by engine number:
 `ENGINE INPUT HEX`. Nothing is written before the whole batch is run.
 
-Workers are threads that work on several messages at once. They are used where many messages come
-on end, and sooner where trains are told of many restrictions. The output is the same for every
-number.
+One worker takes the inputs in order. Several workers attempt many inputs at once, commit them in
+input order, and recompute an attempt if a record that it read has changed. Most inputs take about
+a microsecond to decide, so one worker is usually fastest. With --by-train, several workers share
+long runs of messages by train instead: faster where trains hold many restrictions. The output is
+the same in every case.
 
 Exit status: 0 done; 1 a fault, one line on standard error; 2 bad arguments.
 `dispatch codes` says what each code and each fault means, `dispatch explain` tells a run in words.",
@@ -244,7 +251,7 @@ fn bare_command<'a>(alloc: Global) -> Result<Command<'a>, AllocError>
 {
     Command::new(alloc, "dispatch")
         .no_binary_name(true)
-        .version("3.5.2, rules 3")
+        .version("3.6.0, rules 3")
         .about(
             "Emergency stops and speed restrictions, from a signaller's batch to each train's messages",
         )
@@ -253,13 +260,15 @@ fn bare_command<'a>(alloc: Global) -> Result<Command<'a>, AllocError>
         .bin_name("dispatch")
 }
 
-/// `run`, with its three options.
+/// `run`, with its four options.
 fn run_command<'a>(alloc: Global) -> Result<Command<'a>, AllocError>
     ensures shape { IfOk result (λ command. shape_of command ≡ run_shape) }
     ensures local { IfOk result (λ command. (fields_of command).has_globals ≡ false) }
 {
     let workers = number_option(alloc, WORKERS);
-    with_track(alloc, RUN, workers)?.arg(stats_option(alloc))
+    with_track(alloc, RUN, workers)?
+        .arg(by_train_option(alloc))?
+        .arg(stats_option(alloc))
 }
 
 /// A subcommand that takes a track and one more option.
@@ -312,6 +321,16 @@ fn number_option<'a>(alloc: Global, option: &NumberOption) -> Arg<'a>
         .help(option.help)
 }
 
+fn by_train_option<'a>(alloc: Global) -> Arg<'a>
+    ensures rule { rule_of result ≡ by_train_rule }
+    ensures local { result.global ≡ false }
+{
+    Arg::new(alloc, "by-train")
+        .long("by-train")
+        .action(ArgAction::SetTrue)
+        .help("Let workers share messages by train, not attempt inputs")
+}
+
 fn stats_option<'a>(alloc: Global) -> Arg<'a>
     ensures rule { rule_of result ≡ stats_rule }
     ensures local { result.global ≡ false }
@@ -319,7 +338,7 @@ fn stats_option<'a>(alloc: Global) -> Arg<'a>
     Arg::new(alloc, "stats")
         .long("stats")
         .action(ArgAction::SetTrue)
-        .help("Say on standard error how many inputs workers shared")
+        .help("Say on standard error what the workers did")
 }
 
 fn other_keys_option<'a>(alloc: Global) -> Arg<'a>
@@ -406,10 +425,12 @@ fn task_of<'a>(matches: &ArgMatches<'a>) -> Option<Task<'a>>
 {
     if let Some(track) = word_after(matches, "run", "track") {
         let workers = number_after(matches, "run", "workers");
+        let by_train = has_flag_after(matches, "run", "by-train");
         let stats = has_flag_after(matches, "run", "stats");
         return Some(Task::Run {
             track,
             workers,
+            by_train,
             stats,
         });
     }

@@ -1,5 +1,5 @@
 -- Words that ask for no figures are taken for a task that says none.
-use Rattle.std.proofs.Common.{◌≡◌, ℕ, List, Option, Some, None, inl, inr, codes}
+use Rattle.std.proofs.Common.{◌≡◌, List, Option, Some, None, inl, inr, codes}
 use Rattle.clap.specs.Walk.{Text}
 use Rattle.rbc_command_line.specs.Words.{AsksForNoFigures, IsFlag, IsFound, finding_in, flag_after}
 use Rattle.rbc_command_line.specs.declared.words.Task.{Task}
@@ -12,9 +12,9 @@ no_word None word none some = cc
 no_word (Some x) word none some = cc
 
 pub quiet_task : (words : List Text) (task : Task) → IsFound (finding_in words) task → AsksForNoFigures words → IsQuiet task
-quiet_task words (Run track workers stats) is (inl none) = absurd (no_word _ track.now none is.0)
-quiet_task words (Run track workers stats) is (inr unset) =
-    let flag : IsFlag (flag_after (codes "run") (codes "stats") (finding_in words)) stats = is.2 in
+quiet_task words (Run track workers by_train stats) is (inl none) = absurd (no_word _ track.now none is.0)
+quiet_task words (Run track workers by_train stats) is (inr unset) =
+    let flag : IsFlag (flag_after (codes "run") (codes "stats") (finding_in words)) stats = is.3 in
     flag.1 unset
 quiet_task words (Live track from) is asked = tt
 quiet_task words (Explain track from) is asked = tt

@@ -1,21 +1,24 @@
--- What is said of how the workers of a run shared its inputs.
+-- What `run` reports of its workers.
 use Rattle.std.specs.Prelude.{◌≡◌, ⊤, ℕ, List, ◌++◌, codes, false}
 use Rattle.std.specs.Fmt.{decimal}
 use Rattle.rbc_command_line.specs.declared.words.Task.{Task}
 use Rattle.rbc_command_line.specs.declared.words.Task.TheVariants.{Run, Live, Explain, Picture, Check, Decode, Codes}
-use Rattle.rbc_words.specs.Units.{count_text}
 use Rattle.rbc_dispatch.specs.declared.figures.Figures.{Figures}
 
--- the line of figures, without its line feed
-abbrev pub line_of : Figures → List ℕ
-line_of figures =
-    count_text figures.inputs (codes "input") ++ (codes ", " ++ (count_text figures.windows (codes "window") ++ (codes ", " ++ (decimal figures.attempted
-    ++ (codes " attempted, " ++ (decimal figures.taken_over ++ (codes " taken over, " ++ (decimal figures.in_order
-    ++ (codes " computed in order, " ++ count_text figures.workers (codes "worker"))))))))))
+-- the lines of figures, without the last line feed
+abbrev pub report_of : Figures → List ℕ
+report_of figures =
+    codes "inputs: " ++ decimal figures.inputs
+    ++ codes "\nattempted ahead: " ++ decimal figures.attempted
+    ++ codes "\ntaken over as attempted: " ++ decimal figures.taken_over
+    ++ codes "\nrecomputed, since a record that was read had changed: " ++ decimal figures.recomputed
+    ++ codes "\ngiven up as they were taken: " ++ decimal figures.given_up
+    ++ codes "\nshared by train: " ++ decimal figures.shared ++ codes " messages in " ++ decimal figures.windows ++ codes " windows\nin order: " ++ decimal figures.in_order
+    ++ codes "\nworkers: " ++ decimal figures.workers
 
--- the task is none that says its figures on standard error
+-- the task is none that reports on standard error
 abbrev pub IsQuiet : Task → Type 0
-IsQuiet (Run track workers stats) = stats ≡ false
+IsQuiet (Run track workers by_train stats) = stats ≡ false
 IsQuiet (Live track from) = ⊤
 IsQuiet (Explain track from) = ⊤
 IsQuiet (Picture track after) = ⊤

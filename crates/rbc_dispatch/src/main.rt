@@ -6,14 +6,16 @@
 //! `dispatch check --track FILE` says what a track file says, and what is wrong with it.
 //! `dispatch decode HEX` writes the text of one message, and `dispatch codes` what each code means.
 //!
-//! Workers are threads that work on several messages at once, 1 to 16 of them, and 1 where N is not given. They are
-//! used where messages take long. What `run` writes to standard output does not hang on their number. With `--stats`
-//! it says on standard error how many inputs they shared.
+//! N is the number of workers, 1 to 16, and 1 by default. One worker takes the inputs in order. Several workers attempt
+//! many inputs at once, commit them in input order, and recompute an attempt if a record that it read has changed. With
+//! `--by-train`, several workers share long runs of messages by train instead. The output is the same in every case.
+//! With `--stats`, `run` reports on standard error what the workers did.
 //!
 //! The exit status is 0 where the task was done, for help and for the version, 1 for a fault, and 2
 //! for bad arguments. A fault is one line on standard error.
 #![tactic(auto)]
 
+mod attempts;
 mod check;
 mod codes;
 mod decode;

@@ -14,6 +14,7 @@ ghost use Rattle.rbc_command_line.specs.Words.{AsksToCheck, AsksToDecode, AsksTo
 ghost use Rattle.rbc_command_line.specs.Words.{AsksForNoFigures, AsksToRun, IsCheckOf, IsDecode, IsExplainOn, IsLiveOn};
 ghost use Rattle.rbc_command_line.specs.Words.{IsPictureOn, IsRunOn, command_line};
 
+use crate::attempts::Attempts;
 use crate::check::check_text;
 use crate::codes::write_codes;
 use crate::decode::decode;
@@ -23,7 +24,7 @@ use crate::fault::Fault;
 use crate::figures::Figures;
 use crate::live::live_text;
 use crate::picture::picture_text;
-use rbc_batch::{PACE, Tally, process};
+use rbc_batch::{OpenGate, PACE, Windows, process, process_by_train};
 use rbc_command_line::Task;
 use rbc_track::track_from_toml;
 use std::env::Env;
@@ -70,7 +71,7 @@ where
 }
 
 /// Does the task that the arguments ask for. Arguments that are refused leave the streams untouched, and so does each
-/// task `errors`, but a run that is to say its figures there.
+/// task `errors`, but a run that is to report its figures there.
 fn perform<R, I, O, E>(
     rt: &R,
     words: &[String],
@@ -162,8 +163,9 @@ where
         Task::Run {
             track,
             workers,
+            by_train,
             stats,
-        } => run_file(rt, track, workers, stats, input, output, errors),
+        } => run_file(rt, track, workers, by_train, stats, input, output, errors),
         Task::Live { track, from } => live_file(rt, track, from, input, output),
         Task::Explain { track, from } => explain_file(rt, track, from, input, output),
         Task::Picture { track, after } => picture_file(rt, track, after, input, output),
@@ -185,11 +187,12 @@ where
     check_text(rt.alloc(), text.as_str(), other_keys, output)
 }
 
-/// Does a batch by so many workers on the track in a file. The track is known before anything of the batch is read.
+/// Runs a batch on the track in a file, as the arguments say. The track is known before anything of the batch is read.
 fn run_file<R, I, O, E>(
     rt: &R,
     file: &str,
     workers: u8,
+    by_train: bool,
     stats: bool,
     input: &mut I,
     output: &mut O,
@@ -206,7 +209,16 @@ where
     ensures quiet { stats ≡ false → errors.new ≡ errors.old }
 {
     let text = track_text(rt, file)?;
-    run_on(rt, text.as_str(), workers, stats, input, output, errors)
+    run_on(
+        rt,
+        text.as_str(),
+        workers,
+        by_train,
+        stats,
+        input,
+        output,
+        errors,
+    )
 }
 
 /// Answers lines as they come, from this number on, on the track in a file. The track is known before anything is read.
@@ -280,13 +292,14 @@ fn track_text<R: AllocGlobal + Files>(rt: &R, file: &str) -> Result<String, Faul
     }
 }
 
-/// Does a batch by so many workers on the track that a text is. The track is known before anything of the batch is
-/// read. With `stats`, the figures of a run that is done go to `errors`; where they cannot be written, the output
-/// stands.
+/// Runs a batch on the track that a text is. One worker takes the inputs in order; several attempt them, or share
+/// messages by train. The track is known before anything of the batch is read. With `stats`, the figures of a run that is
+/// done go to `errors`. If they cannot be written, the run is done nevertheless.
 fn run_on<R, I, O, E>(
     rt: &R,
     text: &str,
     workers: u8,
+    by_train: bool,
     stats: bool,
     input: &mut I,
     output: &mut O,
@@ -303,10 +316,21 @@ where
     ensures quiet { stats ≡ false → errors.new ≡ errors.old }
 {
     let track = track_from_toml(rt.alloc(), text)?;
-    let tally = Tally::new(PACE);
-    let counts = process(rt, &track, input, output, workers, &tally)?;
-    if stats {
-        let _ = writeln!(errors, "{}", Figures::new(counts, &tally));
+    if workers < 2 || by_train {
+        let mut windows = Windows::none();
+        let counts = process_by_train(rt, &track, input, output, workers, PACE, &mut windows)?;
+        if stats {
+            let _ = writeln!(errors, "{}", Figures::of_windows(counts, windows, workers));
+        }
+        return Ok(());
     }
+    if stats {
+        let attempts = Attempts::none();
+        let counts = process(rt, &track, input, output, workers, &attempts)?;
+        let figures = Figures::of_attempts(counts, attempts.count(), workers);
+        let _ = writeln!(errors, "{figures}");
+        return Ok(());
+    }
+    process(rt, &track, input, output, workers, &OpenGate)?;
     Ok(())
 }

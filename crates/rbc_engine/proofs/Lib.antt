@@ -2,4 +2,4 @@ pub mod Fronts
 pub mod Ends
 pub mod Stretches
 pub mod OneByOne
-pub mod Windows
+pub mod InWindows

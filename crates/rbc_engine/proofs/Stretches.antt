@@ -17,7 +17,7 @@ use Rattle.rbc_book.specs.Runs.{Run, IsGoodRun, IsSerialRun}
 use Rattle.rbc_book.proofs.Mails.{said_since}
 use Rattle.rbc_engine.specs.declared.workers.RunError.{RunError}
 use Rattle.rbc_engine.specs.declared.workers.RunError.TheVariants.{Workers, TooManyInputs, OutOfMemory}
-use Rattle.rbc_engine.specs.Answers.{IsDeskAfter, IsStretch, IsFinished, rest_of, plus, all_of, AreStretches, IsNextStretch, AreCounts}
+use Rattle.rbc_engine.specs.Answers.{IsDeskAfter, IsStretch, IsFinished, rest_of, plus, IsNextStretch, AreCounts}
 use Rattle.rbc_engine.proofs.Ends.{desk_before}
 
 -- a run of these inputs from there on

@@ -7,20 +7,39 @@ ghost use Rattle.rbc_book.specs.Books.{IsBook};
 ghost use Rattle.rbc_engine.specs.Reading.{IsNumber};
 ghost use Rattle.rbc_engine.specs.Facts.{all_fit_at_most_once};
 
+use crate::chunk::{first_key, next_chunk};
 use crate::gate::Gate;
-use crate::locking::{lock, unlocked};
+use crate::hand::Hand;
+use crate::locking::{LOOKS, lock, unlocked};
 use crate::recorder::Recorder;
-use rbc_book::{Attempt, Book, Commit, RunName, decide};
+use rbc_book::{Attempt, Book, Commit, Leavings, RunName, decide};
 use rbc_step::{Input, RuleFault};
 use rbc_track::Track;
 use rbc_versions::{VersionLog, publish_all};
 use std::alloc::Global;
+use std::hint;
+use std::marker::PhantomData;
+use std::sync::atomic::{AtomicU32, Ordering};
 use std::sync::{Mutex, Wait};
 use std::thread::{self, Threads};
 
 /// How much the log of one stretch of a run may hold, before no more inputs are taken in it: a number of lists' items,
 /// of which each record counts one more. The memory of a log is given back with its stretch.
-const MAX_WEIGHT: usize = 400_000;
+const MAX_WEIGHT: usize = 1_600_000;
+
+/// What so many commits leave is freed outside the lock.
+const ROOM: usize = 128;
+
+/// How often it lets them run before it takes the lock again.
+const PAUSES: u32 = 1_000;
+
+/// How far workers are, for those that wait: how many inputs are committed, and which one was the last that was given up
+/// as it was taken. Both are written under the lock of the book. Only speed hangs on them.
+#[derive(Drop)]
+struct Progress {
+    committed: AtomicU32,
+    given_up: AtomicU32,
+}
 
 /// What all workers of a stretch of a run share: its track, its inputs and its log, the locked book, and the gate.
 #[derive(Drop)]
@@ -32,22 +51,196 @@ struct Job<'a, 'b, N: RunName, G, R> {
     log: &'a VersionLog,
     book: &'a Mutex<Book<'b, N>>,
     gate: &'a G,
+    progress: &'a Progress,
+    workers: u8,
     ghost track_is: { track.now ≡ N.run.track },
     ghost inputs_are: { inputs.now ≡ N.run.inputs },
     ghost log_is: { log.now ≡ N.log },
     ghost fit: { All Fits inputs.now } by { all_fit_at_most_once inputs.now },
 }
 
+/// Inputs that a worker has taken, by their first and last number. It attempts them, or gives them up.
+#[derive(Drop)]
+struct Taken<N: RunName> {
+    first: u32,
+    last: u32,
+    is_given_up: bool,
+    of: PhantomData<N>,
+    ghost above: { 1 ≤ first },
+    ghost within: { last ≤ length N.run.inputs },
+}
+
+/// What a worker does next.
+#[derive(Drop)]
+enum Next<N: RunName> {
+    /// It attempts these inputs, or gives them up.
+    Try(Taken<N>),
+    /// It comes back once so many inputs are committed.
+    Wait(u32),
+    /// It leaves: no input is to be taken any more, or memory was refused.
+    Leave,
+}
+
 impl<'a, 'b, N: RunName, G: Gate, R: Wait> Job<'a, 'b, N, G, R> {
+    /// Works until no input is to be taken any more.
+    fn work(&self) {
+        let mut hand = Hand::new(self.alloc);
+        let mut leavings = Leavings::new(self.alloc);
+        let _refused = leavings.make_room(ROOM);
+        let mut first = 0;
+        for _ in self.rt.forever() {
+            let next = self.next(first, &mut hand, &mut leavings);
+            leavings.clear();
+            first = match next {
+                Next::Try(taken) => {
+                    self.bring(&taken, &mut hand);
+                    taken.first
+                }
+                Next::Wait(number) => {
+                    self.wait(number);
+                    0
+                }
+                Next::Leave => return,
+            };
+        }
+    }
+
+    /// Commits inputs in their order, as far as they are ready, if the next one is the first of those that this worker has
+    /// brought last; and takes the next inputs: all under one lock. So a worker commits what it has made itself, which
+    /// its processor still has at hand, wherever workers bring inputs in their order.
+    fn next(&self, first: u32, hand: &mut Hand<N>, leavings: &mut Leavings) -> Next<N> {
+        let mut guard = lock(self.rt, self.book);
+        let book = &mut *guard;
+        if first == book.committed() + 1 && !self.commit_ready(book, leavings) {
+            self.progress.committed.store(u32::MAX, Ordering::SeqCst);
+        }
+        let committed = self.committed(book);
+        let given_up = self.progress.given_up.load(Ordering::SeqCst);
+        if committed < given_up {
+            return Next::Wait(given_up);
+        }
+        match self.take(book, hand) {
+            Some(taken) => Next::Try(taken),
+            None => Next::Leave,
+        }
+    }
+
+    /// How many inputs are committed, for those that wait too; more than there are, where memory was refused.
+    fn committed(&self, book: &Book<'_, N>) -> u32 {
+        let committed = book.committed();
+        self.progress
+            .committed
+            .fetch_max(committed, Ordering::SeqCst);
+        self.progress.committed.load(Ordering::SeqCst)
+    }
+
+    /// Commits inputs in their order, as far as they are ready, and keeps what they leave as far as there is room.
+    /// `false` if memory was refused.
+    fn commit_ready(&self, book: &mut Book<'_, N>, leavings: &mut Leavings) -> bool {
+        book.exchange_leavings(leavings);
+        let has_memory = self.commit_each(book);
+        book.exchange_leavings(leavings);
+        has_memory
+    }
+
+    /// Commits inputs in their order, as far as they are ready. `false` if memory was refused.
+    fn commit_each(&self, book: &mut Book<'_, N>) -> bool {
+        for _ in 0..self.inputs.len() {
+            match book.commit(self.rt, self.alloc, self.track) {
+                Commit::Applied | Commit::Recomputed => {}
+                Commit::NotReady | Commit::Done => return true,
+                Commit::Failed => return false,
+            }
+        }
+        true
+    }
+
+    /// Takes the next inputs that nobody has taken, and reads the numbers that they ask for first. `None` if all are
+    /// taken, or the log holds enough for one stretch.
+    fn take(&self, book: &mut Book<'_, N>, hand: &mut Hand<N>) -> Option<Taken<N>> {
+        if book.weight() > MAX_WEIGHT {
+            return None;
+        }
+        let rest = &self.inputs[book.stats().taken as usize..];
+        let chunk = next_chunk(book.records(), rest, self.workers);
+        let first = take_one(book)?;
+        hand.begin(first);
+        let mut last = first;
+        for _ in 1..chunk.count {
+            let Some(number) = take_one(book) else {
+                break;
+            };
+            last = number;
+        }
+        if chunk.is_given_up {
+            self.progress.given_up.store(last, Ordering::SeqCst);
+        } else {
+            self.read_ahead(book, first, last, hand);
+        }
+        Some(in_hand(first, last, chunk.is_given_up))
+    }
+
+    /// Reads the numbers that some inputs ask for first.
+    fn read_ahead(&self, book: &Book<'_, N>, first: u32, last: u32, hand: &mut Hand<N>)
+        requires above { 1 ≤ first }
+        requires within { last ≤ length N.run.inputs }
+    {
+        for number in first..=last {
+            let input = &self.inputs[number as usize - 1];
+            hand.read(book, number, first_key(input));
+        }
+    }
+
+    /// Attempts inputs and deposits the attempts, or gives the inputs up.
+    fn bring(&self, taken: &Taken<N>, hand: &mut Hand<N>) {
+        for number in taken.first..=taken.last {
+            self.gate.before_rule(number);
+            if !taken.is_given_up {
+                self.try_one(number, hand);
+            }
+        }
+        self.deposit(taken, hand);
+        for number in hand.attempted() {
+            self.gate.after_deposit(*number);
+        }
+    }
+
+    /// Deposits all attempts in hand, and gives up those inputs that have none: all under one lock.
+    fn deposit(&self, taken: &Taken<N>, hand: &mut Hand<N>) {
+        let mut guard = lock(self.rt, self.book);
+        let book = &mut *guard;
+        hand.deposit(book);
+        for number in taken.first..=taken.last {
+            let _was_out = book.void(number);
+        }
+    }
+
+    /// Attempts an input, and keeps the attempt, if there is memory for it.
+    fn try_one(&self, number: u32, hand: &mut Hand<N>)
+        requires { IsNumber N.run number }
+    {
+        if let Ok(attempt) = self.attempt(number, hand) {
+            self.gate.before_deposit(number);
+            hand.keep(attempt);
+        }
+    }
+
     /// Attempts the input of a number: decides what it does by single records, and publishes what it writes, without
-    /// the lock but for the numbers that are read.
-    fn attempt(&self, number: u32) -> Result<Attempt<N>, RuleFault>
+    /// the lock but for the numbers that are read and not in hand.
+    fn attempt(&self, number: u32, hand: &Hand<N>) -> Result<Attempt<N>, RuleFault>
         requires { IsNumber N.run number }
     {
         let input = &self.inputs[number as usize - 1];
-        self.gate.before_rule(number);
         let (rt, alloc, log) = (self.rt, self.alloc, self.log);
-        let mut recorder = Recorder::new(rt, alloc, self.book, log, self.gate, number);
+        let mut recorder = Recorder::knowing(
+            rt,
+            alloc,
+            self.book,
+            log,
+            self.gate,
+            number,
+            Some(hand),
+        );
         let outcome = decide(alloc, self.track, input, &mut recorder)?;
         let Ok(published) = publish_all(rt, alloc, log, &outcome.writes) else {
             return Err(RuleFault::OutOfMemory);
@@ -56,58 +249,40 @@ impl<'a, 'b, N: RunName, G: Gate, R: Wait> Job<'a, 'b, N, G, R> {
         Ok(Attempt::of(self.track, number, input, notes, outcome, published))
     }
 
-    /// Attempts the input of a number and deposits the attempt, or gives the input up.
-    fn bring(&self, number: u32)
-        requires { IsNumber N.run number }
-    {
-        match self.attempt(number) {
-            Ok(attempt) => {
-                self.gate.before_deposit(number);
-                let _refused = lock(self.rt, self.book).deposit(attempt);
-                self.gate.after_deposit(number);
+    /// Waits until so many inputs are committed, or for some time.
+    fn wait(&self, number: u32) {
+        for _ in 0..PAUSES {
+            for _ in 0..LOOKS {
+                if self.progress.committed.load(Ordering::SeqCst) >= number {
+                    return;
+                }
+                hint::spin_loop();
             }
-            Err(_) => {
-                let _ = lock(self.rt, self.book).void(number);
-            }
+            thread::yield_now();
         }
-    }
-
-    /// Commits inputs in their order, as far as they are ready, and takes the next one that nobody has taken: all under
-    /// one lock.
-    fn next(&self) -> Option<u32>
-        ensures { IfSome result (λ number. IsNumber N.run number) }
-    {
-        let mut guard = lock(self.rt, self.book);
-        let book = &mut *guard;
-        for _ in 0..self.inputs.len() {
-            match book.commit(self.rt, self.alloc, self.track) {
-                Commit::Applied | Commit::Recomputed => {}
-                Commit::NotReady | Commit::Done | Commit::Failed => break,
-            }
-        }
-        take(book)
-    }
-
-    /// Works until no input is to be taken any more. Nobody takes more inputs than there are.
-    fn work(&self) {
-        for _ in 0..self.inputs.len() {
-            let Some(number) = self.next() else {
-                return;
-            };
-            self.bring(number);
-        }
-        let _ = self.next();
     }
 }
 
-/// Takes the next input that nobody has taken; none where the log holds enough for one stretch.
-fn take<N: RunName>(book: &mut Book<'_, N>) -> Option<u32>
+/// Takes the next input that nobody has taken.
+fn take_one<N: RunName>(book: &mut Book<'_, N>) -> Option<u32>
     ensures { IfSome result (λ number. IsNumber N.run number) }
 {
-    if book.weight() > MAX_WEIGHT {
-        return None;
-    }
     book.take()
+}
+
+/// Inputs that were taken, of which at least the last one has such a number.
+fn in_hand<N: RunName>(first: u32, last: u32, is_given_up: bool) -> Taken<N>
+    requires above { 1 ≤ first }
+    requires within { last ≤ length N.run.inputs }
+    ensures first { result.first ≡ first }
+    ensures last { result.last ≡ last }
+{
+    Taken {
+        first,
+        last,
+        is_given_up,
+        of: PhantomData,
+    }
 }
 
 impl<'a, 'b, N: RunName + Send + Sync, G: Gate + Sync, R: Threads + Wait + Sync> Job<
@@ -118,9 +293,9 @@ impl<'a, 'b, N: RunName + Send + Sync, G: Gate + Sync, R: Threads + Wait + Sync>
     R,
 > {
     /// Works in this thread, and in so many less one more; a thread that cannot be started is left out.
-    fn share(&self, workers: u8) {
+    fn share(&self) {
         thread::scope(thread::scope_env(), self.rt, |scope| {
-            for _ in 1..workers {
+            for _ in 1..self.workers {
                 let _ = scope.spawn(move || self.work());
             }
             self.work();
@@ -147,6 +322,10 @@ pub(crate) fn work_together<'b, N: RunName + Send + Sync, G: Gate + Sync, R: Thr
     ensures { IsBook N.run N.log result }
 {
     let locked = Mutex::new(book);
+    let progress = Progress {
+        committed: AtomicU32::new(0),
+        given_up: AtomicU32::new(0),
+    };
     let job = Job {
         rt,
         alloc,
@@ -155,7 +334,9 @@ pub(crate) fn work_together<'b, N: RunName + Send + Sync, G: Gate + Sync, R: Thr
         log,
         book: &locked,
         gate,
+        progress: &progress,
+        workers,
     };
-    job.share(workers);
+    job.share();
     unlocked(locked)
 }

@@ -2,17 +2,20 @@
 //! another.
 #![tactic(auto)]
 
+mod by_train;
+mod chunk;
 mod gate;
+mod hand;
 mod job;
 mod locking;
 mod recorder;
-mod tally;
 mod way;
 mod workers;
 
-pub use gate::{AllWorkers, Gate, OpenGate, PACE, Pace, WindowStats};
+pub use by_train::Windows;
+pub use gate::{Gate, OpenGate};
 pub use rbc_book::{Desk, Stats};
 pub use rbc_step::MAX_INPUTS;
 pub use recorder::Recorder;
-pub use tally::Tally;
-pub use workers::{MAX_WORKERS, RunError, run};
+pub use way::{PACE, Pace};
+pub use workers::{MAX_WORKERS, RunError, run, run_by_train};

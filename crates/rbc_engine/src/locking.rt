@@ -5,6 +5,13 @@ ghost use Rattle.rbc_book.specs.Books.{IsBook};
 
 use rbc_book::{Book, RunName};
 use std::sync::{Mutex, MutexGuard, Wait};
+use std::{hint, thread};
+
+/// How often a worker that waits looks again before it lets other threads run.
+pub(crate) const LOOKS: u32 = 300;
+
+/// How often it lets them run before it sleeps: to wake a thread takes longer than most sections of the lock.
+const PAUSES: u32 = 8;
 
 /// Locks a book. It is one of the run, whatever others did to it before.
 pub(crate) fn lock<'a, 'b, N: RunName, R: Wait>(
@@ -13,9 +20,28 @@ pub(crate) fn lock<'a, 'b, N: RunName, R: Wait>(
 ) -> MutexGuard<'a, Book<'b, N>>
     ensures { IsBook N.run N.log (mutex_guard_value result) }
 {
-    let guard = book.lock(rt);
+    let guard = match try_for_some_time(book) {
+        Some(guard) => guard,
+        None => book.lock(rt),
+    };
     keeps(&guard);
     guard
+}
+
+/// Locks a book if it gets free within some time.
+fn try_for_some_time<'a, 'b, N: RunName>(
+    book: &'a Mutex<Book<'b, N>>,
+) -> Option<MutexGuard<'a, Book<'b, N>>> {
+    for _ in 0..PAUSES {
+        for _ in 0..LOOKS {
+            if let Some(guard) = book.try_lock() {
+                return Some(guard);
+            }
+            hint::spin_loop();
+        }
+        thread::yield_now();
+    }
+    None
 }
 
 /// Takes a book out of its lock, when nobody else can lock it any more. It is one of the run.

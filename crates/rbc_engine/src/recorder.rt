@@ -3,9 +3,10 @@
 ghost use Rattle.std.specs.Prelude.{◌≡◌, [], IfSome};
 ghost use Rattle.rbc_versions.specs.Log.{IsOf, number_of};
 ghost use Rattle.rbc_versions.specs.Entries.{AreOf};
-ghost use Rattle.rbc_engine.specs.Reading.{WasLatest};
+ghost use Rattle.rbc_engine.specs.Reading.{MaySee};
 
 use crate::gate::Gate;
+use crate::hand::Hand;
 use crate::locking::lock;
 use rbc_book::{Book, RunName};
 use rbc_records::{Key, ReadFault, Reader, Rec};
@@ -14,9 +15,9 @@ use std::alloc::Global;
 use std::marker::Model;
 use std::sync::{Mutex, Wait};
 
-/// Reads the records of a book for one input: the number of each for itself under the lock of the book, and the record
-/// in the log of the run, without the lock and without a copy. What was read under a key, also that there is no record,
-/// is read once; the notes stand in the order of first reading.
+/// Reads the records of a book for one input: the number of each under the lock of the book, if its worker does not have
+/// it in hand, and the record in the log of the run, without the lock and without a copy. What was read under a key, also
+/// that there is no record, is read once; the notes stand in the order of first reading.
 #[derive(Drop)]
 pub struct Recorder<'a, 'b, N: RunName, G, R> {
     rt: &'a R,
@@ -24,6 +25,7 @@ pub struct Recorder<'a, 'b, N: RunName, G, R> {
     log: &'a VersionLog,
     gate: &'a G,
     input: u32,
+    hand: Option<&'a Hand<N>>,
     notes: Notes,
     failures: u64,
 }
@@ -55,12 +57,29 @@ impl<'a, 'b, N: RunName, G: Gate, R: Wait> Recorder<'a, 'b, N, G, R> {
         requires { log.now ≡ N.log }
         ensures { result ≡ record { input = input; notes = []; failures = 0 } }
     {
+        Recorder::knowing(rt, alloc, book, log, gate, input, None)
+    }
+
+    /// The same for a worker that has numbers in hand.
+    pub(crate) fn knowing(
+        rt: &'a R,
+        alloc: Global,
+        book: &'a Mutex<Book<'b, N>>,
+        log: &'a VersionLog,
+        gate: &'a G,
+        input: u32,
+        hand: Option<&'a Hand<N>>,
+    ) -> Self
+        requires { log.now ≡ N.log }
+        ensures { result ≡ record { input = input; notes = []; failures = 0 } }
+    {
         Recorder {
             rt,
             book,
             log,
             gate,
             input,
+            hand,
             notes: Notes::new(alloc),
             failures: 0,
         }
@@ -77,19 +96,32 @@ impl<'a, 'b, N: RunName, G: Gate, R: Wait> Recorder<'a, 'b, N, G, R> {
             log: _,
             gate: _,
             input: _,
+            hand: _,
             notes,
             failures: _,
         } = self;
         notes
     }
 
-    /// The ticket of what stands under a key while the book is locked, as the input is to see it, or that nothing does.
-    /// `None` if the number is not in the log.
+    /// The number under a key, as the input is to see it, in hand or in the book; 0 if nothing stands there.
+    fn number(&self, key: Key) -> u64
+        ensures { MaySee N.run N.log self.now.input key result }
+    {
+        if let Some(hand) = self.hand
+            && let Some(number) = hand.number(self.input, key)
+        {
+            return number;
+        }
+        lock(self.rt, self.book).present(self.input, key)
+    }
+
+    /// The ticket of what stands under a key, as the input is to see it, or that nothing does. `None` if the number is
+    /// not in the log.
     fn read(&self, key: Key) -> Option<Option<Ticket>>
         ensures here { IfSome result (λ ticket. IfSome ticket (IsOf N.log)) }
-        ensures stood { IfSome result (λ ticket. WasLatest N.run N.log self.now.input key (number_of ticket)) }
+        ensures stood { IfSome result (λ ticket. MaySee N.run N.log self.now.input key (number_of ticket)) }
     {
-        let number = lock(self.rt, self.book).present(self.input, key);
+        let number = self.number(key);
         if number == 0 {
             return Some(None);
         }

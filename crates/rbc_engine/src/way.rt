@@ -2,8 +2,7 @@
 
 ghost use Rattle.std.specs.Prelude.{◌<◌};
 
-use crate::gate::Pace;
-use ertms_codec::FromTrain;
+use crate::chunk::sender;
 use rbc_book::Desk;
 use rbc_records::{Key, Rec};
 use rbc_step::Input;
@@ -14,12 +13,33 @@ const MAX_STRETCH: usize = 16_384;
 /// How many of the first messages are looked at.
 const SAMPLE: usize = 64;
 
+/// How many messages a window has, and from when on workers share them by train.
+#[derive(Clone, Copy, Debug, PartialEq, Eq)]
+pub struct Pace {
+    /// How many identifiers each train that sent one of the first messages holds at the least, taken together.
+    pub held: usize,
+    /// The least number of messages of a window.
+    pub least: usize,
+    /// The number of messages from which on a window is run whatever the trains hold.
+    pub many: usize,
+    /// The greatest number of messages of a window.
+    pub most: usize,
+}
+
+/// The pace of the program (bench/RESULTS.md). One worker takes fewer messages, and messages of trains that hold less.
+pub const PACE: Pace = Pace {
+    held: 96,
+    least: 1_024,
+    many: 16_384,
+    most: 100_000,
+};
+
 /// Who does some inputs.
 #[derive(Clone, Copy, PartialEq, Eq)]
 pub(crate) enum Road {
     /// One worker, on the desk itself, one after another.
     Alone,
-    /// Several workers, in a window.
+    /// Several workers, which share the messages of a window by train.
     Window,
     /// All workers, on a locked book.
     Book,
@@ -32,8 +52,9 @@ pub(crate) struct Way {
     pub(crate) count: usize,
 }
 
-/// The way of the next inputs. A window has messages alone, and as many as the pace says. It is run where they are many,
-/// or where the trains that sent the first of them hold many identifiers, since each message takes long then. Else one
+/// The way of the next inputs. Where no pace is given all workers share them on a book. Else messages are shared by
+/// train in windows, which have messages alone, and as many as the pace says. There is a window where they are many, or
+/// where the trains that sent the first of them hold many identifiers, since each message takes long then. Else one
 /// worker takes a few of them, before it is asked again. Only speed hangs on it.
 pub(crate) fn next_way(desk: &Desk, inputs: &[Input], workers: u8, pace: Option<Pace>) -> Way
     ensures { 0 < result.count }
@@ -108,17 +129,5 @@ fn identifiers(desk: &Desk, input: &Input) -> usize {
     match desk.store().get(Key::Train(engine)) {
         Some(Rec::Train(train)) => train.stops.held().saturating_add(train.limits.held()),
         _ => 0,
-    }
-}
-
-/// The engine of the train that sent an input (NID_ENGINE), if it is a message.
-fn sender(input: &Input) -> Option<u32> {
-    match input {
-        Input::Received(
-            FromTrain::Report { engine, .. }
-            | FromTrain::Ack { engine, .. }
-            | FromTrain::StopAck { engine, .. },
-        ) => Some(*engine),
-        _ => None,
     }
 }

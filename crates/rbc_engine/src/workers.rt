@@ -12,14 +12,14 @@ ghost use Rattle.rbc_book.specs.Runs.{IsGoodRun};
 ghost use Rattle.rbc_engine.specs.Answers.{IsOpening, IsRun, IsStretch, IsNextStretch, IsFinished};
 ghost use Rattle.rbc_engine.specs.Fronts.{IsWaiting, IsGivenUp, IsNext, IsAtItsEnd};
 
-use crate::gate::{Behind, Gate, WindowStats};
+use crate::by_train::{Windows, run_alone, run_shared};
+use crate::gate::{Behind, Gate, OpenGate};
 use crate::job::work_together;
-use crate::way::{Road, next_way};
+use crate::way::{Pace, Road, next_way};
 use rbc_book::{Book, Commit, Desk, MAX_RESULTS, RunName, Stats};
 use rbc_step::{Input, MAX_INPUTS};
 use rbc_track::Track;
 use rbc_versions::VersionLog;
-use rbc_window::run_window;
 use std::alloc::Global;
 use std::error::Error;
 use std::marker::Brand;
@@ -167,72 +167,7 @@ fn run_named<N: RunName + Send + Sync, G: Gate + Sync, R: Threads + Wait + Sync>
     }
 }
 
-/// Takes all inputs of a stretch in on the desk itself, one after another, without a book, a log or a lock. Nothing is
-/// computed twice.
-fn run_alone(
-    alloc: Global,
-    track: &Track,
-    desk: &mut Desk,
-    inputs: &[Input],
-) -> Result<Stats, RunError>
-    requires good { IsGoodRun (record { track = track.now; opening = desk.old; inputs = inputs.now }) }
-    ensures { IsStretch (record { track = track.now; opening = desk.old; inputs = inputs.now }) result desk.new }
-{
-    let mut taken = 0u32;
-    while (taken as usize) < inputs.len() {
-        let input = &inputs[taken as usize];
-        match desk.take_in(alloc, track, input) {
-            Ok(()) => taken += 1,
-            Err(_) => return Err(RunError::OutOfMemory { committed: taken }),
-        }
-    }
-    Ok(Stats {
-        taken,
-        recomputed: 0,
-    })
-}
-
-/// Takes all inputs of a stretch in as a window of several workers, or by one worker if there is not the memory for a
-/// window.
-fn run_shared<G: Gate, R: Threads + Wait + Sync>(
-    rt: &R,
-    alloc: Global,
-    track: &Track,
-    desk: &mut Desk,
-    inputs: &[Input],
-    workers: u8,
-    gate: &G,
-) -> Result<Stats, RunError>
-    requires good { IsGoodRun (record { track = track.now; opening = desk.old; inputs = inputs.now }) }
-    ensures { IsStretch (record { track = track.now; opening = desk.old; inputs = inputs.now }) result desk.new }
-{
-    let attempted = inputs.len() as u32;
-    if run_window(rt, alloc, track, desk, inputs, workers).is_err() {
-        let taken_over = 0;
-        gate.after_window(
-            WindowStats {
-                attempted,
-                taken_over,
-            },
-            workers,
-        );
-        return run_alone(alloc, track, desk, inputs);
-    }
-    let taken_over = attempted;
-    gate.after_window(
-        WindowStats {
-            attempted,
-            taken_over,
-        },
-        workers,
-    );
-    Ok(Stats {
-        taken: attempted,
-        recomputed: 0,
-    })
-}
-
-/// Runs a stretch of a run by all workers on a log of its own, which is dropped with it.
+/// Runs a stretch of a run by all workers on a log of its own, whose memory is given back with it.
 fn run_on_book<G: Gate + Sync, R: Threads + Wait + Sync>(
     rt: &R,
     alloc: Global,
@@ -251,7 +186,16 @@ fn run_on_book<G: Gate + Sync, R: Threads + Wait + Sync>(
     run_named::<Brand, G, R>(rt, alloc, track, desk, inputs, &log, workers, gate)
 }
 
-/// Runs a stretch of a run on the road that it takes.
+/// The workers of a run, of whom the calling thread is one; the gate behind which they attempt inputs on a book; and
+/// the pace at which they share messages by train, where they do that in place of it.
+#[derive(Drop)]
+struct Crew<'a, G> {
+    workers: u8,
+    gate: &'a G,
+    pace: Option<Pace>,
+}
+
+/// Runs a stretch of a run on the road that it takes, behind so many inputs.
 fn run_stretch<G: Gate + Sync, R: Threads + Wait + Sync>(
     rt: &R,
     alloc: Global,
@@ -259,38 +203,50 @@ fn run_stretch<G: Gate + Sync, R: Threads + Wait + Sync>(
     desk: &mut Desk,
     inputs: &[Input],
     road: Road,
-    workers: u8,
-    gate: &G,
+    before: u32,
+    crew: &Crew<'_, G>,
+    windows: &mut Windows,
 ) -> Result<Stats, RunError>
     requires good { IsGoodRun (record { track = track.now; opening = desk.old; inputs = inputs.now }) }
     ensures { IsStretch (record { track = track.now; opening = desk.old; inputs = inputs.now }) result desk.new }
 {
     match road {
         Road::Alone => run_alone(alloc, track, desk, inputs),
-        Road::Window => run_shared(rt, alloc, track, desk, inputs, workers, gate),
-        Road::Book => run_on_book(rt, alloc, track, desk, inputs, workers, gate),
+        Road::Window => run_shared(rt, alloc, track, desk, inputs, crew.workers, windows),
+        Road::Book => {
+            let behind = Behind {
+                gate: crew.gate,
+                before,
+            };
+            run_on_book(rt, alloc, track, desk, inputs, crew.workers, &behind)
+        }
     }
 }
 
-/// Runs the first of some inputs in one stretch, as many as go the same way.
+/// Runs the first of some inputs in one stretch, as many as go the same way, behind so many.
 fn run_first<G: Gate + Sync, R: Threads + Wait + Sync>(
     rt: &R,
     alloc: Global,
     track: &Track,
     desk: &mut Desk,
     inputs: &[Input],
-    workers: u8,
-    gate: &G,
+    before: u32,
+    crew: &Crew<'_, G>,
+    windows: &mut Windows,
 ) -> Result<Stats, RunError>
     requires good { IsGoodRun (record { track = track.now; opening = desk.old; inputs = inputs.now }) }
     ensures { IsStretch (record { track = track.now; opening = desk.old; inputs = inputs.now }) result desk.new }
 {
-    let way = next_way(desk, inputs, workers, gate.pace());
+    let way = next_way(desk, inputs, crew.workers, crew.pace);
     if inputs.len() <= way.count {
-        return run_stretch(rt, alloc, track, desk, inputs, way.road, workers, gate);
+        return run_stretch(
+            rt, alloc, track, desk, inputs, way.road, before, crew, windows,
+        );
     }
     let first = &inputs[..way.count];
-    run_stretch(rt, alloc, track, desk, first, way.road, workers, gate)
+    run_stretch(
+        rt, alloc, track, desk, first, way.road, before, crew, windows,
+    )
 }
 
 /// Runs a stretch of a run, of which so many inputs are done.
@@ -301,17 +257,16 @@ fn run_behind<G: Gate + Sync, R: Threads + Wait + Sync>(
     desk: &mut Desk,
     inputs: &[Input],
     before: u32,
-    workers: u8,
-    gate: &G,
+    crew: &Crew<'_, G>,
+    windows: &mut Windows,
 ) -> Result<Stats, RunError>
     requires within { before ≤ length inputs.now }
     requires good { IsGoodRun (record { track = track.now; opening = desk.old; inputs = drop before inputs.now }) }
     ensures { IsStretch (record { track = track.now; opening = desk.old; inputs = drop before inputs.now }) result
         desk.new }
 {
-    let behind = Behind { gate, before };
     let rest = &inputs[before as usize..];
-    run_first(rt, alloc, track, desk, rest, workers, &behind)
+    run_first(rt, alloc, track, desk, rest, before, crew, windows)
 }
 
 /// Runs the next stretch of a run, behind those with these counts, and adds its counts to theirs.
@@ -322,8 +277,8 @@ fn run_next<G: Gate + Sync, R: Threads + Wait + Sync>(
     desk: &mut Desk,
     inputs: &[Input],
     all: Stats,
-    workers: u8,
-    gate: &G,
+    crew: &Crew<'_, G>,
+    windows: &mut Windows,
 ) -> Result<Stats, RunError>
     requires within { (all.recomputed ≤ all.taken) × (all.taken ≤ length inputs.now) }
     requires few { length inputs.now ≤ MAX_INPUTS }
@@ -331,7 +286,7 @@ fn run_next<G: Gate + Sync, R: Threads + Wait + Sync>(
     ensures { IsNextStretch (record { track = track.now; opening = desk.old; inputs = inputs.now })
         all result desk.new }
 {
-    match run_behind(rt, alloc, track, desk, inputs, all.taken, workers, gate) {
+    match run_behind(rt, alloc, track, desk, inputs, all.taken, crew, windows) {
         Ok(stats) => Ok(Stats {
             taken: all.taken + stats.taken,
             recomputed: all.recomputed + stats.recomputed,
@@ -357,8 +312,8 @@ fn run_stretches<G: Gate + Sync, R: Threads + Wait + Sync>(
     track: &Track,
     desk: &mut Desk,
     inputs: &[Input],
-    workers: u8,
-    gate: &G,
+    crew: &Crew<'_, G>,
+    windows: &mut Windows,
 ) -> Result<Stats, RunError>
     requires good { IsGoodRun (record { track = track.now; opening = desk.old; inputs = inputs.now }) }
     requires few { length inputs.now ≤ MAX_INPUTS }
@@ -370,7 +325,7 @@ fn run_stretches<G: Gate + Sync, R: Threads + Wait + Sync>(
     };
     while (all.taken as usize) < inputs.len() {
         keeps_order(desk);
-        all = run_next(rt, alloc, track, desk, inputs, all, workers, gate)?;
+        all = run_next(rt, alloc, track, desk, inputs, all, crew, windows)?;
     }
     Ok(all)
 }
@@ -382,9 +337,36 @@ fn keeps(track: &Track)
     let _ = track.horizon();
 }
 
-/// Runs inputs on a track, from a desk on, by so many workers, of which the calling thread is one. With `Ok` the desk
-/// is the one that the rules give where they are applied to the inputs one after another, whatever the workers did in
-/// between.
+/// Runs inputs, if so many workers can and the inputs are not too many.
+fn run_admitted<G: Gate + Sync, R: Threads + Wait + Sync>(
+    rt: &R,
+    alloc: Global,
+    track: &Track,
+    desk: &mut Desk,
+    inputs: &[Input],
+    crew: &Crew<'_, G>,
+    windows: &mut Windows,
+) -> Result<Stats, RunError>
+    requires opening { IsOpening track.now desk.old }
+    requires fit { All Fits inputs.now }
+    ensures run { IsRun (record { track = track.now; opening = desk.old; inputs = inputs.now })
+        crew.now.workers result desk.new }
+    ensures opening { IsOpening track.now desk.new }
+{
+    if crew.workers == 0 || crew.workers > MAX_WORKERS {
+        return Err(RunError::Workers);
+    }
+    if inputs.len() > MAX_INPUTS || desk.results().len() + inputs.len() > MAX_RESULTS {
+        return Err(RunError::TooManyInputs);
+    }
+    keeps(track);
+    run_stretches(rt, alloc, track, desk, inputs, crew, windows)
+}
+
+/// Runs inputs on a track, from a desk on, by so many workers, of which the calling thread is one. The workers attempt
+/// many inputs at once, note the records that they read, publish what the attempts write, and commit in the order of the
+/// inputs; an input is recomputed if something that its attempt read has changed. With `Ok` the desk is the one that the
+/// rules give where they are applied to the inputs one after another, whatever the workers did in between.
 ///
 /// # Errors
 ///
@@ -403,12 +385,40 @@ pub fn run<G: Gate + Sync, R: AllocGlobal + Threads + Wait + Sync>(
         workers result desk.new }
     ensures opening { IsOpening track.now desk.new }
 {
-    if workers == 0 || workers > MAX_WORKERS {
-        return Err(RunError::Workers);
-    }
-    if inputs.len() > MAX_INPUTS || desk.results().len() + inputs.len() > MAX_RESULTS {
-        return Err(RunError::TooManyInputs);
-    }
-    keeps(track);
-    run_stretches(rt, rt.alloc(), track, desk, inputs, workers, gate)
+    let mut windows = Windows::none();
+    let crew = Crew {
+        workers,
+        gate,
+        pace: None,
+    };
+    run_admitted(rt, rt.alloc(), track, desk, inputs, &crew, &mut windows)
+}
+
+/// Runs inputs as `run` does, with the same result, and without attempts: one worker takes them in order on the desk,
+/// and long runs of messages are shared by train among all workers, at a pace. Counts the windows of messages.
+///
+/// # Errors
+///
+/// See [`RunError`]. After `OutOfMemory` the same holds of the inputs that are committed.
+pub fn run_by_train<R: AllocGlobal + Threads + Wait + Sync>(
+    rt: &R,
+    track: &Track,
+    desk: &mut Desk,
+    inputs: &[Input],
+    workers: u8,
+    pace: Pace,
+    windows: &mut Windows,
+) -> Result<Stats, RunError>
+    requires opening { IsOpening track.now desk.old }
+    requires fit { All Fits inputs.now }
+    ensures run { IsRun (record { track = track.now; opening = desk.old; inputs = inputs.now })
+        workers result desk.new }
+    ensures opening { IsOpening track.now desk.new }
+{
+    let crew = Crew {
+        workers,
+        gate: &OpenGate,
+        pace: Some(pace),
+    };
+    run_admitted(rt, rt.alloc(), track, desk, inputs, &crew, windows)
 }

@@ -1,7 +1,7 @@
 //! Runs golden batches by 1, 2, 3, 4 and 16 workers: on a locked book, of which each takes part, and in windows of 7
 //! and of 256 messages, or of as many as its line in cases.txt says. An independent model of the rules has given their
-//! outputs. It says of each batch whether every output is right, and how many windows there were, and if the desk did not
-//! take all their messages over, how many.
+//! outputs. It says of each batch whether every output is right, how many windows there were, and, if memory was refused to
+//! some windows, how many messages these had.
 //!
 //! `rbc_tests RUNS WORKERS MOST` runs each batch so many times, once if no number is given; by so many workers, by all
 //! of those if no number is given; and in windows of so many messages at the most, or on the book alone if MOST is 0.
@@ -16,8 +16,8 @@
 mod tests;
 
 use anyhow::{Context, Result};
-use rbc_batch::process;
-use rbc_engine::{AllWorkers, Gate, Pace, Tally};
+use rbc_batch::{ProcessError, Stats, process, process_by_train};
+use rbc_engine::{OpenGate, Pace, Windows};
 use rbc_track::{Track, track_from_toml};
 use std::alloc::{AllocError, Global};
 use std::env::Env;
@@ -52,7 +52,7 @@ struct Plan<'a> {
 }
 
 /// What came of several runs: whether every output was right, how many inputs were recomputed, how many windows there
-/// were, and how many messages of windows the desk did not take over, as where memory is refused.
+/// were, and how many messages of windows one worker took in order, because memory was refused.
 #[derive(Clone, Copy)]
 struct Counts {
     is_right: bool,
@@ -82,47 +82,56 @@ fn case_of<R: Files + AllocGlobal>(rt: &R, case: &str, track: &str) -> Result<Ca
     })
 }
 
-/// Runs a case by so many workers behind a gate, and adds what came of it.
-fn run_by<R, G>(rt: &R, case: &Case, workers: u8, gate: &G, counts: Counts) -> Result<Counts>
+/// Runs a case by so many workers, in windows of so many messages at the most, or on a locked book if that is 0. Writes
+/// its output, and counts the windows.
+fn run_in<R>(
+    rt: &R,
+    case: &Case,
+    workers: u8,
+    most: usize,
+    written: &mut Vec<u8>,
+    windows: &mut Windows,
+) -> Result<Stats, ProcessError>
 where
     R: AllocGlobal + Threads + Wait + Sync,
-    G: Gate + Sync,
+{
+    let mut reader = case.batch.as_slice();
+    if most == 0 {
+        return process(rt, &case.track, &mut reader, written, workers, &OpenGate);
+    }
+    let pace = Pace {
+        held: 0,
+        least: 1,
+        many: usize::MAX,
+        most,
+    };
+    process_by_train(
+        rt,
+        &case.track,
+        &mut reader,
+        written,
+        workers,
+        pace,
+        windows,
+    )
+}
+
+/// Runs a case by so many workers, in windows of so many messages at the most, or on a locked book if that is 0, and
+/// adds what came of it.
+fn add_run<R>(rt: &R, case: &Case, workers: u8, most: usize, counts: Counts) -> Result<Counts>
+where
+    R: AllocGlobal + Threads + Wait + Sync,
 {
     let mut written = Vec::new(rt.alloc());
-    let mut reader = case.batch.as_slice();
-    let stats = process(rt, &case.track, &mut reader, &mut written, workers, gate)?;
+    let mut windows = Windows::none();
+    let stats = run_in(rt, case, workers, most, &mut written, &mut windows)?;
     Ok(Counts {
         is_right: counts.is_right && written.as_slice() == case.wanted.as_slice(),
         recomputed: counts
             .recomputed
             .saturating_add(u64::from(stats.recomputed)),
-        windows: counts.windows,
-        left: counts.left,
-    })
-}
-
-/// Runs a case by so many workers, in windows of so many messages at the most, or on a locked book if that is 0, and
-/// adds what came of it.
-fn run_in<R>(rt: &R, case: &Case, workers: u8, most: usize, counts: Counts) -> Result<Counts>
-where
-    R: AllocGlobal + Threads + Wait + Sync,
-{
-    if most == 0 {
-        return run_by(rt, case, workers, &AllWorkers, counts);
-    }
-    let tally = Tally::new(Pace {
-        held: 0,
-        least: 1,
-        many: usize::MAX,
-        most,
-    });
-    let counts = run_by(rt, case, workers, &tally, counts)?;
-    let left = tally.attempted().saturating_sub(tally.taken_over());
-    Ok(Counts {
-        is_right: counts.is_right,
-        recomputed: counts.recomputed,
-        windows: counts.windows.saturating_add(tally.windows()),
-        left: counts.left.saturating_add(left),
+        windows: counts.windows.saturating_add(u64::from(windows.count)),
+        left: counts.left.saturating_add(u64::from(windows.refused)),
     })
 }
 
@@ -135,7 +144,7 @@ where
     let mut counts = counts;
     for most in ways.split(' ') {
         let most = most.parse::<usize>().context("a number of messages")?;
-        counts = run_in(rt, case, workers, most, counts)?;
+        counts = add_run(rt, case, workers, most, counts)?;
     }
     Ok(counts)
 }
@@ -196,7 +205,7 @@ where
 }
 
 /// What is said of a case: whether every output is right, in how many windows it was run, and how many of their messages
-/// the desk did not take over, if there are some.
+/// one worker took in order, if there are some.
 fn said_of(alloc: Global, name: &str, track: &str, counts: Counts) -> Result<String, AllocError> {
     let Counts { windows, left, .. } = counts;
     let answer = if counts.is_right { "right" } else { "wrong" };

@@ -6,10 +6,10 @@ use super::batches::{FULL, STOPPED, lines_of};
 use super::gates::{Both, Hold, Inside, Moment, Told};
 use super::same;
 use super::setting::good_track;
-use rbc_batch::{parse_batch, process, render};
+use rbc_batch::{parse_batch, process, process_by_train, render};
 use rbc_book::Stats;
 use rbc_desk::Desk;
-use rbc_engine::{AllWorkers, Gate, OpenGate, RunError, run};
+use rbc_engine::{Gate, OpenGate, PACE, Pace, RunError, Windows, run, run_by_train};
 use rbc_track::Track;
 use std::alloc::Global;
 use std::process::Abort;
@@ -28,6 +28,35 @@ where
     let stats = process(rt, &track, &mut reader, &mut written, workers, gate);
     same(rt, written.as_slice(), text.as_bytes());
     stats.expect(rt, "an output")
+}
+
+/// Asserts what comes of a batch whose messages are shared by train, by so many workers, at a pace. Returns the windows
+/// too.
+pub(super) fn assert_answers_by_train<R>(
+    rt: &R,
+    batch: &str,
+    workers: u8,
+    pace: Pace,
+    text: &str,
+) -> (Stats, Windows)
+where
+    R: Abort + AllocGlobal + Threads + Wait + Sync,
+{
+    let track = good_track(rt);
+    let mut written = Vec::new(rt.alloc());
+    let mut reader = batch.as_bytes();
+    let mut windows = Windows::none();
+    let stats = process_by_train(
+        rt,
+        &track,
+        &mut reader,
+        &mut written,
+        workers,
+        pace,
+        &mut windows,
+    );
+    same(rt, written.as_slice(), text.as_bytes());
+    (stats.expect(rt, "an output"), windows)
 }
 
 /// A new desk, from which a run on any track can begin.
@@ -57,7 +86,23 @@ where
     run(rt, track, desk, &inputs, workers, gate)
 }
 
-/// The output text of a desk.
+/// Has one worker take the lines of a batch in order, on the desk itself.
+pub(super) fn run_in_order<R>(
+    rt: &R,
+    track: &Track,
+    desk: &mut Desk,
+    batch: &str,
+) -> Result<Stats, RunError>
+where
+    R: Abort + AllocGlobal + Threads + Wait + Sync,
+    requires { IsOpening track.now desk.old }
+    ensures { IsOpening track.now desk.new }
+{
+    let inputs = parse_batch(rt, batch.as_bytes()).expect(rt, "memory");
+    run_by_train(rt, track, desk, &inputs, 1, PACE, &mut Windows::none())
+}
+
+/// Asserts the output text of a desk.
 fn assert_desk<R: Abort + AllocGlobal>(rt: &R, desk: &Desk, text: &str) {
     let written = render(rt.alloc(), desk).expect(rt, "memory");
     same(rt, written.as_slice(), text.as_bytes());
@@ -186,7 +231,7 @@ where
     ensures { IsOpening track.now desk.new }
 {
     let part = stops(rt, from, count);
-    let stats = run_lines(rt, track, desk, &part, workers, &AllWorkers);
+    let stats = run_lines(rt, track, desk, &part, workers, &OpenGate);
     same(rt, stats.is_ok(), true);
 }
 
@@ -210,31 +255,28 @@ fn goes_on_from_the_desk_of_an_earlier_run(rt: HostRuntime) {
     }
 }
 
-/// Ten stops that begin, by one worker.
-fn ten_stops_by_one<R, G>(rt: &R, gate: &G)
-where
-    R: Abort + AllocGlobal + Threads + Wait + Sync,
-    G: Gate + Sync,
-{
-    let track = good_track(rt);
-    let mut desk = new_desk(rt.alloc(), &track);
-    let stats = run_lines(rt, &track, &mut desk, &stops(rt, 0, 10), 1, gate);
+/// Asserts what comes of ten stops that begin.
+fn assert_ten_stops<R: Abort + AllocGlobal>(rt: &R, desk: &Desk, stats: Result<Stats, RunError>) {
     let wanted = Stats {
         taken: 10,
         recomputed: 0,
     };
     same(rt, stats, Ok(wanted));
-    let text = render(rt.alloc(), &desk).expect(rt, "memory");
+    let text = render(rt.alloc(), desk).expect(rt, "memory");
     same(rt, text.ends_with(b"7 10 1002800000025FFFFFF0\n"), true);
 }
 
-// One worker takes each input after all before it are committed: in the book of a run, and on the desk itself behind an
-// open gate.
+// One worker recomputes nothing: neither on a book, nor in order on the desk itself.
 #[test]
 fn computes_nothing_twice_alone(rt: HostRuntime) {
-    ten_stops_by_one(&rt, &AllWorkers);
-    ten_stops_by_one(&rt, &OpenGate);
     let track = good_track(&rt);
+    let batch = stops(&rt, 0, 10);
+    let mut desk = new_desk(rt.alloc(), &track);
+    let on_a_book = run_lines(&rt, &track, &mut desk, &batch, 1, &OpenGate);
+    assert_ten_stops(&rt, &desk, on_a_book);
+    let mut desk = new_desk(rt.alloc(), &track);
+    let in_order = run_in_order(&rt, &track, &mut desk, &batch);
+    assert_ten_stops(&rt, &desk, in_order);
     let mut desk = new_desk(rt.alloc(), &track);
     let none = run_lines(&rt, &track, &mut desk, "", 16, &OpenGate);
     let wanted = Stats {

@@ -1,9 +1,9 @@
 //! Windows as a pace says. Trains that move from list to list in windows are in the golden batches.
 
 use super::batches::{FULL, Worked};
-use super::runs::assert_answers;
+use super::runs::assert_answers_by_train;
 use super::same;
-use rbc_engine::{Pace, Tally};
+use rbc_engine::Pace;
 use std::process::Abort;
 use std::sync::Wait;
 use std::thread::Threads;
@@ -40,16 +40,15 @@ stop 1 0:100000-110000
 };
 
 /// Runs a batch by two workers at a pace, and asserts its output, and that no input was computed twice. Returns how many
-/// windows there were, and of how many inputs.
-fn run_at<R>(rt: &R, worked: Worked, pace: Pace) -> (u64, u64)
+/// windows there were, and how many messages were shared in them: all that they had.
+fn run_at<R>(rt: &R, worked: Worked, pace: Pace) -> (u32, u32)
 where
     R: Abort + AllocGlobal + Threads + Wait + Sync,
 {
-    let tally = Tally::new(pace);
-    let stats = assert_answers(rt, worked.batch, 2, &tally, worked.output);
+    let (stats, windows) = assert_answers_by_train(rt, worked.batch, 2, pace, worked.output);
     same(rt, stats.recomputed, 0);
-    same(rt, tally.taken_over(), tally.attempted());
-    (tally.windows(), tally.attempted())
+    same(rt, windows.refused, 0);
+    (windows.count, windows.shared)
 }
 
 // The messages on end are two, and then three. The train of the other batch holds 15 identifiers.

@@ -1,4 +1,4 @@
-use Rattle.rbc_command_line.proofs.Forms.{after_all_by_default, as_many_as_named, begin_at_one_by_default, from_one_by_default, no_figures_by_default, one_by_default}
+use Rattle.rbc_command_line.proofs.Forms.{after_all_by_default, as_many_as_named, begin_at_one_by_default, from_one_by_default, no_figures_by_default, not_by_train_by_default, one_by_default}
 use Rattle.rbc_command_line.proofs.law.forms_law.Goals as goal
 
 pub returns-clause-one : goal.returns-clause-one
@@ -9,6 +9,9 @@ returns-clause-named c = as_many_as_named
 
 pub returns-clause-unasked : goal.returns-clause-unasked
 returns-clause-unasked c = no_figures_by_default
+
+pub returns-clause-unshared : goal.returns-clause-unshared
+returns-clause-unshared c = not_by_train_by_default
 
 pub returns-clause-first : goal.returns-clause-first
 returns-clause-first c = from_one_by_default

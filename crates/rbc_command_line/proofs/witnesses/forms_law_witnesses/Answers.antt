@@ -1,4 +1,4 @@
-use Rattle.rbc_command_line.proofs.WitnessWords.{below_zero, drawn_at_first, drawn_too_late, figures, figures_of_four, figures_twice, from_seven, from_zero, leading_zeros, log_from_last, log_from_zero, no_figures, no_number, one, one_whatever_is_named, sixteen, too_great, twice, two_by_default, zero}
+use Rattle.rbc_command_line.proofs.WitnessWords.{below_zero, by_train, by_train_of_four, by_train_twice, drawn_at_first, drawn_too_late, figures, figures_of_four, figures_twice, from_seven, from_zero, leading_zeros, log_from_last, log_from_zero, no_figures, no_number, one, one_whatever_is_named, sixteen, too_great, twice, two_by_default, zero}
 use Rattle.rbc_command_line.proofs.witnesses.forms_law_witnesses.Goals as goal
 
 pub returns-clause-one : goal.returns-clause-one
@@ -42,6 +42,15 @@ returns-clause-figures_of_four c = figures_of_four
 
 pub returns-clause-figures_twice : goal.returns-clause-figures_twice
 returns-clause-figures_twice c = figures_twice
+
+pub returns-clause-by_train : goal.returns-clause-by_train
+returns-clause-by_train c = by_train
+
+pub returns-clause-by_train_of_four : goal.returns-clause-by_train_of_four
+returns-clause-by_train_of_four c = by_train_of_four
+
+pub returns-clause-by_train_twice : goal.returns-clause-by_train_twice
+returns-clause-by_train_twice c = by_train_twice
 
 pub returns-clause-from_seven : goal.returns-clause-from_seven
 returns-clause-from_seven c = from_seven

@@ -61,7 +61,7 @@ some_now a b same = ap (λ (o : Option Text). unwrap_or o []) same
 
 run_found : (found : Finding) (task : Task) → IsFound found task → (file : Text) (workers : ℕ)
     → word_after (codes "run") (codes "track") found ≡ Some file → number_after (codes "run") (codes "workers") found ≡ workers → IsRunOn file workers task
-run_found found (Run track number stats) is file workers asked count = (some_now _ _ (sym is.0 ∙ asked), sym is.1 ∙ count)
+run_found found (Run track number by_train stats) is file workers asked count = (some_now _ _ (sym is.0 ∙ asked), sym is.1 ∙ count)
 run_found found (Live track from) is file workers asked count = not_both (codes "run") (codes "live") (codes "track") (codes "track") found file track.now refl asked is.0
 run_found found (Explain track first) is file workers asked count = not_both (codes "run") (codes "explain") (codes "track") (codes "track") found file track.now refl asked is.0
 run_found found (Picture track after) is file workers asked count = not_both (codes "run") (codes "picture") (codes "track") (codes "track") found file track.now refl asked is.0
@@ -71,7 +71,7 @@ run_found found Codes is file workers asked count = not_found _ file is.0.0 aske
 
 live_found : (found : Finding) (task : Task) → IsFound found task → (file : Text) (from : ℕ)
     → word_after (codes "live") (codes "track") found ≡ Some file → count_after (codes "live") (codes "from") found ≡ from → IsLiveOn file from task
-live_found found (Run track number stats) is file from asked count = not_both (codes "run") (codes "live") (codes "track") (codes "track") found track.now file refl is.0 asked
+live_found found (Run track number by_train stats) is file from asked count = not_both (codes "run") (codes "live") (codes "track") (codes "track") found track.now file refl is.0 asked
 live_found found (Live track first) is file from asked count = (some_now _ _ (sym is.0 ∙ asked), sym is.1 ∙ count)
 live_found found (Explain track first) is file from asked count = not_both (codes "live") (codes "explain") (codes "track") (codes "track") found file track.now refl asked is.0
 live_found found (Picture track after) is file from asked count = not_both (codes "live") (codes "picture") (codes "track") (codes "track") found file track.now refl asked is.0
@@ -81,7 +81,7 @@ live_found found Codes is file from asked count = not_found _ file is.0.1 asked
 
 explain_found : (found : Finding) (task : Task) → IsFound found task → (file : Text) (from : ℕ)
     → word_after (codes "explain") (codes "track") found ≡ Some file → unwrap_or (input_after (codes "explain") (codes "from") found) 1 ≡ from → IsExplainOn file from task
-explain_found found (Run track number stats) is file from asked count = not_both (codes "run") (codes "explain") (codes "track") (codes "track") found track.now file refl is.0 asked
+explain_found found (Run track number by_train stats) is file from asked count = not_both (codes "run") (codes "explain") (codes "track") (codes "track") found track.now file refl is.0 asked
 explain_found found (Live track first) is file from asked count = not_both (codes "live") (codes "explain") (codes "track") (codes "track") found track.now file refl is.0 asked
 explain_found found (Explain track first) is file from asked count = (some_now _ _ (sym is.0 ∙ asked), sym is.1 ∙ count)
 explain_found found (Picture track after) is file from asked count = not_both (codes "explain") (codes "picture") (codes "track") (codes "track") found file track.now refl asked is.0
@@ -91,7 +91,7 @@ explain_found found Codes is file from asked count = not_found _ file is.0.3 ask
 
 picture_found : (found : Finding) (task : Task) → IsFound found task → (file : Text) (after : Option ℕ)
     → word_after (codes "picture") (codes "track") found ≡ Some file → input_after (codes "picture") (codes "after") found ≡ after → IsPictureOn file after task
-picture_found found (Run track number stats) is file after asked count = not_both (codes "run") (codes "picture") (codes "track") (codes "track") found track.now file refl is.0 asked
+picture_found found (Run track number by_train stats) is file after asked count = not_both (codes "run") (codes "picture") (codes "track") (codes "track") found track.now file refl is.0 asked
 picture_found found (Live track from) is file after asked count = not_both (codes "live") (codes "picture") (codes "track") (codes "track") found track.now file refl is.0 asked
 picture_found found (Explain track from) is file after asked count = not_both (codes "explain") (codes "picture") (codes "track") (codes "track") found track.now file refl is.0 asked
 picture_found found (Picture track inputs) is file after asked count = (some_now _ _ (sym is.0 ∙ asked), sym is.1 ∙ count)
@@ -101,7 +101,7 @@ picture_found found Codes is file after asked count = not_found _ file is.0.4 as
 
 decode_found : (found : Finding) (task : Task) → IsFound found task → (word : Text)
     → word_after (codes "decode") (codes "HEX") found ≡ Some word → IsDecode word task
-decode_found found (Run track number stats) is word asked = not_both (codes "run") (codes "decode") (codes "track") (codes "HEX") found track.now word refl is.0 asked
+decode_found found (Run track number by_train stats) is word asked = not_both (codes "run") (codes "decode") (codes "track") (codes "HEX") found track.now word refl is.0 asked
 decode_found found (Live track from) is word asked = not_both (codes "live") (codes "decode") (codes "track") (codes "HEX") found track.now word refl is.0 asked
 decode_found found (Explain track first) is word asked = not_both (codes "explain") (codes "decode") (codes "track") (codes "HEX") found track.now word refl is.0 asked
 decode_found found (Picture track after) is word asked = not_both (codes "picture") (codes "decode") (codes "track") (codes "HEX") found track.now word refl is.0 asked
@@ -111,7 +111,7 @@ decode_found found Codes is word asked = not_found _ word is.0.2 asked
 
 check_found : (found : Finding) (task : Task) → IsFound found task → (file : Text)
     → word_after (codes "check") (codes "track") found ≡ Some file → IsCheckOf file task
-check_found found (Run track number stats) is file asked = not_both (codes "run") (codes "check") (codes "track") (codes "track") found track.now file refl is.0 asked
+check_found found (Run track number by_train stats) is file asked = not_both (codes "run") (codes "check") (codes "track") (codes "track") found track.now file refl is.0 asked
 check_found found (Live track from) is file asked = not_both (codes "live") (codes "check") (codes "track") (codes "track") found track.now file refl is.0 asked
 check_found found (Explain track first) is file asked = not_both (codes "explain") (codes "check") (codes "track") (codes "track") found track.now file refl is.0 asked
 check_found found (Picture track after) is file asked = not_both (codes "picture") (codes "check") (codes "track") (codes "track") found track.now file refl is.0 asked

@@ -1,4 +1,4 @@
-use Rattle.std.proofs.Common.{◌<◌, subst, arith}
+use Rattle.std.proofs.Common.{◌<◌, subst}
 use Rattle.rbc_book.specs.Books.{state_of}
 use Rattle.rbc_book.specs.Core.{State}
 use Rattle.rbc_book.specs.Events.{Happens}

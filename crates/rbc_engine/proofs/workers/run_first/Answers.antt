@@ -1,5 +1,4 @@
-use Rattle.std.proofs.Common.{◌≤◌, length, arith}
-use Rattle.std.proofs.lemmas.List.{length-take-le}
+use Rattle.std.proofs.Common.{arith}
 use Rattle.rbc_engine.proofs.Stretches.{run_of, first_are_good, stretch_of_all}
 use Rattle.rbc_engine.proofs.workers.run_first.Goals as goal
 

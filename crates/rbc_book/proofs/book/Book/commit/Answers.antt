@@ -1,9 +1,10 @@
 use Rattle.std.proofs.Common.{◌<◌, ◌≤◌, ◌∙◌, ap, arith, refl, Some, length}
-use Rattle.rbc_book.specs.declared.stage.Stage.TheVariants.{Tried}
+use Rattle.rbc_book.specs.declared.stage.Stage.TheVariants.{Free, Tried, Void}
 use Rattle.rbc_book.specs.Books.{state_of, number_now}
 use Rattle.rbc_book.proofs.Books.{fails, fails_kept, stays_closed, waits, commits_kept, applies, recomputes}
 use Rattle.rbc_book.proofs.Presents.{present_after, present_still}
 use Rattle.rbc_book.proofs.Turns.{front_within, front_still, front_room, judged_stage, present_in, ends}
+use Rattle.rbc_book.proofs.Bounding.{bound_still}
 use Rattle.rbc_book.proofs.book.Book.commit.Goals as goal
 
 pub returns-then-front-inputs : goal.returns-then-front-inputs
@@ -68,6 +69,7 @@ invariant_of-self g c =
         kept = fails_kept _ _ _ _ _ _ _ i.2.kept c.in-Some.ensures failed.err c.taken_out-stage.ensures.void;
         present = present_still _ _ _ c.self.inside.desk c.carry_out.new.desk failed.err failed.kept i.2.present;
       },
+      bound_still _ _ _ _ Void i.3 (λ k. refl) c.taken_out-stage.ensures.void,
     )
 
 pub returns-in_default-carry_out : goal.returns-in_default-carry_out
@@ -90,6 +92,7 @@ invariant_of-self-then-is_fresh g c =
         kept = commits_kept _ _ _ _ _ _ _ _ _ _ _ i.2.kept c.in-Some.ensures done c.taken_out-stage.ensures.void c.set_stage.ensures (let n = i.2.kept.counted in omega (arith, n));
         present = present_after _ _ _ _ _ _ _ _ _ i.2.present done;
       },
+      bound_still _ _ _ _ Free (bound_still _ _ _ _ Void i.3 (λ k. refl) c.taken_out-stage.ensures.void) (λ k. refl) c.set_stage.ensures,
     )
 
 pub invariant_of-self-2 : goal.invariant_of-self-2
@@ -102,6 +105,7 @@ invariant_of-self-2 g c =
         kept = commits_kept _ _ _ _ _ _ _ _ _ _ _ i.2.kept c.in-Some.ensures done c.taken_out-stage.ensures.void c.set_stage.ensures (let n = i.2.kept.counted in omega (arith, n));
         present = present_after _ _ _ _ _ _ _ _ _ i.2.present done;
       },
+      bound_still _ _ _ _ Free (bound_still _ _ _ _ Void i.3 (λ k. refl) c.taken_out-stage.ensures.void) (λ k. refl) c.set_stage.ensures,
     )
 
 pub returns-then-is_fresh : goal.returns-then-is_fresh

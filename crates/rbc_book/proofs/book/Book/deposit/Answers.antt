@@ -3,6 +3,7 @@ use Rattle.std.proofs.lemmas.Bool.{false≢true}
 use Rattle.rbc_book.specs.declared.stage.Stage.TheVariants.{Tried}
 use Rattle.rbc_book.specs.Books.{IsOutIn, state_of}
 use Rattle.rbc_book.proofs.Books.{keeps_set, out_within, deposits, hands_back}
+use Rattle.rbc_book.proofs.Bounding.{bound_set}
 use Rattle.rbc_book.proofs.book.Book.deposit.Goals as goal
 
 pub set_stage-requires : goal.set_stage-requires
@@ -18,6 +19,7 @@ invariant_of-self g c =
       i.0,
       i.1,
       record { kept = keeps_set _ _ _ (Tried c.args.attempt) _ i.2.kept (turn.0, turn.1, number) c.set_stage.ensures; present = i.2.present },
+      bound_set _ _ _ _ _ (Tried c.args.attempt) i.3 c.raise.ensures.rises (λ k n put. let up = c.raise.ensures.raised k n put in omega (arith, up, number)) c.set_stage.ensures,
     )
 
 pub returns-clause-event : goal.returns-clause-event

@@ -8,6 +8,7 @@ use Rattle.rbc_versions.specs.Entries.{StandIn}
 use Rattle.rbc_book.specs.declared.stage.Stage.TheVariants.{Free}
 use Rattle.rbc_book.specs.Books.{record_now}
 use Rattle.rbc_book.proofs.Presents.{opens_book}
+use Rattle.rbc_book.proofs.Bounding.{bound_free}
 use Rattle.rbc_book.proofs.book.Book.new.Goals as goal
 
 pub invariant_of-result : goal.invariant_of-result
@@ -20,6 +21,7 @@ invariant_of-result g c =
       c.requires.log,
       c.requires.inputs,
       opens_book run g.N.RunName.log c.args.desk tickets c.in-Ok.stages.items c.requires.good c.requires.desk stages stand show,
+      bound_free _ _ _ stages,
     )
 
 pub returns-clause-book : goal.returns-clause-book

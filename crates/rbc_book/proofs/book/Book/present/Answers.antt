@@ -4,6 +4,9 @@ use Rattle.rbc_book.specs.Forwards.{IsLatest}
 use Rattle.rbc_book.proofs.Searching.{latest_found, latest_present, latest_happens}
 use Rattle.rbc_book.proofs.book.Book.present.Goals as goal
 
+pub latest_put-requires-clause-bound : goal.latest_put-requires-clause-bound
+latest_put-requires-clause-bound g c = c.self.invariant.3
+
 pub returns-in-Some-clause-latest : goal.returns-in-Some-clause-latest
 returns-in-Some-clause-latest g c =
     subst (λ (b : BookValue). IsLatest (state_of b) c.args.input c.args.key c.in-Some.number) c.self.view_is

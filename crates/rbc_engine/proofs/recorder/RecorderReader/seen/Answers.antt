@@ -1,4 +1,4 @@
-use Rattle.std.proofs.Common.{◌≡◌, sym, subst, Some}
+use Rattle.std.proofs.Common.{sym, subst}
 use Rattle.rbc_versions.specs.Log.{LogName}
 use Rattle.rbc_versions.specs.Entries.{AreOf}
 use Rattle.rbc_engine.proofs.recorder.RecorderReader.seen.Goals as goal

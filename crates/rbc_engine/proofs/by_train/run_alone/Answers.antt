@@ -2,7 +2,7 @@ use Rattle.std.proofs.Common.{arith, refl}
 use Rattle.std.proofs.lemmas.Option.{slice_get_read}
 use Rattle.rbc_engine.proofs.Stretches.{run_of}
 use Rattle.rbc_engine.proofs.OneByOne.{room_left, one_more_taken_in, refused_alone, all_taken_in}
-use Rattle.rbc_engine.proofs.workers.run_alone.Goals as goal
+use Rattle.rbc_engine.proofs.by_train.run_alone.Goals as goal
 
 pub take_in-requires-clause-room : goal.take_in-requires-clause-room
 take_in-requires-clause-room c = room_left (run_of c.args.track.now c.args.desk.now c.args.inputs.now) c.loop-taken.taken c.loop-taken.desk c.requires.good c.loop-taken.invariant c.loop-taken-test.true

@@ -1,7 +1,7 @@
 use Rattle.std.proofs.Common.{length, ◌-◌}
 use Rattle.rbc_engine.proofs.Stretches.{run_of}
 use Rattle.rbc_engine.proofs.OneByOne.{AreTakenIn}
-use Rattle.rbc_engine.proofs.workers.run_alone.Given as goal
+use Rattle.rbc_engine.proofs.by_train.run_alone.Given as goal
 
 -- so many are taken in
 abbrev pub invariant-loop-taken : goal.invariant-loop-taken

@@ -1,7 +1,7 @@
 use Rattle.std.proofs.Common.{rules, ◌≡◌, ◌∙◌, sym, arith, true≢false, false, OnOk, Result, Ok, Err, is_err}
 use Rattle.rbc_engine.proofs.Stretches.{run_of}
-use Rattle.rbc_engine.proofs.Windows.{stretch_of_window}
-use Rattle.rbc_engine.proofs.workers.run_shared.Goals as goal
+use Rattle.rbc_engine.proofs.InWindows.{stretch_of_window}
+use Rattle.rbc_engine.proofs.by_train.run_shared.Goals as goal
 
 not_err : {X E P : Type 0} (r : Result X E) → OnOk r P → is_err r ≡ false → P
 not_err (Ok x) p h = p

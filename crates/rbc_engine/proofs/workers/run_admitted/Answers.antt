@@ -1,5 +1,5 @@
 use Rattle.rbc_engine.proofs.Ends.{opened}
-use Rattle.rbc_engine.proofs.workers.run.Goals as goal
+use Rattle.rbc_engine.proofs.workers.run_admitted.Goals as goal
 
 -- a run can go on from the desk that it left
 pub returns-clause-opening : goal.returns-clause-opening

@@ -1,0 +1,74 @@
+//! What commits leave, to be freed outside a lock.
+
+use rbc_records::Writes;
+use rbc_step::Outcome;
+use rbc_versions::{Notes, Published};
+use std::alloc::{AllocError, Global};
+
+/// What the commit of one input leaves: what was read for its attempt, the rest of an attempt that was stale, and the
+/// publication that was taken over with the records that were replaced.
+#[derive(Drop)]
+pub(crate) struct Leaving {
+    notes: Option<Notes>,
+    stale: Option<(Outcome, Published)>,
+    taken_over: Option<(Published, Writes)>,
+}
+
+impl Leaving {
+    /// Nothing yet.
+    pub fn nothing() -> Self {
+        Leaving {
+            notes: None,
+            stale: None,
+            taken_over: None,
+        }
+    }
+
+    /// Keeps what was read for the attempt.
+    pub fn keep_notes(&mut self, notes: Notes) {
+        self.notes = Some(notes);
+    }
+
+    /// Keeps the rest of an attempt that was stale.
+    pub fn keep_stale(&mut self, outcome: Outcome, published: Published) {
+        self.stale = Some((outcome, published));
+    }
+
+    /// Keeps the publication that was taken over, and the records that were replaced.
+    pub fn keep_taken_over(&mut self, published: Published, replaced: Writes) {
+        self.taken_over = Some((published, replaced));
+    }
+}
+
+/// What commits leave. A worker lends leavings with room to the book for a section of the lock, and clears them after
+/// the section, so that no other worker waits while memory is freed.
+#[derive(Drop)]
+pub struct Leavings {
+    all: Vec<Leaving>,
+}
+
+impl Leavings {
+    /// Makes leavings with no room. It allocates nothing.
+    pub fn new(alloc: Global) -> Self {
+        Leavings {
+            all: Vec::new(alloc),
+        }
+    }
+
+    /// Makes room for what so many more commits leave. Fails only for lack of memory.
+    pub fn make_room(&mut self, count: usize) -> Result<(), AllocError> {
+        self.all.reserve(count)
+    }
+
+    /// Frees all that was kept. The room stays.
+    pub fn clear(&mut self) {
+        self.all.clear();
+    }
+
+    /// Keeps what one more commit leaves if there is room, and else frees it at once. Takes no memory.
+    pub(crate) fn keep(&mut self, leaving: Leaving) {
+        if self.all.len() < self.all.capacity() {
+            self.all.push_reserved(leaving);
+        }
+    }
+}

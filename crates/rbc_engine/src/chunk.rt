@@ -1,0 +1,129 @@
+//! How many of the next inputs a worker takes at once, and whether it attempts them. Only speed hangs on it.
+
+ghost use Rattle.std.specs.Prelude.{◌<◌};
+
+use ertms_codec::FromTrain;
+use rbc_records::{Key, PlainStore, Rec};
+use rbc_step::Input;
+
+/// With more trains than this, inputs that are no messages are given up as they are taken, and computed at their commit:
+/// they read many trains one by one, where the store can search for those concerned, and all that is attempted at the
+/// same time reads what they write.
+const FEW_TRAINS: usize = 64;
+
+/// Between two inputs that are given up, so few messages are given up too: nothing behind the first is taken before it
+/// is committed, so that they could hardly be attempted at once.
+const SHORT: usize = 128;
+
+/// How many inputs are given up at once, at most.
+const MOST_GIVEN_UP: usize = 512;
+
+/// How many inputs all workers take at once, together.
+const AT_ONCE: usize = 128;
+
+/// The least and the most inputs that one worker takes at once, where many are left.
+const LEAST: usize = 16;
+
+const MOST: usize = 64;
+
+/// How often a worker comes back for more inputs before all are taken, at least.
+const ROUNDS: usize = 8;
+
+/// The next inputs that a worker takes.
+#[derive(Clone, Copy)]
+pub(crate) struct Chunk {
+    pub(crate) count: usize,
+    pub(crate) is_given_up: bool,
+}
+
+/// What a worker takes of these inputs, with the records as they stand.
+pub(crate) fn next_chunk(records: &PlainStore, inputs: &[Input], workers: u8) -> Chunk {
+    let given_up = given_up_first(records, inputs);
+    if given_up > 0 {
+        return Chunk {
+            count: given_up,
+            is_given_up: true,
+        };
+    }
+    Chunk {
+        count: attempted_first(inputs, usize::from(workers)),
+        is_given_up: false,
+    }
+}
+
+/// How many of the first inputs are given up: those up to an input that is no message, and on to the next one where that
+/// is near. None where there are few trains.
+fn given_up_first(records: &PlainStore, inputs: &[Input]) -> usize {
+    if engines_under(records, Key::Roster) <= FEW_TRAINS {
+        return 0;
+    }
+    let mut given_up = 0usize;
+    let mut messages = 0usize;
+    for (index, input) in inputs.iter().take(MOST_GIVEN_UP).enumerate() {
+        if sender(input).is_none() {
+            given_up = index.saturating_add(1);
+            messages = 0;
+            continue;
+        }
+        messages = messages.saturating_add(1);
+        if messages >= SHORT {
+            break;
+        }
+    }
+    given_up
+}
+
+/// How many of the first inputs are attempted: as many as keep all workers busy to the end, and behind them the messages
+/// of the same trains, so that no other worker attempts one of these at the same time.
+fn attempted_first(inputs: &[Input], workers: usize) -> usize {
+    let most = (AT_ONCE / workers.max(1)).clamp(LEAST, MOST);
+    let share = inputs.len() / workers.max(1).saturating_mul(ROUNDS);
+    if share < most {
+        return share.max(1);
+    }
+    for count in most..inputs.len().min(most.saturating_mul(4)) {
+        if !has_sender(&inputs[count], &inputs[..count]) {
+            return count;
+        }
+    }
+    most
+}
+
+/// Whether an input is a message of a train of which one of the others is a message too.
+fn has_sender(input: &Input, others: &[Input]) -> bool {
+    match sender(input) {
+        Some(engine) => others.iter().any(|other| sender(other) == Some(engine)),
+        None => false,
+    }
+}
+
+/// How many engines the list under a key has.
+fn engines_under(records: &PlainStore, key: Key) -> usize {
+    match records.get(key) {
+        Some(Rec::Engines(engines)) => engines.len(),
+        _ => 0,
+    }
+}
+
+/// The engine of the train that sent an input (NID_ENGINE), if it is a message.
+pub(crate) fn sender(input: &Input) -> Option<u32> {
+    match input {
+        Input::Received(
+            FromTrain::Report { engine, .. }
+            | FromTrain::Ack { engine, .. }
+            | FromTrain::StopAck { engine, .. },
+        ) => Some(*engine),
+        _ => None,
+    }
+}
+
+/// The key that an input reads first.
+pub(crate) fn first_key(input: &Input) -> Key {
+    if let Input::Withdraw { engine } = input {
+        return Key::Train(*engine);
+    }
+    match sender(input) {
+        Some(engine) => Key::Train(engine),
+        None => Key::Roster,
+    }
+}
