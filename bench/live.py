@@ -18,6 +18,7 @@ KILLS = 200
 LONE = 10_000
 CRASHED = 3_000  # lines of the batch that go through the crashes
 PIECE = 65_536  # bytes asked for in one call
+SECONDS = 60  # a process that takes longer is killed
 
 
 class Live:
@@ -29,6 +30,8 @@ class Live:
         self.said = bytearray()
         self.reader = threading.Thread(target=self.read)
         self.reader.start()
+        self.clock = threading.Timer(SECONDS, self.process.kill)
+        self.clock.start()
 
     def read(self):
         while piece := os.read(self.process.stdout.fileno(), PIECE):
@@ -51,6 +54,7 @@ class Live:
         except BrokenPipeError:
             pass
         self.reader.join()
+        self.clock.cancel()
         self.process.stdout.close()
         return bytes(self.said), self.process.wait()
 
