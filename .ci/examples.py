@@ -36,16 +36,19 @@ def written(folder, command):
     """What a command writes."""
     path = f"{folder}:{os.environ['PATH']}"
     script = re.sub(r"(?<![\w/])\./dispatch\b", "dispatch", command)
-    done = subprocess.run(
-        ["bash", "-c", script],
-        cwd=ROOT,
-        env={**os.environ, "PATH": path},
-        stdin=subprocess.DEVNULL,
-        stdout=subprocess.PIPE,
-        stderr=subprocess.STDOUT,
-        timeout=SECONDS,
-    )
-    return done.stdout.decode()
+    try:
+        done = subprocess.run(
+            ["bash", "-c", script],
+            cwd=ROOT,
+            env={**os.environ, "PATH": path},
+            stdin=subprocess.DEVNULL,
+            stdout=subprocess.PIPE,
+            stderr=subprocess.STDOUT,
+            timeout=SECONDS,
+        )
+    except subprocess.TimeoutExpired:
+        return f"nothing more, and does not end in {SECONDS} s"
+    return done.stdout.decode(errors="replace")
 
 
 def renewed(folder, text):
