@@ -25,12 +25,12 @@ IsLatestIn stages first last k number =
 
 -- the bucket of a key
 abbrev pub bucket_of : Key → ℕ
-bucket_of (key.Train engine) = engine % 1024
+bucket_of (key.Train engine) = engine % 16384
 bucket_of (key.Line line) = line
-bucket_of key.Roster = 1020
-bucket_of key.Stops = 1021
-bucket_of key.Limits = 1022
-bucket_of key.Unplaced = 1023
+bucket_of key.Roster = 16380
+bucket_of key.Stops = 16381
+bucket_of key.Limits = 16382
+bucket_of key.Unplaced = 16383
 
 -- the bound of a key's bucket
 abbrev pub bound_of : List ℕ → Key → ℕ

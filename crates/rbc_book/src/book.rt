@@ -334,6 +334,7 @@ fn all_free<N: RunName>(alloc: Global, count: usize) -> Result<Vec<Stage<Attempt
 }
 
 /// Sets how far the input at an index is.
+#[inline(always)]
 fn set_stage<N: RunName>(
     stages: &mut Vec<Stage<Attempt<N>>>,
     index: usize,
@@ -432,6 +433,7 @@ fn judge<N: RunName>(
 }
 
 /// Takes the stage of an input out, which leaves it given up.
+#[inline(always)]
 fn taken_out<N: RunName>(stages: &mut Vec<Stage<Attempt<N>>>, front: usize) -> Stage<Attempt<N>>
     requires { front < length stages.old.items }
     ensures stage { slice_get stages.old.items front ≡ Some result }

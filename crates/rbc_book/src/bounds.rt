@@ -11,7 +11,7 @@ use std::alloc::{AllocError, Global};
 use std::marker::Model;
 
 /// How many buckets the keys are dealt out to.
-const BUCKETS: usize = 1024;
+const BUCKETS: usize = 16_384;
 
 /// A bound for each bucket of keys: the greatest number of an input whose deposited attempt writes a key of the bucket,
 /// or 0 if there is none. A bound is never lowered, since finding the next lower number would need a search. A bound
@@ -29,7 +29,7 @@ impl Model for Bounds {
     ghost view = { λ bounds. bounds.all.items };
 
     // Each bucket has a bound.
-    ghost invariant = { λ bounds. length bounds.all.items ≡ 1024 };
+    ghost invariant = { λ bounds. length bounds.all.items ≡ 16384 };
 }
 
 impl Bounds {
@@ -73,14 +73,14 @@ impl Bounds {
 /// The bucket of a key. Trains are spread by the numbers of their engines. Keys that share a bucket cost time alone.
 fn bucket(key: Key) -> usize
     ensures bucket { result ≡ bucket_of key }
-    ensures within { result < 1024 }
+    ensures within { result < 16384 }
 {
     match key {
         Key::Train(engine) => engine as usize % BUCKETS,
         Key::Line(line) => line as usize,
-        Key::Roster => 1020,
-        Key::Stops => 1021,
-        Key::Limits => 1022,
-        Key::Unplaced => 1023,
+        Key::Roster => 16_380,
+        Key::Stops => 16_381,
+        Key::Limits => 16_382,
+        Key::Unplaced => 16_383,
     }
 }

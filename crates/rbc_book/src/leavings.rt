@@ -40,7 +40,7 @@ impl Leaving {
     }
 }
 
-/// What commits leave. A worker lends leavings with room to the book for a section of the lock, and clears them after
+/// What commits leave. A worker lends leavings with room to the book for a section of the lock, and frees them after
 /// the section, so that no other worker waits while memory is freed.
 #[derive(Drop)]
 pub struct Leavings {
@@ -60,9 +60,18 @@ impl Leavings {
         self.all.reserve(count)
     }
 
-    /// Frees all that was kept. The room stays.
-    pub fn clear(&mut self) {
-        self.all.clear();
+    /// How many commits left what is kept.
+    pub fn len(&self) -> usize {
+        self.all.len()
+    }
+
+    /// Frees what so many commits left, or all if there are fewer. The room stays.
+    pub fn free(&mut self, count: usize) {
+        for _ in 0..count {
+            if self.all.pop().is_none() {
+                return;
+            }
+        }
     }
 
     /// Keeps what one more commit leaves if there is room, and else frees it at once. Takes no memory.

@@ -60,8 +60,8 @@ pub(crate) fn run_alone(
     })
 }
 
-/// Takes all inputs of a stretch in as a window of several workers, or by one worker if there is not the memory for a
-/// window.
+/// Takes all inputs of a stretch in as a window of several workers, no more than there are inputs; or by one worker if
+/// there is not the memory for a window.
 pub(crate) fn run_shared<R: Threads + Wait + Sync>(
     rt: &R,
     alloc: Global,
@@ -76,6 +76,7 @@ pub(crate) fn run_shared<R: Threads + Wait + Sync>(
 {
     let messages = inputs.len() as u32;
     windows.count = windows.count.saturating_add(1);
+    let workers = messages.min(u32::from(workers)) as u8;
     if run_window(rt, alloc, track, desk, inputs, workers).is_err() {
         windows.refused = windows.refused.saturating_add(messages);
         return run_alone(alloc, track, desk, inputs);

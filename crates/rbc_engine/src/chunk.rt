@@ -13,64 +13,85 @@ const FEW_TRAINS: usize = 64;
 
 /// Between two inputs that are given up, so few messages are given up too: nothing behind the first is taken before it
 /// is committed, so that they could hardly be attempted at once.
-const SHORT: usize = 128;
+const SHORT: usize = 32;
 
 /// How many inputs are given up at once, at most.
 const MOST_GIVEN_UP: usize = 512;
 
+/// How many trains are searched for inputs that are given up at once, one input after another, before no more are.
+const MOST_SEARCHED: usize = 4_096;
+
 /// How many inputs all workers take at once, together.
-const AT_ONCE: usize = 128;
+const AT_ONCE: usize = 64;
 
 /// The least and the most inputs that one worker takes at once, where many are left.
-const LEAST: usize = 16;
+const LEAST: usize = 8;
 
 const MOST: usize = 64;
 
 /// How often a worker comes back for more inputs before all are taken, at least.
 const ROUNDS: usize = 8;
 
-/// The next inputs that a worker takes.
+/// The next inputs that a worker takes, and how many records they may publish.
 #[derive(Clone, Copy)]
 pub(crate) struct Chunk {
     pub(crate) count: usize,
     pub(crate) is_given_up: bool,
+    pub(crate) publishes: usize,
 }
 
 /// What a worker takes of these inputs, with the records as they stand.
 pub(crate) fn next_chunk(records: &PlainStore, inputs: &[Input], workers: u8) -> Chunk {
-    let given_up = given_up_first(records, inputs);
+    let trains = engines_under(records, Key::Roster);
+    let given_up = given_up_first(trains, inputs);
     if given_up > 0 {
         return Chunk {
             count: given_up,
             is_given_up: true,
+            publishes: published_by(trains, inputs, given_up),
         };
     }
+    let attempted = attempted_first(inputs, usize::from(workers));
     Chunk {
-        count: attempted_first(inputs, usize::from(workers)),
+        count: attempted,
         is_given_up: false,
+        publishes: attempted,
     }
 }
 
 /// How many of the first inputs are given up: those up to an input that is no message, and on to the next one where that
 /// is near. None where there are few trains.
-fn given_up_first(records: &PlainStore, inputs: &[Input]) -> usize {
-    if engines_under(records, Key::Roster) <= FEW_TRAINS {
+fn given_up_first(trains: usize, inputs: &[Input]) -> usize {
+    if trains <= FEW_TRAINS {
         return 0;
     }
     let mut given_up = 0usize;
     let mut messages = 0usize;
+    let mut searched = 0usize;
     for (index, input) in inputs.iter().take(MOST_GIVEN_UP).enumerate() {
-        if sender(input).is_none() {
+        if sender(input).is_some() {
+            messages = messages.saturating_add(1);
+        } else {
             given_up = index.saturating_add(1);
             messages = 0;
-            continue;
+            searched = searched.saturating_add(trains);
         }
-        messages = messages.saturating_add(1);
-        if messages >= SHORT {
+        if messages >= SHORT || searched >= MOST_SEARCHED {
             break;
         }
     }
     given_up
+}
+
+/// How many records some of the first inputs publish, at the most: each message that of its train, and each other input
+/// those of all trains. A move of a train from list to list is not counted.
+fn published_by(trains: usize, inputs: &[Input], count: usize) -> usize {
+    let mut published = 0usize;
+    for input in inputs.iter().take(count) {
+        let records = if sender(input).is_some() { 1 } else { trains };
+        published = published.saturating_add(records);
+    }
+    published
 }
 
 /// How many of the first inputs are attempted: as many as keep all workers busy to the end, and behind them the messages

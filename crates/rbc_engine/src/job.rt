@@ -7,7 +7,7 @@ ghost use Rattle.rbc_book.specs.Books.{IsBook};
 ghost use Rattle.rbc_engine.specs.Reading.{IsNumber};
 ghost use Rattle.rbc_engine.specs.Facts.{all_fit_at_most_once};
 
-use crate::chunk::{first_key, next_chunk};
+use crate::chunk::{Chunk, first_key, next_chunk};
 use crate::gate::Gate;
 use crate::hand::Hand;
 use crate::locking::{LOOKS, lock, unlocked};
@@ -28,10 +28,21 @@ use std::thread::{self, Threads};
 const MAX_WEIGHT: usize = 1_600_000;
 
 /// What so many commits leave is freed outside the lock.
-const ROOM: usize = 128;
+const ROOM: usize = 256;
 
-/// How often it lets them run before it takes the lock again.
-const PAUSES: u32 = 1_000;
+/// So many inputs behind the last one that is committed are taken, and no more: each of them may have to be searched for
+/// what it writes.
+const MOST_AHEAD: u32 = 1_024;
+
+/// How many records the log of one stretch may hold before no more inputs are taken in it, or four times as many as it has
+/// when it is opened, if that is more. Up to some more than these the log takes no further memory of its own.
+const MAX_VERSIONS: usize = 15_000;
+
+/// How often a worker that waits for inputs that were given up lets other threads run, before it takes the lock again.
+const PAUSES: u32 = 10_000;
+
+/// How often a worker that waits for its turn does so, before it goes on out of turn.
+const TURN_PAUSES: u32 = 200;
 
 /// How far workers are, for those that wait: how many inputs are committed, and which one was the last that was given up
 /// as it was taken. Both are written under the lock of the book. Only speed hangs on them.
@@ -52,6 +63,7 @@ struct Job<'a, 'b, N: RunName, G, R> {
     book: &'a Mutex<Book<'b, N>>,
     gate: &'a G,
     progress: &'a Progress,
+    most_versions: usize,
     workers: u8,
     ghost track_is: { track.now ≡ N.run.track },
     ghost inputs_are: { inputs.now ≡ N.run.inputs },
@@ -90,14 +102,14 @@ impl<'a, 'b, N: RunName, G: Gate, R: Wait> Job<'a, 'b, N, G, R> {
         let mut first = 0;
         for _ in self.rt.forever() {
             let next = self.next(first, &mut hand, &mut leavings);
-            leavings.clear();
             first = match next {
                 Next::Try(taken) => {
-                    self.bring(&taken, &mut hand);
+                    self.bring(&taken, &mut hand, &mut leavings);
                     taken.first
                 }
                 Next::Wait(number) => {
-                    self.wait(number);
+                    leavings.free(ROOM);
+                    self.wait_for_commits(number);
                     0
                 }
                 Next::Leave => return,
@@ -114,10 +126,19 @@ impl<'a, 'b, N: RunName, G: Gate, R: Wait> Job<'a, 'b, N, G, R> {
         if first == book.committed() + 1 && !self.commit_ready(book, leavings) {
             self.progress.committed.store(u32::MAX, Ordering::SeqCst);
         }
-        let committed = self.committed(book);
-        let given_up = self.progress.given_up.load(Ordering::SeqCst);
-        if committed < given_up {
-            return Next::Wait(given_up);
+        let next = self.next_of(book, hand);
+        // The others hear of the commits last, and so do not come before they have to wait once more.
+        self.progress
+            .committed
+            .fetch_max(book.committed(), Ordering::SeqCst);
+        next
+    }
+
+    /// What a worker does next, once it has committed what it could.
+    fn next_of(&self, book: &mut Book<'_, N>, hand: &mut Hand<N>) -> Next<N> {
+        let awaited = self.awaited(book);
+        if self.committed(book) < awaited {
+            return Next::Wait(awaited);
         }
         match self.take(book, hand) {
             Some(taken) => Next::Try(taken),
@@ -125,13 +146,18 @@ impl<'a, 'b, N: RunName, G: Gate, R: Wait> Job<'a, 'b, N, G, R> {
         }
     }
 
-    /// How many inputs are committed, for those that wait too; more than there are, where memory was refused.
+    /// How many inputs have to be committed before more are taken: those that were given up, and so many that not too
+    /// many are ahead.
+    fn awaited(&self, book: &Book<'_, N>) -> u32 {
+        let given_up = self.progress.given_up.load(Ordering::SeqCst);
+        let behind = book.stats().taken.saturating_sub(MOST_AHEAD);
+        given_up.max(behind)
+    }
+
+    /// How many inputs are committed; more than there are, where memory was refused.
     fn committed(&self, book: &Book<'_, N>) -> u32 {
-        let committed = book.committed();
-        self.progress
-            .committed
-            .fetch_max(committed, Ordering::SeqCst);
-        self.progress.committed.load(Ordering::SeqCst)
+        let told = self.progress.committed.load(Ordering::SeqCst);
+        told.max(book.committed())
     }
 
     /// Commits inputs in their order, as far as they are ready, and keeps what they leave as far as there is room.
@@ -158,11 +184,11 @@ impl<'a, 'b, N: RunName, G: Gate, R: Wait> Job<'a, 'b, N, G, R> {
     /// Takes the next inputs that nobody has taken, and reads the numbers that they ask for first. `None` if all are
     /// taken, or the log holds enough for one stretch.
     fn take(&self, book: &mut Book<'_, N>, hand: &mut Hand<N>) -> Option<Taken<N>> {
-        if book.weight() > MAX_WEIGHT {
-            return None;
-        }
         let rest = &self.inputs[book.stats().taken as usize..];
         let chunk = next_chunk(book.records(), rest, self.workers);
+        if self.is_full(book, &chunk) {
+            return None;
+        }
         let first = take_one(book)?;
         hand.begin(first);
         let mut last = first;
@@ -180,6 +206,12 @@ impl<'a, 'b, N: RunName, G: Gate, R: Wait> Job<'a, 'b, N, G, R> {
         Some(in_hand(first, last, chunk.is_given_up))
     }
 
+    /// Whether the log holds enough for one stretch, or would with these inputs. It is never full for the first.
+    fn is_full(&self, book: &Book<'_, N>, chunk: &Chunk) -> bool {
+        let versions = self.log.count().saturating_add(chunk.publishes);
+        book.stats().taken > 0 && (book.weight() > MAX_WEIGHT || versions > self.most_versions)
+    }
+
     /// Reads the numbers that some inputs ask for first.
     fn read_ahead(&self, book: &Book<'_, N>, first: u32, last: u32, hand: &mut Hand<N>)
         requires above { 1 ≤ first }
@@ -191,14 +223,21 @@ impl<'a, 'b, N: RunName, G: Gate, R: Wait> Job<'a, 'b, N, G, R> {
         }
     }
 
-    /// Attempts inputs and deposits the attempts, or gives the inputs up.
-    fn bring(&self, taken: &Taken<N>, hand: &mut Hand<N>) {
+    /// Attempts inputs and deposits the attempts, or gives the inputs up. Before each it frees some of what commits left:
+    /// so the memory that it needs is that which it has just freed, and it seldom waits for another thread in `malloc`.
+    /// Then it waits until all before them are committed, for some time: so it mostly commits what it has made itself,
+    /// and no two workers want the lock at the same time.
+    fn bring(&self, taken: &Taken<N>, hand: &mut Hand<N>, leavings: &mut Leavings) {
+        let count = taken.last.saturating_sub(taken.first) as usize + 1;
+        let each = (leavings.len() / count).saturating_add(1);
         for number in taken.first..=taken.last {
+            leavings.free(each);
             self.gate.before_rule(number);
             if !taken.is_given_up {
                 self.try_one(number, hand);
             }
         }
+        self.wait_for_turn(taken.first);
         self.deposit(taken, hand);
         for number in hand.attempted() {
             self.gate.after_deposit(*number);
@@ -249,11 +288,25 @@ impl<'a, 'b, N: RunName, G: Gate, R: Wait> Job<'a, 'b, N, G, R> {
         Ok(Attempt::of(self.track, number, input, notes, outcome, published))
     }
 
-    /// Waits until so many inputs are committed, or for some time.
-    fn wait(&self, number: u32) {
+    /// Waits until all inputs before this one are committed, or for some time.
+    fn wait_for_turn(&self, first: u32) {
+        for _ in 0..TURN_PAUSES {
+            for _ in 0..LOOKS {
+                if self.progress.committed.load(Ordering::SeqCst) >= first.saturating_sub(1) {
+                    return;
+                }
+                hint::spin_loop();
+            }
+            thread::yield_now();
+        }
+    }
+
+    /// Waits until so many inputs are committed, and all that were given up meanwhile, or for some time.
+    fn wait_for_commits(&self, number: u32) {
         for _ in 0..PAUSES {
             for _ in 0..LOOKS {
-                if self.progress.committed.load(Ordering::SeqCst) >= number {
+                let given_up = self.progress.given_up.load(Ordering::SeqCst);
+                if self.progress.committed.load(Ordering::SeqCst) >= given_up.max(number) {
                     return;
                 }
                 hint::spin_loop();
@@ -335,6 +388,7 @@ pub(crate) fn work_together<'b, N: RunName + Send + Sync, G: Gate + Sync, R: Thr
         book: &locked,
         gate,
         progress: &progress,
+        most_versions: log.count().saturating_mul(4).max(MAX_VERSIONS),
         workers,
     };
     job.share();

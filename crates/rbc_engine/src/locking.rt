@@ -8,10 +8,10 @@ use std::sync::{Mutex, MutexGuard, Wait};
 use std::{hint, thread};
 
 /// How often a worker that waits looks again before it lets other threads run.
-pub(crate) const LOOKS: u32 = 300;
+pub(crate) const LOOKS: u32 = 30;
 
 /// How often it lets them run before it sleeps: to wake a thread takes longer than most sections of the lock.
-const PAUSES: u32 = 8;
+const PAUSES: u32 = 80;
 
 /// Locks a book. It is one of the run, whatever others did to it before.
 pub(crate) fn lock<'a, 'b, N: RunName, R: Wait>(
