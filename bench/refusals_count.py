@@ -36,8 +36,8 @@ WAYS_OF_PROGRAM = {"on the book": (), "by train": ("--by-train",)}
 # that do windows of them: each window starts its threads anew, and each thread takes two runs.
 SMALL = ("example-unanswered main_line.toml", "example-several main_line.toml")
 GOLDEN = {
-    "contended-1 contended-1.toml": ("2", "4"),
-    "identifiers identifiers.toml": ("2", "4", "16"),
+    "contended-1 contended-1.toml": ("2", "4", "16"),
+    "identifiers identifiers.toml": (),
     "limits-1 limits-1.toml": ("2",),
 }
 # how its workers share them, by its last word
