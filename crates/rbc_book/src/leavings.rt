@@ -1,9 +1,14 @@
 //! What commits leave, to be freed outside a lock.
 
+ghost use Rattle.std.specs.Prelude.{◌≡◌, []};
+
 use rbc_records::Writes;
 use rbc_step::Outcome;
 use rbc_versions::{Notes, Published};
 use std::alloc::{AllocError, Global};
+
+/// The memory of so few notes, or of so small a publication, is used again.
+const FEW: usize = 8;
 
 /// What the commit of one input leaves: what was read for its attempt, the rest of an attempt that was stale, and the
 /// publication that was taken over with the records that were replaced.
@@ -74,10 +79,48 @@ impl Leavings {
         }
     }
 
+    /// Frees what one commit left, but for the memory of its notes and of its publication: the next attempt is made in it.
+    pub fn reuse(&mut self, alloc: Global) -> (Notes, Option<Published>)
+        ensures { result.0 ≡ [] }
+    {
+        let Some(leaving) = self.all.pop() else {
+            return (Notes::new(alloc), None);
+        };
+        let Leaving {
+            notes,
+            stale: _,
+            taken_over,
+        } = leaving;
+        (emptied(alloc, notes), small_one(taken_over))
+    }
+
     /// Keeps what one more commit leaves if there is room, and else frees it at once. Takes no memory.
     pub(crate) fn keep(&mut self, leaving: Leaving) {
         if self.all.len() < self.all.capacity() {
             self.all.push_reserved(leaving);
         }
+    }
+}
+
+/// Notes without any, in the memory of these, if they are few.
+fn emptied(alloc: Global, notes: Option<Notes>) -> Notes
+    ensures { result ≡ [] }
+{
+    match notes {
+        Some(mut notes) if notes.len() <= FEW => {
+            notes.clear();
+            notes
+        }
+        _many_or_none => Notes::new(alloc),
+    }
+}
+
+/// The publication that was taken over, if it is small. The records that were replaced are freed.
+fn small_one(taken_over: Option<(Published, Writes)>) -> Option<Published> {
+    let (published, _replaced) = taken_over?;
+    if published.len() <= FEW {
+        Some(published)
+    } else {
+        None
     }
 }

@@ -16,6 +16,10 @@ IsNumber run number = (1 ≤ number) × (number ≤ length run.inputs)
 abbrev pub WasLatest : Run → LogName → ℕ → Key → ℕ → Type 0
 WasLatest run log input key number = (b : BookValue) × IsBook run log b × IsLatest (state_of b) input key number
 
+-- this was that number for each input from one on
+abbrev pub WasLatestFrom : Run → LogName → ℕ → Key → ℕ → Type 0
+WasLatestFrom run log first key number = (input : ℕ) → first ≤ input → WasLatest run log input key number
+
 -- this is the number that a right attempt at an input puts under a key
 abbrev pub IsPutBy : Run → ℕ → Key → ℕ → Type 0
 IsPutBy run input key number = (a : Try) × IsRightTry run a × (a.number ≡ input) × (number_for a.writes key ≡ Some number)

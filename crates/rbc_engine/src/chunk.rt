@@ -29,6 +29,9 @@ const LEAST: usize = 8;
 
 const MOST: usize = 64;
 
+/// How many inputs a worker takes at once right behind one that was given up, and right before one that will be.
+const NEAR: usize = 4;
+
 /// How often a worker comes back for more inputs before all are taken, at least.
 const ROUNDS: usize = 8;
 
@@ -40,10 +43,21 @@ pub(crate) struct Chunk {
     pub(crate) publishes: usize,
 }
 
-/// What a worker takes of these inputs, with the records as they stand.
-pub(crate) fn next_chunk(records: &PlainStore, inputs: &[Input], workers: u8) -> Chunk {
+/// What a worker takes of these inputs, with the records as they stand. So many inputs were taken since the last one that
+/// was given up.
+pub(crate) fn next_chunk(
+    records: &PlainStore,
+    inputs: &[Input],
+    since: usize,
+    workers: u8,
+) -> Chunk {
     let trains = engines_under(records, Key::Roster);
-    let given_up = given_up_first(trains, inputs);
+    let workers = usize::from(workers.max(1));
+    let most = (AT_ONCE / workers).clamp(LEAST, MOST);
+    if trains <= FEW_TRAINS {
+        return attempted(attempted_first(inputs, most, workers));
+    }
+    let given_up = given_up_first(trains, inputs, since);
     if given_up > 0 {
         return Chunk {
             count: given_up,
@@ -51,22 +65,24 @@ pub(crate) fn next_chunk(records: &PlainStore, inputs: &[Input], workers: u8) ->
             publishes: published_by(trains, inputs, given_up),
         };
     }
-    let attempted = attempted_first(inputs, usize::from(workers));
+    let most = most.min(most_between(inputs, since, most, workers));
+    attempted(attempted_first(inputs, most, workers))
+}
+
+/// So many of the first inputs are attempted.
+fn attempted(count: usize) -> Chunk {
     Chunk {
-        count: attempted,
+        count,
         is_given_up: false,
-        publishes: attempted,
+        publishes: count,
     }
 }
 
 /// How many of the first inputs are given up: those up to an input that is no message, and on to the next one where that
-/// is near. None where there are few trains.
-fn given_up_first(trains: usize, inputs: &[Input]) -> usize {
-    if trains <= FEW_TRAINS {
-        return 0;
-    }
+/// is near. None behind messages that were attempted, up to the next input that is no message.
+fn given_up_first(trains: usize, inputs: &[Input], since: usize) -> usize {
     let mut given_up = 0usize;
-    let mut messages = 0usize;
+    let mut messages = if since > 0 { SHORT } else { 0 };
     let mut searched = 0usize;
     for (index, input) in inputs.iter().take(MOST_GIVEN_UP).enumerate() {
         if sender(input).is_some() {
@@ -94,10 +110,22 @@ fn published_by(trains: usize, inputs: &[Input], count: usize) -> usize {
     published
 }
 
+/// How many inputs a worker takes at once between two that are given up: few behind the first, so that the first of them
+/// are soon committed, and few before the second, so that all workers end at about the same time.
+fn most_between(inputs: &[Input], since: usize, most: usize, workers: usize) -> usize {
+    let ahead = inputs
+        .iter()
+        .take(most.saturating_mul(workers))
+        .take_while(|input| sender(input).is_some())
+        .count();
+    let behind_the_first = (since / 2).saturating_add(NEAR);
+    let before_the_second = (ahead / workers.max(1)).max(NEAR);
+    behind_the_first.min(before_the_second).min(ahead).max(1)
+}
+
 /// How many of the first inputs are attempted: as many as keep all workers busy to the end, and behind them the messages
 /// of the same trains, so that no other worker attempts one of these at the same time.
-fn attempted_first(inputs: &[Input], workers: usize) -> usize {
-    let most = (AT_ONCE / workers.max(1)).clamp(LEAST, MOST);
+fn attempted_first(inputs: &[Input], most: usize, workers: usize) -> usize {
     let share = inputs.len() / workers.max(1).saturating_mul(ROUNDS);
     if share < most {
         return share.max(1);

@@ -53,6 +53,51 @@ impl<N: RunName> Read<N> {
     }
 }
 
+/// A number that was read for every input from one on, before any of them was taken: no attempt at one of them was
+/// deposited, so all are to see the same.
+#[derive(Drop)]
+struct ReadForAll<N: RunName> {
+    first: u32,
+    key: Key,
+    number: u64,
+    of: PhantomData<N>,
+}
+
+impl<N: RunName> Model for ReadForAll<N> {
+    ghost use Rattle.rbc_engine.specs.Reading.{Numbered, WasLatestFrom};
+
+    ghost Value = { Numbered };
+
+    ghost view = { λ r. record { input = r.first; key = r.key; number = r.number } };
+
+    ghost invariant = { λ r. WasLatestFrom N.run N.log r.first r.key r.number };
+}
+
+impl<N: RunName> ReadForAll<N> {
+    /// Reads the number of what stands under a key as every input that is not taken yet is to see it.
+    fn new(book: &Book<'_, N>, key: Key) -> Self {
+        let first = book.stats().taken + 1;
+        let number = book.present(first, key);
+        ReadForAll {
+            first,
+            key,
+            number,
+            of: PhantomData,
+        }
+    }
+
+    /// The number, if it was read for this input under this key.
+    fn get(&self, input: u32, key: Key) -> Option<u64>
+        ensures { IfSome result (WasLatest N.run N.log input key) }
+    {
+        if self.first <= input && self.key == key {
+            Some(self.number)
+        } else {
+            None
+        }
+    }
+}
+
 /// The number that the attempt at an input puts under a key.
 #[derive(Drop)]
 struct Written<N: RunName> {
@@ -107,15 +152,14 @@ impl<N: RunName> Written<N> {
     }
 }
 
-/// How many numbers are read for each input as it is taken.
-const READ_AHEAD: usize = 3;
-
 /// What a worker has in hand of the inputs that it took at once: the numbers that were read for them, its attempts at
 /// them, and what these write. It sees what its own earlier attempts write before they are deposited. Where memory was
 /// refused it has less in hand; then numbers are read later, and inputs are given up.
 #[derive(Drop)]
 pub(crate) struct Hand<N: RunName> {
     first: u32,
+    stops: Option<ReadForAll<N>>,
+    limits: Option<ReadForAll<N>>,
     read: Vec<Read<N>>,
     written: Vec<Written<N>>,
     writes_trains_alone: bool,
@@ -128,6 +172,8 @@ impl<N: RunName> Hand<N> {
     pub(crate) fn new(alloc: Global) -> Self {
         Hand {
             first: 0,
+            stops: None,
+            limits: None,
             read: Vec::new(alloc),
             written: Vec::new(alloc),
             writes_trains_alone: true,
@@ -136,9 +182,13 @@ impl<N: RunName> Hand<N> {
         }
     }
 
-    /// Lets all that was in hand go, and keeps the memory for the next inputs, of which this is the first.
-    pub(crate) fn begin(&mut self, first: u32) {
-        self.first = first;
+    /// Lets all that was in hand go, and keeps the memory for the next inputs, of which none is taken yet. Reads the
+    /// numbers that each of them asks for.
+    pub(crate) fn begin(&mut self, book: &Book<'_, N>) {
+        let stops = ReadForAll::new(book, Key::Stops);
+        self.first = stops.first;
+        self.stops = Some(stops);
+        self.limits = Some(ReadForAll::new(book, Key::Limits));
         self.read.clear();
         self.written.clear();
         self.writes_trains_alone = true;
@@ -146,11 +196,9 @@ impl<N: RunName> Hand<N> {
         self.attempted.clear();
     }
 
-    /// Reads the numbers that an input is sure to ask for, or most likely.
-    pub(crate) fn read(&mut self, book: &Book<'_, N>, input: u32, own: Key) {
-        for key in [own, Key::Stops, Key::Limits] {
-            let _refused = self.read.push(Read::new(book, input, key));
-        }
+    /// Reads the number that an input asks for first. The inputs come in their order.
+    pub(crate) fn read(&mut self, book: &Book<'_, N>, input: u32, key: Key) {
+        let _refused = self.read.push(Read::new(book, input, key));
     }
 
     /// The number that an input is to see under a key, if it is in hand.
@@ -182,16 +230,14 @@ impl<N: RunName> Hand<N> {
     fn number_read(&self, input: u32, key: Key) -> Option<u64>
         ensures { IfSome result (WasLatest N.run N.log input key) }
     {
-        let place = match key {
-            Key::Stops => 1,
-            Key::Limits => 2,
-            Key::Roster | Key::Train(_) | Key::Line(_) | Key::Unplaced => 0,
-        };
-        let behind = input.saturating_sub(self.first) as usize;
-        let read = self
-            .read
-            .get(behind.saturating_mul(READ_AHEAD).saturating_add(place))?;
-        read.get(input, key)
+        match key {
+            Key::Stops => self.stops.as_ref()?.get(input, key),
+            Key::Limits => self.limits.as_ref()?.get(input, key),
+            Key::Roster | Key::Train(_) | Key::Line(_) | Key::Unplaced => {
+                let behind = input.saturating_sub(self.first) as usize;
+                self.read.get(behind)?.get(input, key)
+            }
+        }
     }
 
     /// Keeps an attempt, and notes what it writes. An attempt for which there is no memory is dropped.

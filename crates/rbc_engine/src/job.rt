@@ -1,8 +1,9 @@
 //! What the workers of a stretch do.
 
-ghost use Rattle.std.specs.Prelude.{◌≡◌, ◌≤◌, IfSome, length};
+ghost use Rattle.std.specs.Prelude.{◌≡◌, ◌≤◌, IfOk, IfSome, length};
 ghost use Rattle.std.specs.List.{All};
 ghost use Rattle.rbc_step.specs.Inputs.{Fits};
+ghost use Rattle.rbc_versions.specs.Entries.{AreKeyedOf, AreOfWrites, numbered};
 ghost use Rattle.rbc_book.specs.Books.{IsBook};
 ghost use Rattle.rbc_engine.specs.Reading.{IsNumber};
 ghost use Rattle.rbc_engine.specs.Facts.{all_fit_at_most_once};
@@ -13,9 +14,10 @@ use crate::hand::Hand;
 use crate::locking::{LOOKS, lock, unlocked};
 use crate::recorder::Recorder;
 use rbc_book::{Attempt, Book, Commit, Leavings, RunName, decide};
+use rbc_records::Writes;
 use rbc_step::{Input, RuleFault};
 use rbc_track::Track;
-use rbc_versions::{VersionLog, publish_all};
+use rbc_versions::{OutOfMemory, Published, VersionLog, publish_all, publish_all_over};
 use std::alloc::Global;
 use std::hint;
 use std::marker::PhantomData;
@@ -184,13 +186,16 @@ impl<'a, 'b, N: RunName, G: Gate, R: Wait> Job<'a, 'b, N, G, R> {
     /// Takes the next inputs that nobody has taken, and reads the numbers that they ask for first. `None` if all are
     /// taken, or the log holds enough for one stretch.
     fn take(&self, book: &mut Book<'_, N>, hand: &mut Hand<N>) -> Option<Taken<N>> {
-        let rest = &self.inputs[book.stats().taken as usize..];
-        let chunk = next_chunk(book.records(), rest, self.workers);
+        let taken = book.stats().taken;
+        let rest = &self.inputs[taken as usize..];
+        let given_up = self.progress.given_up.load(Ordering::SeqCst);
+        let since = taken.saturating_sub(given_up) as usize;
+        let chunk = next_chunk(book.records(), rest, since, self.workers);
         if self.is_full(book, &chunk) {
             return None;
         }
+        hand.begin(book);
         let first = take_one(book)?;
-        hand.begin(first);
         let mut last = first;
         for _ in 1..chunk.count {
             let Some(number) = take_one(book) else {
@@ -226,15 +231,15 @@ impl<'a, 'b, N: RunName, G: Gate, R: Wait> Job<'a, 'b, N, G, R> {
     /// Attempts inputs and deposits the attempts, or gives the inputs up. Before each it frees some of what commits left:
     /// so the memory that it needs is that which it has just freed, and it seldom waits for another thread in `malloc`.
     /// Then it waits until all before them are committed, for some time: so it mostly commits what it has made itself,
-    /// and no two workers want the lock at the same time.
+    /// and two workers seldom want the lock at the same time.
     fn bring(&self, taken: &Taken<N>, hand: &mut Hand<N>, leavings: &mut Leavings) {
         let count = taken.last.saturating_sub(taken.first) as usize + 1;
-        let each = (leavings.len() / count).saturating_add(1);
+        let each = leavings.len().saturating_sub(count) / count;
         for number in taken.first..=taken.last {
             leavings.free(each);
             self.gate.before_rule(number);
             if !taken.is_given_up {
-                self.try_one(number, hand);
+                self.try_one(number, hand, leavings);
             }
         }
         self.wait_for_turn(taken.first);
@@ -255,37 +260,53 @@ impl<'a, 'b, N: RunName, G: Gate, R: Wait> Job<'a, 'b, N, G, R> {
     }
 
     /// Attempts an input, and keeps the attempt, if there is memory for it.
-    fn try_one(&self, number: u32, hand: &mut Hand<N>)
+    fn try_one(&self, number: u32, hand: &mut Hand<N>, leavings: &mut Leavings)
         requires { IsNumber N.run number }
     {
-        if let Ok(attempt) = self.attempt(number, hand) {
+        if let Ok(attempt) = self.attempt(number, hand, leavings) {
             self.gate.before_deposit(number);
             hand.keep(attempt);
         }
     }
 
     /// Attempts the input of a number: decides what it does by single records, and publishes what it writes, without
-    /// the lock but for the numbers that are read and not in hand.
-    fn attempt(&self, number: u32, hand: &Hand<N>) -> Result<Attempt<N>, RuleFault>
+    /// the lock but for the numbers that are read and not in hand. It does so in memory that an earlier commit left.
+    fn attempt(
+        &self,
+        number: u32,
+        hand: &Hand<N>,
+        leavings: &mut Leavings,
+    ) -> Result<Attempt<N>, RuleFault>
         requires { IsNumber N.run number }
     {
         let input = &self.inputs[number as usize - 1];
-        let (rt, alloc, log) = (self.rt, self.alloc, self.log);
+        let (notes, old) = leavings.reuse(self.alloc);
         let mut recorder = Recorder::knowing(
-            rt,
-            alloc,
+            self.rt,
+            notes,
             self.book,
-            log,
+            self.log,
             self.gate,
             number,
             Some(hand),
         );
-        let outcome = decide(alloc, self.track, input, &mut recorder)?;
-        let Ok(published) = publish_all(rt, alloc, log, &outcome.writes) else {
+        let outcome = decide(self.alloc, self.track, input, &mut recorder)?;
+        let Ok(published) = self.publish(&outcome.writes, old) else {
             return Err(RuleFault::OutOfMemory);
         };
         let notes = recorder.into_notes();
         Ok(Attempt::of(self.track, number, input, notes, outcome, published))
+    }
+
+    /// Publishes what an attempt writes, in the memory of an old publication, if there is one.
+    fn publish(&self, writes: &Writes, old: Option<Published>) -> Result<Published, OutOfMemory>
+        ensures here { IfOk result (AreKeyedOf N.log) }
+        ensures writes { IfOk result (λ published. AreOfWrites (numbered published) writes.now) }
+    {
+        match old {
+            Some(old) => publish_all_over(self.rt, self.alloc, self.log, writes, old),
+            None => publish_all(self.rt, self.alloc, self.log, writes),
+        }
     }
 
     /// Waits until all inputs before this one are committed, or for some time.

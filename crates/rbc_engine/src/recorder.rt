@@ -57,20 +57,21 @@ impl<'a, 'b, N: RunName, G: Gate, R: Wait> Recorder<'a, 'b, N, G, R> {
         requires { log.now ≡ N.log }
         ensures { result ≡ record { input = input; notes = []; failures = 0 } }
     {
-        Recorder::knowing(rt, alloc, book, log, gate, input, None)
+        Recorder::knowing(rt, Notes::new(alloc), book, log, gate, input, None)
     }
 
-    /// The same for a worker that has numbers in hand.
+    /// The same for a worker that has numbers in hand, with notes in the memory of others.
     pub(crate) fn knowing(
         rt: &'a R,
-        alloc: Global,
+        notes: Notes,
         book: &'a Mutex<Book<'b, N>>,
         log: &'a VersionLog,
         gate: &'a G,
         input: u32,
         hand: Option<&'a Hand<N>>,
     ) -> Self
-        requires { log.now ≡ N.log }
+        requires log { log.now ≡ N.log }
+        requires notes { notes ≡ [] }
         ensures { result ≡ record { input = input; notes = []; failures = 0 } }
     {
         Recorder {
@@ -80,7 +81,7 @@ impl<'a, 'b, N: RunName, G: Gate, R: Wait> Recorder<'a, 'b, N, G, R> {
             gate,
             input,
             hand,
-            notes: Notes::new(alloc),
+            notes,
             failures: 0,
         }
     }

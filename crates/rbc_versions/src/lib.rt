@@ -6,8 +6,9 @@ mod log;
 mod noted_numbers;
 mod present;
 mod published;
+mod tickets;
 
 pub use log::{OutOfMemory, Ticket, Version, VersionLog};
 pub use noted_numbers::Notes;
 pub use present::Present;
-pub use published::{Published, publish_all};
+pub use published::{Published, publish_all, publish_all_over};

@@ -1,6 +1,6 @@
 //! Notes of which numbers were read.
 
-ghost use Rattle.std.specs.Prelude.{◌≡◌, ◌<◌, [], ◌∷◌, ◌++◌, false, length, is_some, IfSome, OnOk, OnErr, Some};
+ghost use Rattle.std.specs.Prelude.{◌≡◌, ◌<◌, [], ◌∷◌, ◌++◌, false, length, is_some, IfOk, IfSome, OnOk, OnErr, Some};
 ghost use Rattle.std.specs.Prelude.{slice_get, option_copied};
 ghost use Rattle.std.specs.Option.{option_map};
 ghost use Rattle.rbc_records.specs.Notes.{Part, Learns, IsNotedOnce, is_noted, note_in};
@@ -8,6 +8,7 @@ ghost use Rattle.rbc_versions.specs.Log.{LogName, IsOf};
 ghost use Rattle.rbc_versions.specs.Entries.{AreOf, shown, record_of};
 
 use crate::log::{OutOfMemory, Ticket};
+use crate::tickets::{Tickets, boxed};
 use indexmap::IndexMap;
 use rbc_records::Key;
 use std::alloc::Global;
@@ -17,11 +18,14 @@ use std::marker::Model;
 /// reading, and no key occurs twice. In contracts a list of pairs.
 #[derive(Drop)]
 pub struct Notes {
-    all: IndexMap<Key, Option<Ticket>>,
+    /// `None` while nothing is noted.
+    all: Option<Tickets>,
+    alloc: Global,
 }
 
 impl Model for Notes {
-    ghost use Rattle.std.specs.Prelude.{List, Option};
+    ghost use Rattle.std.specs.Prelude.{List, [], Option};
+    ghost use Rattle.std.specs.Option.{option_map_or};
     ghost use Rattle.rbc_records.specs.declared.record.Key.{Key};
     ghost use Rattle.rbc_records.specs.Notes.{IsNotedOnce};
     ghost use Rattle.rbc_versions.specs.Log.{Shown};
@@ -29,10 +33,10 @@ impl Model for Notes {
 
     ghost Value = { List (Key × Option Shown) };
 
-    ghost view = { λ notes. notes.all.entries };
+    ghost view = { λ notes. option_map_or (λ all. all.value.entries) notes.all [] };
 
     // Each key occurs once.
-    ghost invariant = { λ notes. IsNotedOnce (shown notes.all.entries) };
+    ghost invariant = { λ notes. IsNotedOnce (shown (option_map_or (λ all. all.value.entries) notes.all [])) };
 }
 
 impl Notes {
@@ -40,9 +44,7 @@ impl Notes {
     pub fn new(alloc: Global) -> Self
         ensures { result ≡ [] }
     {
-        Notes {
-            all: IndexMap::new(alloc),
-        }
+        Notes { all: None, alloc }
     }
 
     /// Adds a note behind the others: what was read under a key that is not noted yet. Fails only for lack of memory,
@@ -53,9 +55,21 @@ impl Notes {
         ensures learns { OnOk result (Learns (Part (shown self.old)) key (Part (shown self.new))) }
         ensures err { OnErr result (self.new ≡ self.old) }
     {
-        match self.all.insert(key, ticket) {
-            Ok(_) => Ok(()),
-            Err(_) => Err(OutOfMemory),
+        match &mut self.all {
+            Some(all) => append(all, key, ticket),
+            None => {
+                self.all = Some(first_note(self.alloc, key, ticket)?);
+                Ok(())
+            }
+        }
+    }
+
+    /// Takes all notes out. Their memory stays.
+    pub fn clear(&mut self)
+        ensures { self.new ≡ [] }
+    {
+        if let Some(all) = &mut self.all {
+            all.clear();
         }
     }
 
@@ -67,8 +81,10 @@ impl Notes {
         ensures here { (log : LogName) → AreOf log self.now
             → IfSome result (λ ticket. IfSome (option_copied ticket) (IsOf log)) }
     {
-        let ticket = self.all.get(&key)?;
-        Some(ticket.as_ref())
+        match &self.all {
+            Some(all) => noted(all, key),
+            None => None,
+        }
     }
 
     /// The number of notes.
@@ -76,7 +92,10 @@ impl Notes {
         ensures len { result ≡ length self.now }
         ensures once { IsNotedOnce (shown self.now) }
     {
-        self.all.len()
+        match &self.all {
+            Some(all) => all.len(),
+            None => 0,
+        }
     }
 
     /// The note at an index, which counts from 0 and is below `len`: its key, and the ticket that was read under it.
@@ -85,7 +104,54 @@ impl Notes {
         ensures at { slice_get self.now index ≡ Some (result.0, option_copied result.1) }
         ensures once { IsNotedOnce (shown self.now) }
     {
-        let (key, ticket) = self.all.get_index(index).unwrap();
+        let (key, ticket) = self.all.as_ref().unwrap().get_index(index).unwrap();
         (*key, ticket.as_ref())
     }
+}
+
+/// How many notes there is room for at first: most inputs read three records.
+const FEW: usize = 4;
+
+/// Adds a note behind the others, under a key that none has. Fails only for lack of memory, and then changes nothing.
+fn append(
+    all: &mut IndexMap<Key, Option<Ticket>>,
+    key: Key,
+    ticket: Option<Ticket>,
+) -> Result<(), OutOfMemory>
+    requires absent { is_noted (shown all.old.entries) key ≡ false }
+    requires once { IsNotedOnce (shown all.old.entries) }
+    ensures ok { OnOk result (all.new.entries ≡ all.old.entries ++ (key, ticket) ∷ []) }
+    ensures learns { OnOk result (Learns (Part (shown all.old.entries)) key (Part (shown all.new.entries))) }
+    ensures err { OnErr result (all.new.entries ≡ all.old.entries) }
+    ensures once { IsNotedOnce (shown all.new.entries) }
+{
+    match all.insert(key, ticket) {
+        Ok(_) => Ok(()),
+        Err(_) => Err(OutOfMemory),
+    }
+}
+
+/// What was read under a key: the ticket of a record, or that there is none. `None` if the key is not noted.
+fn noted(all: &IndexMap<Key, Option<Ticket>>, key: Key) -> Option<Option<&Ticket>>
+    ensures known { is_some result ≡ is_noted (shown all.now.entries) key }
+    ensures noted { IfSome result (λ ticket. option_map record_of (option_copied ticket)
+        ≡ note_in (shown all.now.entries) key) }
+    ensures here { (log : LogName) → AreOf log all.now.entries
+        → IfSome result (λ ticket. IfSome (option_copied ticket) (IsOf log)) }
+{
+    let ticket = all.get(&key)?;
+    Some(ticket.as_ref())
+}
+
+/// A map of one note. Fails only for lack of memory.
+fn first_note(alloc: Global, key: Key, ticket: Option<Ticket>) -> Result<Tickets, OutOfMemory>
+    ensures one { IfOk result (λ all. all.value.entries ≡ (key, ticket) ∷ []) }
+    ensures learns { IfOk result (λ all. Learns (Part []) key (Part (shown all.value.entries))) }
+    ensures once { IfOk result (λ all. IsNotedOnce (shown all.value.entries)) }
+{
+    let Ok(mut all) = IndexMap::with_capacity(alloc, FEW) else {
+        return Err(OutOfMemory);
+    };
+    append(&mut all, key, ticket)?;
+    boxed(alloc, all)
 }

@@ -1,7 +1,7 @@
 //! Publications of what is written.
 
 ghost use Rattle.std.specs.Prelude.{◌+◌, ◌-◌, ◌^◌, min};
-ghost use Rattle.std.specs.Prelude.{◌≡◌, ◌<◌, ◌≤◌, Some, length, slice_get, IfOk, IfSome, option_copied};
+ghost use Rattle.std.specs.Prelude.{◌≡◌, ◌<◌, ◌≤◌, Some, length, slice_get, IfOk, OnOk, IfSome, option_copied};
 ghost use Rattle.std.specs.Option.{option_map};
 ghost use Rattle.indexmap.specs.IndexMap.{insert_entry, spare};
 ghost use Rattle.rbc_records.specs.Notes.{IsNotedOnce, same_key};
@@ -10,6 +10,7 @@ ghost use Rattle.rbc_versions.specs.Entries.{numbered, number_for, shown, record
 ghost use Rattle.rbc_versions.specs.Entries.{note_weight, CountsAll};
 
 use crate::log::{OutOfMemory, Ticket, VersionLog};
+use crate::tickets::{Tickets, boxed};
 use indexmap::IndexMap;
 use rbc_records::{Key, Rec, Writes};
 use std::alloc::Global;
@@ -20,7 +21,7 @@ use std::sync::Wait;
 /// removal. In contracts a list of pairs.
 #[derive(Drop)]
 pub struct Published {
-    all: IndexMap<Key, Option<Ticket>>,
+    all: Tickets,
     weight: usize,
 }
 
@@ -33,11 +34,11 @@ impl Model for Published {
 
     ghost Value = { List (Key × Option Shown) };
 
-    ghost view = { λ published. published.all.entries };
+    ghost view = { λ published. published.all.value.entries };
 
     // Each key occurs once, and the weight counts all that was published.
-    ghost invariant = { λ published. IsNotedOnce (shown published.all.entries)
-        × CountsAll published.weight (shown published.all.entries) };
+    ghost invariant = { λ published. IsNotedOnce (shown published.all.value.entries)
+        × CountsAll published.weight (shown published.all.value.entries) };
 }
 
 impl Published {
@@ -123,6 +124,34 @@ fn put(all: &mut IndexMap<Key, Option<Ticket>>, key: Key, ticket: Option<Ticket>
     all.insert(key, ticket).unwrap();
 }
 
+/// Publishes copies of what is written, in place of what a map held: one entry for each key, by its last write. Returns
+/// their weight. Fails only for lack of memory, and may then leave versions in the log that nothing names.
+fn publish_into(
+    rt: &impl Wait,
+    alloc: Global,
+    log: &VersionLog,
+    writes: &Writes,
+    all: &mut IndexMap<Key, Option<Ticket>>,
+) -> Result<usize, OutOfMemory>
+    ensures here { OnOk result (AreKeyedOf log.now all.new.entries) }
+    ensures writes { OnOk result (AreOfWrites (numbered all.new.entries) writes.now) }
+    ensures once { OnOk result (IsNotedOnce (shown all.new.entries)) }
+    ensures weight { IfOk result (λ weight. CountsAll weight (shown all.new.entries)) }
+{
+    all.clear();
+    let Ok(()) = all.reserve(writes.len()) else {
+        return Err(OutOfMemory);
+    };
+    let mut weight = 0usize;
+    for index in 0..writes.len() {
+        let (key, rec) = writes.at(index);
+        weight = weight.saturating_add(weight_of(rec));
+        let ticket = publish_one(rt, alloc, log, key, rec)?;
+        put(all, key, ticket);
+    }
+    Ok(weight)
+}
+
 /// Publishes copies of what is written: one entry for each key, by its last write. Fails only for lack of memory, and
 /// may then leave versions in the log that nothing names.
 pub fn publish_all(
@@ -135,15 +164,25 @@ pub fn publish_all(
     ensures writes { IfOk result (λ published. AreOfWrites (numbered published) writes.now) }
     ensures once { IfOk result (λ published. IsNotedOnce (shown published)) }
 {
-    let Ok(mut all) = IndexMap::with_capacity(alloc, writes.len()) else {
-        return Err(OutOfMemory);
-    };
-    let mut weight = 0usize;
-    for index in 0..writes.len() {
-        let (key, rec) = writes.at(index);
-        weight = weight.saturating_add(weight_of(rec));
-        let ticket = publish_one(rt, alloc, log, key, rec)?;
-        put(&mut all, key, ticket);
-    }
+    let mut all = IndexMap::new(alloc);
+    let weight = publish_into(rt, alloc, log, writes, &mut all)?;
+    let all = boxed(alloc, all)?;
+    Ok(Published { all, weight })
+}
+
+/// Does the same in the memory of a publication that is of no more use.
+pub fn publish_all_over(
+    rt: &impl Wait,
+    alloc: Global,
+    log: &VersionLog,
+    writes: &Writes,
+    old: Published,
+) -> Result<Published, OutOfMemory>
+    ensures here { IfOk result (AreKeyedOf log.now) }
+    ensures writes { IfOk result (λ published. AreOfWrites (numbered published) writes.now) }
+    ensures once { IfOk result (λ published. IsNotedOnce (shown published)) }
+{
+    let Published { mut all, weight: _ } = old;
+    let weight = publish_into(rt, alloc, log, writes, &mut all)?;
     Ok(Published { all, weight })
 }

@@ -8,17 +8,17 @@ use Rattle.rbc_records.specs.Writes.{written}
 use Rattle.rbc_versions.specs.Entries.{shown, record_of}
 use Rattle.rbc_versions.proofs.Putting.{none_keyed, none_once, none_left, left_put, once_put, keyed_put, shown_put}
 use Rattle.rbc_versions.proofs.Weights.{none_weighs, weight_more}
-use Rattle.rbc_versions.proofs.published.publish_all.Goals as goal
+use Rattle.rbc_versions.proofs.published.publish_into.Goals as goal
 
 pub loop-index-init : goal.loop-index-init
 loop-index-init g c =
-    let none = c.in-Ok.ensures.empty in
+    let none = c.reserve.ensures.entries ∙ c.clear.ensures.empty in
     record {
-      room = omega (arith, c.in-Ok.ensures.spare, c.len.ensures);
-      here = none_keyed c.args.log.now c.in-Ok.all.entries none;
-      once = none_once c.in-Ok.all.entries none;
-      rest = λ records k. none_left c.args.writes.now c.in-Ok.all.entries records k none;
-      weight = none_weighs c.in-Ok.all.entries none;
+      room = omega (arith, c.in-Ok.ensures.ok, c.len.ensures);
+      here = none_keyed c.args.log.now c.reserve.new.self.entries none;
+      once = none_once c.reserve.new.self.entries none;
+      rest = λ records k. none_left c.args.writes.now c.reserve.new.self.entries records k none;
+      weight = none_weighs c.reserve.new.self.entries none;
     }
 
 pub loop-index-preserved : goal.loop-index-preserved
@@ -37,9 +37,6 @@ loop-index-preserved g c =
       rest = λ records k. rw c.put.ensures.entries (left_put entries c.args.writes.now c.loop-index.index key _ ticket records k within c.at-key.ensures c.in_ok-ticket.ensures.rec c.loop-index.invariant.once ∙ c.loop-index.invariant.rest records k);
       weight = rw c.put.ensures.entries weight;
     }
-
-pub invariant_of-result : goal.invariant_of-result
-invariant_of-result g c = (c.loop-index.invariant.once, c.loop-index.invariant.weight)
 
 pub returns-clause-here : goal.returns-clause-here
 returns-clause-here g c = c.loop-index.invariant.here

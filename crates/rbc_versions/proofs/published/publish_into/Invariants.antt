@@ -5,7 +5,7 @@ use Rattle.rbc_records.specs.declared.record.Rec.{Rec}
 use Rattle.rbc_records.specs.Notes.{IsNotedOnce}
 use Rattle.rbc_records.specs.Writes.{written}
 use Rattle.rbc_versions.specs.Entries.{AreKeyedOf, shown, CountsAll}
-use Rattle.rbc_versions.proofs.published.publish_all.Given as goal
+use Rattle.rbc_versions.proofs.published.publish_into.Given as goal
 
 -- there is room for the writes that are left, behind the entries those do what all do, and the weight counts what
 -- the entries show

@@ -1,0 +1,24 @@
+//! Tickets by key.
+
+ghost use Rattle.std.specs.Prelude.{◌≡◌, IfOk};
+
+use crate::log::{OutOfMemory, Ticket};
+use indexmap::IndexMap;
+use rbc_records::Key;
+use std::alloc::Global;
+
+/// Under each key a ticket, or none. Behind a pointer, so that what keeps it is small where it is moved.
+pub(crate) type Tickets = Box<IndexMap<Key, Option<Ticket>>>;
+
+/// Puts tickets behind a pointer. Fails only for lack of memory.
+pub(crate) fn boxed(
+    alloc: Global,
+    tickets: IndexMap<Key, Option<Ticket>>,
+) -> Result<Tickets, OutOfMemory>
+    ensures { IfOk result (λ all. all.value ≡ tickets) }
+{
+    match Box::new(alloc, tickets) {
+        Ok(all) => Ok(all),
+        Err(_) => Err(OutOfMemory),
+    }
+}
