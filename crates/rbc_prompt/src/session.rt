@@ -11,7 +11,7 @@ ghost use Rattle.rbc_prompt.specs.UnderWay.{joined};
 use crate::line::UnfinishedLine;
 use crate::prompt::PromptError;
 use rbc_batch::write_text;
-use rbc_live::LiveDesk;
+use rbc_live::{LiveDesk, LiveFault};
 use rbc_text::{cut, render_answer};
 use std::alloc::{AllocError, Global};
 use std::io::Write;
@@ -64,9 +64,11 @@ impl Session {
         ensures sent { self.new.sent ≡ self.old.sent }
     {
         self.line.add(alloc, end)?;
-        let Ok(answer) = self.desk.feed(alloc, self.line.bytes(), usize::MAX) else {
-            // No line sends more messages than can be counted, so memory was refused.
-            return Err(AllocError);
+        let answer = match self.desk.feed(alloc, self.line.bytes(), usize::MAX) {
+            Ok(answer) => answer,
+            Err(LiveFault::Memory) => return Err(AllocError),
+            // There is room for as many messages as can be counted.
+            Err(LiveFault::Room(_)) => unreachable!(),
         };
         let number = self.number;
         self.number += 1;
