@@ -206,11 +206,11 @@ impl Session {
     /// # Errors
     ///
     /// `Memory` or `Write`.
-    pub fn finish<W: Write>(&mut self, alloc: Global, writer: &mut W) -> Result<(), PromptError>
-        requires number { self.old.number + 1 < 2 ^ 64 }
-        requires waiting { IsWaiting self.old }
+    pub fn finish<W: Write>(mut self, alloc: Global, writer: &mut W) -> Result<(), PromptError>
+        requires number { self.number + 1 < 2 ^ 64 }
+        requires waiting { IsWaiting self }
         ensures { (plan : Plan) (from : ℕ) (old : Option (List ℕ)) (ended : List (List ℕ)) (rest : List ℕ)
-            → IsUnderWay plan from self.old old (W.contents writer.old) ended rest
+            → IsUnderWay plan from self old (W.contents writer.old) ended rest
             → GoesOn plan from (without_empty_end (ended ++ rest ∷ [])) old (W.contents writer.new) result
             (IsDone plan from (without_empty_end (ended ++ rest ∷ [])) old (W.contents writer.new)) }
     {

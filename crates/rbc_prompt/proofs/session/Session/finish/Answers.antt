@@ -13,7 +13,7 @@ pub returns-then-is_empty : goal.returns-then-is_empty
 returns-then-is_empty g c = λ plan from old ended rest is.
     let none : c.is_empty.result ≡ true = search rules in
     subst (λ (lines : List (List ℕ)). IsDone plan from lines old (g.W.Write.contents c.args.writer.now)) (sym (no_line_left ended rest (c.is_empty.ensures.none rest is.begun none)))
-    (nothing_left plan from c.args.self.now old (g.W.Write.contents c.args.writer.now) ended rest is c.requires.waiting)
+    (nothing_left plan from c.args.self old (g.W.Write.contents c.args.writer.now) ended rest is c.requires.waiting)
 
 pub returns-in_err-end_line : goal.returns-in_err-end_line
 returns-in_err-end_line g c = λ plan from old ended rest is.
