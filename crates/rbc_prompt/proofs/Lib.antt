@@ -8,3 +8,4 @@ mod Writing
 mod Taking
 mod Cutting
 mod Ending
+mod Calling

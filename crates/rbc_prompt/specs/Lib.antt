@@ -1,4 +1,5 @@
 pub mod Lines
 pub mod Answers
 pub mod GoingOn
+pub mod Calls
 pub mod UnderWay

@@ -1,6 +1,7 @@
 //! Answers lines as they come, from a reader to a writer, and keeps what counts for later lines alone.
 #![tactic(auto)]
 
+mod calls;
 mod line;
 mod prompt;
 mod session;

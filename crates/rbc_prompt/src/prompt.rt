@@ -2,19 +2,18 @@
 
 ghost use Rattle.std.specs.Prelude.{◌≡◌, []};
 ghost use Rattle.rbc_prompt.specs.Answers.{Answers};
+ghost use Rattle.rbc_prompt.specs.Calls.{AreCallsAt};
 
+use crate::calls::Calls;
 use crate::session::Session;
 use rbc_live::LiveDesk;
 use std::alloc::Global;
 use std::error::Error;
 use std::fmt;
-use std::io::{ErrorKind, Read, Write};
+use std::io::{Read, Write};
 
 /// The number of bytes asked for in one call.
 const PIECE: usize = 65_536;
-
-/// The greatest number of calls of a reader: 2 ^ 47, after which fewer than 2 ^ 63 lines were read.
-const MAX_CALLS: u64 = 1 << 47;
 
 /// Why not all lines were answered. What was written before stands.
 #[derive(Clone, Copy, Debug, PartialEq, Eq)]
@@ -63,17 +62,35 @@ pub fn answer_lines<R: Read, W: Write>(
     ensures { Answers desk.track from (R.remaining reader.old) (R.remaining reader.new)
         (W.contents writer.old) (W.contents writer.new) result }
 {
+    answer_counted(alloc, desk, reader, writer, from, &mut Calls::new())
+}
+
+/// Does what `answer_lines` does, and counts the calls of the reader.
+///
+/// # Errors
+///
+/// Those of `answer_lines`: `Read` exactly where a call failed, or 2 ^ 47 calls gave no end.
+fn answer_counted<R: Read, W: Write>(
+    alloc: Global,
+    desk: LiveDesk,
+    reader: &mut R,
+    writer: &mut W,
+    from: u64,
+    calls: &mut Calls,
+) -> Result<(), PromptError>
+    requires empty { desk.records ≡ [] }
+    requires uncalled { calls.old.made ≡ 0 }
+    ensures answers { Answers desk.track from (R.remaining reader.old) (R.remaining reader.new)
+        (W.contents writer.old) (W.contents writer.new) result }
+    ensures called { AreCallsAt result calls.new }
+{
     let mut session = Session::new(alloc, desk, from);
     let mut piece = [0u8; PIECE];
-    for _ in 0..MAX_CALLS {
-        match reader.read(&mut piece) {
+    while calls.may_go_on() {
+        match calls.read(reader, &mut piece) {
             Ok(0) => return session.finish(alloc, writer),
             Ok(count) => session.take_piece(alloc, &piece[..count], writer)?,
-            Err(error) => {
-                if error.kind() != ErrorKind::Interrupted {
-                    return Err(PromptError::Read);
-                }
-            }
+            Err(_) => (),
         }
     }
     Err(PromptError::Read)
