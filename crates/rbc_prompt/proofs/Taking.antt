@@ -38,7 +38,7 @@ is_shown from number taken reached = rw reached refl
 pub line_taken : (plan : Plan) (from : ℕ) (before after : Session) (old new : Option (List ℕ)) (ended : List (List ℕ)) (rest end : List ℕ) (one : Taken)
     → IsUnderWay plan from before old new ended rest → one.line ≡ rest ++ end
     → IsFed before.desk.track one.line before.desk.records after.desk.records one.reply one.messages
-    → after.desk.track ≡ before.desk.track → after.from ≡ before.from → after.number ≡ before.number + 1 → after.sent ≡ before.sent → Shows [] after.line
+    → after.desk.track ≡ before.desk.track → after.from ≡ before.from → after.number ≡ before.number + 1 → after.outlet.sent ≡ before.outlet.sent → Shows [] after.line
     → after.text.items ≡ before.text.items ++ shown before.from before.number one
     → IsUnderWay plan from after old new (ended ++ (rest ++ end) ∷ []) []
 line_taken plan from before after old new ended rest end one is line fed track first next sent begun text =

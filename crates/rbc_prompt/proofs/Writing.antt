@@ -1,6 +1,6 @@
 -- What is out, and what is left to be written.
-use Rattle.std.proofs.Common.{◌≡◌, ℕ, ◌+◌, ◌≤◌, List, [], ◌++◌, length, take, Option, Result, Ok, Err, is_err, is_ok, if◌then◌else◌, false, sym, ap, ◌∙◌, subst, append_assoc, append-nil, arith, length-append}
-use Rattle.std.specs.Prelude.{OnOk, IsErrAnd}
+use Rattle.std.proofs.Common.{◌≡◌, ℕ, ◌+◌, ◌≤◌, List, [], ◌++◌, length, take, Option, Result, Ok, Err, is_err, is_ok, if◌then◌else◌, false, refl, sym, ap, ◌∙◌, subst, append_assoc, append-nil, arith, length-append}
+use Rattle.std.specs.Prelude.{OnOk, IfErr, IsErrAnd}
 use Rattle.std.specs.Io.KnownBytes.{Appends, Keeps}
 use Rattle.std.proofs.Math.Seq.{take-append-add, take-length}
 use Rattle.std.proofs.KnownBytes.{Appends-trans, Appends-kept}
@@ -9,14 +9,14 @@ use Rattle.rbc_live.specs.History.{IsHistory}
 use Rattle.rbc_live.proofs.Runs.{each_history_is_serial}
 use Rattle.rbc_prompt.specs.Lines.{AreAnswers, AreFirstAnswers}
 use Rattle.rbc_prompt.specs.Answers.{count_of}
-use Rattle.rbc_prompt.specs.UnderWay.{Shows, ArePending, IsUnderWay, IsWaiting, IsDone, IsEnded, GoesOn}
+use Rattle.rbc_prompt.specs.UnderWay.{Shows, ArePending, IsUnderWay, IsWaiting, IsDone, IsCutShort, IsEnded, GoesOn}
 use Rattle.rbc_prompt.specs.declared.session.Session.{Session}
 use Rattle.rbc_prompt.specs.declared.prompt.PromptError.{PromptError}
 use Rattle.rbc_prompt.specs.declared.prompt.PromptError.TheVariants.{Read, Memory, Write}
 
 -- what a session has still to say
 abbrev pub pending : (plan : Plan) (from : ℕ) (session : Session) (old new : Option (List ℕ)) (ended : List (List ℕ)) (rest : List ℕ)
-    → IsUnderWay plan from session old new ended rest → ArePending plan from session.text.items session.sent old new ended
+    → IsUnderWay plan from session old new ended rest → ArePending plan from session.text.items session.outlet.sent old new ended
 pending plan from session old new ended rest is = record {
   taken = is.taken;
   records = session.desk.records;
@@ -65,7 +65,7 @@ counted_on : (a b count : ℕ) → count ≡ count_of a → count_of (count + b)
 counted_on a b count e = rw e (grind arith)
 
 -- the writer failed after a part of the text
-pub part_out : (plan : Plan) (from : ℕ) (text : List ℕ) (sent : ℕ) (old mid new : Option (List ℕ)) (ended : List (List ℕ)) (part count : ℕ)
+part_out : (plan : Plan) (from : ℕ) (text : List ℕ) (sent : ℕ) (old mid new : Option (List ℕ)) (ended : List (List ℕ)) (part count : ℕ)
     → ArePending plan from text sent old mid ended → part ≤ length text → Appends mid new (take part text) → count ≡ count_of (sent + part)
     → IsEnded plan from ended old new (Write count)
 part_out plan from text sent old mid new ended part count are few out counted =
@@ -80,19 +80,32 @@ part_out plan from text sent old mid new ended part count are few out counted =
       ),
     )
 
+pub cut_short : (plan : Plan) (from : ℕ) (text : List ℕ) (sent : ℕ) (old mid new : Option (List ℕ)) (ended : List (List ℕ)) (fault : PromptError)
+    → ArePending plan from text sent old mid ended → IsCutShort sent text mid new fault → IsEnded plan from ended old new fault
+cut_short plan from text sent old mid new ended fault are (part, few, out, same) =
+    subst (IsEnded plan from ended old new) (sym same) (part_out plan from text sent old mid new ended part (count_of (sent + part)) are few out refl)
+
 -- all of it was written
-pub all_out : (plan : Plan) (from : ℕ) (text : List ℕ) (sent : ℕ) (old mid last new : Option (List ℕ)) (ended : List (List ℕ))
+all_out : (plan : Plan) (from : ℕ) (text : List ℕ) (sent : ℕ) (old mid last new : Option (List ℕ)) (ended : List (List ℕ))
     → ArePending plan from text sent old mid ended → Appends mid last text → Keeps last new → IsDone plan from ended old new
 all_out plan from text sent old mid last new ended are out kept =
     (are.written ++ text, answers plan from text sent old mid ended are, Appends-kept old last new (are.written ++ text) (Appends-trans old mid last are.written text are.out out) kept)
 
 -- all of it was written, and is not given to the system
-pub not_flushed : (plan : Plan) (from : ℕ) (text : List ℕ) (sent : ℕ) (old mid last new : Option (List ℕ)) (ended : List (List ℕ)) (count : ℕ)
+not_flushed : (plan : Plan) (from : ℕ) (text : List ℕ) (sent : ℕ) (old mid last new : Option (List ℕ)) (ended : List (List ℕ)) (count : ℕ)
     → ArePending plan from text sent old mid ended → Appends mid last text → Keeps last new → count ≡ count_of (sent + length text)
     → IsEnded plan from ended old new (Write count)
 not_flushed plan from text sent old mid last new ended count are out kept counted =
     part_out plan from text sent old mid new ended (length text) count are (omega arith)
     (subst (Appends mid new) (sym (take-length text)) (Appends-kept mid last new text out kept)) counted
+
+-- all of it was written, and is given to the system or not
+pub given_on : {E : Type 0} (plan : Plan) (from : ℕ) (text : List ℕ) (sent : ℕ) (old mid last new : Option (List ℕ)) (ended : List (List ℕ)) (count : ℕ) (r : Result E PromptError)
+    → ArePending plan from text sent old mid ended → Appends mid last text → Keeps last new → count ≡ count_of (sent + length text) → IfErr r (λ fault. fault ≡ Write count)
+    → GoesOn plan from ended old new r (IsDone plan from ended old new)
+given_on plan from text sent old mid last new ended count (Ok done) are out kept counted same = all_out plan from text sent old mid last new ended are out kept
+given_on plan from text sent old mid last new ended count (Err fault) are out kept counted same =
+    subst (IsEnded plan from ended old new) (sym same) (not_flushed plan from text sent old mid last new ended count are out kept counted)
 
 -- nothing is left to be written
 pub nothing_left : (plan : Plan) (from : ℕ) (session : Session) (old new : Option (List ℕ)) (ended : List (List ℕ)) (rest : List ℕ)
@@ -100,15 +113,15 @@ pub nothing_left : (plan : Plan) (from : ℕ) (session : Session) (old new : Opt
 nothing_left plan from session old new ended rest is waiting =
     let are = pending plan from session old new ended rest is in (
       is.written,
-      subst (AreAnswers plan from ended) (ap (λ (text : List ℕ). is.written ++ text) waiting ∙ append-nil is.written)
-          (answers plan from session.text.items session.sent old new ended are),
+      subst (AreAnswers plan from ended) (ap (λ (text : List ℕ). is.written ++ text) waiting.0 ∙ append-nil is.written)
+          (answers plan from session.text.items session.outlet.sent old new ended are),
       is.out,
     )
 
 -- the session goes on, with nothing left to be written
 pub goes_on : (plan : Plan) (from : ℕ) (before after : Session) (old mid last new : Option (List ℕ)) (ended : List (List ℕ)) (rest : List ℕ)
     → IsUnderWay plan from before old mid ended rest → Appends mid last before.text.items → Keeps last new
-    → after ≡ record before { text = after.text; sent = after.sent } → after.text.items ≡ [] → after.sent ≡ count_of (before.sent + length before.text.items)
+    → after ≡ record before { text = after.text; outlet = after.outlet } → after.text.items ≡ [] → after.outlet.sent ≡ count_of (before.outlet.sent + length before.text.items)
     → IsUnderWay plan from after old new ended rest
 goes_on plan from before after old mid last new ended rest is out kept same none counted =
     let text = before.text.items in
@@ -119,7 +132,7 @@ goes_on plan from before after old mid last new ended rest is out kept same none
       history = subst (λ (s : Session). IsHistory plan [] is.taken s.desk.records) (sym same) is.history;
       all = ap (λ (t : List ℕ). (is.written ++ text) ++ t) none ∙ append-nil (is.written ++ text) ∙ is.all;
       out = Appends-kept old last new (is.written ++ text) (Appends-trans old mid last is.written text is.out out) kept;
-      count = counted ∙ counted_on (length is.written) (length text) before.sent is.count ∙ ap count_of (sym (length-append is.written text));
+      count = counted ∙ counted_on (length is.written) (length text) before.outlet.sent is.count ∙ ap count_of (sym (length-append is.written text));
       track = ap (λ (s : Session). s.desk.track) same ∙ is.track;
       first = ap (λ (s : Session). s.from) same ∙ is.first;
       next = ap (λ (s : Session). s.number) same ∙ is.next;
@@ -152,3 +165,8 @@ handed_on P plan from lines old new (Err other) fault same is = subst (IsEnded p
 pub appended : {E F P : Type 0} (r : Result E F) (old new more : List ℕ) → new ≡ (if is_ok r then old ++ more else old) → (new ≡ old ++ more → P) → OnOk r P
 appended (Ok done) old new more e follows = follows e
 appended (Err fault) old new more e follows = tt
+
+-- what holds in any case holds where there was no fault
+pub in_any_case : {E F P : Type 0} (r : Result E F) → P → OnOk r P
+in_any_case (Ok done) holds = holds
+in_any_case (Err fault) holds = tt

@@ -1,5 +1,5 @@
 -- Lines that are being taken.
-use Rattle.std.specs.Prelude.{◌≡◌, ◌≤◌, ◌+◌, ℕ, List, [], ◌∷◌, ◌++◌, map, length, Option, Result, Ok, Err}
+use Rattle.std.specs.Prelude.{◌≡◌, ◌≤◌, ◌+◌, ℕ, List, [], ◌∷◌, ◌++◌, map, length, take, true, Option, Result, Ok, Err}
 use Rattle.std.specs.Io.KnownBytes.{Appends}
 use Rattle.rbc_track.specs.Plan.{Plan}
 use Rattle.rbc_records.specs.declared.record.Key.{Key}
@@ -39,15 +39,19 @@ pub record IsUnderWay (plan : Plan) (from : ℕ) (session : Session) (old new : 
   pub history : IsHistory plan [] taken session.desk.records
   pub all : written ++ session.text.items ≡ answers_from from 1 taken
   pub out : Appends old new written
-  pub count : session.sent ≡ count_of (length written)
+  pub count : session.outlet.sent ≡ count_of (length written)
   pub track : session.desk.track ≡ plan
   pub first : session.from ≡ from
   pub next : session.number ≡ length taken + 1
   pub begun : Shows rest session.line
 
--- nothing is left to be written
+-- nothing is left to be written, and nothing to be flushed
 abbrev pub IsWaiting : Session → Type 0
-IsWaiting session = session.text.items ≡ []
+IsWaiting session = (session.text.items ≡ []) × (session.outlet.flushed ≡ true)
+
+-- the first bytes of a text are out, behind so many others; the fault counts them all
+abbrev pub IsCutShort : ℕ → List ℕ → Option (List ℕ) → Option (List ℕ) → PromptError → Type 0
+IsCutShort sent text old new fault = (part : ℕ) × (part ≤ length text) × Appends old new (take part text) × (fault ≡ Write (count_of (sent + part)))
 
 -- a fault in mid-course: the answers to the first of these lines are out, or at a write fault the first bytes of them
 abbrev pub IsEnded : Plan → ℕ → List (List ℕ) → Option (List ℕ) → Option (List ℕ) → PromptError → Type 0

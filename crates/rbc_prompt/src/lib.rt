@@ -3,6 +3,7 @@
 
 mod calls;
 mod line;
+mod outlet;
 mod prompt;
 mod session;
 mod stand_in;

@@ -9,8 +9,8 @@ ghost use Rattle.rbc_prompt.specs.UnderWay.{ArePending, IsUnderWay, IsWaiting, I
 ghost use Rattle.rbc_prompt.specs.UnderWay.{joined};
 
 use crate::line::UnfinishedLine;
+use crate::outlet::Outlet;
 use crate::prompt::PromptError;
-use rbc_batch::write_text;
 use rbc_live::{LiveDesk, LiveFault};
 use rbc_text::{cut, render_answer};
 use std::alloc::{AllocError, Global};
@@ -30,8 +30,7 @@ pub struct Session {
     line: UnfinishedLine,
     /// The answers that are not written yet.
     text: Vec<u8>,
-    /// How many bytes were written, where that is below 2 ^ 64, and else 2 ^ 64 - 1.
-    sent: u64,
+    outlet: Outlet,
 }
 
 impl Session {
@@ -48,7 +47,7 @@ impl Session {
             number: 1,
             line: UnfinishedLine::new(alloc),
             text: Vec::new(alloc),
-            sent: 0,
+            outlet: Outlet::new(),
         }
     }
 
@@ -61,7 +60,7 @@ impl Session {
             → OnOk result (IsUnderWay plan from self.new old new (ended ++ (rest ++ end.now) ∷ []) []) }
         ensures number { OnOk result (self.new.number ≡ self.old.number + 1) }
         ensures text { OnErr result (self.new.text.items ≡ self.old.text.items) }
-        ensures sent { self.new.sent ≡ self.old.sent }
+        ensures sent { self.new.outlet.sent ≡ self.old.outlet.sent }
     {
         self.line.add(alloc, end)?;
         let answer = match self.desk.feed(alloc, self.line.bytes(), usize::MAX) {
@@ -80,14 +79,14 @@ impl Session {
         self.text.extend_from_slice(&text)
     }
 
-    /// Writes the answers that are not written yet, and gives them to the system.
+    /// Writes the answers that are not written yet, and flushes them.
     ///
     /// # Errors
     ///
     /// `Write`.
     fn write_out<W: Write>(&mut self, writer: &mut W) -> Result<(), PromptError>
         ensures written { (plan : Plan) (from : ℕ) (old : Option (List ℕ)) (ended : List (List ℕ))
-            → ArePending plan from self.old.text.items self.old.sent old (W.contents writer.old) ended
+            → ArePending plan from self.old.text.items self.old.outlet.sent old (W.contents writer.old) ended
             → GoesOn plan from ended old (W.contents writer.new) result
             (IsDone plan from ended old (W.contents writer.new)) }
         ensures under_way { (plan : Plan) (from : ℕ) (old : Option (List ℕ)) (ended : List (List ℕ)) (rest : List ℕ)
@@ -96,22 +95,15 @@ impl Session {
         ensures waiting { OnOk result (IsWaiting self.new) }
         ensures number { self.new.number ≡ self.old.number }
     {
-        if let Err(part) = write_text(writer, &self.text) {
-            let sent = self.sent.saturating_add(part as u64);
-            return Err(PromptError::Write { sent });
-        }
-        self.sent = self.sent.saturating_add(self.text.len() as u64);
+        self.outlet.write(writer, &self.text)?;
         self.text.clear();
-        match writer.flush() {
-            Ok(()) => Ok(()),
-            Err(_) => Err(PromptError::Write { sent: self.sent }),
-        }
+        self.outlet.flush(writer)
     }
 
     /// The fault of a line to which memory was refused: the answers to the lines before it are written first.
     fn out_of_memory<W: Write>(&mut self, writer: &mut W) -> PromptError
         ensures { (plan : Plan) (from : ℕ) (old : Option (List ℕ)) (ended : List (List ℕ))
-            → ArePending plan from self.old.text.items self.old.sent old (W.contents writer.old) ended
+            → ArePending plan from self.old.text.items self.old.outlet.sent old (W.contents writer.old) ended
             → IsEnded plan from ended old (W.contents writer.new) result }
     {
         match self.write_out(writer) {

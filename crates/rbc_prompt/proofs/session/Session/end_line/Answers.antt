@@ -7,7 +7,7 @@ pub returns-then-is_err-clause-taken : goal.returns-then-is_err-clause-taken
 returns-then-is_err-clause-taken g c = λ plan from old ended rest is.
     let before = c.args.self.now in
     let text : c.take_line.new.self.text.items ≡ before.text.items = search rules in
-    let are = same_pending plan from before.text.items c.take_line.new.self.text.items before.sent c.take_line.new.self.sent old (g.W.Write.contents c.args.writer.now) ended
+    let are = same_pending plan from before.text.items c.take_line.new.self.text.items before.outlet.sent c.take_line.new.self.outlet.sent old (g.W.Write.contents c.args.writer.now) ended
     text c.take_line.ensures.sent (pending plan from before old (g.W.Write.contents c.args.writer.now) ended rest is) in
     ended_of_more plan from ended ((rest ++ c.args.end.now) ∷ []) _ old _ c.out_of_memory.result refl (c.out_of_memory.ensures plan from old ended are)
 

@@ -1,36 +1,34 @@
-use Rattle.std.proofs.Common.{rules, ◌≡◌, ◌≤◌, ◌+◌, length, take, refl}
+use Rattle.std.proofs.Common.{rules, ◌≡◌, ◌+◌, List, ℕ, length, refl, subst}
 use Rattle.std.specs.Io.KnownBytes.{Appends}
 use Rattle.rbc_prompt.specs.Answers.{count_of}
-use Rattle.rbc_prompt.proofs.Writing.{part_out, all_out, not_flushed, goes_on}
+use Rattle.rbc_prompt.specs.UnderWay.{IsCutShort}
+use Rattle.rbc_prompt.proofs.Writing.{cut_short, given_on, goes_on, handed_on, in_any_case}
 use Rattle.rbc_prompt.proofs.session.Session.write_out.Goals as goal
 
-pub returns-in-Err-clause-written : goal.returns-in-Err-clause-written
-returns-in-Err-clause-written g c = λ plan from old ended are.
-    let text = c.args.self.now.text.items in
-    let few : c.in-Err.part ≤ length text = search rules in
-    let out : Appends (g.W.Write.contents c.args.writer.now) (g.W.Write.contents c.write_text.new.writer) (take c.in-Err.part text) = search rules in
-    part_out plan from text c.args.self.now.sent old (g.W.Write.contents c.args.writer.now) (g.W.Write.contents c.write_text.new.writer) ended c.in-Err.part c.saturating_add-sent.result
-    are few out c.saturating_add-sent.ensures
+-- a part of the text was written
+pub returns-in_err-write-clause-written : goal.returns-in_err-write-clause-written
+returns-in_err-write-clause-written g c = λ plan from old ended are.
+    let before = c.args.self.now in
+    let fault = c.in_err-write.field-0.0 in
+    let short = subst (λ (text : List ℕ). IsCutShort before.outlet.sent text (g.W.Write.contents c.args.writer.now) (g.W.Write.contents c.write.new.writer) fault) c.deref.ensures.value
+    c.in_err-write.ensures.part in
+    handed_on _ plan from ended old (g.W.Write.contents c.write.new.writer) c.from_residual.result fault c.from_residual.ensures.1
+    (cut_short plan from before.text.items before.outlet.sent old (g.W.Write.contents c.args.writer.now) (g.W.Write.contents c.write.new.writer) ended fault are short)
 
-pub returns-in-Ok-clause-written : goal.returns-in-Ok-clause-written
-returns-in-Ok-clause-written g c = λ plan from old ended are.
-    let text = c.args.self.now.text.items in
-    let out : Appends (g.W.Write.contents c.args.writer.now) (g.W.Write.contents c.write_text.new.writer) text = search rules in
-    all_out plan from text c.args.self.now.sent old (g.W.Write.contents c.args.writer.now) (g.W.Write.contents c.write_text.new.writer) (g.W.Write.contents c.flush.new.self) ended
-    are out c.flush.ensures.bytes
+-- all of it was written
+pub returns-clause-written : goal.returns-clause-written
+returns-clause-written g c = λ plan from old ended are.
+    let before = c.args.self.now in
+    let whole : Appends (g.W.Write.contents c.args.writer.now) (g.W.Write.contents c.write.new.writer) before.text.items = search rules in
+    let counted : c.write.new.self.sent ≡ count_of (before.outlet.sent + length before.text.items) = search rules in
+    given_on plan from before.text.items before.outlet.sent old (g.W.Write.contents c.args.writer.now) (g.W.Write.contents c.write.new.writer) (g.W.Write.contents c.flush.new.writer) ended
+    c.write.new.self.sent c.flush.result are whole c.flush.ensures.kept counted c.flush.ensures.fault
 
-pub returns-in-Ok-clause-under_way : goal.returns-in-Ok-clause-under_way
-returns-in-Ok-clause-under_way g c = λ plan from old ended rest is.
-    let text = c.args.self.now.text.items in
-    let out : Appends (g.W.Write.contents c.args.writer.now) (g.W.Write.contents c.write_text.new.writer) text = search rules in
-    let counted : c.saturating_add-self.result ≡ count_of (c.args.self.now.sent + length text) = search rules in
-    goes_on plan from c.args.self.now _ old (g.W.Write.contents c.args.writer.now) (g.W.Write.contents c.write_text.new.writer) (g.W.Write.contents c.flush.new.self) ended rest
-    is out c.flush.ensures.bytes refl c.clear.ensures.items counted
-
-pub returns-in-Err-flush-clause-written : goal.returns-in-Err-flush-clause-written
-returns-in-Err-flush-clause-written g c = λ plan from old ended are.
-    let text = c.args.self.now.text.items in
-    let out : Appends (g.W.Write.contents c.args.writer.now) (g.W.Write.contents c.write_text.new.writer) text = search rules in
-    let counted : c.saturating_add-self.result ≡ count_of (c.args.self.now.sent + length text) = search rules in
-    not_flushed plan from text c.args.self.now.sent old (g.W.Write.contents c.args.writer.now) (g.W.Write.contents c.write_text.new.writer) (g.W.Write.contents c.flush.new.self) ended
-    c.saturating_add-self.result are out c.flush.ensures.bytes counted
+pub returns-clause-under_way : goal.returns-clause-under_way
+returns-clause-under_way g c = λ plan from old ended rest is.
+    let before = c.args.self.now in
+    let whole : Appends (g.W.Write.contents c.args.writer.now) (g.W.Write.contents c.write.new.writer) before.text.items = search rules in
+    let counted : c.flush.new.self.sent ≡ count_of (before.outlet.sent + length before.text.items) = search rules in
+    in_any_case c.flush.result
+    (goes_on plan from before _ old (g.W.Write.contents c.args.writer.now) (g.W.Write.contents c.write.new.writer) (g.W.Write.contents c.flush.new.writer) ended rest
+    is whole c.flush.ensures.kept refl c.clear.ensures.items counted)
