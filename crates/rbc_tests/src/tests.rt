@@ -4,6 +4,7 @@ mod calls;
 mod gates;
 mod numbers;
 mod processing;
+mod prompting;
 mod rows;
 mod runs;
 mod setting;
