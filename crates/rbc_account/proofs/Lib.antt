@@ -3,6 +3,8 @@ pub mod Adding
 pub mod Nearest
 pub mod Meetings
 pub mod Shares
+pub mod Owing
+pub mod Totals
 pub mod Feeding
 pub mod Causing
 pub mod Listing

@@ -9,6 +9,7 @@ pub mod Coming
 pub mod Causes
 pub mod Counting
 pub mod Owed
+pub mod Totals
 pub mod ToldPlaces
 pub mod Standings
 pub mod Blocks

@@ -18,6 +18,8 @@ use Rattle.rbc_account.specs.declared.state.TrainStanding.{TrainStanding}
 use Rattle.rbc_account.specs.Known.{train_in, engines_in, active_stops, active_limits}
 use Rattle.rbc_account.specs.Waits.{waits_in, kind_and_number}
 use Rattle.rbc_account.specs.Coming.{waiting_at}
+use Rattle.rbc_account.specs.Owed.{messages_owed}
+use Rattle.rbc_account.specs.Totals.{owed_told, owed_total, owing_total, untold_total, again_total}
 
 -- what waits at the train with an engine number, if it is enrolled
 abbrev pub waiting_of : ℕ → List (Key × Rec) → ℕ → Option (ℕ × List Waiting)
@@ -34,6 +36,14 @@ waiting_told standing = (standing.engine, standing.waiting.items)
 -- what is told to wait at the trains is what waits there
 abbrev pub AreStandings : ℕ → List (Key × Rec) → List TrainStanding → Type 0
 AreStandings horizon records standings = map waiting_told standings ≡ waiting_everywhere horizon records
+
+-- how many messages the train with an engine number owes an answer, if it is enrolled
+abbrev pub owed_by : List (Key × Rec) → ℕ → Option ℕ
+owed_by records engine = option_map messages_owed (train_in records engine)
+
+-- what is told to be owed by the trains is what each of them owes, engines ascending
+abbrev pub AreOwed : List (Key × Rec) → List TrainStanding → Type 0
+AreOwed records standings = map owed_told standings ≡ filter_map (owed_by records) (engines_in records)
 
 -- ---- to how many trains a stop or a restriction is told
 
@@ -84,8 +94,13 @@ stop_sharings records standings = map (λ stop. sharing_of records standings (St
 abbrev pub limit_sharings : List (Key × Rec) → List TrainStanding → List Sharing
 limit_sharings records standings = map (λ limit. sharing_of records standings (Restriction limit.0)) (active_limits records)
 
--- What stands: what waits at each train, and to how many trains each active stop and restriction is told.
+-- What stands: what waits at each train and what it owes, to how many trains each active stop and restriction is told, and the totals over all trains.
 pub record IsStanding (horizon : ℕ) (records : List (Key × Rec)) (standing : Standing) : Type 0 where
   pub waits : AreStandings horizon records standing.trains.items
   pub of_stops : standing.stops.items ≡ stop_sharings records standing.trains.items
   pub of_limits : standing.limits.items ≡ limit_sharings records standing.trains.items
+  pub owed_each : AreOwed records standing.trains.items
+  pub owed : standing.acknowledgements ≡ owed_total records
+  pub owing : standing.owing ≡ owing_total records
+  pub untold : standing.untold ≡ untold_total horizon records
+  pub untold_again : standing.untold_again ≡ again_total records

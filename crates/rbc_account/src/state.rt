@@ -1,11 +1,14 @@
 //! The state after the inputs that were taken.
 
-ghost use Rattle.std.specs.Prelude.{◌≡◌, IfOk, option_map, length};
-ghost use Rattle.std.specs.List.{filter};
-ghost use Rattle.rbc_account.specs.Owed.{owed_stamp};
-ghost use Rattle.rbc_account.specs.Standings.{AreStandings, IsStanding, waiting_of, waiting_told, stop_sharings};
-ghost use Rattle.rbc_account.specs.Standings.{limit_sharings, sharing_of, is_told_at, is_answered_at, waits_at};
-ghost use Rattle.rbc_account.specs.Standings.{answer_at, answer_of, answer_in, acked_under};
+ghost use Rattle.std.specs.Prelude.{◌≡◌, ◌+◌, ◌≤◌, ◌<◌, drop, IfOk, Some, option_map, length, slice_get};
+ghost use Rattle.std.specs.List.{cons_option, filter, list_any};
+ghost use Rattle.rbc_account.specs.Owed.{different, is_owed_under, messages_owed, owed_stamp, stamps_owed};
+ghost use Rattle.rbc_account.specs.Sums.{added};
+ghost use Rattle.rbc_account.specs.Totals.{total, is_again, again_in, untold_in, owed_told, is_owing_told, untold_told};
+ghost use Rattle.rbc_account.specs.Totals.{again_told};
+ghost use Rattle.rbc_account.specs.Standings.{AreOwed, AreStandings, IsStanding, owed_by, waiting_of, waiting_told};
+ghost use Rattle.rbc_account.specs.Standings.{stop_sharings, limit_sharings, sharing_of, is_told_at, is_answered_at};
+ghost use Rattle.rbc_account.specs.Standings.{waits_at, answer_at, answer_of, answer_in, acked_under};
 
 use crate::coming::{has, waiting_now};
 use crate::record_lookup::{active_limits, active_stops, engines_in, train_in};
@@ -65,31 +68,34 @@ pub(crate) fn standing_on(alloc: Global, desk: &LiveDesk) -> Result<Standing, Al
     let stops = stop_sharings(alloc, &desk.records, &trains)?;
     let limits = limit_sharings(alloc, &desk.records, &trains)?;
     let totals = totals_of(&trains);
+    let owing = owing_of(&trains);
     Ok(Standing {
         stops,
         limits,
         trains,
         acknowledgements: totals.acknowledgements,
-        owing: totals.owing,
+        owing,
         untold: totals.untold,
         untold_again: totals.untold_again,
     })
 }
 
-/// Sums over trains.
+/// Sums over trains. Each stays at 2^64 - 1 where it has come there.
 #[derive(Clone, Copy)]
 struct Totals {
     acknowledgements: usize,
-    owing: usize,
     untold: usize,
     untold_again: usize,
 }
 
 /// The sums over all trains.
-fn totals_of(trains: &[TrainStanding]) -> Totals {
+fn totals_of(trains: &[TrainStanding]) -> Totals
+    ensures owed { result.acknowledgements ≡ total owed_told trains.now }
+    ensures untold { result.untold ≡ total untold_told trains.now }
+    ensures again { result.untold_again ≡ total again_told trains.now }
+{
     let mut totals = Totals {
         acknowledgements: 0,
-        owing: 0,
         untold: 0,
         untold_again: 0,
     };
@@ -101,26 +107,49 @@ fn totals_of(trains: &[TrainStanding]) -> Totals {
 
 impl Totals {
     /// Adds to the sums what stands at a train.
-    fn add(&mut self, train: &TrainStanding) {
-        let again = again_in(&train.waiting);
+    fn add(&mut self, train: &TrainStanding)
+        ensures owed { self.new.acknowledgements ≡ added self.old.acknowledgements (owed_told train.now) }
+        ensures untold { self.new.untold ≡ added self.old.untold (untold_told train.now) }
+        ensures again { self.new.untold_again ≡ added self.old.untold_again (again_told train.now) }
+    {
         self.acknowledgements = self.acknowledgements.saturating_add(train.acknowledgements);
-        self.owing = self
-            .owing
-            .saturating_add(usize::from(train.acknowledgements > 0));
-        self.untold_again = self.untold_again.saturating_add(again);
-        self.untold = self
-            .untold
-            .saturating_add(train.waiting.len().saturating_sub(again));
+        self.untold = self.untold.saturating_add(untold_in(&train.waiting));
+        self.untold_again = self.untold_again.saturating_add(again_in(&train.waiting));
     }
 }
 
-/// How many stops of a list are due.
-fn again_in(all: &[Waiting]) -> usize {
+/// How many of the trains owe an answer or an acknowledgement.
+fn owing_of(trains: &[TrainStanding]) -> usize
+    ensures { result ≡ length (filter is_owing_told trains.now) }
+{
+    trains.iter().filter(|train| is_owing(train)).count()
+}
+
+/// Whether a train owes an answer or an acknowledgement.
+fn is_owing(train: &TrainStanding) -> bool
+    ensures { result ≡ is_owing_told train.now }
+{
+    train.acknowledgements > 0
+}
+
+/// How many of what waits are stops that are due.
+fn again_in(all: &[Waiting]) -> usize
+    ensures { result ≡ again_in all.now }
+{
     all.iter().filter(|waiting| is_again(waiting.what)).count()
 }
 
+/// How many of what waits are not told.
+fn untold_in(all: &[Waiting]) -> usize
+    ensures { result ≡ untold_in all.now }
+{
+    all.iter().filter(|waiting| !is_again(waiting.what)).count()
+}
+
 /// Whether it is a stop that is due.
-fn is_again(what: Waits) -> bool {
+fn is_again(what: Waits) -> bool
+    ensures { result ≡ is_again what }
+{
     match what {
         Waits::Again(_) => true,
         Waits::Stop(_) | Waits::Restriction(_) => false,
@@ -129,7 +158,8 @@ fn is_again(what: Waits) -> bool {
 
 /// What stands at each train, engines ascending. Fails only for lack of memory.
 fn standings(alloc: Global, desk: &LiveDesk) -> Result<Vec<TrainStanding>, AllocError>
-    ensures { IfOk result (λ all. AreStandings desk.now.track.horizon desk.now.records all.items) }
+    ensures waits { IfOk result (λ all. AreStandings desk.now.track.horizon desk.now.records all.items) }
+    ensures owed { IfOk result (λ all. AreOwed desk.now.records all.items) }
 {
     let mut all = Vec::new(alloc);
     for engine in engines_in(&desk.records) {
@@ -146,8 +176,9 @@ fn standing_at(
     desk: &LiveDesk,
     engine: u32,
 ) -> Result<Option<TrainStanding>, AllocError>
-    ensures { IfOk result (λ standing. option_map waiting_told standing
+    ensures waits { IfOk result (λ standing. option_map waiting_told standing
         ≡ waiting_of desk.now.track.horizon desk.now.records engine) }
+    ensures owed { IfOk result (λ standing. option_map owed_told standing ≡ owed_by desk.now.records engine) }
 {
     match train_in(&desk.records, engine) {
         Some(train) => Ok(Some(TrainStanding {
@@ -161,26 +192,70 @@ fn standing_at(
 
 /// How many messages to a train wait for an answer or an acknowledgement. Of those to its stops each has a stamp of its
 /// own; one to its restrictions counts once, however many packets it has.
-fn owed_by(train: &TrainRec) -> usize {
-    owed_in(train.stops.slots()).saturating_add(owed_in(train.limits.slots()))
+fn owed_by(train: &TrainRec) -> usize
+    ensures { result ≡ messages_owed train.now }
+{
+    let to_stops = owed_in(train.stops.slots());
+    let to_limits = owed_in(train.limits.slots());
+    to_stops + to_limits
 }
 
-/// How many stamps the slots have that are not answered.
-fn owed_in(slots: &[(u8, Slot)]) -> usize {
-    let mut owed = 0usize;
+/// How many different stamps the slots have that are not answered.
+fn owed_in(slots: &[(u8, Slot)]) -> usize
+    ensures owed { result ≡ length (different (stamps_owed slots.now)) }
+    ensures few { result ≤ length slots.now }
+{
+    let mut owed = 0;
     for index in 0..slots.len() {
-        if let Some(stamp) = owed_stamp(slots[index].1)
-            && !is_owed_in(&slots[..index], stamp)
-        {
-            owed = owed.saturating_add(1);
-        }
+        owed += owed_once(held_at(slots, index).1, behind(slots, index));
     }
     owed
 }
 
+/// The identifier and the slot at an index.
+fn held_at(slots: &[(u8, Slot)], index: usize) -> &(u8, Slot)
+    requires { index < length slots.now }
+    ensures { slice_get slots.now index ≡ Some result.now }
+{
+    &slots[index]
+}
+
+/// The slots behind an index.
+fn behind(slots: &[(u8, Slot)], index: usize) -> &[(u8, Slot)]
+    requires { index < length slots.now }
+    ensures { result.now ≡ drop (index + 1) slots.now }
+{
+    &slots[index + 1..]
+}
+
+/// 1 where the message to a slot is not answered and none of the slots behind it has that message, and else 0.
+fn owed_once(slot: Slot, behind: &[(u8, Slot)]) -> usize
+    ensures once { length (different (cons_option (owed_stamp slot) (stamps_owed behind.now)))
+        ≡ result + length (different (stamps_owed behind.now)) }
+    ensures one { result ≤ 1 }
+{
+    match owed_stamp(slot) {
+        None => 0,
+        Some(stamp) if is_owed_in(behind, stamp) => 0,
+        Some(_) => 1,
+    }
+}
+
 /// Whether a message with a stamp is not answered, by the slots.
-fn is_owed_in(slots: &[(u8, Slot)], stamp: u32) -> bool {
-    slots.iter().any(|held| owed_stamp(held.1) == Some(stamp))
+fn is_owed_in(slots: &[(u8, Slot)], stamp: u32) -> bool
+    ensures { result ≡ list_any (λ held. is_owed_under stamp held.1) slots.now }
+{
+    slots.iter().any(|held| is_owed_under(held.1, stamp))
+}
+
+/// Whether the message with a stamp is to a slot, and is not answered.
+fn is_owed_under(slot: Slot, stamp: u32) -> bool
+    ensures { result ≡ is_owed_under stamp slot }
+{
+    match owed_stamp(slot) {
+        Some(owed) => stamp == owed,
+        None => false,
+    }
 }
 
 /// The stamp of the message to a slot, if that is not answered or acknowledged.
