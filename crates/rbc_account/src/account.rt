@@ -20,7 +20,7 @@ use crate::record_lookup;
 use crate::state::{Standing, standing_on};
 use crate::told_place::{ToldPlace, ToldPlaces};
 use rbc_batch::parse_line;
-use rbc_live::{Answer, LiveDesk};
+use rbc_live::{Answer, LiveDesk, LiveFault};
 use rbc_step::{Input, Reply};
 use rbc_track::{Track, TrackError};
 use rbc_train::TrainRec;
@@ -114,9 +114,11 @@ impl Account {
             ≡ kept_after self.old.desk.track (kept_at self.old.told_places) answer.messages number) }
         ensures track { self.new.desk.track ≡ self.old.desk.track }
     {
-        let Ok(answer) = self.desk.take(alloc, input, usize::MAX) else {
-            // No input sends more messages than can be counted, so memory was refused.
-            return Err(AllocError);
+        let answer = match self.desk.take(alloc, input, usize::MAX) {
+            Ok(answer) => answer,
+            Err(LiveFault::Memory) => return Err(AllocError),
+            // No list of messages is longer than can be counted.
+            Err(LiveFault::Room(_)) => unreachable!(),
         };
         self.sums = self.sums.with(answer.reply);
         self.told_places.note(&self.desk.track, &answer.messages)?;
