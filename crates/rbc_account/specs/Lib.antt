@@ -3,6 +3,7 @@ pub mod Placed
 pub mod Deeds
 pub mod Reasons
 pub mod Whys
+pub mod Places
 pub mod Subjects
 pub mod Waits
 pub mod Coming

@@ -69,13 +69,15 @@ abbrev pub distance_ahead : Way → Segment → Place → ℕ
 distance_ahead Up segment p = segment.from - p.hi
 distance_ahead Down segment p = p.lo - segment.to
 
--- A restriction is this to a train: it is on another line, else it is for trains that face the other way, else it lies wholly behind the
--- train; or it overlaps the place of the train, or begins so far ahead of it.
+-- A restriction is this to a train, the first that is so: it is on another line; it is for trains that face the other way; it lies wholly behind the
+-- train; it overlaps the place of the train; or it begins so far ahead of it.
 abbrev pub IsLimitReason : Limit → Place → LimitReason → Type 0
 IsLimitReason limit p limit_reason.OtherLine = (limit.segment.line == p.line) ≡ false
 IsLimitReason limit p limit_reason.OtherWay = ((limit.segment.line == p.line) ≡ true) × (is_for limit.dirs p.facing ≡ false)
 IsLimitReason limit p limit_reason.Passed =
     ((limit.segment.line == p.line) ≡ true) × (is_for limit.dirs p.facing ≡ true) × (lies_behind p.facing limit.segment p ≡ true)
-IsLimitReason limit p limit_reason.Overlaps = is_met p limit.segment ≡ true
+IsLimitReason limit p limit_reason.Overlaps =
+    ((limit.segment.line == p.line) ≡ true) × (is_for limit.dirs p.facing ≡ true) × (lies_behind p.facing limit.segment p ≡ false) × (is_met p limit.segment ≡ true)
 IsLimitReason limit p (limit_reason.Ahead distance) =
-    (is_met p limit.segment ≡ false) × (distance ≡ distance_ahead p.facing limit.segment p)
+    ((limit.segment.line == p.line) ≡ true) × (is_for limit.dirs p.facing ≡ true) × (lies_behind p.facing limit.segment p ≡ false) × (is_met p limit.segment ≡ false)
+    × (distance ≡ distance_ahead p.facing limit.segment p)

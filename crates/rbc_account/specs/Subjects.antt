@@ -4,6 +4,7 @@ use Rattle.ertms_codec.specs.declared.packets.Part.{Part}
 use Rattle.ertms_codec.specs.declared.packets.Part.TheVariants as part
 use Rattle.ertms_codec.specs.declared.to_train.ToTrain.{ToTrain}
 use Rattle.ertms_codec.specs.declared.to_train.ToTrain.TheVariants as message
+use Rattle.rbc_place.specs.Placing.{Place}
 use Rattle.rbc_train.specs.declared.train.TrainRec.{TrainRec}
 use Rattle.rbc_train.specs.declared.sent.Sent.{Sent}
 use Rattle.rbc_records.specs.declared.record.Key.{Key}
@@ -17,6 +18,7 @@ use Rattle.rbc_account.specs.declared.told.ToldRestriction.{ToldRestriction}
 use Rattle.rbc_account.specs.declared.told.RestrictionTold.{RestrictionTold}
 use Rattle.rbc_account.specs.declared.told.RestrictionTold.TheVariants as packet
 use Rattle.rbc_account.specs.Known.{train_in, number_under}
+use Rattle.rbc_account.specs.Places.{TellsPlace, TellsAtOnce, TellsRevocation, TellsPart}
 use Rattle.rbc_account.specs.Whys.{IsTold}
 
 -- two lists go together, one by one
@@ -92,8 +94,24 @@ IsOf one before train (message.Stop head id) told = IsOfStop (number_under train
 IsOf one before train (message.Revoke head id) told = IsOfStop (revoked_stop one before id) told
 IsOf one before train (message.General head packets) told = IsOfLimits one before train packets told
 
--- A message is told rightly: to its train, with a reason that holds, of its own stop or restrictions.
+-- what a message 24 is told as: each packet as what it is
+abbrev pub TellsParts : List Part → ToldWhat → Type 0
+TellsParts parts (what.Restrictions all) = ArePaired TellsPart parts all.items
+TellsParts parts (what.StopBefore n told edge unit) = ⊥
+TellsParts parts (what.StopAtOnce n why) = ⊥
+TellsParts parts (what.StopRevoked n unanswered) = ⊥
+TellsParts parts what.Unknown = Unit
+
+-- A message to a train at a place is told as what it is: its kind, and the places that it tells.
+abbrev pub TellsAs : Option Place → ToTrain → ToldWhat → Type 0
+TellsAs place (message.StopAt head id scale reference dir distance) told = TellsPlace place scale distance told
+TellsAs place (message.Stop head id) told = TellsAtOnce told
+TellsAs place (message.Revoke head id) told = TellsRevocation told
+TellsAs place (message.General head packets) told = TellsParts packets told
+
+-- A message is told rightly: to its train, as what it is, with a reason that holds, of its own stop or restrictions.
 pub record IsToldOf (records : List (Key × Rec)) (one : Input) (before : Option TrainRec) (sent : Sent) (told : Told) : Type 0 where
   pub engine : told.engine ≡ sent.engine
   pub why : IsTold records before told
   pub about : (train : TrainRec) → train_in records told.engine ≡ Some train → IsOf one before train sent.message told.what
+  pub kind : (train : TrainRec) → train_in records told.engine ≡ Some train → TellsAs train.place sent.message told.what

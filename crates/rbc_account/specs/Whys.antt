@@ -1,10 +1,12 @@
 -- Why a message was sent: the case that holds of its train after the input.
-use Rattle.std.specs.Prelude.{◌≡◌, ℕ, Bool, List, Option, Some, None, is_some}
+use Rattle.std.specs.Prelude.{◌≡◌, ℕ, Bool, true, false, if◌then◌else◌, List, Option, Some, None, is_some, option_and_then}
 use Rattle.std.specs.List.{All}
+use Rattle.std.specs.Option.{option_map_or}
 use Rattle.rbc_place.specs.Placing.{Place}
 use Rattle.rbc_maps.specs.Maps.{value_of}
-use Rattle.rbc_ids.specs.declared.slot.Slot.TheVariants.{Revoking}
-use Rattle.rbc_ids.specs.Table.{identifier_of}
+use Rattle.rbc_ids.specs.declared.slot.Slot.{Slot}
+use Rattle.rbc_ids.specs.declared.slot.Slot.TheVariants.{Used, Revoking}
+use Rattle.rbc_ids.specs.Table.{Slots, identifier_of}
 use Rattle.rbc_zones.specs.declared.segment.Segment.{Segment}
 use Rattle.rbc_zones.specs.Limits.{Limit}
 use Rattle.rbc_train.specs.declared.train.TrainRec.{TrainRec}
@@ -17,6 +19,7 @@ use Rattle.rbc_account.specs.declared.reason.LimitReason.TheVariants as limit_re
 use Rattle.rbc_account.specs.declared.told.Told.{Told}
 use Rattle.rbc_account.specs.declared.told.ToldWhat.{ToldWhat}
 use Rattle.rbc_account.specs.declared.told.ToldWhat.TheVariants as what
+use Rattle.rbc_account.specs.declared.told.WhyAtOnce.{WhyAtOnce}
 use Rattle.rbc_account.specs.declared.told.WhyAtOnce.TheVariants as at_once
 use Rattle.rbc_account.specs.declared.told.ToldRestriction.{ToldRestriction}
 use Rattle.rbc_account.specs.declared.told.RestrictionTold.{RestrictionTold}
@@ -32,10 +35,33 @@ use Rattle.rbc_account.specs.Reasons.{IsStopReason, IsLimitReason}
 abbrev pub IsReasonOf : Option (List Segment) → Bool → Option Place → StopReason → Type 0
 IsReasonOf area forced place reason = (segments : List Segment) × (area ≡ Some segments) × IsStopReason segments forced place reason
 
--- The stop was told under the identifier before the input, and the identifier is being revoked after it.
-abbrev pub IsEscalated : Option TrainRec → TrainRec → ℕ → ℕ → Type 0
-IsEscalated before train number id =
-    (old : TrainRec) × (before ≡ Some old) × (identifier_of old.stops number ≡ Some id) × ((stamp : ℕ) × (value_of train.stops id ≡ Some (Revoking stamp)))
+-- whether a slot is being revoked
+abbrev pub is_revoked : Slot → Bool
+is_revoked (Used used) = false
+is_revoked (Revoking stamp) = true
+
+-- whether an identifier is
+abbrev pub is_revoking : Slots → ℕ → Bool
+is_revoking slots id = option_map_or is_revoked (value_of slots id) false
+
+-- the identifier that told a number before, if it is being revoked now
+abbrev pub revoked_now : Slots → ℕ → Option ℕ
+revoked_now slots id = if is_revoking slots id then Some id else None
+
+abbrev pub revoked_from : Slots → Slots → ℕ → Option ℕ
+revoked_from old new number = option_and_then (revoked_now new) (identifier_of old number)
+
+-- The identifier under which a train that sent an input left a stop unanswered: it told the stop before the input, and is being revoked after it.
+abbrev pub escalated_under : Option TrainRec → TrainRec → ℕ → Option ℕ
+escalated_under before train number = option_and_then (λ old. revoked_from old.stops train.stops number) before
+
+-- Why a train stops at once for a stop: it left the stop unanswered under this identifier; and only if it did not, the first reason that the stop is to it.
+abbrev pub IsWhyAtOnce : Option ℕ → (StopReason → Type 0) → WhyAtOnce → Type 0
+IsWhyAtOnce escalated IsReason (at_once.Unanswered id) = escalated ≡ Some id
+IsWhyAtOnce escalated IsReason at_once.NoPlace = (escalated ≡ None) × IsReason stop_reason.NoPlace
+IsWhyAtOnce escalated IsReason at_once.Rejected = (escalated ≡ None) × IsReason stop_reason.Forced
+IsWhyAtOnce escalated IsReason (at_once.Overlaps segment) = (escalated ≡ None) × IsReason (stop_reason.Overlaps segment)
+IsWhyAtOnce escalated IsReason (at_once.BehindGroup edge) = (escalated ≡ None) × IsReason (stop_reason.BehindGroup edge)
 
 -- a restriction is this to a train at a place
 abbrev pub IsLimitReasonOf : Option Limit → Option Place → (Limit → Place → Type 0) → Type 0
@@ -71,11 +97,7 @@ IsReasonTo records train number reason = IsReasonOf (value_of (active_stops reco
 -- Why a message was sent to a train, which is this after the input and may have sent it.
 abbrev pub IsWhat : List (Key × Rec) → Option TrainRec → TrainRec → ToldWhat → Type 0
 IsWhat records before train (what.StopBefore number told edge unit) = IsReasonTo records train number (stop_reason.Before edge)
-IsWhat records before train (what.StopAtOnce number (at_once.Unanswered id)) = IsEscalated before train number id
-IsWhat records before train (what.StopAtOnce number at_once.NoPlace) = IsReasonTo records train number stop_reason.NoPlace
-IsWhat records before train (what.StopAtOnce number at_once.Rejected) = IsReasonTo records train number stop_reason.Forced
-IsWhat records before train (what.StopAtOnce number (at_once.Overlaps segment)) = IsReasonTo records train number (stop_reason.Overlaps segment)
-IsWhat records before train (what.StopAtOnce number (at_once.BehindGroup edge)) = IsReasonTo records train number (stop_reason.BehindGroup edge)
+IsWhat records before train (what.StopAtOnce number why) = IsWhyAtOnce (escalated_under before train number) (IsReasonTo records train number) why
 IsWhat records before train (what.StopRevoked number unanswered) = unanswered ≡ is_some (value_of (active_stops records) number)
 IsWhat records before train (what.Restrictions all) = All (IsPacket records train) all.items
 IsWhat records before train what.Unknown = Unit

@@ -2,6 +2,7 @@
 
 ghost use Rattle.std.specs.Prelude.{◌≡◌, ◌≤◌};
 ghost use Rattle.rbc_account.specs.Placed.{IsPlacing, IsWhyNowhere};
+ghost use Rattle.rbc_account.specs.Places.{unit_of};
 
 use ertms_codec::Position;
 use rbc_place::{Place, place_of};
@@ -64,7 +65,8 @@ fn is_above(place: &Place, position: &Position) -> bool {
 
 /// The unit of a scale, in units of 10 cm: 1, 10 or 100.
 pub(crate) fn unit_of(scale: u8) -> u32
-    ensures { result ≤ 100 }
+    ensures unit { result ≡ unit_of scale }
+    ensures few { result ≤ 100 }
 {
     match scale {
         0 => 1,

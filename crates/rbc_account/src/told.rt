@@ -1,8 +1,10 @@
 //! Why a message was sent.
 
-ghost use Rattle.std.specs.Prelude.{◌≡◌, List, Option, Some, true, false, is_some, IfOk, IfSome, option_copied};
+ghost use Rattle.std.specs.Prelude.{◌≡◌, ◌*◌, ◌≤◌, List, Option, Some, None, true, false, is_some};
+ghost use Rattle.std.specs.Prelude.{IfOk, IfSome, option_copied};
 ghost use Rattle.std.specs.Option.{option_map_or};
 ghost use Rattle.rbc_maps.specs.Maps.{value_of};
+ghost use Rattle.rbc_place.specs.Placing.{onward};
 ghost use Rattle.rbc_zones.specs.declared.segment.Segment.{Segment};
 ghost use Rattle.rbc_zones.specs.Concerns.{concern_of};
 ghost use Rattle.rbc_train.specs.Numbers.{has_number};
@@ -11,17 +13,20 @@ ghost use Rattle.std.specs.List.{All};
 ghost use Rattle.rbc_train.specs.declared.train.TrainRec.{TrainRec};
 ghost use Rattle.rbc_account.specs.declared.told.ToldWhat.TheVariants.{StopAtOnce};
 ghost use Rattle.rbc_account.specs.Known.{number_under, active_stops, active_limits};
+ghost use Rattle.rbc_account.specs.Places.{TellsPlace, TellsAtOnce, TellsRevocation, TellsStretch, TellsLift};
+ghost use Rattle.rbc_account.specs.Places.{TellsPart};
 ghost use Rattle.rbc_account.specs.Subjects.{ArePaired, IsToldOf, IsOf, IsOfStop, IsOfLimit, IsOfNumber, revoked_stop};
-ghost use Rattle.rbc_account.specs.Subjects.{revoked_limit};
-ghost use Rattle.rbc_account.specs.Found.{HasStop, HasLimit, MeansBefore, MeansNow, IsOfConcern, IsRevokedBy, IsLiftedBy};
-ghost use Rattle.rbc_account.specs.Found.{HasSubject, IsKnownPacket, IsKnown, is_unknown, is_unknown_packet};
-ghost use Rattle.rbc_account.specs.Whys.{IsWhat, IsReasonTo, IsEscalated, IsPacket, IsWhyRevoked};
+ghost use Rattle.rbc_account.specs.Subjects.{revoked_limit, TellsAs};
+ghost use Rattle.rbc_account.specs.Found.{HasStop, HasLimit, MeansBefore, MeansNow, IsOfConcern, IsRevokedBy};
+ghost use Rattle.rbc_account.specs.Found.{IsLiftedBy, HasSubject, IsKnownPacket, IsKnown, is_unknown, is_unknown_packet};
+ghost use Rattle.rbc_account.specs.Whys.{IsWhat, IsReasonTo, IsPacket, IsWhyRevoked, escalated_under, revoked_from};
+ghost use Rattle.rbc_account.specs.Whys.{is_revoking};
 
 use crate::placing::unit_of;
 use crate::reason::{LimitReason, StopReason, limit_reason, stop_reason};
 use crate::record_lookup::{active_limit, active_stop, number_under, train_in};
 use ertms_codec::{Packets, Part, ToTrain};
-use rbc_ids::Slot;
+use rbc_ids::{IdTable, Slot};
 use rbc_live::LiveDesk;
 use rbc_place::Place;
 use rbc_records::PlainStore;
@@ -191,6 +196,7 @@ fn what_of(
 ) -> Result<ToldWhat, AllocError>
     ensures why { IfOk result (IsWhat desk.now.records (option_copied before.entry) train.now) }
     ensures about { IfOk result (IsOf input.now (option_copied before.entry) train.now message.now) }
+    ensures kind { IfOk result (TellsAs train.now.place message.now) }
     ensures known { IfOk result (λ what. HasSubject (active_stops desk.now.records) (active_limits desk.now.records)
         train.now (IsRevokedBy input.now (option_copied before.entry)) (IsLiftedBy input.now
         (option_copied before.entry) (active_limits desk.now.records) train.now.place) message.now
@@ -202,7 +208,7 @@ fn what_of(
             scale,
             distance,
             ..
-        } => Ok(stop_before(desk, train, *id, unit_of(*scale), *distance)),
+        } => Ok(stop_before(desk, train, *id, *scale, *distance)),
         ToTrain::Stop { id, .. } => Ok(stop_at_once(desk, before, train, *id)),
         ToTrain::Revoke { id, .. } => Ok(stop_revoked(desk, input, before, *id)),
         ToTrain::General { packets, .. } => {
@@ -212,10 +218,11 @@ fn what_of(
     }
 }
 
-/// What message 15 tells, whose distance has this unit.
-fn stop_before(desk: &LiveDesk, train: &TrainRec, id: u8, unit: u32, distance: u16) -> ToldWhat
+/// What message 15 tells, whose distance has this scale.
+fn stop_before(desk: &LiveDesk, train: &TrainRec, id: u8, scale: u8, distance: u16) -> ToldWhat
     ensures why { (before : Option TrainRec) → IsWhat desk.now.records before train.now result }
     ensures about { IsOfStop (number_under train.now.stops id) result }
+    ensures kind { TellsPlace train.now.place scale distance result }
     ensures known { HasStop (active_stops desk.now.records) train.now id MeansBefore → is_unknown result ≡ false }
 {
     let Some(number) = number_under(&train.stops, id) else {
@@ -224,10 +231,11 @@ fn stop_before(desk: &LiveDesk, train: &TrainRec, id: u8, unit: u32, distance: u
     let Some(place) = train.place.as_ref() else {
         return ToldWhat::Unknown;
     };
+    let unit = unit_of(scale);
     match reason_of(&desk.records, train, number) {
         Some(StopReason::Before(edge)) => ToldWhat::StopBefore {
             number,
-            before: onward(place, u32::from(distance).saturating_mul(unit)),
+            before: onward(place, u32::from(distance), unit),
             edge,
             unit,
         },
@@ -250,11 +258,15 @@ fn reason_of(records: &PlainStore, train: &TrainRec, number: u32) -> Option<Stop
     Some(stop_reason(area, train.forced.has(number), train.place.as_ref()))
 }
 
-/// The place at a distance ahead of the balise group of a place.
-fn onward(place: &Place, distance: u32) -> u32 {
+/// The place that lies so many units ahead of the balise group of a place, as the train faces.
+fn onward(place: &Place, distance: u32, unit: u32) -> u32
+    requires { (distance ≤ 65535) × (unit ≤ 100) }
+    ensures { result ≡ onward place.now.facing place.now.at (distance * unit) }
+{
+    let by = distance * unit;
     match place.facing() {
-        Way::Up => place.at().saturating_add(distance),
-        Way::Down => place.at().saturating_sub(distance),
+        Way::Up => place.at() + by,
+        Way::Down => place.at().saturating_sub(by),
     }
 }
 
@@ -262,6 +274,7 @@ fn onward(place: &Place, distance: u32) -> u32 {
 fn stop_at_once(desk: &LiveDesk, before: Option<&TrainRec>, train: &TrainRec, id: u8) -> ToldWhat
     ensures why { IsWhat desk.now.records (option_copied before.entry) train.now result }
     ensures about { IsOfStop (number_under train.now.stops id) result }
+    ensures kind { TellsAtOnce result }
     ensures known { HasStop (active_stops desk.now.records) train.now id MeansNow → is_unknown result ≡ false }
 {
     let Some(number) = number_under(&train.stops, id) else {
@@ -278,8 +291,10 @@ fn stop_at_once(desk: &LiveDesk, before: Option<&TrainRec>, train: &TrainRec, id
 
 /// What message 16 tells of a stop that is not escalated.
 fn stopped_at_once(records: &PlainStore, train: &TrainRec, number: u32) -> ToldWhat
-    ensures why { (before : Option TrainRec) → IsWhat records.now before train.now result }
+    ensures why { (before : Option TrainRec) → escalated_under before train.now number ≡ None
+        → IsWhat records.now before train.now result }
     ensures about { IsOfStop (Some number) result }
+    ensures kind { TellsAtOnce result }
     ensures known { (area : List Segment) → value_of (active_stops records.now) number ≡ Some area
         → MeansNow (concern_of area (has_number train.now.forced number) train.now.place) → is_unknown result ≡ false }
 {
@@ -301,15 +316,31 @@ fn at_once(number: u32, why: WhyAtOnce) -> ToldWhat
     ToldWhat::StopAtOnce { number, why }
 }
 
-/// The identifier under which a train left a stop unanswered: it was used by the number before the input, and is being
-/// revoked after it.
+/// The identifier under which a train left a stop unanswered: it told the number before the input, and is being revoked
+/// after it.
 fn escalated_under(before: Option<&TrainRec>, after: &TrainRec, number: u32) -> Option<u8>
-    ensures { IfSome result (IsEscalated (option_copied before.entry) after.now number) }
+    ensures { result ≡ escalated_under (option_copied before.entry) after.now number }
 {
-    let id = before?.stops.of_number(number)?;
-    match after.stops.slot(id) {
-        Some(Slot::Revoking { .. }) => Some(id),
-        Some(Slot::Used(_)) | None => None,
+    revoked_from(&before?.stops, &after.stops, number)
+}
+
+/// The identifier that told a number in an old table, if it is being revoked in a new one.
+fn revoked_from<const N: usize>(old: &IdTable<N>, new: &IdTable<N>, number: u32) -> Option<u8>
+    ensures { result ≡ revoked_from old.now new.now number }
+{
+    match old.of_number(number) {
+        Some(id) if is_revoking(new, id) => Some(id),
+        _ => None,
+    }
+}
+
+/// Whether an identifier is being revoked.
+fn is_revoking<const N: usize>(table: &IdTable<N>, id: u8) -> bool
+    ensures { result ≡ is_revoking table.now id }
+{
+    match table.slot(id) {
+        Some(Slot::Revoking { .. }) => true,
+        Some(Slot::Used(_)) | None => false,
     }
 }
 
@@ -317,6 +348,7 @@ fn escalated_under(before: Option<&TrainRec>, after: &TrainRec, number: u32) -> 
 fn stop_revoked(desk: &LiveDesk, input: &Input, before: Option<&TrainRec>, id: u8) -> ToldWhat
     ensures why { (old : Option TrainRec) (train : TrainRec) → IsWhat desk.now.records old train result }
     ensures about { IsOfStop (revoked_stop input.now (option_copied before.entry) id) result }
+    ensures kind { TellsRevocation result }
     ensures known { IsRevokedBy input.now (option_copied before.entry) id → is_unknown result ≡ false }
 {
     match revoked_stop(input, before, id) {
@@ -362,6 +394,7 @@ fn restrictions(
     ensures each { IfOk result (λ told. All (IsPacket desk.now.records train.now) told.items) }
     ensures about { IfOk result (λ told. ArePaired
         (IsOfLimit input.now (option_copied before.entry) train.now) packets.now told.items) }
+    ensures kind { IfOk result (λ told. ArePaired TellsPart packets.now told.items) }
     ensures known { IfOk result (λ told. ArePaired (IsKnownPacket desk.now.records input.now
         (option_copied before.entry) train.now) packets.now told.items) }
 {
@@ -382,6 +415,7 @@ fn restriction(
 ) -> ToldRestriction
     ensures why { IsPacket desk.now.records train.now result }
     ensures about { IsOfLimit input.now (option_copied before.entry) train.now part result }
+    ensures kind { TellsPart part result }
     ensures known { IsKnownPacket desk.now.records input.now (option_copied before.entry) train.now part result }
 {
     match part {
@@ -391,7 +425,7 @@ fn restriction(
             start,
             length,
             ..
-        } => limit_told(desk, train, id, unit_of(scale), start, length),
+        } => limit_told(desk, train, id, scale, start, length),
         Part::Lift { id, .. } => limit_revoked(desk, input, before, train, id),
     }
 }
@@ -402,17 +436,18 @@ const UNKNOWN: ToldRestriction = ToldRestriction {
     what: RestrictionTold::Unknown,
 };
 
-/// What packet 65 tells, whose start and length have this unit.
+/// What packet 65 tells, whose start and length have this scale.
 fn limit_told(
     desk: &LiveDesk,
     train: &TrainRec,
     id: u8,
-    unit: u32,
+    scale: u8,
     start: u16,
     length: u16,
 ) -> ToldRestriction
     ensures why { IsPacket desk.now.records train.now result }
     ensures about { IsOfNumber (number_under train.now.limits id) result.number result.what }
+    ensures kind { TellsStretch scale start length result.what }
     ensures known { HasLimit (active_limits desk.now.records) train.now id → is_unknown_packet result.what ≡ false }
 {
     let Some(number) = number_under(&train.limits, id) else {
@@ -431,12 +466,13 @@ fn limit_told(
         LimitReason::OtherWay => return UNKNOWN,
         LimitReason::Passed => return UNKNOWN,
     };
+    let unit = unit_of(scale);
     ToldRestriction {
         number,
         what: RestrictionTold::Told {
             segment: limit.segment(),
-            begin: u32::from(start).saturating_mul(unit),
-            end: (u32::from(start) + u32::from(length)).saturating_mul(unit),
+            begin: u32::from(start) * unit,
+            end: (u32::from(start) + u32::from(length)) * unit,
             unit,
             why,
         },
@@ -454,6 +490,7 @@ fn limit_revoked(
     ensures why { IsPacket desk.now.records train.now result }
     ensures about { IsOfNumber (revoked_limit input.now (option_copied before.entry) id)
         result.number result.what }
+    ensures kind { TellsLift result.what }
     ensures known { IsLiftedBy input.now (option_copied before.entry) (active_limits desk.now.records)
         train.now.place id → is_unknown_packet result.what ≡ false }
 {

@@ -2,6 +2,7 @@ use Rattle.std.proofs.Common.{[], ◌∷◌, ◌++◌, take, ◌+◌, option_cop
 use Rattle.std.specs.List.{AllByRecursion}
 use Rattle.std.proofs.lemmas.List.Elements.{All-from_recursion, recursion_from_All, All-push}
 use Rattle.rbc_account.specs.Whys.{IsPacket}
+use Rattle.rbc_account.specs.Places.{TellsPart}
 use Rattle.rbc_account.specs.Subjects.{ArePaired, IsOfLimit}
 use Rattle.rbc_account.specs.Found.{IsKnownPacket}
 use Rattle.rbc_account.proofs.Listing.{paired_more}
@@ -21,6 +22,9 @@ loop-index-preserved c =
       about =
           subst (ArePaired About (take (c.loop-index.index + 1) c.args.packets.now)) (sym c.in_ok-push.ensures.items)
           (paired_more About c.args.packets.now told c.loop-index.index c.at.result one c.at.ensures c.loop-index.invariant.about c.restriction.ensures.about);
+      kind =
+          subst (ArePaired TellsPart (take (c.loop-index.index + 1) c.args.packets.now)) (sym c.in_ok-push.ensures.items)
+          (paired_more TellsPart c.args.packets.now told c.loop-index.index c.at.result one c.at.ensures c.loop-index.invariant.kind c.restriction.ensures.kind);
       known =
           subst (ArePaired Known (take (c.loop-index.index + 1) c.args.packets.now)) (sym c.in_ok-push.ensures.items)
           (paired_more Known c.args.packets.now told c.loop-index.index c.at.result one c.at.ensures c.loop-index.invariant.known c.restriction.ensures.known);
