@@ -17,7 +17,7 @@ use Rattle.rbc_explain.specs.declared.said.Origin.{Origin}
 use Rattle.rbc_explain.specs.declared.said.Spot.{Spot}
 use Rattle.rbc_explain.specs.declared.said.Spoken.{Spoken}
 use Rattle.rbc_explain.specs.declared.said.Spoken.TheVariants as spoken
-use Rattle.rbc_explain.specs.Said.{IsOnStop, IsOriginOf, IsSpotAhead, IsSpokenBy, IsSpokenByPacket, IsStopBefore, IsRestriction}
+use Rattle.rbc_explain.specs.Said.{IsOnStop, IsOriginOf, IsSpotAhead, IsRevokedAs, IsSpokenBy, IsSpokenByPacket, IsStopBefore, IsRestriction}
 
 -- a place that is no place before the beginning of the line lies ahead
 lies_ahead : (way : Way) (from by units : ℕ) → IsSpotAhead way from by false units → IsAhead way from by units
@@ -58,6 +58,17 @@ pub by_stop_before : (plan : Plan) (head : Head) (id scale : ℕ) (reference : �
 by_stop_before plan head id scale reference dir distance whole None is zero told = tt
 by_stop_before plan head id scale reference dir distance whole (Some words) is zero told =
     subst (λ (m : ToTrain). IsSpokenBy plan m words) (sym is) (rule.StopsBefore id told.0, (zero, (told.0, (told.1, refl))), told.2 id)
+
+-- to stop before a place is said of no stop that is revoked
+pub not_revoked : (plan : Plan) (lrbg dir scale distance : ℕ) (unanswered : Bool) (found : Option Spoken) → IfSome found (IsStopBefore plan lrbg dir scale distance)
+    → IfSome found (IsRevokedAs unanswered)
+not_revoked plan lrbg dir scale distance unanswered None told = tt
+not_revoked plan lrbg dir scale distance unanswered (Some spoken.StopAtOnce) told = tt
+not_revoked plan lrbg dir scale distance unanswered (Some (spoken.StopBefore line place)) told = tt
+not_revoked plan lrbg dir scale distance unanswered (Some spoken.StopRevoked) told = absurd (told.2 0)
+not_revoked plan lrbg dir scale distance unanswered (Some (spoken.IdentifierRevoked id)) told = absurd (told.2 0)
+not_revoked plan lrbg dir scale distance unanswered (Some (spoken.Restriction line from to speed)) told = tt
+not_revoked plan lrbg dir scale distance unanswered (Some spoken.RestrictionRevoked) told = tt
 
 -- a message 16 says it
 pub by_stop : (plan : Plan) (head : Head) (id : ℕ) (whole : ToTrain) → whole ≡ message.Stop head id → IsSpokenBy plan whole spoken.StopAtOnce

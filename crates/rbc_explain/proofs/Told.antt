@@ -1,5 +1,5 @@
 -- Sentences among the lines of a log.
-use Rattle.std.proofs.Common.{◌≡◌, ℕ, ◌+◌, ◌<◌, ◌≤◌, true, is_some, List, [], ◌∷◌, ◌++◌, length, get_or, drop, map, codes, flat_map, filter_map, Option, Some, None, refl, sym, ap, subst, ◌∙◌, append_assoc, append-nil, Result, Ok, Err, OnOk, is_ok, if◌then◌else◌, arith}
+use Rattle.std.proofs.Common.{◌≡◌, ℕ, ◌+◌, ◌<◌, ◌≤◌, Bool, true, is_some, List, [], ◌∷◌, ◌++◌, length, get_or, drop, map, codes, flat_map, filter_map, Option, Some, None, refl, sym, ap, subst, ◌∙◌, append_assoc, append-nil, Result, Ok, Err, OnOk, is_ok, if◌then◌else◌, arith}
 use Rattle.std.specs.Prelude.{slice_get}
 use Rattle.std.specs.List.{cons_option}
 use Rattle.std.proofs.lemmas.List.{drop_all, drop_more}
@@ -20,7 +20,7 @@ use Rattle.rbc_account.specs.declared.told.ToldWhat.{ToldWhat}
 use Rattle.rbc_account.specs.declared.told.ToldRestriction.{ToldRestriction}
 use Rattle.rbc_explain.specs.declared.said.Spoken.{Spoken}
 use Rattle.rbc_explain.specs.Sentences.{stop_sentence, restriction_sentence, packet_sentence}
-use Rattle.rbc_explain.specs.Said.{IsOnStop, IsSpokenBy, IsSpokenByPacket, IsStopSentence, IsRestrictionSentence, IsPacketSentence}
+use Rattle.rbc_explain.specs.Said.{IsOnStop, IsRevokedAs, IsSpokenBy, IsSpokenByPacket, IsStopSentence, IsRestrictionSentence, IsPacketSentence}
 use Rattle.rbc_explain.specs.Marked.{ended, unmarked, AreAdded, IsToldOn}
 use Rattle.rbc_explain.specs.Telling.{HasSentence, TellsStop, TellsPacket, TellsEach, TellsPackets, TellsRestrictions, TellsAll, Tells, IsSaidOn, IsBlockOn}
 use Rattle.rbc_explain.proofs.Lines.{lines_of_ended}
@@ -39,13 +39,14 @@ added_sentence Is sentence text old new one same is e = (
 )
 
 -- the same of a message on a stop, unless memory was refused
-pub stop_said : (T E : Type 0) (r : Result T E) (plan : Plan) (sent : Sent) (number : ℕ) (words : Spoken) (text old new : List ℕ) → IsSpokenBy plan sent.message words
-    → text ≡ stop_sentence sent.engine number words → new ≡ (if is_ok r then old ++ text else old) → OnOk r (IsSaidOn (TellsStop plan sent number) old new)
-stop_said T E (Ok done) plan sent number words text old new spoken is e =
-    let said = added_sentence (IsStopSentence plan sent.engine number sent.message) (stop_sentence sent.engine number words) text old new
-    (stop_is_one_line sent.engine number words) is (words, spoken, is) e in
+pub stop_said : (T E : Type 0) (r : Result T E) (plan : Plan) (sent : Sent) (number : ℕ) (unanswered : Bool) (words : Spoken) (text old new : List ℕ) → IsSpokenBy plan sent.message words
+    → IsRevokedAs unanswered words → text ≡ stop_sentence sent.engine number words → new ≡ (if is_ok r then old ++ text else old)
+    → OnOk r (IsSaidOn (TellsStop plan sent number unanswered) old new)
+stop_said T E (Ok done) plan sent number unanswered words text old new spoken revoked is e =
+    let said = added_sentence (IsStopSentence plan sent.engine number unanswered sent.message) (stop_sentence sent.engine number words) text old new
+    (stop_is_one_line sent.engine number words) is (words, spoken, revoked, is) e in
     (said.0, said.1, said.2, λ one on says. said.3)
-stop_said T E (Err fault) plan sent number words text old new spoken is e = tt
+stop_said T E (Err fault) plan sent number unanswered words text old new spoken revoked is e = tt
 
 pub packet_said : (T E : Type 0) (r : Result T E) (plan : Plan) (lrbg number : ℕ) (packet : Part) (words : Spoken) (text old new : List ℕ) → IsSpokenByPacket plan lrbg packet words
     → text ≡ packet_sentence number words → new ≡ (if is_ok r then old ++ text else old)
@@ -66,9 +67,9 @@ restriction_said T E (Ok done) plan lrbg engine number packet words text old new
 restriction_said T E (Err fault) plan lrbg engine number packet words text old new spoken is e = tt
 
 -- a message, or a packet, that says nothing
-pub no_stop_said : (plan : Plan) (sent : Sent) (number : ℕ) (found : Option Spoken) (log : List ℕ) → found ≡ None
-    → ((one : Said) → IsOnStop one → Says plan sent.message (one ∷ []) → is_some found ≡ true) → IsSaidOn (TellsStop plan sent number) log log
-no_stop_said plan sent number found log none all =
+pub no_stop_said : (plan : Plan) (sent : Sent) (number : ℕ) (unanswered : Bool) (found : Option Spoken) (log : List ℕ) → found ≡ None
+    → ((one : Said) → IsOnStop one → Says plan sent.message (one ∷ []) → is_some found ≡ true) → IsSaidOn (TellsStop plan sent number unanswered) log log
+no_stop_said plan sent number unanswered found log none all =
     ([], added_none log, refl, λ one on says. let bad = sym (ap is_some none) ∙ all one on says in absurd cc)
 
 pub no_packet_said : (plan : Plan) (lrbg : ℕ) (packet : Part) (Is : List ℕ → Type 0) (found : Option Spoken) (log : List ℕ) → found ≡ None
@@ -92,13 +93,13 @@ has_still : (Is : List ℕ → Type 0) (lines more : List (List ℕ)) → HasSen
 has_still Is lines more has =
     (has.0, has.1 ++ more, has.2, ap (λ (ls : List (List ℕ)). ls ++ more) has.3 ∙ append_assoc has.0 (has.2 ∷ has.1) more, has.4)
 
-pub stop_then_words : (T E : Type 0) (r : Result T E) (plan : Plan) (sent : Sent) (number : ℕ) (first second third : List ℕ) → IsSaidOn (TellsStop plan sent number) first second
-    → OnOk r (IsToldOn [] second third) → OnOk r (IsSaidOn (TellsStop plan sent number) first third)
-stop_then_words T E (Ok done) plan sent number first second third said words =
-    said_then (TellsStop plan sent number) (λ more. Unit) (TellsStop plan sent number) first second third
-    (λ lines more tells done one on says. has_still (IsStopSentence plan sent.engine number sent.message) lines more (tells one on says))
+pub stop_then_words : (T E : Type 0) (r : Result T E) (plan : Plan) (sent : Sent) (number : ℕ) (unanswered : Bool) (first second third : List ℕ) → IsSaidOn (TellsStop plan sent number unanswered) first second
+    → OnOk r (IsToldOn [] second third) → OnOk r (IsSaidOn (TellsStop plan sent number unanswered) first third)
+stop_then_words T E (Ok done) plan sent number unanswered first second third said words =
+    said_then (TellsStop plan sent number unanswered) (λ more. Unit) (TellsStop plan sent number unanswered) first second third
+    (λ lines more tells done one on says. has_still (IsStopSentence plan sent.engine number unanswered sent.message) lines more (tells one on says))
     said (words.0, words.1, words.2, tt)
-stop_then_words T E (Err fault) plan sent number first second third said words = tt
+stop_then_words T E (Err fault) plan sent number unanswered first second third said words = tt
 
 pub packet_then_words : (T E : Type 0) (r : Result T E) (plan : Plan) (lrbg : ℕ) (packet : Part) (Is : List ℕ → Type 0) (first second third : List ℕ)
     → IsSaidOn (TellsPacket plan lrbg packet Is) first second → OnOk r (IsToldOn [] second third) → OnOk r (IsSaidOn (TellsPacket plan lrbg packet Is) first third)

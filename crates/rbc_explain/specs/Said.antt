@@ -63,10 +63,16 @@ IsRestriction plan lrbg dir scale start length speed words =
     (stretch : rule.Stretch) × IsStretchTold plan lrbg dir scale start length stretch
     × ((id : ℕ) (front : Bool) → IsSpoken (rule.Restricts id stretch front speed) words)
 
--- the sentence on a message to a train on a stop: what the message says, in words
-abbrev pub IsStopSentence : Plan → ℕ → ℕ → ToTrain → List ℕ → Type 0
-IsStopSentence plan engine number message text =
-    (words : Spoken) × IsSpokenBy plan message words × (text ≡ stop_sentence engine number words)
+-- "The stop is revoked" is said of a stop that is no longer active. One that a train left unanswered is still active: of that, an identifier is revoked.
+abbrev pub IsRevokedAs : Bool → Spoken → Type 0
+IsRevokedAs unanswered spoken.StopRevoked = unanswered ≡ false
+IsRevokedAs unanswered (spoken.IdentifierRevoked id) = unanswered ≡ true
+IsRevokedAs unanswered _ = Unit
+
+-- the sentence on a message to a train on a stop, which the train may have left unanswered: what the message says, in words
+abbrev pub IsStopSentence : Plan → ℕ → ℕ → Bool → ToTrain → List ℕ → Type 0
+IsStopSentence plan engine number unanswered message text =
+    (words : Spoken) × IsSpokenBy plan message words × IsRevokedAs unanswered words × (text ≡ stop_sentence engine number words)
 
 -- the sentence on a message to a train on one restriction: what its packet says, in words
 abbrev pub IsRestrictionSentence : Plan → ℕ → ℕ → ℕ → Part → List ℕ → Type 0

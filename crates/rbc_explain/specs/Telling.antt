@@ -1,5 +1,5 @@
 -- Which lines of a log are the sentences on messages (own rule).
-use Rattle.std.specs.Prelude.{◌≡◌, ℕ, List, [], ◌∷◌, ◌++◌, codes, filter_map}
+use Rattle.std.specs.Prelude.{◌≡◌, ℕ, Bool, false, List, [], ◌∷◌, ◌++◌, codes, filter_map}
 use Rattle.ertms_codec.specs.declared.packets.Part.{Part}
 use Rattle.ertms_codec.specs.declared.to_train.ToTrain.{ToTrain}
 use Rattle.ertms_codec.specs.declared.to_train.ToTrain.TheVariants as message
@@ -20,10 +20,10 @@ use Rattle.rbc_explain.specs.Said.{IsOnStop, IsStopSentence, IsRestrictionSenten
 abbrev pub HasSentence : (List ℕ → Type 0) → List (List ℕ) → Type 0
 HasSentence IsSentence lines = (before after : List (List ℕ)) × (line : List ℕ) × (lines ≡ before ++ line ∷ after) × IsSentence (ended line)
 
--- If a message says something of a stop, the sentence on it is one of the lines.
-abbrev pub TellsStop : Plan → Sent → ℕ → List (List ℕ) → Type 0
-TellsStop plan sent number lines =
-    (said : Said) → IsOnStop said → Says plan sent.message (said ∷ []) → HasSentence (IsStopSentence plan sent.engine number sent.message) lines
+-- If a message says something of a stop, which its train may have left unanswered, the sentence on it is one of the lines.
+abbrev pub TellsStop : Plan → Sent → ℕ → Bool → List (List ℕ) → Type 0
+TellsStop plan sent number unanswered lines =
+    (said : Said) → IsOnStop said → Says plan sent.message (said ∷ []) → HasSentence (IsStopSentence plan sent.engine number unanswered sent.message) lines
 
 -- If a packet says something, the sentence on it is one of the lines.
 abbrev pub TellsPacket : Plan → ℕ → Part → (List ℕ → Type 0) → List (List ℕ) → Type 0
@@ -53,9 +53,9 @@ TellsRestrictions plan engine (message.Revoke head id) all lines = Unit
 
 -- The lines tell what a message says. No block has one that is `Unknown`.
 abbrev pub Tells : Plan → Sent → ToldWhat → List (List ℕ) → Type 0
-Tells plan sent (what.StopBefore number before edge unit) lines = TellsStop plan sent number lines
-Tells plan sent (what.StopAtOnce number why) lines = TellsStop plan sent number lines
-Tells plan sent (what.StopRevoked number unanswered) lines = TellsStop plan sent number lines
+Tells plan sent (what.StopBefore number before edge unit) lines = TellsStop plan sent number false lines
+Tells plan sent (what.StopAtOnce number why) lines = TellsStop plan sent number false lines
+Tells plan sent (what.StopRevoked number unanswered) lines = TellsStop plan sent number unanswered lines
 Tells plan sent (what.Restrictions all) lines = TellsRestrictions plan sent.engine sent.message all.items lines
 Tells plan sent what.Unknown lines = Unit
 

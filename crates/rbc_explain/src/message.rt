@@ -68,7 +68,7 @@ fn push_stop_sentence(
     number: u32,
     is_escalated: bool,
 ) -> Result<(), AllocError>
-    ensures { OnOk result (IsSaidOn (TellsStop track.now sent.now number) log.old.items log.new.items) }
+    ensures { OnOk result (IsSaidOn (TellsStop track.now sent.now number is_escalated) log.old.items log.new.items) }
 {
     match spoken_by(track, &sent.message, is_escalated) {
         Some(said) => {

@@ -6,7 +6,7 @@ ghost use Rattle.rbc_track.specs.declared.group.Way.{Way};
 ghost use Rattle.rbc_step.specs.Saying.{CountsFrom, IsSpotTold, IsStretchTold, PacketSays, Says};
 ghost use Rattle.rbc_step.specs.Saying as rule;
 ghost use Rattle.rbc_explain.specs.Said.{IsSpokenBy, IsSpokenByPacket, IsSpotAhead, IsOriginOf, IsStopBefore};
-ghost use Rattle.rbc_explain.specs.Said.{IsRestriction, IsOnStop};
+ghost use Rattle.rbc_explain.specs.Said.{IsRestriction, IsOnStop, IsRevokedAs};
 
 use ertms_codec::{Part, ToTrain};
 use rbc_account::{unit_told, way_told};
@@ -174,6 +174,7 @@ fn stop_before(track: &Track, lrbg: u32, dir: u8, scale: u8, distance: u16) -> O
 /// where the message is no such one, or tells no place of the track.
 pub(crate) fn spoken_by(track: &Track, message: &ToTrain, is_escalated: bool) -> Option<Spoken>
     ensures is { IfSome result (IsSpokenBy track.now message.now) }
+    ensures revoked { IfSome result (IsRevokedAs is_escalated) }
     ensures all { (said : rule.Said) → IsOnStop said → Says track.now message.now (said ∷ []) → is_some result ≡ true }
 {
     match message {
