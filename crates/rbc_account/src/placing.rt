@@ -1,7 +1,8 @@
 //! Where a report places a train.
 
 ghost use Rattle.std.specs.Prelude.{◌≡◌, ◌≤◌};
-ghost use Rattle.rbc_account.specs.Placed.{IsPlacing, IsWhyNowhere};
+ghost use Rattle.rbc_place.specs.Placing.{way_of};
+ghost use Rattle.rbc_account.specs.Placed.{IsPlacing, IsWhyNowhere, estimated_front, nominal_of};
 ghost use Rattle.rbc_account.specs.Places.{unit_of};
 
 use ertms_codec::Position;
@@ -49,18 +50,25 @@ pub(crate) fn placing_of(track: &Track, position: &Position, length: u32) -> Pla
 }
 
 /// The estimated front of a train at its place: as far from the balise group as it reports.
-fn front_of(place: &Place, position: &Position) -> u32 {
+fn front_of(place: &Place, position: &Position) -> u32
+    ensures { result ≡ estimated_front place.now position.now }
+{
     let distance = u32::from(position.distance) * unit_of(position.scale);
-    if is_above(place, position) {
-        place.at().saturating_add(distance)
-    } else {
-        place.at().saturating_sub(distance)
+    match side_of(place, position) {
+        Way::Up => place.at() + distance,
+        Way::Down => place.at().saturating_sub(distance),
     }
 }
 
-/// Whether the estimated front is on the side of rising places of the balise group.
-fn is_above(place: &Place, position: &Position) -> bool {
-    (position.side == 1) == place.same()
+/// The side of the balise group on which the estimated front is.
+fn side_of(place: &Place, position: &Position) -> Way
+    ensures { result ≡ way_of (nominal_of place.now) position.now.side }
+{
+    if (position.side == 1) == place.same() {
+        Way::Up
+    } else {
+        Way::Down
+    }
 }
 
 /// The unit of a scale, in units of 10 cm: 1, 10 or 100.
