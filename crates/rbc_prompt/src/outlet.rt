@@ -1,6 +1,6 @@
 //! What a writer has taken.
 
-ghost use Rattle.std.specs.Prelude.{◌≡◌, ◌+◌, length, true, OnOk, IfErr};
+ghost use Rattle.std.specs.Prelude.{◌≡◌, ◌+◌, ◌&&◌, ◌==◌, length, true, OnOk, IfErr};
 ghost use Rattle.std.specs.Io.KnownBytes.{Appends, Keeps};
 ghost use Rattle.rbc_prompt.specs.Answers.{count_of};
 ghost use Rattle.rbc_prompt.specs.UnderWay.{IsCutShort};
@@ -37,7 +37,7 @@ impl Outlet {
     pub fn write<W: Write>(&mut self, writer: &mut W, text: &[u8]) -> Result<(), PromptError>
         ensures whole { OnOk result (Appends (W.contents writer.old) (W.contents writer.new) text.now) }
         ensures sent { OnOk result (self.new.sent ≡ count_of (self.old.sent + length text.now)) }
-        ensures flushed { self.new.flushed ≡ true → (self.old.flushed ≡ true) × (length text.now ≡ 0) }
+        ensures flushed { self.new.flushed ≡ (self.old.flushed && (length text.now == 0)) }
         ensures part { IfErr result (IsCutShort self.old.sent text.now (W.contents writer.old) (W.contents writer.new)) }
     {
         self.flushed = self.flushed && text.is_empty();
