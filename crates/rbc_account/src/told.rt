@@ -18,7 +18,8 @@ ghost use Rattle.rbc_account.specs.Places.{TellsPart};
 ghost use Rattle.rbc_account.specs.Subjects.{ArePaired, IsToldOf, IsOf, IsOfStop, IsOfLimit, IsOfNumber, revoked_stop};
 ghost use Rattle.rbc_account.specs.Subjects.{revoked_limit, TellsAs};
 ghost use Rattle.rbc_account.specs.Found.{HasStop, HasLimit, MeansBefore, MeansNow, IsOfConcern, IsRevokedBy};
-ghost use Rattle.rbc_account.specs.Found.{IsLiftedBy, HasSubject, IsKnownPacket, IsKnown, is_unknown, is_unknown_packet};
+ghost use Rattle.rbc_account.specs.Found.{IsLiftedBy, HasSubject, IsKnownPacket, IsKnown, is_unknown};
+ghost use Rattle.rbc_account.specs.Found.{is_unknown_packet};
 ghost use Rattle.rbc_account.specs.Whys.{IsWhat, IsReasonTo, IsPacket, IsWhyRevoked, escalated_under, revoked_from};
 ghost use Rattle.rbc_account.specs.Whys.{is_revoking};
 
