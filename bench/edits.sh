@@ -2,10 +2,10 @@
 # Tries the faulty variants that the gate leaves out, and says which ones the prover lets through: bench/edits.sh [CRATE..]
 #
 # A variant of crates/NAME/edits/ is an edit of the crate that the prover must refuse, as one of crates/NAME/must-fail/ is; the gate tries
-# the latter alone. Without words, all crates that have such a folder are tried. The sources as they stand are copied to a scratch folder, and
-# the edits there to must-fail/, in place of those of the gate. Then `rt ci` tries them: crates that it proved on this machine before, and
-# variants that it tried, are not done again. It prints each variant that was not refused, or that was refused for a reason that says little of a
-# contract, and a line for each crate; the exit status is 0 where all were refused, and 1 where one was not. All of them take hours of one
+# the latter alone. Without words, all crates that have such a folder are tried. The sources as they stand are copied to a scratch folder with the
+# libraries that `rt check` has built of them, and the edits there to must-fail/, in place of those of the gate. Then `rt must-fail` tries them. It
+# first proves the libraries below that are not built. It prints each variant that was not refused, or that was refused for a reason that says little
+# of a contract, and a line for each crate; the exit status is 0 where all were refused, and 1 where one was not. All of them take hours of one
 # processor.
 set -euo pipefail
 
@@ -13,7 +13,7 @@ here=$(dirname "$(dirname "$(readlink -f "$0")")")
 scratch=$(mktemp -d)
 trap 'rm -rf "$scratch"' EXIT
 
-(cd "$here" && tar -c --exclude=./.git --exclude=out .) | tar -x -C "$scratch"
+(cd "$here" && tar -c --exclude=./.git --exclude=out/incremental .) | tar -x -C "$scratch"
 cd "$scratch"
 git init -q .
 rm -rf crates/*/must-fail
@@ -24,7 +24,7 @@ for crate in "$@"; do
     mv "crates/$crate/edits" "crates/$crate/must-fail"
 done
 
-said=$(rt ci "$@" 2>&1) || true
+said=$(rt must-fail "$@" 2>&1) || true
 grep '^rt: must-fail ' <<< "$said" | grep -Ev ': refused, as it must be(:|$)' || true
 status=0
 for crate in "$@"; do
