@@ -20,10 +20,10 @@ is apart: worked cases, of which nothing has to be named.
 """
 import re
 
-from documents_source import TOKEN, Crate
+from documents_source import TOKEN, WORDS_OF_PROGRAM, Crate
 
 # the crates that the program calls, and the one function of another crate that it calls
-CALLED = {"rbc_batch", "rbc_inputs", "ertms_codec"}
+CALLED = {"rbc_batch", "ertms_codec"}
 CALLED_FUNCTIONS = {("rbc_track", "track_from_toml")}
 
 # what the contract of `process` says of what messages say
@@ -32,19 +32,23 @@ SAID = ("rbc_batch", "Process", "AreSaid")
 # the functions beside `process` on whose contracts the headline stands
 HEADLINE = {("rbc_engine", "run"), ("rbc_core", "event_law")}
 
-# the program, and the one function that it calls for a text
+# the program, but for the files that read its words, and the one function that it calls for a text
 PRINTING = {"rbc_dispatch"}
 PRINTING_FUNCTIONS = {("ertms_codec", "describe")}
 
 # where the rules stand; the rest of the class believed is formats
-RULES = {"rbc_place", "rbc_zones", "rbc_ids", "rbc_maps", "rbc_train", "rbc_settle", "rbc_step"}
+RULES = {"rbc_place", "rbc_zones", "rbc_ids", "rbc_maps", "rbc_settle", "rbc_rule"}
 RULES_FILES = {("rbc_desk", "Serial"), ("rbc_desk", "outbox.rt")}
 
 CLASSES = ("believed", "headline", "text", "law", "boundary")
 
 
 def is_printing(crate, found):
-    return crate.name in PRINTING or (crate.name, found.name) in PRINTING_FUNCTIONS
+    return crate.name in PRINTING and found.module not in WORDS_OF_PROGRAM or (crate.name, found.name) in PRINTING_FUNCTIONS
+
+
+def reads_words(crate, owner):
+    return owner in crate.source.types and crate.source.types[owner].module in WORDS_OF_PROGRAM
 
 
 def is_called(crate, found):
@@ -138,7 +142,7 @@ class World:
                     yield from self.types_in(crate, found.signature)
             for owner, trait, _, text, scope in crate.source.ghosts:
                 if trait != "Model" and (owner in crate.source.given or crate.is_program and crate.specs):
-                    if part == "boundary" or part == "text" and crate.name in CALLED | PRINTING:
+                    if part == "boundary" or part == "text" and crate.name in CALLED | PRINTING and not reads_words(crate, owner):
                         yield from self.words(crate, scope, text)
 
     def is_root(self, part, crate, found):

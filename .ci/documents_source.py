@@ -5,6 +5,9 @@ TOKEN = re.compile(r"[A-Za-z_][A-Za-z0-9_']*(?:\.[A-Za-z0-9_][A-Za-z0-9_']*)*")
 RUST_NOISE = re.compile(r'//[^\n]*|b?"(?:\\.|[^"\\])*"|b?\'(?:\\.[^\']*|[^\\\'\n])\'', re.S)
 ANTT_NOISE = re.compile(r'--[^\n]*|"(?:\\.|[^"\\])*"', re.S)
 
+# the files of the program that read its words: of these public contracts alone count, as those of a library
+WORDS_OF_PROGRAM = {"words.rt", "no_task.rt"}
+
 
 def blank(pattern, text):
     """The text with comments and strings blanked, so that places stay."""
@@ -284,5 +287,5 @@ class Crate:
     def is_given(self, found):
         """Whether a function is one that the crate gives away."""
         if self.is_program:
-            return bool(self.specs)
+            return bool(self.specs) and (found.public or found.module not in WORDS_OF_PROGRAM)
         return (found.public or found.trait is not None) and (found.owner or found.name) in self.source.given

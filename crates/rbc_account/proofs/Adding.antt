@@ -1,7 +1,7 @@
 -- The sums of an account add up to its lines.
 use Rattle.std.proofs.Common.{◌≡◌, ℕ, ◌+◌, ◌^◌, ◌<◌, List, [], ◌∷◌, length, ap, ◌∙◌, arith}
-use Rattle.rbc_step.specs.declared.outcome.Reply.{Reply}
-use Rattle.rbc_step.specs.declared.outcome.Reply.TheVariants.{Done, Refused}
+use Rattle.rbc_rule.specs.declared.outcome.Reply.{Reply}
+use Rattle.rbc_rule.specs.declared.outcome.Reply.TheVariants.{Done, Refused}
 use Rattle.rbc_live.specs.History.{Taken}
 use Rattle.rbc_account.specs.declared.account.Sums.{Sums}
 use Rattle.rbc_account.specs.Sums.{no_sums, counted}

@@ -13,15 +13,15 @@ use Rattle.rbc_zones.specs.declared.segment.Segment.{Segment}
 use Rattle.rbc_zones.specs.declared.stop_meaning.Concern.{Concern}
 use Rattle.rbc_zones.specs.declared.stop_meaning.Concern.TheVariants as concern
 use Rattle.rbc_zones.specs.Limits.{Limit}
-use Rattle.rbc_train.specs.declared.train.TrainRec.{TrainRec}
-use Rattle.rbc_train.specs.declared.change.ToldStop.{ToldStop}
-use Rattle.rbc_train.specs.Told.{Part}
-use Rattle.rbc_train.specs.Actions.{Action}
-use Rattle.rbc_train.specs.Settling.{Stops, Limits, last_stamp, carried_out, settled, actions_with_stamp, told_stop, concern_to, stop_to_tell, limit_told_to, limit_to_tell, due_number}
-use Rattle.rbc_train.proofs.ToTell.{stop_told_already, limit_told_already}
+use Rattle.rbc_settle.specs.declared.train.TrainRec.{TrainRec}
+use Rattle.rbc_settle.specs.declared.change.ToldStop.{ToldStop}
+use Rattle.rbc_settle.specs.Told.{Part}
+use Rattle.rbc_settle.specs.Actions.{Action}
+use Rattle.rbc_settle.specs.Settling.{Stops, Limits, last_stamp, carried_out, settled, actions_with_stamp, told_stop, concern_to, stop_to_tell, limit_told_to, limit_to_tell, due_number}
+use Rattle.rbc_settle.proofs.ToTell.{stop_told_already, limit_told_already}
 use Rattle.rbc_settle.specs.UpToDate.{IsToldIfItCan, IsLimitToldIfItCan, IsUpToDateOrAtTheEnd}
 use Rattle.rbc_settle.proofs.Achieves.{up_to_date}
-use Rattle.rbc_step.specs.WellFormed.{IsGoodTrain}
+use Rattle.rbc_rule.specs.WellFormed.{IsGoodTrain}
 use Rattle.rbc_account.specs.declared.waiting.Waiting.{Waiting}
 use Rattle.rbc_account.specs.declared.waiting.Waits.TheVariants.{Stop, Restriction, Again}
 use Rattle.rbc_account.specs.declared.waiting.Cause.TheVariants.{NoIdentifier, NoStamp}

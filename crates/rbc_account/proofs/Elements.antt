@@ -1,7 +1,7 @@
 -- What holds of each element of a list holds of those of its parts.
 use Rattle.std.proofs.Common.{◌≡◌, ℕ, zero, suc, Bool, true, false, cond, List, [], ◌∷◌, ◌++◌, map, take, drop, refl, sym, subst}
 use Rattle.std.specs.List.{filter, zip, AllByRecursion}
-use Rattle.rbc_train.specs.Actions.{groups}
+use Rattle.rbc_settle.specs.Actions.{groups}
 use Rattle.rbc_settle.proofs.Groups.{groups_cons, by_groups}
 
 module _ {X : Type 0} (P : X → Type 0) where

@@ -2,15 +2,15 @@
 use Rattle.std.proofs.Common.{◌≡◌, ℕ, false, List, Option, Result, Ok, Err, subst, sym, ap, ◌∙◌}
 use Rattle.std.specs.Prelude.{IfOk}
 use Rattle.rbc_track.specs.Plan.{Plan, IsPlan}
-use Rattle.rbc_train.specs.declared.sent.Sent.{Sent}
+use Rattle.rbc_settle.specs.declared.sent.Sent.{Sent}
 use Rattle.rbc_records.specs.declared.record.Key.{Key}
 use Rattle.rbc_records.specs.declared.record.Rec.{Rec}
-use Rattle.rbc_step.specs.declared.outcome.Reply.{Reply}
-use Rattle.rbc_step.specs.Inputs.{Fits}
+use Rattle.rbc_rule.specs.declared.outcome.Reply.{Reply}
+use Rattle.rbc_rule.specs.Inputs.{Fits}
 use Rattle.rbc_live.specs.Serial.{IsSerial}
 use Rattle.rbc_live.specs.History.{IsFed, IsStepOf}
-use Rattle.rbc_train.specs.declared.train.TrainRec.{TrainRec}
-use Rattle.rbc_step.specs.declared.input.Input.{Input}
+use Rattle.rbc_settle.specs.declared.train.TrainRec.{TrainRec}
+use Rattle.rbc_rule.specs.declared.input.Input.{Input}
 use Rattle.rbc_account.specs.declared.block.Block.{Block}
 use Rattle.rbc_account.specs.declared.told.Told.{Told}
 use Rattle.rbc_account.specs.Blocks.{IsRightBlock}

@@ -12,18 +12,18 @@ use Rattle.rbc_place.specs.Placing.{Place}
 use Rattle.rbc_maps.specs.Maps.{value_of, value_or}
 use Rattle.rbc_zones.specs.declared.segment.Segment.{Segment}
 use Rattle.rbc_zones.specs.Limits.{Limit}
-use Rattle.rbc_train.specs.declared.train.TrainRec.{TrainRec}
-use Rattle.rbc_train.specs.declared.sent.Sent.{Sent}
-use Rattle.rbc_train.specs.Settling.{Stops, Limits, is_limit_gone, escalated, is_stop_revoked, actions_with_stamp, settled, messages_of}
+use Rattle.rbc_settle.specs.declared.train.TrainRec.{TrainRec}
+use Rattle.rbc_settle.specs.declared.sent.Sent.{Sent}
+use Rattle.rbc_settle.specs.Settling.{Stops, Limits, is_limit_gone, escalated, is_stop_revoked, actions_with_stamp, settled, messages_of}
 use Rattle.rbc_settle.specs.UpToDate.{HasTables}
 use Rattle.rbc_records.specs.declared.record.Key.{Key}
 use Rattle.rbc_records.specs.declared.record.Key.TheVariants as key
 use Rattle.rbc_records.specs.declared.record.Rec.{Rec}
 use Rattle.rbc_records.specs.Notes.{record_in}
-use Rattle.rbc_step.specs.declared.input.Input.{Input}
-use Rattle.rbc_step.specs.World.{World}
-use Rattle.rbc_step.specs.Step.{settle_all, sent_to_all}
-use Rattle.rbc_step.specs.Right.{messages_to}
+use Rattle.rbc_rule.specs.declared.input.Input.{Input}
+use Rattle.rbc_rule.specs.World.{World}
+use Rattle.rbc_rule.specs.Step.{settle_all, sent_to_all}
+use Rattle.rbc_rule.specs.Right.{messages_to}
 use Rattle.rbc_live.specs.Held.{AreRecordsOf}
 use Rattle.rbc_account.specs.Known.{train_of, stops_of, limits_of, train_in, active_stops, active_limits}
 use Rattle.rbc_account.specs.Found.{PacketHasSubject, HasSubject, IsRevokedBy, IsLiftedBy, IsFound}

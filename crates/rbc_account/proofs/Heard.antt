@@ -13,13 +13,13 @@ use Rattle.rbc_ids.specs.declared.slot.Slot.{Slot}
 use Rattle.rbc_ids.specs.declared.slot.Slot.TheVariants.{Used, Revoking}
 use Rattle.rbc_ids.specs.declared.slot.UsedSlot.{UsedSlot}
 use Rattle.rbc_ids.specs.Table.{Slots, marked, is_unanswered, most_reports, reported_slot, after_report, is_answered_by, acked_slots, is_acceptance, is_rejection, acked_by_id}
-use Rattle.rbc_train.specs.declared.train.TrainRec.{TrainRec}
+use Rattle.rbc_settle.specs.declared.train.TrainRec.{TrainRec}
 use Rattle.rbc_settle.specs.WellFormed.{number_in}
 use Rattle.rbc_settle.specs.UpToDate.{HasTables}
-use Rattle.rbc_step.specs.Codes.{code_of}
-use Rattle.rbc_step.specs.declared.refuse.Refusal.TheVariants.{StampTooHigh, NothingToAcknowledge}
-use Rattle.rbc_step.specs.Effect.{unknown_stamp, is_too_high, raised, placed, limits_acked, acknowledged, stop_acked, answered, told_by, stamp_of, heard}
-use Rattle.rbc_step.proofs.WorldMaps.{value_of-with_value, value_of-without}
+use Rattle.rbc_rule.specs.Codes.{code_of}
+use Rattle.rbc_rule.specs.declared.refuse.Refusal.TheVariants.{StampTooHigh, NothingToAcknowledge}
+use Rattle.rbc_rule.specs.Effect.{unknown_stamp, is_too_high, raised, placed, limits_acked, acknowledged, stop_acked, answered, told_by, stamp_of, heard}
+use Rattle.rbc_rule.proofs.WorldMaps.{value_of-with_value, value_of-without}
 use Rattle.rbc_account.specs.Known.{number_under}
 
 -- what is told under an identifier was told under it

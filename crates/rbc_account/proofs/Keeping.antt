@@ -4,7 +4,7 @@ use Rattle.std.specs.Prelude.{slice_get}
 use Rattle.std.proofs.lemmas.List.{take_more}
 use Rattle.std.proofs.lemmas.Option.{slice_get_within, get_or_from_slice_get}
 use Rattle.rbc_track.specs.Plan.{Plan}
-use Rattle.rbc_train.specs.declared.sent.Sent.{Sent}
+use Rattle.rbc_settle.specs.declared.sent.Sent.{Sent}
 use Rattle.rbc_account.specs.declared.told_place.ToldPlace.{ToldPlace}
 use Rattle.rbc_account.specs.ToldPlaces.{told_by, number_of, kept_with, kept_after}
 

@@ -10,7 +10,7 @@ use Rattle.rbc_zones.specs.declared.stop_meaning.Concern.{Concern}
 use Rattle.rbc_zones.specs.declared.stop_meaning.Concern.TheVariants as concern
 use Rattle.rbc_zones.specs.Concerns.{concern_of}
 use Rattle.rbc_zones.specs.Limits.{Limit, is_clear}
-use Rattle.rbc_train.specs.Settling.{is_clear_of}
+use Rattle.rbc_settle.specs.Settling.{is_clear_of}
 use Rattle.rbc_account.specs.declared.reason.StopReason.{StopReason}
 use Rattle.rbc_account.specs.declared.reason.StopReason.TheVariants.{NoPlace, Forced, Overlaps, BehindGroup, Before, Nothing}
 use Rattle.rbc_account.specs.declared.reason.LimitReason.{LimitReason}

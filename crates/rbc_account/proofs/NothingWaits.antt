@@ -9,16 +9,16 @@ use Rattle.rbc_track.specs.Plan.{Plan}
 use Rattle.rbc_maps.specs.Maps.{value_of}
 use Rattle.rbc_maps.specs.Numbered.{AreNumbered}
 use Rattle.rbc_maps.proofs.MapValues.{count_within}
-use Rattle.rbc_train.specs.declared.train.TrainRec.{TrainRec}
-use Rattle.rbc_train.specs.Settling.{Stops, Limits, last_stamp}
+use Rattle.rbc_settle.specs.declared.train.TrainRec.{TrainRec}
+use Rattle.rbc_settle.specs.Settling.{Stops, Limits, last_stamp}
 use Rattle.rbc_records.specs.declared.record.Key.{Key}
 use Rattle.rbc_records.specs.declared.record.Key.TheVariants as key
 use Rattle.rbc_records.specs.declared.record.Rec.{Rec}
 use Rattle.rbc_records.specs.declared.record.Rec.TheVariants as rec
 use Rattle.rbc_records.specs.Notes.{record_in}
-use Rattle.rbc_step.specs.World.{World}
-use Rattle.rbc_step.specs.Records.{stops_record, limits_record}
-use Rattle.rbc_step.proofs.KeepsLists.{All-value_of}
+use Rattle.rbc_rule.specs.World.{World}
+use Rattle.rbc_rule.specs.Records.{stops_record, limits_record}
+use Rattle.rbc_rule.proofs.KeepsLists.{All-value_of}
 use Rattle.rbc_live.specs.Held.{AreRecordsOf}
 use Rattle.rbc_live.specs.DeskSerial.{serial, new_desk}
 use Rattle.rbc_live.specs.Serial.{IsSerial}

@@ -17,17 +17,17 @@ use Rattle.rbc_ids.specs.Table.{Slots, is_ripe}
 use Rattle.rbc_zones.specs.declared.segment.Segment.{Segment}
 use Rattle.rbc_zones.specs.declared.limit.Dirs.{Dirs}
 use Rattle.rbc_zones.specs.Limits.{Limit}
-use Rattle.rbc_train.specs.declared.train.TrainRec.{TrainRec}
-use Rattle.rbc_train.specs.Actions.{Action, ChangesStop, ChangesLimits, groups}
-use Rattle.rbc_train.specs.declared.change.LimitChange.TheVariants as limit_change
-use Rattle.rbc_train.specs.Numbers.{has_number}
-use Rattle.rbc_train.specs.Settling.{Stops, Limits, last_stamp, carried_out, message_of, stop_to_tell, is_used_by, to_revoke, is_stop_gone, is_clear_of, is_limit_gone, due_number, spare_identifiers, escalated, is_stop_revoked, revoke_stop, stops_revoked, stops_told, limits_revoked, limits_told, limit_changes, actions, actions_with_stamp, messages_of}
+use Rattle.rbc_settle.specs.declared.train.TrainRec.{TrainRec}
+use Rattle.rbc_settle.specs.Actions.{Action, ChangesStop, ChangesLimits, groups}
+use Rattle.rbc_settle.specs.declared.change.LimitChange.TheVariants as limit_change
+use Rattle.rbc_settle.specs.Numbers.{has_number}
+use Rattle.rbc_settle.specs.Settling.{Stops, Limits, last_stamp, carried_out, message_of, stop_to_tell, is_used_by, to_revoke, is_stop_gone, is_clear_of, is_limit_gone, due_number, spare_identifiers, escalated, is_stop_revoked, revoke_stop, stops_revoked, stops_told, limits_revoked, limits_told, limit_changes, actions, actions_with_stamp, messages_of}
 use Rattle.rbc_settle.specs.WellFormed.{number_in}
 use Rattle.rbc_settle.proofs.Groups.{groups_cons}
-use Rattle.rbc_step.specs.declared.input.Input.{Input}
-use Rattle.rbc_step.specs.declared.input.Input.TheVariants as input
-use Rattle.rbc_step.specs.Effect.{with_next, with_less, forget}
-use Rattle.rbc_step.proofs.WorldMaps.{value_of-with_value, value_of-without}
+use Rattle.rbc_rule.specs.declared.input.Input.{Input}
+use Rattle.rbc_rule.specs.declared.input.Input.TheVariants as input
+use Rattle.rbc_rule.specs.Effect.{with_next, with_less, forget}
+use Rattle.rbc_rule.proofs.WorldMaps.{value_of-with_value, value_of-without}
 use Rattle.rbc_account.specs.Known.{number_under}
 use Rattle.rbc_account.proofs.Meant.{IsGoneUnder}
 use Rattle.rbc_account.proofs.Found.{AreRevokedBy}

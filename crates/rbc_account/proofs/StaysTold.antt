@@ -10,20 +10,20 @@ use Rattle.rbc_ids.specs.declared.slot.Slot.{Slot}
 use Rattle.rbc_ids.specs.declared.slot.Slot.TheVariants.{Revoking}
 use Rattle.rbc_ids.specs.declared.slot.Kind.TheVariants.{Restriction}
 use Rattle.rbc_ids.specs.Table.{Slots, free_identifiers, told_now}
-use Rattle.rbc_train.specs.declared.train.TrainRec.{TrainRec}
-use Rattle.rbc_train.specs.declared.change.StopChange.TheVariants as stop_change
-use Rattle.rbc_train.specs.declared.change.LimitChange.{LimitChange}
-use Rattle.rbc_train.specs.declared.change.LimitChange.TheVariants as limit_change
-use Rattle.rbc_train.specs.declared.change.ToldStop.{ToldStop}
-use Rattle.rbc_train.specs.Told.{Part}
-use Rattle.rbc_train.specs.Actions.{Action, ChangesStop, ChangesLimits, groups}
-use Rattle.rbc_train.specs.Settling.{Stops, Limits, limit_changed, carried_out, kind_of, revoke_stop, tell_stop, tell_limit, to_revoke, is_used_by, is_limit_gone, escalated, is_stop_revoked, next_to_tell, limit_to_tell, stops_revoked, stops_told, limits_revoked, limits_told, limit_changes, stop_changes, actions}
-use Rattle.rbc_train.specs.Following.{CanChange, CanChangeAll, Allows, CanFollow}
+use Rattle.rbc_settle.specs.declared.train.TrainRec.{TrainRec}
+use Rattle.rbc_settle.specs.declared.change.StopChange.TheVariants as stop_change
+use Rattle.rbc_settle.specs.declared.change.LimitChange.{LimitChange}
+use Rattle.rbc_settle.specs.declared.change.LimitChange.TheVariants as limit_change
+use Rattle.rbc_settle.specs.declared.change.ToldStop.{ToldStop}
+use Rattle.rbc_settle.specs.Told.{Part}
+use Rattle.rbc_settle.specs.Actions.{Action, ChangesStop, ChangesLimits, groups}
+use Rattle.rbc_settle.specs.Settling.{Stops, Limits, limit_changed, carried_out, kind_of, revoke_stop, tell_stop, tell_limit, to_revoke, is_used_by, is_limit_gone, escalated, is_stop_revoked, next_to_tell, limit_to_tell, stops_revoked, stops_told, limits_revoked, limits_told, limit_changes, stop_changes, actions}
+use Rattle.rbc_settle.specs.Following.{CanChange, CanChangeAll, Allows, CanFollow}
 use Rattle.rbc_settle.specs.WellFormed.{number_in}
 use Rattle.rbc_settle.specs.UpToDate.{HasTables}
 use Rattle.rbc_settle.proofs.Concerned.{each_has}
 use Rattle.rbc_settle.proofs.Follows.{can_follow, can_follow-take}
-use Rattle.rbc_step.proofs.WorldMaps.{value_of-with_value}
+use Rattle.rbc_rule.proofs.WorldMaps.{value_of-with_value}
 use Rattle.rbc_account.specs.Known.{number_under}
 use Rattle.rbc_account.proofs.Elements.{each-append, each-take, each-filter, each-map, each-groups, each-passes, each-zip, each-weaker, each-always}
 

@@ -11,27 +11,27 @@ use Rattle.rbc_maps.specs.Maps.{has, value_of, value_or, with_value, without}
 use Rattle.rbc_maps.specs.Numbered.{Numbered}
 use Rattle.rbc_zones.specs.Segments.{is_good_area}
 use Rattle.rbc_zones.specs.Limits.{Limit, is_good_limit}
-use Rattle.rbc_train.specs.declared.train.TrainRec.{TrainRec}
-use Rattle.rbc_train.specs.declared.sent.Sent.{Sent}
-use Rattle.rbc_train.specs.Trains.{new_train}
+use Rattle.rbc_settle.specs.declared.train.TrainRec.{TrainRec}
+use Rattle.rbc_settle.specs.declared.sent.Sent.{Sent}
+use Rattle.rbc_settle.specs.Trains.{new_train}
 use Rattle.rbc_records.specs.declared.record.Key.{Key}
 use Rattle.rbc_records.specs.declared.record.Key.TheVariants as key
 use Rattle.rbc_records.specs.declared.record.Rec.{Rec}
 use Rattle.rbc_records.specs.Notes.{record_in}
-use Rattle.rbc_step.specs.declared.input.Input.{Input}
-use Rattle.rbc_step.specs.declared.input.Input.TheVariants as input
-use Rattle.rbc_step.specs.declared.outcome.Reply.{Reply}
-use Rattle.rbc_step.specs.Inputs.{Fits}
-use Rattle.rbc_step.specs.World.{World}
-use Rattle.rbc_step.specs.Bounds.{max_trains, max_stops, max_limits}
-use Rattle.rbc_step.specs.Codes.{code_of}
-use Rattle.rbc_step.specs.declared.refuse.Refusal.TheVariants.{AlreadyEnrolled, TooManyTrains, StopsOutstanding, NumberUsed, BadArea, TooManyActive, NoSuchNumber}
-use Rattle.rbc_step.specs.Effect.{then_do, with_next, with_less, after_adding, after_removing, forget, forget_all, without_train, engine_of, heard_from, effect}
-use Rattle.rbc_step.specs.Step.{after}
-use Rattle.rbc_step.specs.Right.{messages_to}
-use Rattle.rbc_step.specs.WellFormed.{IsGoodTrain, IsWellFormed}
-use Rattle.rbc_step.proofs.KeepsLists.{All-value_of}
-use Rattle.rbc_step.proofs.WorldMaps.{value_of-with_value, value_of-without}
+use Rattle.rbc_rule.specs.declared.input.Input.{Input}
+use Rattle.rbc_rule.specs.declared.input.Input.TheVariants as input
+use Rattle.rbc_rule.specs.declared.outcome.Reply.{Reply}
+use Rattle.rbc_rule.specs.Inputs.{Fits}
+use Rattle.rbc_rule.specs.World.{World}
+use Rattle.rbc_rule.specs.Bounds.{max_trains, max_stops, max_limits}
+use Rattle.rbc_rule.specs.Codes.{code_of}
+use Rattle.rbc_rule.specs.declared.refuse.Refusal.TheVariants.{AlreadyEnrolled, TooManyTrains, StopsOutstanding, NumberUsed, BadArea, TooManyActive, NoSuchNumber}
+use Rattle.rbc_rule.specs.Effect.{then_do, with_next, with_less, after_adding, after_removing, forget, forget_all, without_train, engine_of, heard_from, effect}
+use Rattle.rbc_rule.specs.Step.{after}
+use Rattle.rbc_rule.specs.Right.{messages_to}
+use Rattle.rbc_rule.specs.WellFormed.{IsGoodTrain, IsWellFormed}
+use Rattle.rbc_rule.proofs.KeepsLists.{All-value_of}
+use Rattle.rbc_rule.proofs.WorldMaps.{value_of-with_value, value_of-without}
 use Rattle.rbc_rule_laws.proofs.KeepsWorlds.{IsKept, ReadyIfOk, effect_ready}
 use Rattle.rbc_live.specs.Held.{AreRecordsOf}
 use Rattle.rbc_live.specs.DeskSerial.{serial, new_desk}

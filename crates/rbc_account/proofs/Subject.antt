@@ -9,16 +9,16 @@ use Rattle.rbc_zones.specs.declared.stop_meaning.Concern.{Concern}
 use Rattle.rbc_zones.specs.declared.stop_meaning.Concern.TheVariants as concern
 use Rattle.rbc_zones.specs.Concerns.{concern_of}
 use Rattle.rbc_zones.specs.Limits.{Limit, is_clear, ends_beyond_group, starts_within}
-use Rattle.rbc_train.specs.declared.train.TrainRec.{TrainRec}
-use Rattle.rbc_train.specs.declared.change.StopChange.TheVariants as stop_change
-use Rattle.rbc_train.specs.declared.change.LimitChange.{LimitChange}
-use Rattle.rbc_train.specs.declared.change.LimitChange.TheVariants as limit_change
-use Rattle.rbc_train.specs.declared.change.ToldStop.{ToldStop}
-use Rattle.rbc_train.specs.declared.change.ToldStop.TheVariants.{AtOnce, Before}
-use Rattle.rbc_train.specs.Told.{Edge, Part}
-use Rattle.rbc_train.specs.Numbers.{has_number}
-use Rattle.rbc_train.specs.Actions.{Action, ChangesStop, ChangesLimits}
-use Rattle.rbc_train.specs.Settling.{Stops, Limits, last_stamp, carried_out, message_of, packet_of, told_stop, told_at, told_limit, limit_told_to, is_limit_gone, escalated, is_stop_revoked, actions, settled, messages_of}
+use Rattle.rbc_settle.specs.declared.train.TrainRec.{TrainRec}
+use Rattle.rbc_settle.specs.declared.change.StopChange.TheVariants as stop_change
+use Rattle.rbc_settle.specs.declared.change.LimitChange.{LimitChange}
+use Rattle.rbc_settle.specs.declared.change.LimitChange.TheVariants as limit_change
+use Rattle.rbc_settle.specs.declared.change.ToldStop.{ToldStop}
+use Rattle.rbc_settle.specs.declared.change.ToldStop.TheVariants.{AtOnce, Before}
+use Rattle.rbc_settle.specs.Told.{Edge, Part}
+use Rattle.rbc_settle.specs.Numbers.{has_number}
+use Rattle.rbc_settle.specs.Actions.{Action, ChangesStop, ChangesLimits}
+use Rattle.rbc_settle.specs.Settling.{Stops, Limits, last_stamp, carried_out, message_of, packet_of, told_stop, told_at, told_limit, limit_told_to, is_limit_gone, escalated, is_stop_revoked, actions, settled, messages_of}
 use Rattle.rbc_settle.specs.UpToDate.{HasTables}
 use Rattle.rbc_account.specs.Known.{number_under}
 use Rattle.rbc_account.specs.Found.{MeansNow, MeansBefore, IsNotClear, PacketHasSubject, HasSubject}

@@ -1,7 +1,7 @@
 -- What a block says of an input.
 use Rattle.std.specs.Prelude.{◌≡◌, List, Option, IfSome}
 use Rattle.rbc_track.specs.Plan.{Plan}
-use Rattle.rbc_train.specs.declared.train.TrainRec.{TrainRec}
+use Rattle.rbc_settle.specs.declared.train.TrainRec.{TrainRec}
 use Rattle.rbc_records.specs.declared.record.Key.{Key}
 use Rattle.rbc_records.specs.declared.record.Rec.{Rec}
 use Rattle.rbc_account.specs.declared.block.Block.{Block}

@@ -2,11 +2,11 @@
 use Rattle.std.specs.Prelude.{◌≡◌, ◌≤◌, length}
 use Rattle.std.specs.List.{All}
 use Rattle.rbc_track.specs.Plan.{Plan}
-use Rattle.rbc_train.specs.declared.train.TrainRec.{TrainRec}
-use Rattle.rbc_train.specs.Trains.{stop_identifiers, limit_identifiers}
-use Rattle.rbc_train.specs.Settling.{last_stamp}
-use Rattle.rbc_step.specs.World.{World}
-use Rattle.rbc_step.specs.WellFormed.{IsWellFormed}
+use Rattle.rbc_settle.specs.declared.train.TrainRec.{TrainRec}
+use Rattle.rbc_settle.specs.Trains.{stop_identifiers, limit_identifiers}
+use Rattle.rbc_settle.specs.Settling.{last_stamp}
+use Rattle.rbc_rule.specs.World.{World}
+use Rattle.rbc_rule.specs.WellFormed.{IsWellFormed}
 use Rattle.rbc_account.specs.declared.waiting.Waits.{Waits}
 use Rattle.rbc_account.specs.declared.waiting.Waits.TheVariants.{Stop, Restriction, Again}
 use Rattle.rbc_account.specs.declared.waiting.Cause.{Cause}

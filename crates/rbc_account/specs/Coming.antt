@@ -5,14 +5,14 @@ use Rattle.std.specs.Option.{option_map_or}
 use Rattle.rbc_maps.specs.Maps.{value_of}
 use Rattle.rbc_zones.specs.declared.segment.Segment.{Segment}
 use Rattle.rbc_zones.specs.Limits.{Limit}
-use Rattle.rbc_train.specs.declared.train.TrainRec.{TrainRec}
+use Rattle.rbc_settle.specs.declared.train.TrainRec.{TrainRec}
 use Rattle.rbc_records.specs.declared.record.Key.{Key}
 use Rattle.rbc_records.specs.declared.record.Rec.{Rec}
-use Rattle.rbc_step.specs.Effect.{engine_of}
-use Rattle.rbc_step.specs.declared.input.Input.{Input}
-use Rattle.rbc_step.specs.declared.input.Input.TheVariants as input
-use Rattle.rbc_step.specs.declared.outcome.Reply.{Reply}
-use Rattle.rbc_step.specs.declared.outcome.Reply.TheVariants.{Done, Refused}
+use Rattle.rbc_rule.specs.Effect.{engine_of}
+use Rattle.rbc_rule.specs.declared.input.Input.{Input}
+use Rattle.rbc_rule.specs.declared.input.Input.TheVariants as input
+use Rattle.rbc_rule.specs.declared.outcome.Reply.{Reply}
+use Rattle.rbc_rule.specs.declared.outcome.Reply.TheVariants.{Done, Refused}
 use Rattle.rbc_account.specs.declared.waiting.Waiting.{Waiting}
 use Rattle.rbc_account.specs.Known.{train_in, engines_in, active_stops, active_limits}
 use Rattle.rbc_account.specs.Waits.{stop_waits, limit_waits, waiting_stop, waiting_limit, all_waiting, waits_in}

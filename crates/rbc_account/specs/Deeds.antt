@@ -6,9 +6,9 @@ use Rattle.ertms_codec.specs.declared.from_train.FromTrain.TheVariants.{Report, 
 use Rattle.rbc_track.specs.Plan.{Plan}
 use Rattle.rbc_ids.specs.declared.slot.Slot.{Slot}
 use Rattle.rbc_ids.specs.declared.slot.Slot.TheVariants.{Used, Revoking}
-use Rattle.rbc_train.specs.declared.train.TrainRec.{TrainRec}
-use Rattle.rbc_step.specs.declared.input.Input.{Input}
-use Rattle.rbc_step.specs.declared.input.Input.TheVariants as input
+use Rattle.rbc_settle.specs.declared.train.TrainRec.{TrainRec}
+use Rattle.rbc_rule.specs.declared.input.Input.{Input}
+use Rattle.rbc_rule.specs.declared.input.Input.TheVariants as input
 use Rattle.rbc_account.specs.declared.deed.Deed.{Deed}
 use Rattle.rbc_account.specs.declared.deed.Deed.TheVariants as deed
 use Rattle.rbc_account.specs.declared.deed.Acked.{Acked}

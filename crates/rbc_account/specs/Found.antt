@@ -13,13 +13,13 @@ use Rattle.rbc_zones.specs.declared.stop_meaning.Concern.{Concern}
 use Rattle.rbc_zones.specs.declared.stop_meaning.Concern.TheVariants as concern
 use Rattle.rbc_zones.specs.Concerns.{concern_of}
 use Rattle.rbc_zones.specs.Limits.{Limit, is_clear}
-use Rattle.rbc_train.specs.declared.train.TrainRec.{TrainRec}
-use Rattle.rbc_train.specs.declared.sent.Sent.{Sent}
-use Rattle.rbc_train.specs.Numbers.{has_number}
-use Rattle.rbc_train.specs.Settling.{is_clear_of}
+use Rattle.rbc_settle.specs.declared.train.TrainRec.{TrainRec}
+use Rattle.rbc_settle.specs.declared.sent.Sent.{Sent}
+use Rattle.rbc_settle.specs.Numbers.{has_number}
+use Rattle.rbc_settle.specs.Settling.{is_clear_of}
 use Rattle.rbc_records.specs.declared.record.Key.{Key}
 use Rattle.rbc_records.specs.declared.record.Rec.{Rec}
-use Rattle.rbc_step.specs.declared.input.Input.{Input}
+use Rattle.rbc_rule.specs.declared.input.Input.{Input}
 use Rattle.rbc_account.specs.declared.told.Told.{Told}
 use Rattle.rbc_account.specs.declared.told.ToldWhat.{ToldWhat}
 use Rattle.rbc_account.specs.declared.told.ToldWhat.TheVariants as what

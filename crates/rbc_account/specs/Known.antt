@@ -5,8 +5,8 @@ use Rattle.rbc_maps.specs.Maps.{value_of}
 use Rattle.rbc_ids.specs.Table.{Slots}
 use Rattle.rbc_zones.specs.declared.segment.Segment.{Segment}
 use Rattle.rbc_zones.specs.Limits.{Limit}
-use Rattle.rbc_train.specs.declared.train.TrainRec.{TrainRec}
-use Rattle.rbc_train.specs.Settling.{Stops, Limits}
+use Rattle.rbc_settle.specs.declared.train.TrainRec.{TrainRec}
+use Rattle.rbc_settle.specs.Settling.{Stops, Limits}
 use Rattle.rbc_settle.specs.WellFormed.{number_in}
 use Rattle.rbc_records.specs.declared.record.Key.{Key}
 use Rattle.rbc_records.specs.declared.record.Key.TheVariants as key

@@ -5,7 +5,7 @@ use Rattle.std.specs.Option.{option_map_or}
 use Rattle.rbc_ids.specs.declared.slot.Slot.{Slot}
 use Rattle.rbc_ids.specs.declared.slot.Slot.TheVariants.{Used, Revoking}
 use Rattle.rbc_ids.specs.Table.{Slots}
-use Rattle.rbc_train.specs.declared.train.TrainRec.{TrainRec}
+use Rattle.rbc_settle.specs.declared.train.TrainRec.{TrainRec}
 
 -- the stamp of the message to a slot, if that message waits
 abbrev pub owed_stamp : Slot → Option ℕ

@@ -5,12 +5,12 @@ use Rattle.ertms_codec.specs.declared.packets.Part.TheVariants as part
 use Rattle.ertms_codec.specs.declared.to_train.ToTrain.{ToTrain}
 use Rattle.ertms_codec.specs.declared.to_train.ToTrain.TheVariants as message
 use Rattle.rbc_place.specs.Placing.{Place}
-use Rattle.rbc_train.specs.declared.train.TrainRec.{TrainRec}
-use Rattle.rbc_train.specs.declared.sent.Sent.{Sent}
+use Rattle.rbc_settle.specs.declared.train.TrainRec.{TrainRec}
+use Rattle.rbc_settle.specs.declared.sent.Sent.{Sent}
 use Rattle.rbc_records.specs.declared.record.Key.{Key}
 use Rattle.rbc_records.specs.declared.record.Rec.{Rec}
-use Rattle.rbc_step.specs.declared.input.Input.{Input}
-use Rattle.rbc_step.specs.declared.input.Input.TheVariants as input
+use Rattle.rbc_rule.specs.declared.input.Input.{Input}
+use Rattle.rbc_rule.specs.declared.input.Input.TheVariants as input
 use Rattle.rbc_account.specs.declared.told.Told.{Told}
 use Rattle.rbc_account.specs.declared.told.ToldWhat.{ToldWhat}
 use Rattle.rbc_account.specs.declared.told.ToldWhat.TheVariants as what

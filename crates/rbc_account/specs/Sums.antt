@@ -1,7 +1,7 @@
 -- How many inputs were taken, and how many messages they sent.
 use Rattle.std.specs.Prelude.{ℕ, ◌+◌, ◌-◌, ◌^◌, min}
-use Rattle.rbc_step.specs.declared.outcome.Reply.{Reply}
-use Rattle.rbc_step.specs.declared.outcome.Reply.TheVariants.{Done, Refused}
+use Rattle.rbc_rule.specs.declared.outcome.Reply.{Reply}
+use Rattle.rbc_rule.specs.declared.outcome.Reply.TheVariants.{Done, Refused}
 use Rattle.rbc_account.specs.declared.account.Sums.{Sums}
 
 -- the sums before any input

@@ -7,8 +7,8 @@ use Rattle.rbc_track.specs.Plan.{Plan, group_of}
 use Rattle.rbc_track.specs.declared.group.Group.{Group}
 use Rattle.rbc_track.specs.declared.group.Way.{Way}
 use Rattle.rbc_track.specs.declared.group.Way.TheVariants.{Up, Down}
-use Rattle.rbc_train.specs.declared.sent.Sent.{Sent}
-use Rattle.rbc_step.specs.Saying.{way_told, unit_told}
+use Rattle.rbc_settle.specs.declared.sent.Sent.{Sent}
+use Rattle.rbc_rule.specs.Saying.{way_told, unit_told}
 use Rattle.rbc_account.specs.declared.told_place.ToldPlace.{ToldPlace}
 
 -- a place so far on from another one, if it is not before the line's beginning and 32 bits can count it

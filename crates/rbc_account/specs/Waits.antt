@@ -4,9 +4,9 @@ use Rattle.std.specs.List.{filter, list_any}
 use Rattle.rbc_ids.specs.Table.{is_ripe, tells}
 use Rattle.rbc_zones.specs.declared.segment.Segment.{Segment}
 use Rattle.rbc_zones.specs.Limits.{Limit}
-use Rattle.rbc_train.specs.declared.train.TrainRec.{TrainRec}
-use Rattle.rbc_train.specs.Trains.{stop_identifiers, limit_identifiers}
-use Rattle.rbc_train.specs.Settling.{stop_to_tell, limit_to_tell, last_stamp}
+use Rattle.rbc_settle.specs.declared.train.TrainRec.{TrainRec}
+use Rattle.rbc_settle.specs.Trains.{stop_identifiers, limit_identifiers}
+use Rattle.rbc_settle.specs.Settling.{stop_to_tell, limit_to_tell, last_stamp}
 use Rattle.rbc_account.specs.declared.waiting.Waiting.{Waiting}
 use Rattle.rbc_account.specs.declared.waiting.Waits.{Waits}
 use Rattle.rbc_account.specs.declared.waiting.Waits.TheVariants.{Stop, Restriction, Again}

@@ -1,7 +1,7 @@
 -- Worked cases for the laws on accounts.
-use Rattle.rbc_train.specs.declared.train.TrainRec.{TrainRec}
-use Rattle.rbc_train.specs.Trains.{new_train}
-use Rattle.rbc_train.specs.Settling.{last_stamp}
+use Rattle.rbc_settle.specs.declared.train.TrainRec.{TrainRec}
+use Rattle.rbc_settle.specs.Trains.{new_train}
+use Rattle.rbc_settle.specs.Settling.{last_stamp}
 use Rattle.rbc_account.specs.declared.account.Sums.{Sums}
 
 -- one input was accepted, and one was refused

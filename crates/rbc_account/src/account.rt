@@ -3,8 +3,8 @@
 ghost use Rattle.std.specs.Prelude.{◌≡◌, ◌⊎◌, ℕ, false, [], length, IfOk, IfErr, OnOk, option_copied};
 ghost use Rattle.rbc_track.specs.Plan.{IsPlan};
 ghost use Rattle.rbc_track.specs.Reading.{IsTrackOf, RefusesTrack};
-ghost use Rattle.rbc_step.specs.Gathered.{AreSendable};
-ghost use Rattle.rbc_step.specs.Inputs.{Fits};
+ghost use Rattle.rbc_rule.specs.Gathered.{AreSendable};
+ghost use Rattle.rbc_rule.specs.Inputs.{Fits};
 ghost use Rattle.rbc_batch.specs.BatchText.{line_of, IsInput};
 ghost use Rattle.rbc_live.specs.History.{IsFed, IsStepOf};
 ghost use Rattle.rbc_account.specs.Blocks.{IsRightBlock};
@@ -21,9 +21,9 @@ use crate::state::{Standing, standing_on};
 use crate::told_place::{ToldPlace, ToldPlaces};
 use rbc_batch::parse_line;
 use rbc_live::{Answer, LiveDesk, LiveFault};
-use rbc_step::{Input, Reply};
+use rbc_rule::{Input, Reply};
+use rbc_settle::TrainRec;
 use rbc_track::{Track, TrackError};
-use rbc_train::TrainRec;
 use rbc_zones::{Area, Limit};
 use std::alloc::{AllocError, Global};
 

@@ -13,8 +13,8 @@ use crate::deed::{Deed, deed_of};
 use crate::told::{Told, told_by};
 use crate::waiting::Waiting;
 use rbc_live::{Answer, LiveDesk};
-use rbc_step::{Input, Reply, SentList};
-use rbc_train::TrainRec;
+use rbc_rule::{Input, Reply, SentList};
+use rbc_settle::TrainRec;
 use std::alloc::{AllocError, Global};
 
 /// What came of one input.

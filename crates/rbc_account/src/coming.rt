@@ -17,8 +17,8 @@ use crate::waiting::{
 };
 use rbc_live::LiveDesk;
 use rbc_records::PlainStore;
-use rbc_step::{Input, Reply};
-use rbc_train::TrainRec;
+use rbc_rule::{Input, Reply};
+use rbc_settle::TrainRec;
 use rbc_zones::{Area, Limit};
 use std::alloc::{AllocError, Global};
 

@@ -3,7 +3,7 @@
 ghost use Rattle.std.specs.Prelude.{◌≡◌, Option, Some, IfOk, option_copied};
 ghost use Rattle.std.specs.List.{filter_map};
 ghost use Rattle.rbc_track.specs.Plan.{Plan};
-ghost use Rattle.rbc_train.specs.declared.train.TrainRec.{TrainRec};
+ghost use Rattle.rbc_settle.specs.declared.train.TrainRec.{TrainRec};
 ghost use Rattle.rbc_account.specs.Deeds.{IsDeed, acked_by, stop_acked, limit_acked};
 
 use crate::detail::{Detail, detail_of};
@@ -12,9 +12,9 @@ use crate::record_lookup::{engine_of, number_under};
 use ertms_codec::{FromTrain, Position};
 use rbc_ids::Slot;
 use rbc_live::LiveDesk;
-use rbc_step::{Input, Reply, Segments};
+use rbc_rule::{Input, Reply, Segments};
+use rbc_settle::TrainRec;
 use rbc_track::Track;
-use rbc_train::TrainRec;
 use rbc_zones::{Dirs, Segment};
 use std::alloc::{AllocError, Global};
 

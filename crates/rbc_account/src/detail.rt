@@ -11,9 +11,9 @@ use ertms_codec::FromTrain;
 use rbc_ids::{Kind, Slot};
 use rbc_live::LiveDesk;
 use rbc_records::PlainStore;
-use rbc_step::{Input, Refusal};
+use rbc_rule::{Input, Refusal};
+use rbc_settle::TrainRec;
 use rbc_track::Track;
-use rbc_train::TrainRec;
 use rbc_zones::Segment;
 use std::alloc::{AllocError, Global};
 

@@ -1,7 +1,7 @@
 //! What the distances of a message count in (SUBSET-026, 7.5).
 
 ghost use Rattle.std.specs.Prelude.{◌≡◌, ◌≤◌, IfSome};
-ghost use Rattle.rbc_step.specs.Saying.{way_told, unit_told};
+ghost use Rattle.rbc_rule.specs.Saying.{way_told, unit_told};
 
 use rbc_track::Way;
 

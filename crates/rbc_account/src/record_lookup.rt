@@ -3,7 +3,7 @@
 ghost use Rattle.std.specs.Prelude.{◌≡◌, option_copied};
 ghost use Rattle.rbc_records.specs.declared.record.Key.TheVariants as key;
 ghost use Rattle.rbc_records.specs.Notes.{record_in};
-ghost use Rattle.rbc_step.specs.Effect.{engine_of};
+ghost use Rattle.rbc_rule.specs.Effect.{engine_of};
 ghost use Rattle.rbc_maps.specs.Maps.{value_of};
 ghost use Rattle.rbc_account.specs.Known.{train_in, active_stops, active_limits, last_stop, last_limit, engines_in};
 ghost use Rattle.rbc_account.specs.Known.{number_under};
@@ -11,7 +11,7 @@ ghost use Rattle.rbc_account.specs.Known.{number_under};
 use ertms_codec::FromTrain;
 use rbc_ids::{IdTable, Slot};
 use rbc_records::{Key, PlainStore, Rec};
-use rbc_train::TrainRec;
+use rbc_settle::TrainRec;
 use rbc_zones::{Area, Limit};
 
 /// The train with this engine number, if it is enrolled.

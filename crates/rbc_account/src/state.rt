@@ -16,7 +16,7 @@ use crate::waiting::{Waiting, Waits};
 use rbc_ids::{IdTable, Slot};
 use rbc_live::LiveDesk;
 use rbc_records::PlainStore;
-use rbc_train::TrainRec;
+use rbc_settle::TrainRec;
 use std::alloc::{AllocError, Global};
 
 /// What stands, beside the records themselves.

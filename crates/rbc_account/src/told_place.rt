@@ -7,9 +7,9 @@ ghost use Rattle.rbc_account.specs.ToldPlaces.{kept_after, of_stamp};
 use crate::distances::{unit_told, way_told};
 use ertms_codec::ToTrain;
 use indexmap::IndexMap;
-use rbc_step::SentList;
+use rbc_rule::SentList;
+use rbc_settle::Sent;
 use rbc_track::{Group, Track, Way};
-use rbc_train::Sent;
 use std::alloc::{AllocError, Global};
 use std::marker::Model;
 

@@ -5,7 +5,7 @@ ghost use Rattle.rbc_account.specs.Waits.{stop_waits, limit_waits, is_due, stops
 ghost use Rattle.rbc_account.specs.Waits.{all_waiting, stop_cause, limit_cause, waiting_stop, waiting_limit};
 ghost use Rattle.rbc_account.specs.Waits.{waiting_again, same_waits, kind_and_number, lacks_something};
 
-use rbc_train::{LIMIT_IDENTIFIERS, STOP_IDENTIFIERS, TrainRec};
+use rbc_settle::{LIMIT_IDENTIFIERS, STOP_IDENTIFIERS, TrainRec};
 use rbc_zones::{Area, Concern, Limit, concern, limit_concerns};
 use std::alloc::{AllocError, Global};
 use std::cell::Cell;

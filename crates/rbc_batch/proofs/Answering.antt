@@ -4,8 +4,8 @@ use Rattle.std.specs.Prelude.{IsErrAnd}
 use Rattle.std.specs.Io.KnownBytes.{Appends, Keeps}
 use Rattle.std.proofs.lemmas.List.{take_all}
 use Rattle.rbc_track.specs.Plan.{Plan}
-use Rattle.rbc_step.specs.declared.input.Input.{Input}
-use Rattle.rbc_step.specs.declared.outcome.Reply.{Reply}
+use Rattle.rbc_rule.specs.declared.input.Input.{Input}
+use Rattle.rbc_rule.specs.declared.outcome.Reply.{Reply}
 use Rattle.rbc_engine.specs.Mail.{Mail}
 use Rattle.rbc_engine.specs.Serial.{serial, new_desk}
 use Rattle.rbc_engine.specs.Held.{Held, Holds, standing}

@@ -15,9 +15,9 @@ use Rattle.ertms_codec.specs.Reading.{BeginsWithPacket, IsReadFromTrain}
 use Rattle.ertms_codec.proofs.PacketLists.{packets_end, packets_more, packets_less}
 use Rattle.ertms_codec.proofs.FromTrainAgain.{again}
 use Rattle.ertms_codec.proofs.FromTrainLaws.{found}
-use Rattle.rbc_step.specs.declared.input.Input.{Input}
-use Rattle.rbc_step.specs.declared.input.Input.TheVariants.{Received, Bad}
-use Rattle.rbc_step.specs.Codes.{code_of}
+use Rattle.rbc_rule.specs.declared.input.Input.{Input}
+use Rattle.rbc_rule.specs.declared.input.Input.TheVariants.{Received, Bad}
+use Rattle.rbc_rule.specs.Codes.{code_of}
 use Rattle.rbc_text.specs.BatchText.{Line, Spelled, Heard, line_of, refusal_of, AreHeard, IsInput, AreInputs}
 
 -- it holds, or it does not

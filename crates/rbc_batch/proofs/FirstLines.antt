@@ -1,17 +1,11 @@
--- The first lines of a text, one more than a run may have.
-use Rattle.std.proofs.Common.{◌≡◌, ℕ, ◌+◌, ◌<◌, ◌≤◌, List, length, take, ap, ◌∙◌, arith}
-use Rattle.std.proofs.lemmas.List.{take_all, length-take}
+-- The first lines of a text.
+use Rattle.std.proofs.Common.{◌≡◌, ℕ, ◌≤◌, List, [], ◌++◌, length, take, sym, ◌∙◌, subst}
+use Rattle.std.proofs.lemmas.List.{take_all, take_at, append-nil}
 
--- where more lines are there than wanted, the text has more
-pub too_many : (most : ℕ) (lines whole : List (List ℕ)) → lines ≡ take (most + 1) whole → most < length lines → most < length whole
-too_many most lines whole first many =
-    let taken = length-take (most + 1) whole in
-    let same : length lines ≡ length (take (most + 1) whole) = ap length first in
-    omega (arith, taken, same, many)
+-- lines that stand in front, and are as many as wanted, are the first ones
+pub as_many_as_wanted : (most : ℕ) (lines rest whole : List (List ℕ)) → lines ++ rest ≡ whole → length lines ≡ most → lines ≡ take most whole
+as_many_as_wanted most lines rest whole all many = subst (λ (text : List (List ℕ)). lines ≡ take most text) all (sym (take_at lines rest most many))
 
--- where no more are there, they are all lines of it
-pub all_of_them : (most : ℕ) (lines whole : List (List ℕ)) → lines ≡ take (most + 1) whole → length lines ≤ most → lines ≡ whole
-all_of_them most lines whole first few =
-    let taken = length-take (most + 1) whole in
-    let same : length lines ≡ length (take (most + 1) whole) = ap length first in
-    first ∙ take_all (most + 1) whole (omega (arith, taken, same, few))
+-- so are lines behind which there is none, if no more are wanted
+pub none_behind : (most : ℕ) (lines whole : List (List ℕ)) → lines ++ [] ≡ whole → length lines ≤ most → lines ≡ take most whole
+none_behind most lines whole all few = subst (λ (text : List (List ℕ)). lines ≡ take most text) (sym (append-nil lines) ∙ all) (sym (take_all most lines few))

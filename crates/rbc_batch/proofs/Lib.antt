@@ -1,6 +1,7 @@
-mod Existing
 mod FirstLines
+mod LineInputs
+mod Existing
+mod TooManyLines
 mod Texts
-mod Transfers
 mod Answering
 mod Joined

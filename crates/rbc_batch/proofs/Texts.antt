@@ -9,7 +9,7 @@ use Rattle.std.proofs.lemmas.List.{take_more, take_all, take-append-drop, take-a
 use Rattle.std.proofs.lemmas.List.Concat.{flat_map-append}
 use Rattle.std.proofs.lemmas.Option.{get_or_from_slice_get, slice_get_within}
 use Rattle.rbc_batch.specs.Parts.{joined}
-use Rattle.rbc_batch.proofs.Transfers.{appends_more}
+use Rattle.rbc_text.proofs.Transfers.{appends_more}
 
 abbrev Text : Type 0
 Text = Vec ℕ Global

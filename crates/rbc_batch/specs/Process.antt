@@ -1,11 +1,11 @@
 -- What is out after a batch.
 use Rattle.std.specs.Prelude.{◌≡◌, ◌<◌, ◌≤◌, ℕ, List, [], Option, Result, Ok, Err, ◌++◌, codes, take, length, ⊤}
 use Rattle.std.specs.Fmt.{decimal}
-use Rattle.std.specs.Io.KnownBytes.{Appends, Consumes, IsAtEnd, Keeps}
+use Rattle.std.specs.Io.KnownBytes.{Appends, Keeps}
 use Rattle.rbc_track.specs.Plan.{Plan}
 use Rattle.rbc_batch.specs.declared.batch.ProcessError.{ProcessError}
 use Rattle.rbc_batch.specs.declared.batch.ProcessError.TheVariants as fault
-use Rattle.rbc_step.specs.declared.input.Input.{Input}
+use Rattle.rbc_rule.specs.declared.input.Input.{Input}
 use Rattle.rbc_text.specs.BatchText.{lines_of, AreInputsOf}
 use Rattle.rbc_engine.specs.Stats.{Stats}
 use Rattle.rbc_engine.specs.Serial.{serial, new_desk}
@@ -15,14 +15,11 @@ use Rattle.rbc_engine.specs.declared.workers.RunError.{RunError}
 use Rattle.rbc_engine.specs.declared.workers.RunError.TheVariants.{Workers, TooManyInputs, OutOfMemory}
 use Rattle.rbc_engine.specs.Answers.{MayWork, max_inputs, fault_text as run_fault_text}
 use Rattle.rbc_text.specs.OutputText.{output_of}
+pub use Rattle.rbc_text.specs.Streams.{IsAllRead}
 
 -- a batch has at most so many bytes
 abbrev pub max_batch : ℕ
 max_batch = 16777216
-
--- the batch is all that the reader had left
-abbrev pub IsAllRead : Option (List ℕ) → Option (List ℕ) → List ℕ → Type 0
-IsAllRead old new batch = Consumes old new batch × IsAtEnd new
 
 -- the output text of the serial run, from a new desk, of inputs
 abbrev pub text_of : Plan → List Input → List ℕ

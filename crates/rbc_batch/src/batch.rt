@@ -3,18 +3,18 @@
 ghost use Rattle.std.specs.Prelude.{◌≡◌, ◌<◌, ◌≤◌, length, IfOk, IfErr, IfSome, IsErrOf};
 ghost use Rattle.std.specs.List.{All};
 ghost use Rattle.rbc_engine.specs.Answers.{max_inputs};
-ghost use Rattle.rbc_step.specs.Inputs.{Fits};
+ghost use Rattle.rbc_rule.specs.Inputs.{Fits};
 ghost use Rattle.rbc_text.specs.BatchText.{lines_of};
 ghost use Rattle.rbc_text.specs.Pieces.{texts_of};
 ghost use Rattle.rbc_batch.specs.Process.{Answers, AreRead, IsBeforeRun, IsRefused, IsRunOf, IsUntouched, max_batch};
 
+use crate::inputs::{first_lines, parse_lines};
 use crate::rendering::texts_of_desk;
 use crate::streams::{read_batch, write_texts};
 use rbc_engine::{
     Desk, Gate, MAX_INPUTS, MAX_WORKERS, Pace, RunError, Stats, Windows, run, run_by_train,
 };
-use rbc_inputs::{first_lines, parse_lines};
-use rbc_step::Input;
+use rbc_rule::Input;
 use rbc_track::Track;
 use std::alloc::{AllocError, Global};
 use std::error::Error;

@@ -3,9 +3,11 @@
 ghost use Rattle.std.specs.Prelude.{◌≡◌, ◌++◌, ◌≤◌, ◌<◌, ◌^◌, take, length, IfOk, IfErr, OnOk, IsErrOf, IfSome};
 ghost use Rattle.std.specs.Io.KnownBytes.{Appends};
 ghost use Rattle.rbc_batch.specs.Parts.{joined};
-ghost use Rattle.rbc_batch.specs.Process.{IsAllRead, IsBeforeWriting, max_batch};
+ghost use Rattle.rbc_text.specs.Streams.{IsAllRead};
+ghost use Rattle.rbc_batch.specs.Process.{IsBeforeWriting, max_batch};
 
 use crate::batch::ProcessError;
+use rbc_text::write_on;
 use std::alloc::Global;
 use std::io::{ErrorKind, Read, Write};
 
@@ -17,9 +19,6 @@ const MAX_CALLS: u32 = 20_000_000;
 
 /// The number of bytes asked for in one call.
 const PIECE: usize = 65_536;
-
-/// Writing fails once the writer has been interrupted this many times.
-const MAX_INTERRUPTIONS: u32 = 1_000;
 
 /// Reads to the end of the reader, at most `MAX_BYTES`. An interrupted call is made again.
 pub fn read_batch<R: Read>(alloc: Global, reader: &mut R) -> Result<Vec<u8>, ProcessError>
@@ -50,17 +49,6 @@ pub fn read_batch<R: Read>(alloc: Global, reader: &mut R) -> Result<Vec<u8>, Pro
     Err(ProcessError::Read)
 }
 
-/// Writes the whole text. It fails if the writer fails, takes no bytes, or is interrupted `MAX_INTERRUPTIONS` times.
-/// The error is the number of bytes that are out: exactly that many, from the beginning of the text.
-pub fn write_text<W: Write>(writer: &mut W, text: &[u8]) -> Result<(), usize>
-    ensures ok { OnOk result (Appends (W.contents writer.old) (W.contents writer.new) text.now) }
-    ensures part { IfErr result (λ sent. (sent ≤ length text.now)
-        × Appends (W.contents writer.old) (W.contents writer.new) (take sent text.now)) }
-{
-    let mut interruptions = 0;
-    write_on(writer, text, &mut interruptions)
-}
-
 /// Writes texts one behind the other, as `write_text` does one text.
 pub(crate) fn write_texts<W: Write>(writer: &mut W, texts: &[Vec<u8>]) -> Result<(), usize>
     requires { length (joined texts.now) < 2 ^ 64 }
@@ -74,30 +62,6 @@ pub(crate) fn write_texts<W: Write>(writer: &mut W, texts: &[Vec<u8>]) -> Result
         match write_on(writer, text, &mut interruptions) {
             Ok(()) => sent += text.len(),
             Err(more) => return Err(sent + more),
-        }
-    }
-    Ok(())
-}
-
-/// Writes the whole of a text with a writer that was interrupted so many times before, as `write_text` does.
-fn write_on<W: Write>(writer: &mut W, text: &[u8], interruptions: &mut u32) -> Result<(), usize>
-    requires { interruptions.old < 1000 }
-    ensures ok { OnOk result (Appends (W.contents writer.old) (W.contents writer.new) text.now) }
-    ensures fewer { OnOk result (interruptions.new < 1000) }
-    ensures part { IfErr result (λ sent. (sent ≤ length text.now)
-        × Appends (W.contents writer.old) (W.contents writer.new) (take sent text.now)) }
-{
-    let mut sent = 0;
-    while sent < text.len() {
-        match writer.write(&text[sent..]) {
-            Ok(0) => return Err(sent),
-            Ok(count) => sent += count,
-            Err(error) => {
-                *interruptions += 1;
-                if error.kind() != ErrorKind::Interrupted || *interruptions >= MAX_INTERRUPTIONS {
-                    return Err(sent);
-                }
-            }
         }
     }
     Ok(())

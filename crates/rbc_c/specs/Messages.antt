@@ -1,7 +1,7 @@
 -- Messages as they are written for C (own layout).
 use Rattle.std.specs.Prelude.{◌≡◌, ℕ, ◌≤◌, List, take, slice_get, Some}
 use Rattle.ertms_codec.specs.ToTrain.{spelling_of, length_of_message}
-use Rattle.rbc_train.specs.declared.sent.Sent.{Sent}
+use Rattle.rbc_settle.specs.declared.sent.Sent.{Sent}
 use Rattle.rbc_c.specs.declared.message.Message.{Message}
 
 -- the engine of a message, and its spelling at the front of the bytes

@@ -7,7 +7,7 @@ ghost use Rattle.rbc_c.specs.Feeds.{IsDone, IsShort, refusal_of};
 use crate::faults::{DONE, MEMORY, ROOM};
 use crate::message::{Message, write_all};
 use rbc_live::{LiveDesk, LiveFault};
-use rbc_step::Reply;
+use rbc_rule::Reply;
 use std::alloc::Global;
 
 /// What a line led to.

@@ -2,12 +2,12 @@
 
 ghost use Rattle.std.specs.Prelude.{◌≡◌, ◌≤◌, length};
 ghost use Rattle.ertms_codec.specs.ToTrain.{Fits};
-ghost use Rattle.rbc_step.specs.Gathered.{AreSendable};
+ghost use Rattle.rbc_rule.specs.Gathered.{AreSendable};
 ghost use Rattle.rbc_c.specs.Messages.{IsWritten, AreWritten, StaysBehind};
 
 use ertms_codec::write_to_train;
-use rbc_step::SentList;
-use rbc_train::Sent;
+use rbc_rule::SentList;
+use rbc_settle::Sent;
 
 /// A message to one train, as its first `length` bytes.
 #[repr(C)]

@@ -7,13 +7,13 @@
 #![tactic(auto)]
 
 ghost use Rattle.std.specs.Prelude.{IfOk};
-ghost use Rattle.rbc_step.specs.Gathered.{AreSendable};
+ghost use Rattle.rbc_rule.specs.Gathered.{AreSendable};
 
 mod office;
 
 use anyhow::{Context, Result, bail};
 use office::{Done, Office, sent_line};
-use rbc_step::Reply;
+use rbc_rule::Reply;
 use rbc_text::{first_line, parse_line};
 use rbc_track::{Track, track_from_toml};
 use std::alloc::{AllocError, Global};

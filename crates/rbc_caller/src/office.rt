@@ -2,16 +2,15 @@
 
 ghost use Rattle.std.specs.Prelude.{◌≡◌, [], IfOk, string_bytes};
 ghost use Rattle.ertms_codec.specs.ToTrain.{Fits as FitsItsVariables};
-ghost use Rattle.rbc_step.specs.Gathered.{AreSendable};
-ghost use Rattle.rbc_step.specs.Inputs.{Fits};
+ghost use Rattle.rbc_rule.specs.Gathered.{AreSendable};
+ghost use Rattle.rbc_rule.specs.Inputs.{Fits};
 ghost use Rattle.rbc_caller.specs.SentLine.{sent_line};
 
 use ertms_codec::write_to_train;
 use rbc_records::{PlainStore, apply};
-use rbc_rule::decide;
-use rbc_step::{Input, Reply, RuleFault};
+use rbc_rule::{Input, Reply, RuleFault, decide};
+use rbc_settle::Sent;
 use rbc_track::Track;
-use rbc_train::Sent;
 use std::alloc::{AllocError, Global};
 
 /// How often an input is tried where memory is refused.

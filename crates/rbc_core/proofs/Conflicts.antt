@@ -5,15 +5,15 @@ use Rattle.std.proofs.lemmas.Bool.{eqb-true, eqb-false}
 use Rattle.std.proofs.lemmas.List.Elements.{All-nil, All-cons, Contains-append_right, Contains-get_or}
 use Rattle.rbc_records.specs.declared.record.Key.{Key}
 use Rattle.rbc_versions.specs.Entries.{NumberedRec, AreCurrent, number_for}
-use Rattle.rbc_step.specs.declared.outcome.Outcome.{Outcome}
-use Rattle.rbc_book.specs.declared.stage.Stage.{Stage}
-use Rattle.rbc_book.specs.declared.stage.Stage.TheVariants.{Free, Tried, Void}
-use Rattle.rbc_book.specs.Runs.{Run}
-use Rattle.rbc_book.specs.Core.{Try, State, opening, IsAt, front, IsStale}
-use Rattle.rbc_book.specs.Events.{Event, Follow, next, IsForwarded}
-use Rattle.rbc_book.specs.Events.Event.{Reads, Deposits, Applies, Recomputes}
-use Rattle.rbc_book.specs.Conflicts.{after, Writes, AreAnswered, WasVoided, IsComputedAgain, IsOvertaken, IsMisled, IsExplained, EachIsExplained}
-use Rattle.rbc_book.proofs.Books.{slice_get_replicate}
+use Rattle.rbc_rule.specs.declared.outcome.Outcome.{Outcome}
+use Rattle.rbc_core.specs.declared.stage.Stage.{Stage}
+use Rattle.rbc_core.specs.declared.stage.Stage.TheVariants.{Free, Tried, Void}
+use Rattle.rbc_core.specs.Runs.{Run}
+use Rattle.rbc_core.specs.Core.{Try, State, opening, IsAt, front, IsStale}
+use Rattle.rbc_core.specs.Events.{Event, Follow, next, IsForwarded}
+use Rattle.rbc_core.specs.Events.Event.{Reads, Deposits, Applies, Recomputes}
+use Rattle.rbc_core.specs.Conflicts.{after, Writes, AreAnswered, WasVoided, IsComputedAgain, IsOvertaken, IsMisled, IsExplained, EachIsExplained}
+use Rattle.rbc_core.proofs.Books.{slice_get_replicate}
 use Rattle.rbc_core.proofs.Fates.{after_append, follow_left, follow_right, IsWritten, changed, WasDeposited, was_deposited, was_voided, number_put, IsCommitted, fate}
 
 -- one of the entries has a number that is not the present one

@@ -7,12 +7,12 @@ use Rattle.rbc_records.specs.declared.record.Rec.{Rec}
 use Rattle.rbc_records.specs.Notes.{same_key}
 use Rattle.rbc_records.specs.Writes.{written, write_over}
 use Rattle.rbc_versions.specs.Entries.{NumberedRec, numbers_after}
-use Rattle.rbc_book.specs.declared.stage.Stage.{Stage}
-use Rattle.rbc_book.specs.declared.stage.Stage.TheVariants.{Free, Out, Tried, Void}
-use Rattle.rbc_book.specs.Core.{Try, State, IsAt, front, with_stage}
-use Rattle.rbc_book.specs.Events.{next}
-use Rattle.rbc_book.specs.Events.Event.{Publishes, Takes, Reads, Deposits, Voids, Applies, Recomputes, Waits, Ends, Fails}
-use Rattle.rbc_book.specs.Conflicts.{names}
+use Rattle.rbc_core.specs.declared.stage.Stage.{Stage}
+use Rattle.rbc_core.specs.declared.stage.Stage.TheVariants.{Free, Out, Tried, Void}
+use Rattle.rbc_core.specs.Core.{Try, State, IsAt, front, with_stage}
+use Rattle.rbc_core.specs.Events.{next}
+use Rattle.rbc_core.specs.Events.Event.{Publishes, Takes, Reads, Deposits, Voids, Applies, Recomputes, Waits, Ends, Fails}
+use Rattle.rbc_core.specs.Conflicts.{names}
 use Rattle.rbc_core.specs.Facts.{AttemptsStay, RecordsStay, NumbersStay, ClosedStays}
 
 -- another item stays

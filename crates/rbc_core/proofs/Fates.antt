@@ -4,15 +4,15 @@ use Rattle.std.specs.Prelude.{slice_get}
 use Rattle.rbc_records.specs.declared.record.Key.{Key}
 use Rattle.rbc_records.specs.Notes.{same_key}
 use Rattle.rbc_versions.specs.Entries.{NumberedRec, number_for, numbers_after}
-use Rattle.rbc_step.specs.declared.outcome.Outcome.{Outcome}
-use Rattle.rbc_book.specs.declared.stage.Stage.{Stage}
-use Rattle.rbc_book.specs.declared.stage.Stage.TheVariants.{Free, Out, Tried, Void}
-use Rattle.rbc_book.specs.Runs.{Run}
-use Rattle.rbc_book.specs.Core.{Try, State, IsAt, front}
-use Rattle.rbc_book.specs.Events.{Event, May, next, Follow}
-use Rattle.rbc_book.specs.Events.Event.{Publishes, Takes, Reads, Deposits, Voids, Applies, Recomputes, Waits, Ends, Fails}
-use Rattle.rbc_book.specs.Conflicts.{after, names, writes_by, Writes, WasVoided}
-use Rattle.rbc_book.proofs.Books.{slice_get_set, same_item}
+use Rattle.rbc_rule.specs.declared.outcome.Outcome.{Outcome}
+use Rattle.rbc_core.specs.declared.stage.Stage.{Stage}
+use Rattle.rbc_core.specs.declared.stage.Stage.TheVariants.{Free, Out, Tried, Void}
+use Rattle.rbc_core.specs.Runs.{Run}
+use Rattle.rbc_core.specs.Core.{Try, State, IsAt, front}
+use Rattle.rbc_core.specs.Events.{Event, May, next, Follow}
+use Rattle.rbc_core.specs.Events.Event.{Publishes, Takes, Reads, Deposits, Voids, Applies, Recomputes, Waits, Ends, Fails}
+use Rattle.rbc_core.specs.Conflicts.{after, names, writes_by, Writes, WasVoided}
+use Rattle.rbc_core.proofs.Books.{slice_get_set, same_item}
 use Rattle.rbc_core.proofs.Facts.{attempts_stay, closed_stays, numbers_stay}
 
 -- ---- lists of events

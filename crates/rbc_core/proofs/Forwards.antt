@@ -4,15 +4,15 @@ use Rattle.std.specs.Prelude.{Contains, slice_get}
 use Rattle.std.proofs.lemmas.Option.{slice_get_within}
 use Rattle.rbc_records.specs.declared.record.Key.{Key}
 use Rattle.rbc_versions.specs.Entries.{NumberedRec, number_for}
-use Rattle.rbc_step.specs.declared.outcome.Outcome.{Outcome}
-use Rattle.rbc_book.specs.declared.stage.Stage.TheVariants.{Out, Tried}
-use Rattle.rbc_book.specs.Runs.{Run}
-use Rattle.rbc_book.specs.Core.{Try, State, opening, IsAt, front, IsStale}
-use Rattle.rbc_book.specs.Events.{Event, May, next, Follow}
-use Rattle.rbc_book.specs.Events.Event.{Publishes, Takes, Reads, Deposits, Voids, Applies, Recomputes, Waits, Ends, Fails}
-use Rattle.rbc_book.specs.Conflicts.{after}
-use Rattle.rbc_book.specs.Forwards.{NoneWrites, IsLatest, AreLatest, WasKept, AreAfterDeposits, IsForwarding, NoneIsComputedAgain}
-use Rattle.rbc_book.proofs.Books.{slice_get_at}
+use Rattle.rbc_rule.specs.declared.outcome.Outcome.{Outcome}
+use Rattle.rbc_core.specs.declared.stage.Stage.TheVariants.{Out, Tried}
+use Rattle.rbc_core.specs.Runs.{Run}
+use Rattle.rbc_core.specs.Core.{Try, State, opening, IsAt, front, IsStale}
+use Rattle.rbc_core.specs.Events.{Event, May, next, Follow}
+use Rattle.rbc_core.specs.Events.Event.{Publishes, Takes, Reads, Deposits, Voids, Applies, Recomputes, Waits, Ends, Fails}
+use Rattle.rbc_core.specs.Conflicts.{after}
+use Rattle.rbc_core.specs.Forwards.{NoneWrites, IsLatest, AreLatest, WasKept, AreAfterDeposits, IsForwarding, NoneIsComputedAgain}
+use Rattle.rbc_core.proofs.Books.{slice_get_at}
 use Rattle.rbc_core.proofs.Fates.{after_append, follow_left, follow_right, open_before, committed_one, committed_grows, WasDeposited, was_deposited, number_put, number_left, same_try, IsCommitOf, IsCommitted, stays_or_commits, fate}
 use Rattle.rbc_core.proofs.Conflicts.{not_current, none_yet, voided}
 

@@ -5,17 +5,17 @@ use Rattle.std.specs.List.{fold, All}
 use Rattle.std.proofs.lemmas.List.Elements.{All-head, All-tail}
 use Rattle.rbc_records.specs.declared.record.Key.{Key}
 use Rattle.rbc_versions.specs.Entries.{NumberedRec, AreOfWrites, numbers_after}
-use Rattle.rbc_step.specs.declared.outcome.Outcome.{Outcome}
+use Rattle.rbc_rule.specs.declared.outcome.Outcome.{Outcome}
 use Rattle.rbc_desk.specs.Held.{IsOutcomeOf, after_outcome}
-use Rattle.rbc_book.specs.declared.stage.Stage.{Stage}
-use Rattle.rbc_book.specs.declared.stage.Stage.TheVariants.{Free, Out, Tried, Void}
-use Rattle.rbc_book.specs.Runs.{Run, IsGoodRun, IsInput}
-use Rattle.rbc_book.specs.Core.{Try, IsRightTry, State, opening, IsAt, front, IsReady, IsStale, with_stage}
-use Rattle.rbc_book.specs.Books.{IsKept}
-use Rattle.rbc_book.specs.Events.{Event, May, next, Follow, Meaning, AreMeant, IsMeant, IsOpeningIn, EventsAreSerial}
-use Rattle.rbc_book.specs.Events.Event.{Publishes, Takes, Reads, Deposits, Voids, Applies, Recomputes, Waits, Ends, Fails}
-use Rattle.rbc_book.proofs.Books.{slice_get_set, slice_get_replicate, opens, takes, keeps, closes, committed, commits}
-use Rattle.rbc_book.proofs.Agreeing.{right_outcome}
+use Rattle.rbc_core.specs.declared.stage.Stage.{Stage}
+use Rattle.rbc_core.specs.declared.stage.Stage.TheVariants.{Free, Out, Tried, Void}
+use Rattle.rbc_core.specs.Runs.{Run, IsGoodRun, IsInput}
+use Rattle.rbc_core.specs.Core.{Try, IsRightTry, State, opening, IsAt, front, IsReady, IsStale, with_stage}
+use Rattle.rbc_core.specs.Books.{IsKept}
+use Rattle.rbc_core.specs.Events.{Event, May, next, Follow, Meaning, AreMeant, IsMeant, IsOpeningIn, EventsAreSerial}
+use Rattle.rbc_core.specs.Events.Event.{Publishes, Takes, Reads, Deposits, Voids, Applies, Recomputes, Waits, Ends, Fails}
+use Rattle.rbc_core.proofs.Books.{slice_get_set, slice_get_replicate, opens, takes, keeps, closes, committed, commits}
+use Rattle.rbc_core.proofs.Agreeing.{right_outcome}
 use Rattle.rbc_core.proofs.Meanings.{Mean, current_now, mean_committed}
 
 -- where an input that is at a stage stands

@@ -1,3 +1,11 @@
+pub mod Stages
+pub mod Books
+pub mod Agreeing
+pub mod Mails
+pub mod Searching
+pub mod Bounding
+pub mod Presents
+pub mod Turns
 pub mod Meanings
 pub mod Laws
 pub mod Facts
@@ -7,3 +15,4 @@ pub mod Forwards
 pub mod WitnessEvents
 pub mod WitnessConflicts
 pub mod WitnessForwards
+pub use Rattle.rbc_desk.proofs.Runs

@@ -6,7 +6,7 @@ use Rattle.rbc_records.specs.declared.record.Rec.{Rec}
 use Rattle.rbc_records.specs.Notes.{same_key, AreNow}
 use Rattle.rbc_records.specs.Writes.{written, write_over}
 use Rattle.rbc_versions.specs.Entries.{NumberedRec, AreCurrent, AreOfWrites, records_of, numbers_after}
-use Rattle.rbc_book.specs.Events.{Meaning, record_at, AreMeant}
+use Rattle.rbc_core.specs.Events.{Meaning, record_at, AreMeant}
 
 -- each key has a number that means the record that stands there
 abbrev pub Mean : Meaning → (Key → ℕ) → (Key → Option Rec) → Type 0

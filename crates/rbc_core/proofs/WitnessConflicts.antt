@@ -6,11 +6,11 @@ use Rattle.std.proofs.lemmas.List.Elements.{All-contains, All-nil, All-cons}
 use Rattle.rbc_records.specs.declared.record.Key.{Key}
 use Rattle.rbc_records.specs.declared.record.Key.TheVariants as key
 use Rattle.rbc_versions.specs.Entries.{NumberedRec}
-use Rattle.rbc_book.specs.Core.{Try, State}
-use Rattle.rbc_book.specs.Events.{Event}
-use Rattle.rbc_book.specs.Events.Event.{Publishes, Takes, Reads, Deposits, Voids, Applies, Recomputes, Waits, Ends, Fails}
+use Rattle.rbc_core.specs.Core.{Try, State}
+use Rattle.rbc_core.specs.Events.{Event}
+use Rattle.rbc_core.specs.Events.Event.{Publishes, Takes, Reads, Deposits, Voids, Applies, Recomputes, Waits, Ends, Fails}
 use Rattle.rbc_core.specs.Witnesses.{publishing, absent, first_try, reading_first}
-use Rattle.rbc_book.specs.Conflicts.{names, writes_by, AreAnswered, IsOvertaken}
+use Rattle.rbc_core.specs.Conflicts.{names, writes_by, AreAnswered, IsOvertaken}
 
 -- ---- each event, with those before it
 

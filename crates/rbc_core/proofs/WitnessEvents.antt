@@ -7,8 +7,8 @@ use Rattle.std.proofs.lemmas.List.Elements.{All-head, All-tail, All-nil, All-con
 use Rattle.rbc_maps.specs.Maps.{keys, rises_from}
 use Rattle.rbc_maps.specs.Numbered.{Numbered, AreNumbered, none_numbered}
 use Rattle.ertms_codec.specs.declared.to_train.ToTrain.{ToTrain}
-use Rattle.rbc_train.specs.Trains.{new_train}
-use Rattle.rbc_train.specs.declared.train.TrainRec.{TrainRec}
+use Rattle.rbc_settle.specs.Trains.{new_train}
+use Rattle.rbc_settle.specs.declared.train.TrainRec.{TrainRec}
 use Rattle.rbc_records.specs.declared.record.Key.{Key}
 use Rattle.rbc_records.specs.declared.record.Key.TheVariants as key
 use Rattle.rbc_records.specs.declared.record.Rec.{Rec}
@@ -16,23 +16,23 @@ use Rattle.rbc_records.specs.declared.record.Rec.TheVariants as rec
 use Rattle.rbc_records.specs.Notes.{Part}
 use Rattle.rbc_records.specs.Writes.{written}
 use Rattle.rbc_versions.specs.Entries.{NumberedRec, AreCurrent, records_of}
-use Rattle.rbc_step.specs.declared.input.Input.TheVariants as input
-use Rattle.rbc_step.specs.declared.outcome.Outcome.{Outcome}
-use Rattle.rbc_step.specs.World.{World, new_world}
-use Rattle.rbc_step.specs.Step.{step}
-use Rattle.rbc_step.specs.Records.{record_of, engines_record}
-use Rattle.rbc_step.specs.Right.{MayBe, IsStep}
-use Rattle.rbc_step.specs.WellFormed.{IsWellFormed}
+use Rattle.rbc_rule.specs.declared.input.Input.TheVariants as input
+use Rattle.rbc_rule.specs.declared.outcome.Outcome.{Outcome}
+use Rattle.rbc_rule.specs.World.{World, new_world}
+use Rattle.rbc_rule.specs.Step.{step}
+use Rattle.rbc_rule.specs.Records.{record_of, engines_record}
+use Rattle.rbc_rule.specs.Right.{MayBe, IsStep}
+use Rattle.rbc_rule.specs.WellFormed.{IsWellFormed}
 use Rattle.rbc_rule_laws.specs.Witnesses.{track_a}
 use Rattle.rbc_rule_laws.proofs.WitnessSays.{differ}
-use Rattle.rbc_step.proofs.WorldMaps.{eqb_turned}
+use Rattle.rbc_rule.proofs.WorldMaps.{eqb_turned}
 use Rattle.rbc_desk.specs.Held.{IsOutcomeOf}
-use Rattle.rbc_book.specs.declared.stage.Stage.{Stage}
-use Rattle.rbc_book.specs.declared.stage.Stage.TheVariants.{Out, Tried, Void}
-use Rattle.rbc_book.specs.Runs.{IsInput}
-use Rattle.rbc_book.specs.Core.{Try, State, IsRightTry, front, IsStale}
-use Rattle.rbc_book.specs.Events.{Event, Follow}
-use Rattle.rbc_book.specs.Events.Event.{Takes, Reads, Deposits, Voids, Recomputes, Ends}
+use Rattle.rbc_core.specs.declared.stage.Stage.{Stage}
+use Rattle.rbc_core.specs.declared.stage.Stage.TheVariants.{Out, Tried, Void}
+use Rattle.rbc_core.specs.Runs.{IsInput}
+use Rattle.rbc_core.specs.Core.{Try, State, IsRightTry, front, IsStale}
+use Rattle.rbc_core.specs.Events.{Event, Follow}
+use Rattle.rbc_core.specs.Events.Event.{Takes, Reads, Deposits, Voids, Recomputes, Ends}
 use Rattle.rbc_core.specs.Witnesses.{two_inputs, enrolled, refused, train_7, absent, under, publishing, no_numbers, start, nothing_there, first_try, committing_first, second_try, stale_try, second_overtaken, second_given_up}
 
 -- ---- the outcomes

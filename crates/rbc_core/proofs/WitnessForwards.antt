@@ -4,15 +4,15 @@ use Rattle.std.specs.Prelude.{slice_get}
 use Rattle.rbc_records.specs.declared.record.Key.{Key}
 use Rattle.rbc_records.specs.declared.record.Key.TheVariants as key
 use Rattle.rbc_versions.specs.Entries.{NumberedRec, number_for}
-use Rattle.rbc_book.specs.declared.stage.Stage.{Stage}
-use Rattle.rbc_book.specs.declared.stage.Stage.TheVariants.{Out, Tried}
-use Rattle.rbc_book.specs.Core.{Try, State, IsAt}
-use Rattle.rbc_book.specs.Events.{Event}
-use Rattle.rbc_book.specs.Events.Event.{Publishes, Takes, Reads, Deposits, Voids, Applies, Recomputes, Waits, Ends, Fails}
-use Rattle.rbc_book.specs.Conflicts.{after, Writes, IsComputedAgain, IsMisled}
-use Rattle.rbc_book.specs.Forwards.{IsLatest, AreLatest, WasKept, AreAfterDeposits, NoneIsVoided}
+use Rattle.rbc_core.specs.declared.stage.Stage.{Stage}
+use Rattle.rbc_core.specs.declared.stage.Stage.TheVariants.{Out, Tried}
+use Rattle.rbc_core.specs.Core.{Try, State, IsAt}
+use Rattle.rbc_core.specs.Events.{Event}
+use Rattle.rbc_core.specs.Events.Event.{Publishes, Takes, Reads, Deposits, Voids, Applies, Recomputes, Waits, Ends, Fails}
+use Rattle.rbc_core.specs.Conflicts.{after, Writes, IsComputedAgain, IsMisled}
+use Rattle.rbc_core.specs.Forwards.{IsLatest, AreLatest, WasKept, AreAfterDeposits, NoneIsVoided}
 use Rattle.rbc_core.specs.Witnesses.{start, first_try}
-use Rattle.rbc_book.proofs.Books.{same_item}
+use Rattle.rbc_core.proofs.Books.{same_item}
 use Rattle.rbc_core.proofs.WitnessConflicts.{Each, each_at}
 
 -- ---- each event, with those before it

@@ -1,12 +1,12 @@
 -- What one event leaves (own rule).
 use Rattle.std.specs.Prelude.{◌≡◌, ◌⊎◌, ℕ, true, false, IsTrue}
 use Rattle.rbc_records.specs.declared.record.Key.{Key}
-use Rattle.rbc_book.specs.declared.stage.Stage.TheVariants.{Tried}
-use Rattle.rbc_book.specs.Runs.{Run}
-use Rattle.rbc_book.specs.Core.{Try, State, IsAt, front}
-use Rattle.rbc_book.specs.Events.{Event, May, next}
-use Rattle.rbc_book.specs.Events.Event.{Publishes, Takes, Reads, Deposits, Voids, Applies, Recomputes, Waits, Ends, Fails}
-use Rattle.rbc_book.specs.Conflicts.{names, writes_by}
+use Rattle.rbc_core.specs.declared.stage.Stage.TheVariants.{Tried}
+use Rattle.rbc_core.specs.Runs.{Run}
+use Rattle.rbc_core.specs.Core.{Try, State, IsAt, front}
+use Rattle.rbc_core.specs.Events.{Event, May, next}
+use Rattle.rbc_core.specs.Events.Event.{Publishes, Takes, Reads, Deposits, Voids, Applies, Recomputes, Waits, Ends, Fails}
+use Rattle.rbc_core.specs.Conflicts.{names, writes_by}
 
 -- the event commits an input whose writes name the key
 abbrev pub WritesTo : Event → Key → Type 0

@@ -1,2 +1,13 @@
+pub mod Runs
+pub mod Core
+pub mod Events
+pub mod Conflicts
+pub mod Forwards
+pub mod Searches
+pub mod Books
 pub mod Facts
 pub mod Witnesses
+pub use Rattle.rbc_desk.specs.Held
+pub use Rattle.rbc_desk.specs.SaidMails
+pub use Rattle.rbc_desk.specs.Serial
+pub use Rattle.rbc_desk.specs.declared.outbox.Mail

@@ -1,7 +1,7 @@
 -- Worked cases of the laws of events and of what is recomputed. Lengths are in units of 10 cm.
 use Rattle.std.specs.Prelude.{ℕ, zero, suc, true, false, List, [], ◌∷◌, ◌++◌, Some, None, if◌then◌else◌, slice_get}
 use Rattle.rbc_maps.specs.Numbered.{none_numbered}
-use Rattle.rbc_train.specs.Trains.{new_train}
+use Rattle.rbc_settle.specs.Trains.{new_train}
 use Rattle.rbc_records.specs.declared.record.Key.{Key}
 use Rattle.rbc_records.specs.declared.record.Key.TheVariants as key
 use Rattle.rbc_records.specs.declared.record.Rec.{Rec}
@@ -9,18 +9,18 @@ use Rattle.rbc_records.specs.declared.record.Rec.TheVariants as rec
 use Rattle.rbc_records.specs.Notes.{same_key}
 use Rattle.rbc_versions.specs.declared.log.Version.{Version}
 use Rattle.rbc_versions.specs.Entries.{NumberedRec, records_of}
-use Rattle.rbc_step.specs.declared.input.Input.TheVariants as input
-use Rattle.rbc_step.specs.declared.outcome.Outcome.{Outcome}
-use Rattle.rbc_step.specs.declared.outcome.Reply.TheVariants.{Done, Refused}
+use Rattle.rbc_rule.specs.declared.input.Input.TheVariants as input
+use Rattle.rbc_rule.specs.declared.outcome.Outcome.{Outcome}
+use Rattle.rbc_rule.specs.declared.outcome.Reply.TheVariants.{Done, Refused}
 use Rattle.rbc_rule_laws.specs.Witnesses.{track_a}
 use Rattle.rbc_desk.specs.Held.{Held, standing}
-use Rattle.rbc_book.specs.declared.stage.Stage.TheVariants.{Free, Out, Tried, Void}
-use Rattle.rbc_book.specs.Runs.{Run}
-use Rattle.rbc_book.specs.Core.{Try, State, opening}
-use Rattle.rbc_book.specs.Events.{Event, Meaning}
-use Rattle.rbc_book.specs.Events.Event.{Publishes, Takes, Reads, Deposits, Voids, Applies, Recomputes, Ends, Fails}
-use Rattle.rbc_book.specs.Conflicts.{after, AreAnswered}
-use Rattle.rbc_book.specs.Forwards.{AreLatest, AreAfterDeposits, NoneIsVoided}
+use Rattle.rbc_core.specs.declared.stage.Stage.TheVariants.{Free, Out, Tried, Void}
+use Rattle.rbc_core.specs.Runs.{Run}
+use Rattle.rbc_core.specs.Core.{Try, State, opening}
+use Rattle.rbc_core.specs.Events.{Event, Meaning}
+use Rattle.rbc_core.specs.Events.Event.{Publishes, Takes, Reads, Deposits, Voids, Applies, Recomputes, Ends, Fails}
+use Rattle.rbc_core.specs.Conflicts.{after, AreAnswered}
+use Rattle.rbc_core.specs.Forwards.{AreLatest, AreAfterDeposits, NoneIsVoided}
 
 -- from a new desk: train 7 of 200 m is enrolled, and then comes a line that is no input
 abbrev pub two_inputs : Run

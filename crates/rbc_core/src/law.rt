@@ -1,8 +1,8 @@
 //! What holds after all events.
 
-ghost use Rattle.rbc_book.specs.Events.{EventsAreSerial};
-ghost use Rattle.rbc_book.specs.Conflicts.{EachIsExplained};
-ghost use Rattle.rbc_book.specs.Forwards.{NoneIsComputedAgain};
+ghost use Rattle.rbc_core.specs.Events.{EventsAreSerial};
+ghost use Rattle.rbc_core.specs.Conflicts.{EachIsExplained};
+ghost use Rattle.rbc_core.specs.Forwards.{NoneIsComputedAgain};
 ghost use Rattle.rbc_core.specs.Facts.{AttemptsStay, RecordsStay, NumbersStay, ClosedStays};
 
 /// After any events of a book, in any order, the desk is that of the rules applied to the inputs that are committed,

@@ -3,11 +3,11 @@
 ghost use Rattle.std.specs.Prelude.{◌≡◌, [], ◌∷◌, Some, None, true};
 ghost use Rattle.std.specs.List.{All};
 ghost use Rattle.rbc_records.specs.declared.record.Key.TheVariants as key;
-ghost use Rattle.rbc_book.specs.Events.{May, Follow, Meaning, AreMeant, IsMeant, IsOpeningIn, IsForwarded};
-ghost use Rattle.rbc_book.specs.Events.Event.{Takes, Deposits, Applies, Recomputes, Waits, Ends};
+ghost use Rattle.rbc_core.specs.Events.{May, Follow, Meaning, AreMeant, IsMeant, IsOpeningIn, IsForwarded};
+ghost use Rattle.rbc_core.specs.Events.Event.{Takes, Deposits, Applies, Recomputes, Waits, Ends};
 ghost use Rattle.rbc_core.specs.Facts.{KeepsAttempts, KeepsRecords, KeepsNumbers, KeepsClosed};
-ghost use Rattle.rbc_book.specs.Conflicts.{AreAnswered, WasVoided, IsOvertaken, IsMisled, IsExplained};
-ghost use Rattle.rbc_book.specs.Forwards.{IsForwarding};
+ghost use Rattle.rbc_core.specs.Conflicts.{AreAnswered, WasVoided, IsOvertaken, IsMisled, IsExplained};
+ghost use Rattle.rbc_core.specs.Forwards.{IsForwarding};
 ghost use Rattle.rbc_core.specs.Witnesses.{two_inputs, engines, train_7, enrolled, refused, absent, under};
 ghost use Rattle.rbc_core.specs.Witnesses.{enrolled_numbers, means, two_under_one, no_numbers, start};
 ghost use Rattle.rbc_core.specs.Witnesses.{first_try, second_try, stops_try, computing_again, applying, failing};

@@ -5,10 +5,10 @@ use Rattle.rbc_track.specs.Plan.{Plan}
 use Rattle.rbc_records.specs.declared.record.Key.{Key}
 use Rattle.rbc_records.specs.declared.record.Key.TheVariants.{Roster, Train, Stops, Limits, Line, Unplaced}
 use Rattle.rbc_records.specs.Notes.{Whole}
-use Rattle.rbc_step.specs.World.{new_world}
-use Rattle.rbc_step.specs.Records.{record_of}
-use Rattle.rbc_step.specs.Right.{MayBe}
-use Rattle.rbc_step.specs.WellFormed.{IsWellFormed}
+use Rattle.rbc_rule.specs.World.{new_world}
+use Rattle.rbc_rule.specs.Records.{record_of}
+use Rattle.rbc_rule.specs.Right.{MayBe}
+use Rattle.rbc_rule.specs.WellFormed.{IsWellFormed}
 
 -- it is well-formed on each track
 pub new_world_is_well_formed : (plan : Plan) → IsWellFormed plan new_world

@@ -9,8 +9,8 @@ use Rattle.ertms_codec.specs.declared.to_train.ToTrain.{ToTrain}
 use Rattle.rbc_maps.specs.Maps.{has, index_for, keys, rises_from, value_or, with_value}
 use Rattle.rbc_maps.proofs.MapEdits.{written, inserted}
 use Rattle.rbc_maps.proofs.MapPlaces.{absent_below, value_or-here, value_or-absent, rises-with_value}
-use Rattle.rbc_train.specs.declared.sent.Sent.{Sent}
-use Rattle.rbc_step.specs.Right.{messages_to}
+use Rattle.rbc_settle.specs.declared.sent.Sent.{Sent}
+use Rattle.rbc_rule.specs.Right.{messages_to}
 use Rattle.rbc_desk.specs.declared.outbox.Mail.{Mail}
 use Rattle.rbc_desk.specs.Held.{AreOutboxes, post_one}
 use Rattle.rbc_desk.specs.Serial.{mail, post, post_all}

@@ -3,11 +3,11 @@ use Rattle.std.proofs.Common.{◌≡◌, ℕ, zero, suc, ◌+◌, ◌<◌, List,
 use Rattle.std.specs.Prelude.{slice_get}
 use Rattle.std.proofs.lemmas.List.{append-nil, length-append, length-map, take_all, take_at, get_or-map}
 use Rattle.std.proofs.lemmas.Option.{slice_get_within, slice_get-get_or, get_or_from_slice_get, same_Some}
-use Rattle.rbc_train.specs.declared.sent.Sent.{Sent}
+use Rattle.rbc_settle.specs.declared.sent.Sent.{Sent}
 use Rattle.rbc_records.specs.declared.record.Key.{Key}
 use Rattle.rbc_records.specs.declared.record.Rec.{Rec}
 use Rattle.rbc_records.specs.Writes.{written}
-use Rattle.rbc_step.specs.declared.outcome.Reply.{Reply}
+use Rattle.rbc_rule.specs.declared.outcome.Reply.{Reply}
 use Rattle.rbc_desk.specs.declared.answer.Answer.{Answer}
 use Rattle.rbc_desk.specs.declared.outbox.Mail.{Mail}
 use Rattle.rbc_desk.specs.Held.{Standing, AreOutboxes, AreToTheEnginesOf, AreTakenBack, post_each}

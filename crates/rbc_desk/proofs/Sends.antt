@@ -4,13 +4,13 @@ use Rattle.rbc_track.specs.Plan.{Plan}
 use Rattle.rbc_maps.specs.Maps.{keys, rises_from, has, value_of, with_value, without}
 use Rattle.rbc_maps.proofs.MapPlaces.{rises-with_value}
 use Rattle.rbc_maps.proofs.MapValues.{rises-without}
-use Rattle.rbc_train.specs.declared.train.TrainRec.{TrainRec}
-use Rattle.rbc_train.specs.Trains.{new_train}
-use Rattle.rbc_step.specs.declared.input.Input.{Input}
-use Rattle.rbc_step.specs.declared.input.Input.TheVariants.{Enrol, Withdraw, Stop, Release, Restrict, Lift, Received, Bad}
-use Rattle.rbc_step.specs.World.{World}
-use Rattle.rbc_step.specs.Effect.{effect, then_do, enrolled, without_train, withdrawn, received, heard_from, engine_of, forget_all, stops_after, limits_after, after_removing}
-use Rattle.rbc_step.specs.Step.{step, after}
+use Rattle.rbc_settle.specs.declared.train.TrainRec.{TrainRec}
+use Rattle.rbc_settle.specs.Trains.{new_train}
+use Rattle.rbc_rule.specs.declared.input.Input.{Input}
+use Rattle.rbc_rule.specs.declared.input.Input.TheVariants.{Enrol, Withdraw, Stop, Release, Restrict, Lift, Received, Bad}
+use Rattle.rbc_rule.specs.World.{World}
+use Rattle.rbc_rule.specs.Effect.{effect, then_do, enrolled, without_train, withdrawn, received, heard_from, engine_of, forget_all, stops_after, limits_after, after_removing}
+use Rattle.rbc_rule.specs.Step.{step, after}
 
 module _ {V W : Type 0} (f : V → W) where
   -- the keys stay

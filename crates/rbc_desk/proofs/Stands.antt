@@ -1,20 +1,20 @@
 -- Which desks are held.
 use Rattle.std.proofs.Common.{◌≡◌, ℕ, ◌+◌, List, [], ◌∷◌, ◌++◌, length, Option, refl, sym, ap, ◌∙◌, subst, arith}
 use Rattle.rbc_track.specs.Plan.{Plan, IsPlan}
-use Rattle.rbc_train.specs.declared.sent.Sent.{Sent}
+use Rattle.rbc_settle.specs.declared.sent.Sent.{Sent}
 use Rattle.rbc_records.specs.declared.record.Key.{Key}
 use Rattle.rbc_records.specs.declared.record.Rec.{Rec}
 use Rattle.rbc_records.specs.Notes.{Whole, Extends, record_in}
 use Rattle.rbc_records.specs.Writes.{written}
-use Rattle.rbc_step.specs.declared.input.Input.{Input}
-use Rattle.rbc_step.specs.declared.outcome.Outcome.{Outcome}
-use Rattle.rbc_step.specs.declared.outcome.Reply.{Reply}
-use Rattle.rbc_step.specs.declared.outcome.RuleFault.{RuleFault}
-use Rattle.rbc_step.specs.declared.outcome.RuleFault.TheVariants as fault
-use Rattle.rbc_step.specs.Inputs.{Fits}
-use Rattle.rbc_step.specs.World.{World}
-use Rattle.rbc_step.specs.Right.{MayBe, IsRight, IsStep, IsFault}
-use Rattle.rbc_step.specs.Step as rule
+use Rattle.rbc_rule.specs.declared.input.Input.{Input}
+use Rattle.rbc_rule.specs.declared.outcome.Outcome.{Outcome}
+use Rattle.rbc_rule.specs.declared.outcome.Reply.{Reply}
+use Rattle.rbc_rule.specs.declared.outcome.RuleFault.{RuleFault}
+use Rattle.rbc_rule.specs.declared.outcome.RuleFault.TheVariants as fault
+use Rattle.rbc_rule.specs.Inputs.{Fits}
+use Rattle.rbc_rule.specs.World.{World}
+use Rattle.rbc_rule.specs.Right.{MayBe, IsRight, IsStep, IsFault}
+use Rattle.rbc_rule.specs.Step as rule
 use Rattle.rbc_desk.specs.declared.outbox.Mail.{Mail}
 use Rattle.rbc_desk.specs.Held.{Standing, Holds, AreRecordsOf, AreOutboxes, IsOutcomeOf, IsTakenIn, IsMemoryOf, after_outcome, post_each}
 use Rattle.rbc_desk.specs.Serial.{Desk, step, post_all}

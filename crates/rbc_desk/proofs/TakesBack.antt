@@ -11,7 +11,7 @@ use Rattle.rbc_maps.specs.Maps.{has, value_or, value_of, with_value, without, in
 use Rattle.rbc_maps.proofs.MapPlaces.{rises-with_value, value_or-here, value_or-absent}
 use Rattle.rbc_maps.proofs.MapValues.{rises-without, found_here}
 use Rattle.rbc_maps.proofs.MapEdits.{written}
-use Rattle.rbc_train.specs.declared.sent.Sent.{Sent}
+use Rattle.rbc_settle.specs.declared.sent.Sent.{Sent}
 use Rattle.rbc_desk.specs.declared.outbox.Mail.{Mail}
 use Rattle.rbc_desk.specs.Held.{AreOutboxes, AreToTheEnginesOf, post_one, post_each, taken_back}
 use Rattle.rbc_desk.specs.Serial.{mail}

@@ -5,18 +5,18 @@ use Rattle.std.proofs.lemmas.List.Elements.{All-contains}
 use Rattle.std.proofs.lemmas.Option.{same_Some}
 use Rattle.ertms_codec.specs.declared.to_train.ToTrain.{ToTrain}
 use Rattle.rbc_maps.specs.Numbered.{none_numbered}
-use Rattle.rbc_train.specs.declared.train.TrainRec.{TrainRec}
-use Rattle.rbc_train.specs.Actions.{Action, ChangesStop}
-use Rattle.rbc_train.specs.declared.change.StopChange.TheVariants as stop_change
-use Rattle.rbc_train.specs.declared.change.ToldStop.{ToldStop}
-use Rattle.rbc_train.specs.declared.change.ToldStop.TheVariants.{Before}
-use Rattle.rbc_train.specs.Settling.{Stops, actions_with_stamp}
-use Rattle.rbc_step.specs.declared.input.Input.{Input}
-use Rattle.rbc_step.specs.declared.input.Input.TheVariants as input
-use Rattle.rbc_step.specs.World.{World}
-use Rattle.rbc_step.specs.Effect.{effect}
-use Rattle.rbc_step.specs.Saying.{RevokesStop}
-use Rattle.rbc_step.specs.SaidFor.{SaysFor, as_told, IsSendable}
+use Rattle.rbc_settle.specs.declared.train.TrainRec.{TrainRec}
+use Rattle.rbc_settle.specs.Actions.{Action, ChangesStop}
+use Rattle.rbc_settle.specs.declared.change.StopChange.TheVariants as stop_change
+use Rattle.rbc_settle.specs.declared.change.ToldStop.{ToldStop}
+use Rattle.rbc_settle.specs.declared.change.ToldStop.TheVariants.{Before}
+use Rattle.rbc_settle.specs.Settling.{Stops, actions_with_stamp}
+use Rattle.rbc_rule.specs.declared.input.Input.{Input}
+use Rattle.rbc_rule.specs.declared.input.Input.TheVariants as input
+use Rattle.rbc_rule.specs.World.{World}
+use Rattle.rbc_rule.specs.Effect.{effect}
+use Rattle.rbc_rule.specs.Saying.{RevokesStop}
+use Rattle.rbc_rule.specs.SaidFor.{SaysFor, as_told, IsSendable}
 use Rattle.rbc_rule_laws.specs.Witnesses.{track_a, facing_up, on_line_0, train_7, stop_1, told_as_0, told_world, world_of, world_released, stop_before, revoke}
 use Rattle.rbc_zones.proofs.ToldStops.{told_rightly}
 use Rattle.rbc_track.specs.declared.group.Way.TheVariants.{Up}

@@ -3,20 +3,20 @@ use Rattle.std.specs.Prelude.{◌≡◌, ℕ, ◌+◌, ◌-◌, ◌≤◌, nat_l
 use Rattle.std.specs.List.{fold, All}
 use Rattle.rbc_track.specs.Plan.{Plan}
 use Rattle.rbc_maps.specs.Maps.{IsMap, with_value, value_or, without}
-use Rattle.rbc_train.specs.declared.sent.Sent.{Sent}
+use Rattle.rbc_settle.specs.declared.sent.Sent.{Sent}
 use Rattle.rbc_records.specs.declared.record.Key.{Key}
 use Rattle.rbc_records.specs.declared.record.Rec.{Rec}
 use Rattle.rbc_records.specs.Notes.{record_in}
 use Rattle.rbc_records.specs.Writes.{written}
-use Rattle.rbc_step.specs.declared.input.Input.{Input}
-use Rattle.rbc_step.specs.declared.outcome.Outcome.{Outcome}
-use Rattle.rbc_step.specs.declared.outcome.Reply.{Reply}
-use Rattle.rbc_step.specs.declared.outcome.RuleFault.{RuleFault}
-use Rattle.rbc_step.specs.declared.outcome.RuleFault.TheVariants.{OutOfMemory}
-use Rattle.rbc_step.specs.World.{World}
-use Rattle.rbc_step.specs.Records.{record_of}
-use Rattle.rbc_step.specs.Right.{IsStep}
-use Rattle.rbc_step.specs.WellFormed.{IsWellFormed}
+use Rattle.rbc_rule.specs.declared.input.Input.{Input}
+use Rattle.rbc_rule.specs.declared.outcome.Outcome.{Outcome}
+use Rattle.rbc_rule.specs.declared.outcome.Reply.{Reply}
+use Rattle.rbc_rule.specs.declared.outcome.RuleFault.{RuleFault}
+use Rattle.rbc_rule.specs.declared.outcome.RuleFault.TheVariants.{OutOfMemory}
+use Rattle.rbc_rule.specs.World.{World}
+use Rattle.rbc_rule.specs.Records.{record_of}
+use Rattle.rbc_rule.specs.Right.{IsStep}
+use Rattle.rbc_rule.specs.WellFormed.{IsWellFormed}
 use Rattle.rbc_desk.specs.declared.outbox.Mail.{Mail}
 use Rattle.rbc_desk.specs.Serial as serial
 

@@ -5,15 +5,15 @@ use Rattle.ertms_codec.specs.declared.to_train.ToTrain.{ToTrain}
 use Rattle.ertms_codec.specs.ToTrain as codec
 use Rattle.rbc_track.specs.Plan.{Plan, IsPlan}
 use Rattle.rbc_maps.specs.Maps.{value_or}
-use Rattle.rbc_train.specs.declared.train.TrainRec.{TrainRec}
-use Rattle.rbc_train.specs.Actions.{Action}
-use Rattle.rbc_train.specs.Settling.{actions_with_stamp}
-use Rattle.rbc_step.specs.declared.input.Input.{Input}
-use Rattle.rbc_step.specs.Inputs.{Fits}
-use Rattle.rbc_step.specs.World.{World}
-use Rattle.rbc_step.specs.Effect.{effect}
-use Rattle.rbc_step.specs.SaidFor.{SaysFor, as_told}
-use Rattle.rbc_step.specs.WellFormed.{IsWellFormed}
+use Rattle.rbc_settle.specs.declared.train.TrainRec.{TrainRec}
+use Rattle.rbc_settle.specs.Actions.{Action}
+use Rattle.rbc_settle.specs.Settling.{actions_with_stamp}
+use Rattle.rbc_rule.specs.declared.input.Input.{Input}
+use Rattle.rbc_rule.specs.Inputs.{Fits}
+use Rattle.rbc_rule.specs.World.{World}
+use Rattle.rbc_rule.specs.Effect.{effect}
+use Rattle.rbc_rule.specs.SaidFor.{SaysFor, as_told}
+use Rattle.rbc_rule.specs.WellFormed.{IsWellFormed}
 use Rattle.rbc_desk.specs.declared.outbox.Mail.{Mail}
 use Rattle.rbc_desk.specs.Serial.{Desk, serial}
 

@@ -4,10 +4,10 @@ use Rattle.std.specs.List.{fold}
 use Rattle.ertms_codec.specs.declared.to_train.ToTrain.{ToTrain}
 use Rattle.rbc_track.specs.Plan.{Plan}
 use Rattle.rbc_maps.specs.Maps.{value_or, with_value}
-use Rattle.rbc_step.specs.declared.input.Input.{Input}
-use Rattle.rbc_step.specs.declared.outcome.Reply.{Reply}
-use Rattle.rbc_step.specs.World.{World, new_world}
-use Rattle.rbc_step.specs.Step as rule
+use Rattle.rbc_rule.specs.declared.input.Input.{Input}
+use Rattle.rbc_rule.specs.declared.outcome.Reply.{Reply}
+use Rattle.rbc_rule.specs.World.{World, new_world}
+use Rattle.rbc_rule.specs.Step as rule
 use Rattle.rbc_desk.specs.declared.outbox.Mail.{Mail}
 
 -- the world, the results in the order of their inputs, and the mails by engine number

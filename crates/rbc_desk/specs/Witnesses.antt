@@ -1,7 +1,7 @@
 -- A worked case of the law on mails. Places and lengths are in units of 10 cm.
 use Rattle.std.specs.Prelude.{ℕ, List, [], ◌∷◌}
-use Rattle.rbc_step.specs.declared.input.Input.{Input}
-use Rattle.rbc_step.specs.declared.input.Input.TheVariants as input
+use Rattle.rbc_rule.specs.declared.input.Input.{Input}
+use Rattle.rbc_rule.specs.declared.input.Input.TheVariants as input
 use Rattle.rbc_rule_laws.specs.Witnesses.{track_a, facing_up, on_line_0, only_train_7, stop_before, revoke}
 use Rattle.rbc_desk.specs.declared.outbox.Mail.{Mail}
 use Rattle.rbc_desk.specs.Serial.{Desk, mail}

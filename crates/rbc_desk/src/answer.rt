@@ -1,7 +1,7 @@
 //! What an input answers and sends.
 
-use rbc_step::Reply;
-use rbc_train::Sent;
+use rbc_rule::Reply;
+use rbc_settle::Sent;
 
 /// The answer to an input, and the messages that it sends.
 #[derive(Drop)]

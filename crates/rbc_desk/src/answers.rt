@@ -2,13 +2,13 @@
 
 ghost use Rattle.std.specs.Prelude.{◌≡◌, ◌+◌, ◌^◌, ◌≤◌, ◌++◌, length, map, vec_len, vec_capacity, OnOk, OnErr};
 ghost use Rattle.std.specs.List.{All};
-ghost use Rattle.rbc_step.specs.Gathered.{AreSendable};
+ghost use Rattle.rbc_rule.specs.Gathered.{AreSendable};
 ghost use Rattle.rbc_desk.specs.Held.{AreOutboxes, AreTakenBack, post_each};
 ghost use Rattle.rbc_desk.specs.Answers.{AreLeftOf, AreUnanswered, left_of, post_answers, result_of};
 
 use crate::answer::Answer;
 use crate::outbox::{self, Outbox};
-use rbc_step::Reply;
+use rbc_rule::Reply;
 use std::alloc::{AllocError, Global};
 
 /// Moves the messages of an answer into the outboxes of their engines; what stands in their place keeps their engines.

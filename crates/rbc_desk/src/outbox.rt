@@ -8,12 +8,12 @@ ghost use Rattle.ertms_codec.specs.ToTrain.{Fits, HoldsReference, Spells, fields
 ghost use Rattle.ertms_codec.specs.Layout.{HoldValues};
 ghost use Rattle.ertms_codec.specs.PacketsToTrain.{PacketFits, ArePacketsThatFit, fields_of_packet};
 ghost use Rattle.rbc_maps.specs.Maps.{with_value, value_or};
-ghost use Rattle.rbc_step.specs.Gathered as gathered;
+ghost use Rattle.rbc_rule.specs.Gathered as gathered;
 ghost use Rattle.rbc_desk.specs.Sendable.{AreSendable};
 ghost use Rattle.rbc_desk.specs.Held.{AreOutboxes, AreTakenBack, AreToTheEnginesOf, post_one, post_each, taken_back};
 
 use ertms_codec::{Head, Packets, Part, ToTrain};
-use rbc_train::Sent;
+use rbc_settle::Sent;
 use std::alloc::{AllocError, Global};
 use std::cell::Cell;
 use std::marker::Model;

@@ -1,8 +1,8 @@
 -- How a task ends that a `?` leaves.
 use Rattle.std.proofs.Common.{◌≡◌, Result, Ok, Err}
 use Rattle.std.specs.Result.{IsErrAnd}
-use Rattle.rbc_command_line.specs.declared.no_task.NoTask.{NoTask}
-use Rattle.rbc_command_line.specs.declared.no_task.NoTask.TheVariants as words
+use Rattle.rbc_dispatch.specs.declared.no_task.NoTask.{NoTask}
+use Rattle.rbc_dispatch.specs.declared.no_task.NoTask.TheVariants as words
 use Rattle.rbc_dispatch.specs.Ending.{AtTask, ending_of}
 use Rattle.rbc_dispatch.specs.declared.ending.Ending.{Ending}
 use Rattle.rbc_dispatch.specs.declared.ending.Ending.TheVariants.{Fault as at_fault}

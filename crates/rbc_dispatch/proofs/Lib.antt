@@ -1,3 +1,7 @@
+mod Added
+mod Findings
+mod Forms
+mod WitnessWords
 mod Ends
 mod Quiet
 mod Untold

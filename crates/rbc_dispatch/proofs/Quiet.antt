@@ -1,9 +1,9 @@
 -- Words that ask for no figures are taken for a task that says none.
 use Rattle.std.proofs.Common.{◌≡◌, List, Option, Some, None, inl, inr, codes}
 use Rattle.clap.specs.Walk.{Text}
-use Rattle.rbc_command_line.specs.Words.{AsksForNoFigures, IsFlag, IsFound, finding_in, flag_after}
-use Rattle.rbc_command_line.specs.declared.words.Task.{Task}
-use Rattle.rbc_command_line.specs.declared.words.Task.TheVariants.{Run, Live, Explain, Picture, Check, Decode, Codes}
+use Rattle.rbc_dispatch.specs.Words.{AsksForNoFigures, IsFlag, IsFound, finding_in, flag_after}
+use Rattle.rbc_dispatch.specs.declared.words.Task.{Task}
+use Rattle.rbc_dispatch.specs.declared.words.Task.TheVariants.{Run, Live, Explain, Picture, Check, Decode, Codes}
 use Rattle.rbc_dispatch.specs.Figures.{IsQuiet}
 
 -- what was not found is no word

@@ -2,9 +2,9 @@
 use Rattle.std.specs.Prelude.{ℕ, List, [], ◌∷◌, ◌++◌, Option, Result, Ok, Err}
 use Rattle.std.specs.Io.KnownBytes.{Appends}
 use Rattle.clap.specs.Words.{kind_of}
-use Rattle.rbc_command_line.specs.NoTask.{status_of_kind}
-use Rattle.rbc_command_line.specs.declared.no_task.NoTask.{NoTask}
-use Rattle.rbc_command_line.specs.declared.no_task.NoTask.TheVariants as no_task
+use Rattle.rbc_dispatch.specs.NoTask.{status_of_kind}
+use Rattle.rbc_dispatch.specs.declared.no_task.NoTask.{NoTask}
+use Rattle.rbc_dispatch.specs.declared.no_task.NoTask.TheVariants as no_task
 use Rattle.rbc_dispatch.specs.Fault.{line_of}
 use Rattle.rbc_dispatch.specs.declared.ending.Ending.{Ending}
 use Rattle.rbc_dispatch.specs.declared.ending.Ending.TheVariants.{Words, Fault}

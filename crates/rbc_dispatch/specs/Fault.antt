@@ -11,7 +11,7 @@ use Rattle.hex.specs.declared.error.FromHexError.TheVariants as hex
 use Rattle.rbc_explain.specs.TellError.{TellError}
 use Rattle.rbc_explain.specs.TellError.TheVariants as telling
 use Rattle.rbc_batch.specs.Process.{fault_text}
-use Rattle.rbc_prompt.specs.Answers as prompt
+use Rattle.rbc_live.specs.Answers as prompt
 use Rattle.rbc_track.specs.Plan.{name_of as name_of_track}
 use Rattle.rbc_words.specs.Units.{count_text}
 use Rattle.rbc_dispatch.specs.declared.fault.Fault.{Fault}

@@ -1,8 +1,8 @@
 -- What `run` reports of its workers.
 use Rattle.std.specs.Prelude.{◌≡◌, ⊤, ℕ, List, ◌++◌, codes, false}
 use Rattle.std.specs.Fmt.{decimal}
-use Rattle.rbc_command_line.specs.declared.words.Task.{Task}
-use Rattle.rbc_command_line.specs.declared.words.Task.TheVariants.{Run, Live, Explain, Picture, Check, Decode, Codes}
+use Rattle.rbc_dispatch.specs.declared.words.Task.{Task}
+use Rattle.rbc_dispatch.specs.declared.words.Task.TheVariants.{Run, Live, Explain, Picture, Check, Decode, Codes}
 use Rattle.rbc_dispatch.specs.declared.figures.Figures.{Figures}
 
 -- the lines of figures, without the last line feed

@@ -1,3 +1,7 @@
+pub mod Forms
+pub mod NoTask
+pub mod Witnesses
+pub mod Words
 pub mod Checking
 pub mod Decoding
 pub mod Ending

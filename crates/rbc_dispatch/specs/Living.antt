@@ -1,7 +1,7 @@
 -- What `live` does with lines.
 use Rattle.std.specs.Prelude.{◌⊎◌, ℕ, List, Option, Result, Ok, Err}
-use Rattle.rbc_prompt.specs.Answers.{Answers}
-use Rattle.rbc_prompt.specs.declared.prompt.PromptError.{PromptError}
+use Rattle.rbc_live.specs.Answers.{Answers}
+use Rattle.rbc_live.specs.declared.prompt.PromptError.{PromptError}
 use Rattle.rbc_track.specs.Plan.{Plan}
 use Rattle.rbc_track.specs.Reading.{IsTrackOf}
 use Rattle.rbc_dispatch.specs.Running.{IsErrUnread, IsNoTrack}

@@ -1,6 +1,6 @@
 //! How the program ends where its task was not done.
 use crate::fault::Fault;
-use rbc_command_line::NoTask;
+use crate::no_task::NoTask;
 use std::io;
 use std::io::Write;
 use std::process::ExitCode;

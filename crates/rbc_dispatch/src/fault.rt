@@ -3,7 +3,7 @@ use ertms_codec::{DecodeError, DescribeError};
 use hex::FromHexError;
 use rbc_batch::ProcessError;
 use rbc_explain::TellError;
-use rbc_prompt::PromptError;
+use rbc_live::PromptError;
 use rbc_track::TrackError;
 use rbc_words::Count;
 use std::alloc::AllocError;

@@ -4,7 +4,7 @@ ghost use Rattle.rbc_dispatch.specs.Living.{LivesOn};
 ghost use Rattle.rbc_dispatch.specs.Running.{Keeps};
 
 use crate::fault::Fault;
-use rbc_prompt::{LiveDesk, answer_lines};
+use rbc_live::{LiveDesk, answer_lines};
 use std::alloc::Global;
 use std::io::{Read, Write};
 

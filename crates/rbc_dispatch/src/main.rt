@@ -23,9 +23,13 @@ mod ending;
 mod explain;
 mod fault;
 mod figures;
+mod law;
 mod live;
+mod no_task;
 mod picture;
 mod program;
+mod witnesses;
+mod words;
 
 use std::process::ExitCode;
 

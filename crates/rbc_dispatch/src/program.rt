@@ -10,9 +10,9 @@ ghost use Rattle.rbc_dispatch.specs.Figures.{IsQuiet};
 ghost use Rattle.rbc_dispatch.specs.Living.{Lives};
 ghost use Rattle.rbc_dispatch.specs.Running.{IsUnread, Keeps, Runs, RunsOn};
 ghost use Rattle.rbc_dispatch.specs.Showing.{IsLogFrom, IsPictureAfter, Shows};
-ghost use Rattle.rbc_command_line.specs.Words.{AsksToCheck, AsksToDecode, AsksToDraw, AsksToExplain, AsksToLive};
-ghost use Rattle.rbc_command_line.specs.Words.{AsksForNoFigures, AsksToRun, IsCheckOf, IsDecode, IsExplainOn, IsLiveOn};
-ghost use Rattle.rbc_command_line.specs.Words.{IsPictureOn, IsRunOn, command_line};
+ghost use Rattle.rbc_dispatch.specs.Words.{AsksToCheck, AsksToDecode, AsksToDraw, AsksToExplain, AsksToLive};
+ghost use Rattle.rbc_dispatch.specs.Words.{AsksForNoFigures, AsksToRun, IsCheckOf, IsDecode, IsExplainOn, IsLiveOn};
+ghost use Rattle.rbc_dispatch.specs.Words.{IsPictureOn, IsRunOn, command_line};
 
 use crate::attempts::Attempts;
 use crate::check::check_text;
@@ -24,8 +24,8 @@ use crate::fault::Fault;
 use crate::figures::Figures;
 use crate::live::live_text;
 use crate::picture::picture_text;
+use crate::words::Task;
 use rbc_batch::{OpenGate, PACE, Windows, process, process_by_train};
-use rbc_command_line::Task;
 use rbc_track::track_from_toml;
 use std::env::Env;
 use std::fs;
@@ -45,7 +45,7 @@ where
     E: Write,
     ensures { exit_status result ≤ 2 }
 {
-    let outcome = match rbc_command_line::read(rt) {
+    let outcome = match crate::words::read(rt) {
         Ok(words) => perform(rt, words.as_slice(), input, output, errors),
         Err(no_task) => Err(Ending::from(no_task)),
     };
@@ -115,7 +115,7 @@ where
         → (input.new ≡ input.old) × (output.new ≡ output.old) × (errors.new ≡ errors.old) }
     ensures quiet { AsksForNoFigures (map string_bytes words.now) → errors.new ≡ errors.old }
 {
-    let task = rbc_command_line::parse(rt.alloc(), words)?;
+    let task = crate::words::parse(rt.alloc(), words)?;
     Ok(carry_out(rt, task, input, output, errors)?)
 }
 

@@ -1,12 +1,12 @@
 -- What a run leaves.
 use Rattle.std.proofs.Common.{◌≡◌, ◌⊎◌, ℕ, ◌<◌, length, Result, Ok, Err, inl, inr, ⊎_elim, ap, sym, ◌∙◌, subst, arith}
-use Rattle.rbc_book.specs.Held.{Held, standing}
-use Rattle.rbc_book.specs.declared.book.Stats.{Stats}
-use Rattle.rbc_book.specs.Runs.{Run, IsGoodRun, IsSerialRun, IsSaidSince}
-use Rattle.rbc_book.specs.declared.book.Commit.TheVariants.{NotReady}
-use Rattle.rbc_book.specs.Core.{State}
-use Rattle.rbc_book.specs.Books.{BookValue, state_of, IsKept}
-use Rattle.rbc_book.proofs.Mails.{said_since}
+use Rattle.rbc_core.specs.Held.{Held, standing}
+use Rattle.rbc_core.specs.declared.book.Stats.{Stats}
+use Rattle.rbc_core.specs.Runs.{Run, IsGoodRun, IsSerialRun, IsSaidSince}
+use Rattle.rbc_core.specs.declared.book.Commit.TheVariants.{NotReady}
+use Rattle.rbc_core.specs.Core.{State}
+use Rattle.rbc_core.specs.Books.{BookValue, state_of, IsKept}
+use Rattle.rbc_core.proofs.Mails.{said_since}
 use Rattle.rbc_engine.specs.declared.workers.RunError.{RunError}
 use Rattle.rbc_engine.specs.declared.workers.RunError.TheVariants.{Workers, TooManyInputs, OutOfMemory}
 use Rattle.rbc_engine.specs.Fronts.{IsNext, IsAtItsEnd}

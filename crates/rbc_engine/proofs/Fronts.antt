@@ -2,17 +2,17 @@
 use Rattle.std.proofs.Common.{◌≡◌, ◌≢◌, ℕ, ◌+◌, ◌-◌, ◌<◌, ◌≤◌, Bool, true, false, length, get_or, Option, Some, None, inl, inr, ⊎_elim, refl, sym, ap, ◌∙◌, subst, arith}
 use Rattle.std.specs.Prelude.{slice_get}
 use Rattle.std.proofs.lemmas.Option.{slice_get_cases, slice_get_within}
-use Rattle.rbc_step.specs.declared.input.Input.{Input}
-use Rattle.rbc_book.specs.declared.book.Commit.{Commit}
-use Rattle.rbc_book.specs.declared.book.Commit.TheVariants.{Applied, Recomputed, NotReady, Done, Failed}
-use Rattle.rbc_book.specs.declared.stage.Stage.{Stage}
-use Rattle.rbc_book.specs.declared.stage.Stage.TheVariants.{Free, Out, Tried, Void}
-use Rattle.rbc_book.specs.Runs.{Run, IsInput}
-use Rattle.rbc_book.specs.Core.{Try, State, IsAt, IsReady, front}
-use Rattle.rbc_book.specs.Books.{IsKept, IsStage}
-use Rattle.rbc_book.specs.Events.{Happens, Commits}
-use Rattle.rbc_book.specs.Events.Event.{Takes, Voids}
-use Rattle.rbc_book.proofs.Books.{slice_get_at, at_index}
+use Rattle.rbc_rule.specs.declared.input.Input.{Input}
+use Rattle.rbc_core.specs.declared.book.Commit.{Commit}
+use Rattle.rbc_core.specs.declared.book.Commit.TheVariants.{Applied, Recomputed, NotReady, Done, Failed}
+use Rattle.rbc_core.specs.declared.stage.Stage.{Stage}
+use Rattle.rbc_core.specs.declared.stage.Stage.TheVariants.{Free, Out, Tried, Void}
+use Rattle.rbc_core.specs.Runs.{Run, IsInput}
+use Rattle.rbc_core.specs.Core.{Try, State, IsAt, IsReady, front}
+use Rattle.rbc_core.specs.Books.{IsKept, IsStage}
+use Rattle.rbc_core.specs.Events.{Happens, Commits}
+use Rattle.rbc_core.specs.Events.Event.{Takes, Voids}
+use Rattle.rbc_core.proofs.Books.{slice_get_at, at_index}
 use Rattle.rbc_engine.specs.Fronts.{IsWaiting, IsGivenUp, IsNext}
 
 -- a next input that is not ready and not out was not taken

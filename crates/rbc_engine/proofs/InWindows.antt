@@ -1,11 +1,11 @@
 -- What a window leaves is what a stretch of a run leaves.
 use Rattle.std.proofs.Common.{◌≡◌, ◌≤◌, List, length, take, take_all, Ok, inl, sym, subst, arith}
-use Rattle.rbc_step.specs.declared.input.Input.{Input}
-use Rattle.rbc_book.specs.Serial.{serial}
-use Rattle.rbc_book.specs.Held.{Held, Holds, standing}
-use Rattle.rbc_book.specs.declared.book.Stats.{Stats}
-use Rattle.rbc_book.specs.Runs.{Run, IsGoodRun, IsSerialRun}
-use Rattle.rbc_book.proofs.Mails.{said_since}
+use Rattle.rbc_rule.specs.declared.input.Input.{Input}
+use Rattle.rbc_core.specs.Serial.{serial}
+use Rattle.rbc_core.specs.Held.{Held, Holds, standing}
+use Rattle.rbc_core.specs.declared.book.Stats.{Stats}
+use Rattle.rbc_core.specs.Runs.{Run, IsGoodRun, IsSerialRun}
+use Rattle.rbc_core.proofs.Mails.{said_since}
 use Rattle.rbc_window.specs.Answers.{AreTakenIn}
 use Rattle.rbc_engine.specs.Answers.{IsStretch}
 

@@ -3,14 +3,14 @@ use Rattle.std.proofs.Common.{◌≡◌, ℕ, ◌+◌, ◌<◌, ◌≤◌, List,
 use Rattle.std.specs.Prelude.{slice_get}
 use Rattle.std.proofs.lemmas.List.{length-take-le}
 use Rattle.std.proofs.lemmas.Option.{get_or_from_slice_get}
-use Rattle.rbc_step.specs.declared.input.Input.{Input}
-use Rattle.rbc_step.specs.declared.outcome.Reply.{Reply}
-use Rattle.rbc_book.specs.Serial.{Desk, step, serial}
-use Rattle.rbc_book.specs.Held.{Held, Holds, IsTakenIn, standing, max_results}
-use Rattle.rbc_book.proofs.Runs.{fold_more}
-use Rattle.rbc_book.specs.Runs.{Run, IsGoodRun, IsSerialRun}
-use Rattle.rbc_book.proofs.Mails.{said_since}
-use Rattle.rbc_book.specs.declared.book.Stats.{Stats}
+use Rattle.rbc_rule.specs.declared.input.Input.{Input}
+use Rattle.rbc_rule.specs.declared.outcome.Reply.{Reply}
+use Rattle.rbc_core.specs.Serial.{Desk, step, serial}
+use Rattle.rbc_core.specs.Held.{Held, Holds, IsTakenIn, standing, max_results}
+use Rattle.rbc_core.proofs.Runs.{fold_more}
+use Rattle.rbc_core.specs.Runs.{Run, IsGoodRun, IsSerialRun}
+use Rattle.rbc_core.proofs.Mails.{said_since}
+use Rattle.rbc_core.specs.declared.book.Stats.{Stats}
 use Rattle.rbc_engine.specs.declared.workers.RunError.TheVariants.{OutOfMemory}
 use Rattle.rbc_engine.specs.Answers.{IsStretch}
 use Rattle.rbc_engine.proofs.Stretches.{results_of}

@@ -6,15 +6,15 @@ use Rattle.std.proofs.lemmas.List.{length-append, length-take-le, length-drop}
 use Rattle.std.proofs.lemmas.List.Elements.{All-drop, All-take}
 use Rattle.std.proofs.lemmas.List.Sums.{fold-append}
 use Rattle.rbc_track.specs.Plan.{Plan}
-use Rattle.rbc_step.specs.declared.input.Input.{Input}
-use Rattle.rbc_step.specs.declared.outcome.Reply.{Reply}
-use Rattle.rbc_step.specs.Inputs.{Fits}
-use Rattle.rbc_step.specs.Step as rule
-use Rattle.rbc_book.specs.Serial.{Desk, step, serial}
-use Rattle.rbc_book.specs.Held.{Held, Holds, AreOutboxes, standing}
-use Rattle.rbc_book.specs.declared.book.Stats.{Stats}
-use Rattle.rbc_book.specs.Runs.{Run, IsGoodRun, IsSerialRun}
-use Rattle.rbc_book.proofs.Mails.{said_since}
+use Rattle.rbc_rule.specs.declared.input.Input.{Input}
+use Rattle.rbc_rule.specs.declared.outcome.Reply.{Reply}
+use Rattle.rbc_rule.specs.Inputs.{Fits}
+use Rattle.rbc_rule.specs.Step as rule
+use Rattle.rbc_core.specs.Serial.{Desk, step, serial}
+use Rattle.rbc_core.specs.Held.{Held, Holds, AreOutboxes, standing}
+use Rattle.rbc_core.specs.declared.book.Stats.{Stats}
+use Rattle.rbc_core.specs.Runs.{Run, IsGoodRun, IsSerialRun}
+use Rattle.rbc_core.proofs.Mails.{said_since}
 use Rattle.rbc_engine.specs.declared.workers.RunError.{RunError}
 use Rattle.rbc_engine.specs.declared.workers.RunError.TheVariants.{Workers, TooManyInputs, OutOfMemory}
 use Rattle.rbc_engine.specs.Answers.{IsDeskAfter, IsStretch, IsFinished, rest_of, plus, IsNextStretch, AreCounts}

@@ -2,10 +2,10 @@
 use Rattle.std.specs.Prelude.{◌≡◌, ◌⊎◌, ℕ, ◌+◌, ◌<◌, ◌≤◌, List, [], ◌∷◌, ◌++◌, codes, length, drop, Result, Ok, Err}
 use Rattle.std.specs.Fmt.{decimal}
 use Rattle.rbc_track.specs.Plan.{Plan}
-use Rattle.rbc_book.specs.Serial.{Desk}
-use Rattle.rbc_book.specs.Held.{Held, Holds, standing, max_results}
-use Rattle.rbc_book.specs.declared.book.Stats.{Stats}
-use Rattle.rbc_book.specs.Runs.{Run, IsSerialRun, IsSaidSince}
+use Rattle.rbc_core.specs.Serial.{Desk}
+use Rattle.rbc_core.specs.Held.{Held, Holds, standing, max_results}
+use Rattle.rbc_core.specs.declared.book.Stats.{Stats}
+use Rattle.rbc_core.specs.Runs.{Run, IsSerialRun, IsSaidSince}
 use Rattle.rbc_engine.specs.declared.workers.RunError.{RunError}
 use Rattle.rbc_engine.specs.declared.workers.RunError.TheVariants.{Workers, TooManyInputs, OutOfMemory}
 

@@ -2,9 +2,9 @@
 use Rattle.std.specs.Prelude.{List, slice_index_or}
 use Rattle.std.specs.List.{All}
 use Rattle.std.specs.Coded.{×_prop, Π_prop, →_prop, Unit-prop, le_prop}
-use Rattle.rbc_step.specs.declared.input.Input.{Input}
-use Rattle.rbc_step.specs.declared.input.Input.TheVariants.{Enrol, Withdraw, Stop, Release, Restrict, Lift, Received, Bad}
-use Rattle.rbc_step.specs.Inputs.{Fits}
+use Rattle.rbc_rule.specs.declared.input.Input.{Input}
+use Rattle.rbc_rule.specs.declared.input.Input.TheVariants.{Enrol, Withdraw, Stop, Release, Restrict, Lift, Received, Bad}
+use Rattle.rbc_rule.specs.Inputs.{Fits}
 
 pub fits_at_most_once : (input : Input) → IsProp (Fits input)
 fits_at_most_once (Enrol engine train_length) = ×_prop le_prop (×_prop le_prop le_prop)

@@ -1,11 +1,11 @@
 -- The next input of a book that no worker has any more.
 use Rattle.std.specs.Prelude.{◌≡◌, ◌⊎◌, ◌+◌, ◌<◌, false, length}
-use Rattle.rbc_book.specs.declared.book.Commit.{Commit}
-use Rattle.rbc_book.specs.declared.book.Commit.TheVariants.{Applied, Recomputed, NotReady, Done, Failed}
-use Rattle.rbc_book.specs.declared.stage.Stage.TheVariants.{Void}
-use Rattle.rbc_book.specs.Runs.{Run}
-use Rattle.rbc_book.specs.Core.{State, IsAt, IsReady, front}
-use Rattle.rbc_book.specs.Books.{IsKept}
+use Rattle.rbc_core.specs.declared.book.Commit.{Commit}
+use Rattle.rbc_core.specs.declared.book.Commit.TheVariants.{Applied, Recomputed, NotReady, Done, Failed}
+use Rattle.rbc_core.specs.declared.stage.Stage.TheVariants.{Void}
+use Rattle.rbc_core.specs.Runs.{Run}
+use Rattle.rbc_core.specs.Core.{State, IsAt, IsReady, front}
+use Rattle.rbc_core.specs.Books.{IsKept}
 
 -- there is a next input, and it is neither attempted nor given up
 pub record IsWaiting (run : Run) (s : State) : Type 0 where

@@ -2,8 +2,8 @@ pub mod Reading
 pub mod Facts
 pub mod Fronts
 pub mod Answers
-pub use Rattle.rbc_book.specs.Held
-pub use Rattle.rbc_book.specs.Mail
-pub use Rattle.rbc_book.specs.SaidMails
-pub use Rattle.rbc_book.specs.Serial
-pub use Rattle.rbc_book.specs.declared.book.Stats
+pub use Rattle.rbc_core.specs.Held
+pub use Rattle.rbc_core.specs.Mail
+pub use Rattle.rbc_core.specs.SaidMails
+pub use Rattle.rbc_core.specs.Serial
+pub use Rattle.rbc_core.specs.declared.book.Stats

@@ -3,10 +3,10 @@ use Rattle.std.specs.Prelude.{◌≡◌, ◌⊎◌, ℕ, ◌<◌, ◌≤◌, Lis
 use Rattle.rbc_records.specs.declared.record.Key.{Key}
 use Rattle.rbc_versions.specs.Log.{LogName, Shown}
 use Rattle.rbc_versions.specs.Entries.{number_for}
-use Rattle.rbc_book.specs.Runs.{Run}
-use Rattle.rbc_book.specs.Core.{Try, IsRightTry}
-use Rattle.rbc_book.specs.Books.{BookValue, IsBook, state_of}
-use Rattle.rbc_book.specs.Forwards.{IsLatest}
+use Rattle.rbc_core.specs.Runs.{Run}
+use Rattle.rbc_core.specs.Core.{Try, IsRightTry}
+use Rattle.rbc_core.specs.Books.{BookValue, IsBook, state_of}
+use Rattle.rbc_core.specs.Forwards.{IsLatest}
 
 -- a number of an input, which counts from 1
 abbrev pub IsNumber : Run → ℕ → Type 0

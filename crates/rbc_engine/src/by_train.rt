@@ -1,12 +1,12 @@
 //! Inputs that are taken in on the desk itself: one after another, or the messages of a window shared by train.
 
 ghost use Rattle.std.specs.Prelude.{◌≡◌};
-ghost use Rattle.rbc_book.specs.Runs.{IsGoodRun};
+ghost use Rattle.rbc_core.specs.Runs.{IsGoodRun};
 ghost use Rattle.rbc_engine.specs.Answers.{IsStretch};
 
 use crate::workers::RunError;
-use rbc_book::{Desk, Stats};
-use rbc_step::Input;
+use rbc_core::{Desk, Stats};
+use rbc_rule::Input;
 use rbc_track::Track;
 use rbc_window::run_window;
 use std::alloc::Global;

@@ -4,7 +4,7 @@ ghost use Rattle.std.specs.Prelude.{◌<◌};
 
 use ertms_codec::FromTrain;
 use rbc_records::{Key, PlainStore, Rec};
-use rbc_step::Input;
+use rbc_rule::Input;
 
 /// With more trains than this, inputs that are no messages are given up as they are taken, and computed at their commit:
 /// they read many trains one by one, where the store can search for those concerned, and all that is attempted at the

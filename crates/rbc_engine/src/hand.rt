@@ -1,10 +1,10 @@
 //! What a worker has in hand of the inputs that it took at once.
 
 ghost use Rattle.std.specs.Prelude.{◌≡◌, ◌<◌, IfSome};
-ghost use Rattle.rbc_book.specs.Core.{IsRightTry};
+ghost use Rattle.rbc_core.specs.Core.{IsRightTry};
 ghost use Rattle.rbc_engine.specs.Reading.{IsPutBefore, IsPutBy, MaySee, WasLatest};
 
-use rbc_book::{Attempt, Book, RunName};
+use rbc_core::{Attempt, Book, RunName};
 use rbc_records::Key;
 use std::alloc::{AllocError, Global};
 use std::collections::VecDeque;

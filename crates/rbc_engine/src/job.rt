@@ -2,9 +2,9 @@
 
 ghost use Rattle.std.specs.Prelude.{◌≡◌, ◌≤◌, IfOk, IfSome, length};
 ghost use Rattle.std.specs.List.{All};
-ghost use Rattle.rbc_step.specs.Inputs.{Fits};
+ghost use Rattle.rbc_rule.specs.Inputs.{Fits};
 ghost use Rattle.rbc_versions.specs.Entries.{AreKeyedOf, AreOfWrites, numbered};
-ghost use Rattle.rbc_book.specs.Books.{IsBook};
+ghost use Rattle.rbc_core.specs.Books.{IsBook};
 ghost use Rattle.rbc_engine.specs.Reading.{IsNumber};
 ghost use Rattle.rbc_engine.specs.Facts.{all_fit_at_most_once};
 
@@ -13,9 +13,9 @@ use crate::gate::Gate;
 use crate::hand::Hand;
 use crate::locking::{LOOKS, lock, unlocked};
 use crate::recorder::Recorder;
-use rbc_book::{Attempt, Book, Commit, Leavings, RunName, decide};
+use rbc_core::{Attempt, Book, Commit, Leavings, RunName, decide};
 use rbc_records::Writes;
-use rbc_step::{Input, RuleFault};
+use rbc_rule::{Input, RuleFault};
 use rbc_track::Track;
 use rbc_versions::{OutOfMemory, Published, VersionLog, publish_all, publish_all_over};
 use std::alloc::Global;

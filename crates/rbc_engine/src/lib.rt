@@ -14,8 +14,8 @@ mod workers;
 
 pub use by_train::Windows;
 pub use gate::{Gate, OpenGate};
-pub use rbc_book::{Desk, Stats};
-pub use rbc_step::MAX_INPUTS;
+pub use rbc_core::{Desk, Stats};
+pub use rbc_rule::MAX_INPUTS;
 pub use recorder::Recorder;
 pub use way::{PACE, Pace};
 pub use workers::{MAX_WORKERS, RunError, run, run_by_train};

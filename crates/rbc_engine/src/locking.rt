@@ -1,9 +1,9 @@
 //! Locking a book.
 
 ghost use Rattle.std.specs.Sync.Mutex.{mutex_guard_value};
-ghost use Rattle.rbc_book.specs.Books.{IsBook};
+ghost use Rattle.rbc_core.specs.Books.{IsBook};
 
-use rbc_book::{Book, RunName};
+use rbc_core::{Book, RunName};
 use std::sync::{Mutex, MutexGuard, Wait};
 use std::{hint, thread};
 

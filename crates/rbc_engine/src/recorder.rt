@@ -8,7 +8,7 @@ ghost use Rattle.rbc_engine.specs.Reading.{MaySee};
 use crate::gate::Gate;
 use crate::hand::Hand;
 use crate::locking::lock;
-use rbc_book::{Book, RunName};
+use rbc_core::{Book, RunName};
 use rbc_records::{Key, ReadFault, Reader, Rec};
 use rbc_versions::{Notes, Ticket, VersionLog};
 use std::alloc::Global;

@@ -3,9 +3,9 @@
 ghost use Rattle.std.specs.Prelude.{◌<◌};
 
 use crate::chunk::sender;
-use rbc_book::Desk;
+use rbc_core::Desk;
 use rbc_records::{Key, Rec};
-use rbc_step::Input;
+use rbc_rule::Input;
 
 /// The greatest number of inputs of one stretch of a run: a book takes memory for each of its inputs.
 const MAX_STRETCH: usize = 16_384;

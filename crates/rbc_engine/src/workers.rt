@@ -4,11 +4,11 @@
 ghost use Rattle.std.specs.Prelude.{◌≡◌, ◌≤◌, IsTrue, Ok, false, length, drop};
 ghost use Rattle.std.specs.List.{All};
 ghost use Rattle.rbc_track.specs.Plan.{IsPlan};
-ghost use Rattle.rbc_step.specs.Inputs.{Fits};
-ghost use Rattle.rbc_book.specs.Held.{IsInOrder};
-ghost use Rattle.rbc_book.specs.Books.{state_of};
-ghost use Rattle.rbc_book.specs.Core.{front};
-ghost use Rattle.rbc_book.specs.Runs.{IsGoodRun};
+ghost use Rattle.rbc_rule.specs.Inputs.{Fits};
+ghost use Rattle.rbc_core.specs.Held.{IsInOrder};
+ghost use Rattle.rbc_core.specs.Books.{state_of};
+ghost use Rattle.rbc_core.specs.Core.{front};
+ghost use Rattle.rbc_core.specs.Runs.{IsGoodRun};
 ghost use Rattle.rbc_engine.specs.Answers.{IsOpening, IsRun, IsStretch, IsNextStretch, IsFinished};
 ghost use Rattle.rbc_engine.specs.Fronts.{IsWaiting, IsGivenUp, IsNext, IsAtItsEnd};
 
@@ -16,8 +16,8 @@ use crate::by_train::{Windows, run_alone, run_shared};
 use crate::gate::{Behind, Gate, OpenGate};
 use crate::job::work_together;
 use crate::way::{Pace, Road, next_way};
-use rbc_book::{Book, Commit, Desk, MAX_RESULTS, RunName, Stats};
-use rbc_step::{Input, MAX_INPUTS};
+use rbc_core::{Book, Commit, Desk, MAX_RESULTS, RunName, Stats};
+use rbc_rule::{Input, MAX_INPUTS};
 use rbc_track::Track;
 use rbc_versions::VersionLog;
 use std::alloc::Global;

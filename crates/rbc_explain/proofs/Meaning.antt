@@ -11,8 +11,8 @@ use Rattle.rbc_track.specs.declared.group.Group.{Group}
 use Rattle.rbc_track.specs.declared.group.Way.{Way}
 use Rattle.rbc_track.specs.declared.group.Way.TheVariants.{Up, Down}
 use Rattle.rbc_place.specs.Reach.{IsAhead}
-use Rattle.rbc_step.specs.Saying as rule
-use Rattle.rbc_step.specs.Saying.{CountsFrom, IsSpotTold}
+use Rattle.rbc_rule.specs.Saying as rule
+use Rattle.rbc_rule.specs.Saying.{CountsFrom, IsSpotTold}
 use Rattle.rbc_explain.specs.declared.said.Origin.{Origin}
 use Rattle.rbc_explain.specs.declared.said.Spot.{Spot}
 use Rattle.rbc_explain.specs.declared.said.Spoken.{Spoken}

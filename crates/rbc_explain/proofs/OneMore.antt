@@ -11,15 +11,15 @@ use Rattle.rbc_account.specs.Answers.{max_inputs}
 use Rattle.rbc_text.specs.BatchText.{line_of, lines_of, IsInput}
 use Rattle.rbc_text.specs.Pieces.{texts_of}
 use Rattle.rbc_text.specs.OutputText.{answer_of}
-use Rattle.rbc_step.specs.declared.outcome.Reply.{Reply}
-use Rattle.rbc_step.specs.declared.outcome.Reply.TheVariants.{Done, Refused}
+use Rattle.rbc_rule.specs.declared.outcome.Reply.{Reply}
+use Rattle.rbc_rule.specs.declared.outcome.Reply.TheVariants.{Done, Refused}
 use Rattle.rbc_account.specs.History.{IsFed, Taken, IsHistory}
 use Rattle.rbc_account.specs.declared.account.Sums.{Sums}
 use Rattle.rbc_account.specs.declared.account.Account.{Account}
 use Rattle.rbc_account.specs.Sums.{no_sums, counted, input_count}
 use Rattle.rbc_account.specs.Runs.{sums_after, EachAccountIsTrue}
 use Rattle.rbc_account.proofs.Adding.{all_counted}
-use Rattle.rbc_step.specs.declared.input.Input.{Input}
+use Rattle.rbc_rule.specs.declared.input.Input.{Input}
 use Rattle.rbc_account.specs.declared.told.Told.{Told}
 use Rattle.rbc_account.specs.Coming.{sender_in}
 use Rattle.rbc_account.specs.Subjects.{ArePaired, IsToldOf}

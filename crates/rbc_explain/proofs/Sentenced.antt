@@ -2,9 +2,9 @@
 use Rattle.std.proofs.Common.{◌≡◌, ℕ, Bool, true, false, cond, ◌==◌, ◌/◌, ◌%◌, List, ◌++◌, None, codes, decimal, refl, sym, ap, ◌∙◌, append_assoc}
 use Rattle.ertms_codec.specs.ToTrain.{spelling_of}
 use Rattle.rbc_words.specs.Units.{km_in_metres, km_text}
-use Rattle.rbc_train.specs.declared.sent.Sent.{Sent}
-use Rattle.rbc_step.specs.declared.outcome.Reply.{Reply}
-use Rattle.rbc_step.specs.declared.outcome.Reply.TheVariants.{Done, Refused}
+use Rattle.rbc_settle.specs.declared.sent.Sent.{Sent}
+use Rattle.rbc_rule.specs.declared.outcome.Reply.{Reply}
+use Rattle.rbc_rule.specs.declared.outcome.Reply.TheVariants.{Done, Refused}
 use Rattle.rbc_text.specs.OutputText.{reply_text}
 use Rattle.hex.specs.Hex.{encode_upper}
 use Rattle.rbc_explain.specs.declared.said.Spot.{Spot}

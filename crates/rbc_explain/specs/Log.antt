@@ -4,7 +4,7 @@ use Rattle.rbc_track.specs.Plan.{Plan}
 use Rattle.rbc_track.specs.Reading.{IsTrackOf}
 use Rattle.rbc_records.specs.declared.record.Key.{Key}
 use Rattle.rbc_records.specs.declared.record.Rec.{Rec}
-use Rattle.rbc_step.specs.declared.input.Input.{Input}
+use Rattle.rbc_rule.specs.declared.input.Input.{Input}
 use Rattle.rbc_text.specs.BatchText.{line_of, lines_of, IsInput}
 use Rattle.rbc_text.specs.OutputText.{answer_of}
 use Rattle.rbc_account.specs.Process.{IsAllRead}

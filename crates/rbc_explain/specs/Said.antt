@@ -5,8 +5,8 @@ use Rattle.ertms_codec.specs.declared.to_train.ToTrain.{ToTrain}
 use Rattle.rbc_track.specs.Plan.{Plan}
 use Rattle.rbc_track.specs.declared.group.Way.{Way}
 use Rattle.rbc_track.specs.declared.group.Way.TheVariants.{Up, Down}
-use Rattle.rbc_step.specs.Saying as rule
-use Rattle.rbc_step.specs.Saying.{CountsFrom, IsSpotTold, IsStretchTold, Says, PacketSays}
+use Rattle.rbc_rule.specs.Saying as rule
+use Rattle.rbc_rule.specs.Saying.{CountsFrom, IsSpotTold, IsStretchTold, Says, PacketSays}
 use Rattle.rbc_explain.specs.Sentences.{stop_sentence, restriction_sentence, packet_sentence}
 use Rattle.rbc_explain.specs.declared.said.Origin.{Origin}
 use Rattle.rbc_explain.specs.declared.said.Spoken.{Spoken}

@@ -1,7 +1,7 @@
 //! One input in a log: its line, what came of it, and each message with its reason.
 
 ghost use Rattle.std.specs.Prelude.{◌≡◌, ◌<◌, length, slice_get, Some, OnOk};
-ghost use Rattle.rbc_step.specs.Gathered.{AreSendable};
+ghost use Rattle.rbc_rule.specs.Gathered.{AreSendable};
 ghost use Rattle.rbc_text.specs.OutputText.{answer_of};
 ghost use Rattle.rbc_explain.specs.Telling.{IsBlockOn};
 
@@ -12,7 +12,7 @@ use crate::message::{USUAL_BYTES, push_message};
 use crate::refused::{RefusedInput, push_refused};
 use crate::waiting_in_words::push_waiting_at;
 use rbc_account::{Block, Counts, Deed, Told};
-use rbc_step::{Input, Reply};
+use rbc_rule::{Input, Reply};
 use rbc_text::{first_line, render_answer};
 use rbc_track::Track;
 use rbc_track_report::Sheet;

@@ -4,8 +4,8 @@ use crate::figures::{push_place, push_segment, push_segments};
 use crate::waiting_in_words::push_waiting;
 use rbc_account::{Account, Sharing, Standing, TrainStanding};
 use rbc_ids::{Kind, Slot, UsedSlot};
+use rbc_settle::TrainRec;
 use rbc_track_report::Sheet;
-use rbc_train::TrainRec;
 use rbc_zones::{Area, Dirs, Limit};
 
 /// How many reports without an answer are counted.

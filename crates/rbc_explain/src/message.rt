@@ -11,9 +11,9 @@ use crate::sentence::stop_sentence;
 use ertms_codec::ToTrain;
 use rbc_account::{Told, ToldWhat, WhyAtOnce};
 use rbc_place::Place;
+use rbc_settle::Sent;
 use rbc_track::Track;
 use rbc_track_report::Sheet;
-use rbc_train::Sent;
 use std::alloc::{AllocError, Global};
 
 /// Room for what is usually said of a message at once.

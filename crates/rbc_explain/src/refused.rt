@@ -2,7 +2,7 @@
 
 use crate::bad_line::fault_of_line;
 use rbc_account::Detail;
-use rbc_step::{Input, Refusal};
+use rbc_rule::{Input, Refusal};
 use rbc_track_report::Sheet;
 use rbc_words::{Row, other_row_of, row_of_code};
 use rbc_zones::Segment;

@@ -12,9 +12,9 @@ use crate::sentence::{packet_sentence, restriction_sentence};
 use ertms_codec::{Head, Packets, Part, ToTrain};
 use rbc_account::{RestrictionTold, ToldRestriction, WhyRevoked, WhyTold};
 use rbc_place::Place;
+use rbc_settle::Sent;
 use rbc_track::{Track, Way};
 use rbc_track_report::Sheet;
-use rbc_train::Sent;
 use rbc_zones::Segment;
 use std::alloc::{AllocError, Global};
 

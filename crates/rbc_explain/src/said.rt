@@ -3,8 +3,8 @@
 ghost use Rattle.std.specs.Prelude.{◌≡◌, ◌≤◌, ◌<◌, ◌*◌, ℕ, [], ◌∷◌, true, is_some, IfSome};
 ghost use Rattle.rbc_track.specs.Plan.{group_of, max_length};
 ghost use Rattle.rbc_track.specs.declared.group.Way.{Way};
-ghost use Rattle.rbc_step.specs.Saying.{CountsFrom, IsSpotTold, IsStretchTold, PacketSays, Says};
-ghost use Rattle.rbc_step.specs.Saying as rule;
+ghost use Rattle.rbc_rule.specs.Saying.{CountsFrom, IsSpotTold, IsStretchTold, PacketSays, Says};
+ghost use Rattle.rbc_rule.specs.Saying as rule;
 ghost use Rattle.rbc_explain.specs.Said.{IsSpokenBy, IsSpokenByPacket, IsSpotAhead, IsOriginOf, IsStopBefore};
 ghost use Rattle.rbc_explain.specs.Said.{IsRestriction, IsOnStop, IsRevokedAs};
 

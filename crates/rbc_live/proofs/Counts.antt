@@ -6,14 +6,14 @@ use Rattle.ertms_codec.specs.declared.to_train.ToTrain.{ToTrain}
 use Rattle.rbc_track.specs.Plan.{Plan}
 use Rattle.rbc_maps.specs.Maps.{keys, rises_from, value_or}
 use Rattle.rbc_maps.proofs.MapPlaces.{absent_below, value_or-absent}
-use Rattle.rbc_train.specs.declared.sent.Sent.{Sent}
+use Rattle.rbc_settle.specs.declared.sent.Sent.{Sent}
 use Rattle.rbc_records.specs.declared.record.Key.{Key}
 use Rattle.rbc_records.specs.declared.record.Rec.{Rec}
 use Rattle.rbc_records.specs.Notes.{Whole, Extends}
-use Rattle.rbc_step.specs.declared.input.Input.{Input}
-use Rattle.rbc_step.specs.declared.outcome.Reply.{Reply}
-use Rattle.rbc_step.specs.Right.{IsRight, messages_to}
-use Rattle.rbc_step.specs.Step.{step, count_sent}
+use Rattle.rbc_rule.specs.declared.input.Input.{Input}
+use Rattle.rbc_rule.specs.declared.outcome.Reply.{Reply}
+use Rattle.rbc_rule.specs.Right.{IsRight, messages_to}
+use Rattle.rbc_rule.specs.Step.{step, count_sent}
 use Rattle.rbc_text.proofs.Sends.{sent_ascends}
 use Rattle.rbc_text.specs.BatchText.{line_of, IsInput}
 use Rattle.rbc_live.specs.declared.desk.LiveFault.{LiveFault}

@@ -2,3 +2,14 @@ pub mod Steps
 mod Witness
 pub mod Runs
 pub mod Counts
+mod Pieces
+mod Words
+mod LastSpaces
+mod Alike
+mod LongMessages
+mod LongStops
+mod Writing
+mod Taking
+mod Cutting
+mod Ending
+mod Calling

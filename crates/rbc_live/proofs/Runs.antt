@@ -3,13 +3,13 @@ use Rattle.std.proofs.Common.{◌≡◌, ℕ, ◌+◌, List, [], ◌∷◌, ◌+
 use Rattle.std.proofs.lemmas.List.Elements.{All-nil}
 use Rattle.std.specs.List.{fold}
 use Rattle.rbc_track.specs.Plan.{Plan}
-use Rattle.rbc_train.specs.declared.sent.Sent.{Sent}
+use Rattle.rbc_settle.specs.declared.sent.Sent.{Sent}
 use Rattle.rbc_records.specs.declared.record.Key.{Key}
 use Rattle.rbc_records.specs.declared.record.Rec.{Rec}
 use Rattle.rbc_records.specs.Notes.{record_in}
-use Rattle.rbc_step.specs.declared.input.Input.{Input}
-use Rattle.rbc_step.specs.declared.outcome.Reply.{Reply}
-use Rattle.rbc_step.specs.Step as rule
+use Rattle.rbc_rule.specs.declared.input.Input.{Input}
+use Rattle.rbc_rule.specs.declared.outcome.Reply.{Reply}
+use Rattle.rbc_rule.specs.Step as rule
 use Rattle.rbc_text.specs.BatchText.{AreInputs}
 use Rattle.rbc_text.specs.Mail.{Mail}
 use Rattle.rbc_text.specs.Held.{AreRecordsOf, Standing, Holds, AreOutboxes, post_each}

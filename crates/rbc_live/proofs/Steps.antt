@@ -2,17 +2,17 @@
 use Rattle.std.proofs.Common.{◌≡◌, List, Option, Result, Ok, Err, refl, ◌∙◌}
 use Rattle.std.specs.Prelude.{OnOk, OnErr}
 use Rattle.rbc_track.specs.Plan.{Plan, IsPlan}
-use Rattle.rbc_train.specs.declared.sent.Sent.{Sent}
+use Rattle.rbc_settle.specs.declared.sent.Sent.{Sent}
 use Rattle.rbc_records.specs.declared.record.Key.{Key}
 use Rattle.rbc_records.specs.declared.record.Rec.{Rec}
 use Rattle.rbc_records.specs.Notes.{Whole, Extends, record_in}
 use Rattle.rbc_records.specs.Writes.{written}
-use Rattle.rbc_step.specs.declared.input.Input.{Input}
-use Rattle.rbc_step.specs.declared.outcome.Reply.{Reply}
-use Rattle.rbc_step.specs.Inputs.{Fits}
-use Rattle.rbc_step.specs.World.{World}
-use Rattle.rbc_step.specs.Right.{MayBe, IsRight, IsStep, IsTorn}
-use Rattle.rbc_step.specs.Laws.{EachStepKeepsWorlds}
+use Rattle.rbc_rule.specs.declared.input.Input.{Input}
+use Rattle.rbc_rule.specs.declared.outcome.Reply.{Reply}
+use Rattle.rbc_rule.specs.Inputs.{Fits}
+use Rattle.rbc_rule.specs.World.{World}
+use Rattle.rbc_rule.specs.Right.{MayBe, IsRight, IsStep, IsTorn}
+use Rattle.rbc_rule.specs.Laws.{EachStepKeepsWorlds}
 use Rattle.rbc_text.specs.Held.{AreRecordsOf}
 use Rattle.rbc_live.specs.History.{AreSame, IsStepOf}
 

@@ -6,12 +6,12 @@ use Rattle.rbc_records.specs.declared.record.Key.{Key}
 use Rattle.rbc_records.specs.declared.record.Key.TheVariants as key
 use Rattle.rbc_records.specs.declared.record.Rec.{Rec}
 use Rattle.rbc_records.specs.Notes.{record_in}
-use Rattle.rbc_step.specs.declared.input.Input.{Input}
-use Rattle.rbc_step.specs.declared.input.Input.TheVariants.{Bad}
-use Rattle.rbc_step.specs.World.{new_world}
-use Rattle.rbc_step.specs.Records.{record_of}
-use Rattle.rbc_step.specs.Right.{messages_to}
-use Rattle.rbc_step.specs.Step.{step}
+use Rattle.rbc_rule.specs.declared.input.Input.{Input}
+use Rattle.rbc_rule.specs.declared.input.Input.TheVariants.{Bad}
+use Rattle.rbc_rule.specs.World.{new_world}
+use Rattle.rbc_rule.specs.Records.{record_of}
+use Rattle.rbc_rule.specs.Right.{messages_to}
+use Rattle.rbc_rule.specs.Step.{step}
 use Rattle.rbc_text.specs.Held.{AreRecordsOf}
 use Rattle.rbc_live.specs.History.{AreSame, IsStepOf, IsFed, IsHistory, IsSerialRunOf}
 use Rattle.rbc_live.specs.Witnesses.{refused, accepted, sending, engines_there}

@@ -2,15 +2,15 @@
 use Rattle.std.specs.Prelude.{◌≡◌, ℕ, ◌+◌, ◌<◌, List, [], ◌∷◌, map}
 use Rattle.rbc_track.specs.Plan.{Plan}
 use Rattle.rbc_maps.specs.Maps.{value_or}
-use Rattle.rbc_train.specs.declared.sent.Sent.{Sent}
+use Rattle.rbc_settle.specs.declared.sent.Sent.{Sent}
 use Rattle.rbc_records.specs.declared.record.Key.{Key}
 use Rattle.rbc_records.specs.declared.record.Rec.{Rec}
 use Rattle.rbc_records.specs.Notes.{record_in}
-use Rattle.rbc_step.specs.declared.input.Input.{Input}
-use Rattle.rbc_step.specs.declared.outcome.Reply.{Reply}
-use Rattle.rbc_step.specs.World.{World}
-use Rattle.rbc_step.specs.Step.{step, count_sent}
-use Rattle.rbc_step.specs.Right.{messages_to}
+use Rattle.rbc_rule.specs.declared.input.Input.{Input}
+use Rattle.rbc_rule.specs.declared.outcome.Reply.{Reply}
+use Rattle.rbc_rule.specs.World.{World}
+use Rattle.rbc_rule.specs.Step.{step, count_sent}
+use Rattle.rbc_rule.specs.Right.{messages_to}
 use Rattle.rbc_text.specs.Mail.{Mail}
 use Rattle.rbc_text.specs.Held.{AreRecordsOf, Holds, post_each}
 use Rattle.rbc_text.specs.Serial.{serial, new_desk}

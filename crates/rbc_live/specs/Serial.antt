@@ -4,7 +4,7 @@ use Rattle.rbc_track.specs.Plan.{Plan}
 use Rattle.rbc_records.specs.declared.record.Key.{Key}
 use Rattle.rbc_records.specs.declared.record.Rec.{Rec}
 use Rattle.rbc_records.specs.Notes.{record_in}
-use Rattle.rbc_step.specs.declared.input.Input.{Input}
+use Rattle.rbc_rule.specs.declared.input.Input.{Input}
 use Rattle.rbc_text.specs.Held.{AreRecordsOf}
 use Rattle.rbc_text.specs.Serial.{serial, new_desk}
 

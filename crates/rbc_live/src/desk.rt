@@ -3,13 +3,13 @@
 ghost use Rattle.std.specs.Prelude.{◌≡◌, ◌≤◌, ◌⊎◌, [], length, IfOk, OnErr, IfErr};
 ghost use Rattle.rbc_track.specs.Plan.{IsPlan};
 ghost use Rattle.rbc_track.specs.Reading.{IsTrackOf, RefusesTrack};
-ghost use Rattle.rbc_step.specs.Gathered.{AreSendable};
-ghost use Rattle.rbc_step.specs.Inputs.{Fits};
+ghost use Rattle.rbc_rule.specs.Gathered.{AreSendable};
+ghost use Rattle.rbc_rule.specs.Inputs.{Fits};
 ghost use Rattle.rbc_live.specs.Serial.{IsSerial};
 ghost use Rattle.rbc_live.specs.History.{IsFed, IsStepOf, AreSame, IsFaultAt, IsFaultOf};
 
 use rbc_records::{PlainStore, apply};
-use rbc_step::{Input, Reply, RuleFault, SentList};
+use rbc_rule::{Input, Reply, RuleFault, SentList};
 use rbc_text::{decide, parse_line, step_law};
 use rbc_track::{Track, TrackError, track_from_toml};
 use std::alloc::{AllocError, Global};

@@ -5,7 +5,7 @@ use Rattle.rbc_place.specs.Placing as placing
 use Rattle.rbc_track.specs.declared.group.Way.{Way}
 use Rattle.rbc_track.specs.declared.group.Way.TheVariants.{Up, Down}
 use Rattle.rbc_account.specs.declared.state.TrainStanding.{TrainStanding}
-use Rattle.rbc_train.specs.declared.train.TrainRec.{TrainRec}
+use Rattle.rbc_settle.specs.declared.train.TrainRec.{TrainRec}
 use Rattle.rbc_picture.specs.Titles.{ShownTrain}
 use Rattle.rbc_picture.specs.declared.train_state.TrainState.{TrainState}
 

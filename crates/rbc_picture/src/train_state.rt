@@ -8,7 +8,7 @@ use crate::short_words::{Remark, ShortWord};
 use rbc_account::{Account, ToldPlace, TrainStanding, Waiting, Waits};
 use rbc_ids::{Kind, Slot, UsedSlot};
 use rbc_place::Place;
-use rbc_train::TrainRec;
+use rbc_settle::TrainRec;
 use std::alloc::{AllocError, Global};
 
 /// What a stop identifier of a train is held for.

@@ -9,8 +9,8 @@ use Rattle.std.specs.Map.{keys_of}
 use Rattle.indexmap.specs.IndexMap.{insert_entry, swap_remove_entry}
 use Rattle.rbc_records.specs.declared.record.Key.{Key}
 use Rattle.rbc_records.specs.declared.record.Rec.{Rec}
-use Rattle.rbc_sought.specs.declared.bounds.Told.{Told}
-use Rattle.rbc_sought.specs.declared.bounds.Extent.{Extent}
+use Rattle.rbc_records.specs.declared.bounds.Told.{Told}
+use Rattle.rbc_records.specs.declared.bounds.Extent.{Extent}
 use Rattle.rbc_records.specs.contracts.record.KeyPartialEq.TheImpl.{eq-value}
 use Rattle.rbc_records.specs.Columns.{told_of, extent_of, tolds_of, extents_of, AreBeside}
 

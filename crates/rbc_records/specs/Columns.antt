@@ -1,11 +1,11 @@
 -- What stands beside the records, so that a search passes by most trains without looking them up (own rule).
 use Rattle.std.specs.Prelude.{◌≡◌, ℕ, Bool, false, ◌==◌, ◌&&◌, List, map}
 use Rattle.std.specs.List.{list_any}
-use Rattle.rbc_sought.specs.Numbers.{has_number}
-use Rattle.rbc_sought.specs.declared.bounds.Told.{Told}
-use Rattle.rbc_sought.specs.declared.bounds.Extent.{Extent}
-use Rattle.rbc_sought.specs.Tolds.{told_of_train}
-use Rattle.rbc_sought.specs.Extents.{nowhere, extent_of_train}
+use Rattle.rbc_settle.specs.Numbers.{has_number}
+use Rattle.rbc_records.specs.declared.bounds.Told.{Told}
+use Rattle.rbc_records.specs.declared.bounds.Extent.{Extent}
+use Rattle.rbc_records.specs.Tolds.{told_of_train}
+use Rattle.rbc_records.specs.Extents.{nowhere, extent_of_train}
 use Rattle.rbc_records.specs.declared.record.Key.TheVariants as key
 use Rattle.rbc_records.specs.declared.record.Key.{Key}
 use Rattle.rbc_records.specs.declared.record.Rec.TheVariants as rec

@@ -1,9 +1,9 @@
 -- What a search for the trains that a command seeks finds (own rule).
 use Rattle.std.specs.Prelude.{◌≡◌, ℕ, true, List, Some, is_some, IsTrue}
-use Rattle.rbc_sought.specs.TrainRec.{TrainRec}
-use Rattle.rbc_sought.specs.Numbers.{has_number}
-use Rattle.rbc_sought.specs.declared.bounds.Sought.{Sought}
-use Rattle.rbc_sought.specs.Seeking.{is_sought}
+use Rattle.rbc_settle.specs.declared.train.TrainRec.{TrainRec}
+use Rattle.rbc_settle.specs.Numbers.{has_number}
+use Rattle.rbc_records.specs.declared.bounds.Sought.{Sought}
+use Rattle.rbc_records.specs.SoughtTrains.{is_sought}
 use Rattle.rbc_records.specs.declared.record.Key.TheVariants as key
 use Rattle.rbc_records.specs.declared.record.Key.{Key}
 use Rattle.rbc_records.specs.declared.record.Rec.TheVariants as rec

@@ -1,6 +1,8 @@
-//! The single records in which everything known is kept: how they are read, noted, stored and written.
+//! The single records in which everything known is kept: how they are read, noted, stored and written, and how a
+//! search finds the trains that a command seeks.
 #![tactic(auto)]
 
+mod bounds;
 mod noted_records;
 mod reader;
 mod record;
@@ -9,8 +11,9 @@ mod search;
 mod store;
 mod writes;
 
+pub use bounds::{Extent, Sought, Told, has_bit};
 pub use noted_records::Notes;
-pub use rbc_sought::{Limits, Sought, Stops};
+pub use rbc_settle::{Limits, Stops};
 pub use reader::{ReadFault, Reader};
 pub use record::{Key, Rec};
 pub use store::{PlainStore, apply, exchange};

@@ -1,8 +1,9 @@
 //! Reading single records.
 
+use crate::bounds::Sought;
 use crate::record::{Key, Rec};
 use crate::writes::Writes;
-use rbc_sought::{Numbers, Sought};
+use rbc_settle::Numbers;
 use std::alloc::{AllocError, Global};
 
 /// Why a record could not be read.

@@ -2,7 +2,7 @@
 
 ghost use Rattle.std.specs.Prelude.{◌≡◌, IfOk};
 
-use rbc_sought::{Limits, Numbers, Stops, TrainRec};
+use rbc_settle::{Limits, Numbers, Stops, TrainRec};
 use std::alloc::{AllocError, Global};
 
 /// The key under which a record is kept.

@@ -8,10 +8,11 @@ ghost use Rattle.rbc_records.specs.Columns.{told_of, extent_of};
 ghost use Rattle.rbc_records.specs.Seeking.{AreFound};
 ghost use Rattle.rbc_records.specs.Writes.{write_over};
 
+use crate::bounds::{Extent, Sought, Told};
 use crate::record::{Key, Rec};
 use crate::search;
 use indexmap::IndexMap;
-use rbc_sought::{Extent, Numbers, Sought, Told};
+use rbc_settle::Numbers;
 use std::alloc::{AllocError, Global};
 use std::marker::Model;
 use std::mem;

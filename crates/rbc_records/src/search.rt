@@ -1,16 +1,17 @@
 //! Searches for trains, each by a scan of one column.
 
 ghost use Rattle.std.specs.Prelude.{◌≡◌, ℕ, ◌<◌, ◌||◌, length, slice_get, Some, IfOk, IfSome, IsTrue};
-ghost use Rattle.rbc_sought.specs.Numbers.{has_number};
+ghost use Rattle.rbc_settle.specs.Numbers.{has_number};
 ghost use Rattle.rbc_records.specs.declared.record.Key.{Key};
 ghost use Rattle.rbc_records.specs.declared.record.Rec.{Rec};
-ghost use Rattle.rbc_sought.specs.Tolds.{has_bit};
-ghost use Rattle.rbc_sought.specs.Extents.{meet};
+ghost use Rattle.rbc_records.specs.Tolds.{has_bit};
+ghost use Rattle.rbc_records.specs.Extents.{meet};
 ghost use Rattle.rbc_records.specs.Columns.{told_of, extent_of, tolds_of, extents_of, is_of_train, ArePassing};
 
+use crate::bounds::{Extent, Told, has_bit};
 use crate::record::{Key, Rec};
 use indexmap::IndexMap;
-use rbc_sought::{Extent, Numbers, Told, has_bit};
+use rbc_settle::Numbers;
 use std::alloc::{AllocError, Global};
 
 /// The most trains that a search returns. A command for more of them goes through all as fast.

@@ -6,11 +6,12 @@ ghost use Rattle.rbc_records.specs.declared.record.Key.{Key};
 ghost use Rattle.rbc_records.specs.Notes.{record_in};
 ghost use Rattle.rbc_records.specs.Writes.{written, write_over, replaced};
 
+use crate::bounds::Sought;
 use crate::reader::{ReadFault, Reader};
 use crate::record::{Key, Rec};
 use crate::record_table::Table;
 use crate::writes::Writes;
-use rbc_sought::{Numbers, Sought};
+use rbc_settle::Numbers;
 use std::alloc::{AllocError, Global};
 use std::marker::Model;
 

@@ -3,7 +3,7 @@
 ghost use Rattle.std.specs.Prelude.{◌≡◌, ◌<◌, [], ◌∷◌, ◌++◌, length, OnOk, OnErr, Some, slice_get, option_copied};
 
 use crate::record::{Key, Rec};
-use rbc_sought::TrainRec;
+use rbc_settle::TrainRec;
 use std::alloc::{AllocError, Global};
 use std::marker::Model;
 

@@ -1,14 +1,17 @@
 //! Decides one input by reading single records.
 
 ghost use Rattle.std.specs.Prelude.{◌≡◌, ◌+◌, ◌<◌, ◌^◌, IfOk, OnOk};
-ghost use Rattle.rbc_kinds.specs.Notes.{Extends};
-ghost use Rattle.rbc_kinds.specs.Inputs.{Fits};
-ghost use Rattle.rbc_kinds.specs.Right.{EachWriteChanges, IsRight, IsSilentIfRefused, FailsAs};
-ghost use Rattle.rbc_kinds.specs.Gathered.{AreSendable};
+ghost use Rattle.rbc_records.specs.Notes.{Extends};
+ghost use Rattle.rbc_rule.specs.Inputs.{Fits};
+ghost use Rattle.rbc_rule.specs.Right.{EachWriteChanges, IsRight, IsSilentIfRefused, FailsAs};
+ghost use Rattle.rbc_rule.specs.Gathered.{AreSendable};
 
-use rbc_kinds::{
-    Input, Outcome, Reader, Restriction, RuleFault, Track, commands, enrol, receive, withdraw,
-};
+use crate::input::Input;
+use crate::outcome::{Outcome, RuleFault};
+use crate::restriction::Restriction;
+use crate::{commands, enrol, receive, withdraw};
+use rbc_records::Reader;
+use rbc_track::Track;
 use std::alloc::Global;
 
 /// Decides an input on a track by the records that it reads (own rule): the answer, the records to write and the

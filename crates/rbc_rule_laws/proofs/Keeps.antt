@@ -2,11 +2,11 @@
 use Rattle.std.proofs.Common.{ℕ, Result, Ok, Err}
 use Rattle.rbc_track.specs.Plan.{Plan}
 use Rattle.rbc_settle.specs.WellFormed.{SettlingKeepsTrains}
-use Rattle.rbc_step.specs.World.{World}
-use Rattle.rbc_step.specs.Effect.{effect}
-use Rattle.rbc_step.specs.Step.{after}
-use Rattle.rbc_step.specs.WellFormed.{IsWellFormed}
-use Rattle.rbc_step.specs.Laws.{EachStepKeepsWorlds}
+use Rattle.rbc_rule.specs.World.{World}
+use Rattle.rbc_rule.specs.Effect.{effect}
+use Rattle.rbc_rule.specs.Step.{after}
+use Rattle.rbc_rule.specs.WellFormed.{IsWellFormed}
+use Rattle.rbc_rule.specs.Laws.{EachStepKeepsWorlds}
 use Rattle.rbc_rule_laws.proofs.KeepsWorlds.{ReadyIfOk, ready_settled, effect_ready}
 
 kept_after : SettlingKeepsTrains → (plan : Plan) (w : World) (r : Result World ℕ) → IsWellFormed plan w → ReadyIfOk plan r → IsWellFormed plan (after plan w r).world

@@ -15,7 +15,7 @@ use Rattle.rbc_ids.specs.Table.{Slots, IsTable, TellsApart, stamp_of, marked, is
 use Rattle.rbc_ids.proofs.Tables.{has-value, stays_without, stays_with, stays_reported, stays_acked, held_below}
 use Rattle.rbc_ids.proofs.Once.{apart-marked, acked_keeps}
 use Rattle.rbc_settle.specs.WellFormed.{number_in, told_numbers, stamps_in, IsGiven, has_kind, has_count, AreGoodSlots}
-use Rattle.rbc_step.proofs.KeepsLists.{IsPart, part-equal, part-kept, part-left, part-more, part-fewer, part-all, part-distinct, part-filter, part-filter_map, All-with_value, All-value_of, map-replaced, filter_map-by_map}
+use Rattle.rbc_rule.proofs.KeepsLists.{IsPart, part-equal, part-kept, part-left, part-more, part-fewer, part-all, part-distinct, part-filter, part-filter_map, All-with_value, All-value_of, map-replaced, filter_map-by_map}
 
 pub record SlotsStay (count : ℕ) (is_kind : Kind → Bool) (old new : Slots) : Type 0 where
   pub table : IsTable count new

@@ -14,20 +14,20 @@ use Rattle.rbc_ids.specs.declared.slot.Slot.{Slot}
 use Rattle.rbc_ids.specs.declared.slot.Slot.TheVariants.{Used, Revoking}
 use Rattle.rbc_ids.specs.declared.slot.Kind.{Kind}
 use Rattle.rbc_ids.specs.Table.{Slots, IsTable, is_answered_by, acked_slots, after_stamp_ack, is_acceptance, is_rejection, acked_by_id, after_id_ack, rejected, marked, after_report}
-use Rattle.rbc_train.specs.declared.train.TrainRec.{TrainRec}
-use Rattle.rbc_train.specs.Numbers.{and_number, without_number}
-use Rattle.rbc_train.specs.Trains.{new_train}
-use Rattle.rbc_train.specs.Settling.{Stops, Limits, and_forced}
+use Rattle.rbc_settle.specs.declared.train.TrainRec.{TrainRec}
+use Rattle.rbc_settle.specs.Numbers.{and_number, without_number}
+use Rattle.rbc_settle.specs.Trains.{new_train}
+use Rattle.rbc_settle.specs.Settling.{Stops, Limits, and_forced}
 use Rattle.rbc_settle.specs.WellFormed.{told_numbers, stamps, stamps_in, IsGiven, is_stop_kind, is_limit_kind, has_kind, has_count, IsWellFormedTrain}
 use Rattle.rbc_settle.proofs.Forcing.{rises-and, All-and}
-use Rattle.rbc_step.specs.Effect.{forget, unknown_stamp, is_too_high, raised, placed, limits_acked, acknowledged, stop_acked, answered, told_by, stamp_of as stamp_told, heard}
-use Rattle.rbc_step.proofs.KeepsLists.{part-same, part-all, part-apart, apart-part, part-before, part-behind}
+use Rattle.rbc_rule.specs.Effect.{forget, unknown_stamp, is_too_high, raised, placed, limits_acked, acknowledged, stop_acked, answered, told_by, stamp_of as stamp_told, heard}
+use Rattle.rbc_rule.proofs.KeepsLists.{part-same, part-all, part-apart, apart-part, part-before, part-behind}
 use Rattle.rbc_rule_laws.proofs.KeepsSlots.{SlotsStay, stay-without, stay-marked, stay-reported, stay-acked, good_slots, told-given}
 use Rattle.rbc_rule_laws.proofs.KeepsPlaces.{place_on}
-use Rattle.rbc_train.specs.Trains.{max_engine, max_train_length}
-use Rattle.rbc_step.specs.Bounds.{max_stamp}
-use Rattle.rbc_step.specs.Codes.{code_of}
-use Rattle.rbc_step.specs.declared.refuse.Refusal.TheVariants.{StampTooHigh, NothingToAcknowledge}
+use Rattle.rbc_settle.specs.Trains.{max_engine, max_train_length}
+use Rattle.rbc_rule.specs.Bounds.{max_stamp}
+use Rattle.rbc_rule.specs.Codes.{code_of}
+use Rattle.rbc_rule.specs.declared.refuse.Refusal.TheVariants.{StampTooHigh, NothingToAcknowledge}
 
 -- ---- ascending numbers
 

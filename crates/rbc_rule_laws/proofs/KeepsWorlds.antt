@@ -12,26 +12,26 @@ use Rattle.rbc_maps.proofs.MapValues.{rises-without, numbered-without}
 use Rattle.rbc_zones.specs.declared.segment.Segment.{Segment}
 use Rattle.rbc_zones.specs.Segments.{is_good_area}
 use Rattle.rbc_zones.specs.Limits.{Limit, is_good_limit}
-use Rattle.rbc_train.specs.declared.train.TrainRec.{TrainRec}
-use Rattle.rbc_train.specs.Actions.{Action, ChangesStop, ChangesLimits}
-use Rattle.rbc_train.specs.declared.change.StopChange.TheVariants as stop_change
-use Rattle.rbc_train.specs.Trains.{new_train}
-use Rattle.rbc_train.specs.Settling.{Stops, Limits, carried_out, message_of, actions_with_stamp, settled}
+use Rattle.rbc_settle.specs.declared.train.TrainRec.{TrainRec}
+use Rattle.rbc_settle.specs.Actions.{Action, ChangesStop, ChangesLimits}
+use Rattle.rbc_settle.specs.declared.change.StopChange.TheVariants as stop_change
+use Rattle.rbc_settle.specs.Trains.{new_train}
+use Rattle.rbc_settle.specs.Settling.{Stops, Limits, carried_out, message_of, actions_with_stamp, settled}
 use Rattle.rbc_settle.specs.WellFormed.{IsWellFormedTrain, SettlingKeepsTrains}
 use Rattle.rbc_settle.proofs.Achieves.{settled_twice}
-use Rattle.rbc_step.specs.declared.input.Input.{Input}
-use Rattle.rbc_step.specs.declared.input.Input.TheVariants.{Enrol, Withdraw, Stop, Release, Restrict, Lift, Received, Bad}
-use Rattle.rbc_step.specs.Inputs.{Fits}
-use Rattle.rbc_step.specs.World.{World}
-use Rattle.rbc_step.specs.Effect.{then_do, with_next, with_less, after_adding, after_removing, forget, forget_all, without_train, engine_of, heard_from, effect}
-use Rattle.rbc_step.specs.Step.{settle_all}
-use Rattle.rbc_step.specs.WellFormed.{IsGoodStop, AreGoodStops, AreGoodLimits, IsGoodTrain, IsWellFormed}
-use Rattle.rbc_step.proofs.KeepsLists.{length-filter, All-with_value, length-with_value, All-value_of, map-replaced}
+use Rattle.rbc_rule.specs.declared.input.Input.{Input}
+use Rattle.rbc_rule.specs.declared.input.Input.TheVariants.{Enrol, Withdraw, Stop, Release, Restrict, Lift, Received, Bad}
+use Rattle.rbc_rule.specs.Inputs.{Fits}
+use Rattle.rbc_rule.specs.World.{World}
+use Rattle.rbc_rule.specs.Effect.{then_do, with_next, with_less, after_adding, after_removing, forget, forget_all, without_train, engine_of, heard_from, effect}
+use Rattle.rbc_rule.specs.Step.{settle_all}
+use Rattle.rbc_rule.specs.WellFormed.{IsGoodStop, AreGoodStops, AreGoodLimits, IsGoodTrain, IsWellFormed}
+use Rattle.rbc_rule.proofs.KeepsLists.{length-filter, All-with_value, length-with_value, All-value_of, map-replaced}
 use Rattle.rbc_rule_laws.proofs.KeepsTrains.{well_later, well_new, well_forgotten, WellIfOk, well_heard}
-use Rattle.rbc_train.specs.Trains.{max_engine, max_train_length}
-use Rattle.rbc_step.specs.Bounds.{max_trains, max_stops, max_limits}
-use Rattle.rbc_step.specs.Codes.{code_of}
-use Rattle.rbc_step.specs.declared.refuse.Refusal.TheVariants.{AlreadyEnrolled, TooManyTrains, StopsOutstanding, NumberUsed, BadArea, TooManyActive, NoSuchNumber}
+use Rattle.rbc_settle.specs.Trains.{max_engine, max_train_length}
+use Rattle.rbc_rule.specs.Bounds.{max_trains, max_stops, max_limits}
+use Rattle.rbc_rule.specs.Codes.{code_of}
+use Rattle.rbc_rule.specs.declared.refuse.Refusal.TheVariants.{AlreadyEnrolled, TooManyTrains, StopsOutstanding, NumberUsed, BadArea, TooManyActive, NoSuchNumber}
 
 -- ---- maps whose values are changed each
 

@@ -9,8 +9,8 @@ use Rattle.rbc_track.specs.declared.group.Group.{Group}
 use Rattle.rbc_track.specs.declared.group.Way.{Way}
 use Rattle.rbc_track.specs.declared.group.Way.TheVariants.{Up, Down}
 use Rattle.rbc_place.specs.Reach.{IsAhead}
-use Rattle.rbc_step.specs.Saying.{Spot, Stretch, Said, StopsBefore, Restricts, way_told, CountsFrom, IsSpotTold, IsStretchTold, PacketSays, PacketsSay}
-use Rattle.rbc_step.specs.SaidFor.{EachMessageSaysOneThing}
+use Rattle.rbc_rule.specs.Saying.{Spot, Stretch, Said, StopsBefore, Restricts, way_told, CountsFrom, IsSpotTold, IsStretchTold, PacketSays, PacketsSay}
+use Rattle.rbc_rule.specs.SaidFor.{EachMessageSaysOneThing}
 
 -- only one place lies so far ahead
 only_place : (way : Way) (origin by place other : ℕ) → IsAhead way origin by place → IsAhead way origin by other → place ≡ other

@@ -10,7 +10,7 @@ use Rattle.ertms_codec.specs.Layout.{Field, width_of, HoldsValue, HoldValues}
 use Rattle.ertms_codec.specs.Variables.{m_ack, q_front}
 use Rattle.ertms_codec.specs.PacketsToTrain.{fields_of_packet, PacketFits, most_packets}
 use Rattle.ertms_codec.specs.ToTrain as codec
-use Rattle.rbc_step.specs.SaidFor.{IsSendable}
+use Rattle.rbc_rule.specs.SaidFor.{IsSendable}
 
 -- a packet can be put into a message: each variable is in its range, and wide enough for its value
 pub record CanBePacked (part : Part) : Type 0 where

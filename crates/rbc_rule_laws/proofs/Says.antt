@@ -3,13 +3,13 @@ use Rattle.std.proofs.Common.{ℕ, List, [], ◌∷◌, Result, Ok, Err, refl}
 use Rattle.std.specs.List.{All}
 use Rattle.std.proofs.lemmas.List.Elements.{All-head, All-tail}
 use Rattle.rbc_track.specs.Plan.{Plan, IsPlan}
-use Rattle.rbc_train.specs.declared.train.TrainRec.{TrainRec}
-use Rattle.rbc_train.specs.Settling.{Stops, Limits}
-use Rattle.rbc_step.specs.World.{World}
-use Rattle.rbc_step.specs.Effect.{effect}
-use Rattle.rbc_step.specs.Step.{sent_to, after}
-use Rattle.rbc_step.specs.WellFormed.{AreGoodStops, AreGoodLimits}
-use Rattle.rbc_step.specs.SaidFor.{AllSayTo, IsSaidAfter, EachStepSays}
+use Rattle.rbc_settle.specs.declared.train.TrainRec.{TrainRec}
+use Rattle.rbc_settle.specs.Settling.{Stops, Limits}
+use Rattle.rbc_rule.specs.World.{World}
+use Rattle.rbc_rule.specs.Effect.{effect}
+use Rattle.rbc_rule.specs.Step.{sent_to, after}
+use Rattle.rbc_rule.specs.WellFormed.{AreGoodStops, AreGoodLimits}
+use Rattle.rbc_rule.specs.SaidFor.{AllSayTo, IsSaidAfter, EachStepSays}
 use Rattle.rbc_rule_laws.proofs.KeepsWorlds.{IsKept, ReadyIfOk, effect_ready}
 use Rattle.rbc_rule_laws.proofs.SaysTold.{all_say}
 

@@ -14,9 +14,9 @@ use Rattle.rbc_zones.specs.declared.segment.Segment.{Segment}
 use Rattle.rbc_zones.specs.Segments.{is_good_segment, is_good_area, IsSegment}
 use Rattle.rbc_zones.specs.Concerns.{distance_to}
 use Rattle.rbc_zones.specs.Limits.{Limit, IsLimit, is_good_limit}
-use Rattle.rbc_train.specs.Settling.{direction_of}
+use Rattle.rbc_settle.specs.Settling.{direction_of}
 use Rattle.rbc_settle.specs.WellFormed.{IsPlaceOn}
-use Rattle.rbc_step.specs.Saying.{way_told, unit_told}
+use Rattle.rbc_rule.specs.Saying.{way_told, unit_told}
 
 -- seen from its balise group, the direction that is told is the way the train faces
 pub faced : (line lrbg at : ℕ) (same : Bool) (facing : Way) (lo hi : ℕ)

@@ -25,27 +25,27 @@ use Rattle.rbc_zones.specs.Limits.{Limit, IsLimit, is_good_limit, concerns, told
 use Rattle.rbc_zones.proofs.StopLaw.{edge_in_range}
 use Rattle.rbc_zones.proofs.ToldLimits.{each_limit_is_told_rightly}
 use Rattle.rbc_zones.proofs.ToldStops.{told_rightly}
-use Rattle.rbc_train.specs.declared.train.TrainRec.{TrainRec}
-use Rattle.rbc_train.specs.Actions.{Action, ChangesStop, ChangesLimits, groups}
-use Rattle.rbc_train.specs.declared.change.StopChange.{StopChange}
-use Rattle.rbc_train.specs.declared.change.StopChange.TheVariants as stop_change
-use Rattle.rbc_train.specs.declared.change.LimitChange.{LimitChange}
-use Rattle.rbc_train.specs.declared.change.LimitChange.TheVariants as limit_change
-use Rattle.rbc_train.specs.declared.change.ToldStop.{ToldStop}
-use Rattle.rbc_train.specs.declared.change.ToldStop.TheVariants.{AtOnce, Before}
-use Rattle.rbc_train.specs.Told.{Part}
-use Rattle.rbc_train.specs.Numbers.{has_number}
-use Rattle.rbc_train.specs.Settling.{Stops, Limits, last_stamp, unknown_group, direction_of, told_edge, told_at, told_stop, told_limit, limit_told_to, number_forced, tell_stop, tell_limit, to_revoke, is_used_by, is_limit_gone, escalated, is_stop_revoked, stops_revoked, stops_told, limits_revoked, limits_told, packet_of, carried_out, message_of, messages_of, actions, actions_with_stamp}
-use Rattle.rbc_train.specs.Settling.{group_of as group_by, revoke_stop as action_of_stop}
+use Rattle.rbc_settle.specs.declared.train.TrainRec.{TrainRec}
+use Rattle.rbc_settle.specs.Actions.{Action, ChangesStop, ChangesLimits, groups}
+use Rattle.rbc_settle.specs.declared.change.StopChange.{StopChange}
+use Rattle.rbc_settle.specs.declared.change.StopChange.TheVariants as stop_change
+use Rattle.rbc_settle.specs.declared.change.LimitChange.{LimitChange}
+use Rattle.rbc_settle.specs.declared.change.LimitChange.TheVariants as limit_change
+use Rattle.rbc_settle.specs.declared.change.ToldStop.{ToldStop}
+use Rattle.rbc_settle.specs.declared.change.ToldStop.TheVariants.{AtOnce, Before}
+use Rattle.rbc_settle.specs.Told.{Part}
+use Rattle.rbc_settle.specs.Numbers.{has_number}
+use Rattle.rbc_settle.specs.Settling.{Stops, Limits, last_stamp, unknown_group, direction_of, told_edge, told_at, told_stop, told_limit, limit_told_to, number_forced, tell_stop, tell_limit, to_revoke, is_used_by, is_limit_gone, escalated, is_stop_revoked, stops_revoked, stops_told, limits_revoked, limits_told, packet_of, carried_out, message_of, messages_of, actions, actions_with_stamp}
+use Rattle.rbc_settle.specs.Settling.{group_of as group_by, revoke_stop as action_of_stop}
 use Rattle.rbc_settle.specs.UpToDate.{HasTables}
 use Rattle.rbc_settle.specs.WellFormed.{IsPlaceOn, HasPlaceOn}
 use Rattle.rbc_settle.proofs.Groups.{groups_cons, by_groups}
 use Rattle.rbc_settle.proofs.Wanted.{wanted_of}
 use Rattle.rbc_settle.proofs.Escalating.{between, forced_then, wanted_next, forced_as_fold}
 use Rattle.rbc_settle.proofs.Concerned.{each_value, told_as, limit_as}
-use Rattle.rbc_step.specs.WellFormed.{IsGoodStop, AreGoodStops, AreGoodLimits}
-use Rattle.rbc_step.specs.Saying.{Said, StopsAtOnce, StopsBefore, Restricts, RevokesStop, RevokesLimit, Spot, Stretch, CountsFrom, PacketSays, PacketsSay, Says}
-use Rattle.rbc_step.specs.SaidFor.{stretch_for, IsEdgeSaid, IsConcernSaid, IsLimitSaid, IsChangeSaid, AreChangesSaid, IsSendable, as_told, SaysFor, AllSay}
+use Rattle.rbc_rule.specs.WellFormed.{IsGoodStop, AreGoodStops, AreGoodLimits}
+use Rattle.rbc_rule.specs.Saying.{Said, StopsAtOnce, StopsBefore, Restricts, RevokesStop, RevokesLimit, Spot, Stretch, CountsFrom, PacketSays, PacketsSay, Says}
+use Rattle.rbc_rule.specs.SaidFor.{stretch_for, IsEdgeSaid, IsConcernSaid, IsLimitSaid, IsChangeSaid, AreChangesSaid, IsSendable, as_told, SaysFor, AllSay}
 use Rattle.rbc_rule_laws.proofs.Packets.{CanBePacked}
 use Rattle.rbc_rule_laws.proofs.Sendable.{revoked_below, free_stop_ids, free_limit_ids, group_within, direction_within, restriction, restriction_packed, revocation_packed, revoke_stop, stop_at_once, stop_before, general}
 use Rattle.rbc_rule_laws.proofs.SaysPlaces.{faced, unit_is, distance_within, lies_ahead, whole_fives, sound, good_area, good_limit}

@@ -12,15 +12,15 @@ use Rattle.rbc_place.specs.Placing.{Place}
 use Rattle.rbc_maps.specs.Maps.{has, keys}
 use Rattle.rbc_ids.specs.declared.slot.Slot.{Slot}
 use Rattle.rbc_ids.specs.Table.{Slots, free_identifiers}
-use Rattle.rbc_train.specs.declared.train.TrainRec.{TrainRec}
-use Rattle.rbc_train.specs.declared.change.StopChange.TheVariants as stop_change
-use Rattle.rbc_train.specs.Actions.{ChangesStop}
-use Rattle.rbc_train.specs.declared.change.ToldStop.TheVariants.{AtOnce, Before}
-use Rattle.rbc_train.specs.Told.{Edge, Part}
-use Rattle.rbc_train.specs.InField.{IsEdgeInField, IsPartInField}
-use Rattle.rbc_train.specs.Settling.{last_stamp, unknown_group, group_of, direction_of, head_of, message_of, is_used_by, to_revoke}
+use Rattle.rbc_settle.specs.declared.train.TrainRec.{TrainRec}
+use Rattle.rbc_settle.specs.declared.change.StopChange.TheVariants as stop_change
+use Rattle.rbc_settle.specs.Actions.{ChangesStop}
+use Rattle.rbc_settle.specs.declared.change.ToldStop.TheVariants.{AtOnce, Before}
+use Rattle.rbc_settle.specs.Told.{Edge, Part}
+use Rattle.rbc_settle.specs.InField.{IsEdgeInField, IsPartInField}
+use Rattle.rbc_settle.specs.Settling.{last_stamp, unknown_group, group_of, direction_of, head_of, message_of, is_used_by, to_revoke}
 use Rattle.rbc_settle.specs.WellFormed.{HasPlaceOn}
-use Rattle.rbc_step.specs.SaidFor.{IsSendable}
+use Rattle.rbc_rule.specs.SaidFor.{IsSendable}
 use Rattle.rbc_rule_laws.proofs.Packets.{CanBePacked, restrict_packed, lift_packed, general_sendable}
 use Rattle.rbc_rule_laws.proofs.SaysPlaces.{sound}
 

@@ -3,16 +3,16 @@ use Rattle.std.proofs.Common.{◌≡◌, List, [], ap, subst}
 use Rattle.std.specs.List.{fold}
 use Rattle.std.proofs.lemmas.List.Elements.{All-weaker}
 use Rattle.rbc_track.specs.Plan.{Plan}
-use Rattle.rbc_train.specs.declared.train.TrainRec.{TrainRec}
-use Rattle.rbc_train.specs.Actions.{Action}
-use Rattle.rbc_train.specs.Settling.{Stops, Limits, carried_out, actions_with_stamp, settled}
+use Rattle.rbc_settle.specs.declared.train.TrainRec.{TrainRec}
+use Rattle.rbc_settle.specs.Actions.{Action}
+use Rattle.rbc_settle.specs.Settling.{Stops, Limits, carried_out, actions_with_stamp, settled}
 use Rattle.rbc_settle.specs.UpToDate.{IsUpToDateOrAtTheEnd}
 use Rattle.rbc_settle.proofs.Achieves.{up_to_date}
 use Rattle.rbc_settle.proofs.Keeps.{keeps_trains}
-use Rattle.rbc_step.specs.World.{World}
-use Rattle.rbc_step.specs.Step.{step}
-use Rattle.rbc_step.specs.WellFormed.{IsWellFormed, IsGoodTrain}
-use Rattle.rbc_step.specs.Told.{EachTrainIsUpToDate, EachStepTells}
+use Rattle.rbc_rule.specs.World.{World}
+use Rattle.rbc_rule.specs.Step.{step}
+use Rattle.rbc_rule.specs.WellFormed.{IsWellFormed, IsGoodTrain}
+use Rattle.rbc_rule.specs.Told.{EachTrainIsUpToDate, EachStepTells}
 use Rattle.rbc_rule_laws.proofs.Keeps.{step_keeps}
 
 module _ (plan : Plan) where

@@ -18,16 +18,16 @@ use Rattle.rbc_zones.specs.declared.stop_meaning.Concern.{Concern}
 use Rattle.rbc_zones.specs.declared.stop_meaning.Concern.TheVariants as concern
 use Rattle.rbc_zones.specs.Concerns.{concern_of, distance_to, IsToldFor}
 use Rattle.rbc_zones.specs.Limits.{Limit}
-use Rattle.rbc_train.specs.declared.train.TrainRec.{TrainRec}
-use Rattle.rbc_train.specs.declared.change.StopChange.TheVariants as stop_change
-use Rattle.rbc_train.specs.declared.change.LimitChange.{LimitChange}
-use Rattle.rbc_train.specs.declared.change.LimitChange.TheVariants as limit_change
-use Rattle.rbc_train.specs.Actions.{ChangesStop, ChangesLimits}
-use Rattle.rbc_train.specs.declared.change.ToldStop.{ToldStop}
-use Rattle.rbc_train.specs.Told.{Part}
-use Rattle.rbc_train.specs.Settling.{Stops, Limits, concern_to}
-use Rattle.rbc_step.specs.Saying.{Spot, Stretch, Said, StopsAtOnce, StopsBefore, Restricts, RevokesStop, RevokesLimit, both_ways, way_told, unit_told, IsSpotTold, PacketSays, PacketsSay, Says}
-use Rattle.rbc_step.specs.SaidFor.{stretch_for, IsEdgeSaid, IsConcernSaid, IsStopSaid, IsLimitSaid, IsChangeSaid, AreChangesSaid, IsSpotFor, IsSendable, SaysFor}
+use Rattle.rbc_settle.specs.declared.train.TrainRec.{TrainRec}
+use Rattle.rbc_settle.specs.declared.change.StopChange.TheVariants as stop_change
+use Rattle.rbc_settle.specs.declared.change.LimitChange.{LimitChange}
+use Rattle.rbc_settle.specs.declared.change.LimitChange.TheVariants as limit_change
+use Rattle.rbc_settle.specs.Actions.{ChangesStop, ChangesLimits}
+use Rattle.rbc_settle.specs.declared.change.ToldStop.{ToldStop}
+use Rattle.rbc_settle.specs.Told.{Part}
+use Rattle.rbc_settle.specs.Settling.{Stops, Limits, concern_to}
+use Rattle.rbc_rule.specs.Saying.{Spot, Stretch, Said, StopsAtOnce, StopsBefore, Restricts, RevokesStop, RevokesLimit, both_ways, way_told, unit_told, IsSpotTold, PacketSays, PacketsSay, Says}
+use Rattle.rbc_rule.specs.SaidFor.{stretch_for, IsEdgeSaid, IsConcernSaid, IsStopSaid, IsLimitSaid, IsChangeSaid, AreChangesSaid, IsSpotFor, IsSendable, SaysFor}
 use Rattle.rbc_rule_laws.specs.Witnesses.{track_a, facing_up, on_line_0, train_7, stop_1, limit_80, restriction_1, head_at, stop_before, stop_now, restrict_to, restrict_as, revoke, lift, spot_at}
 use Rattle.rbc_rule_laws.proofs.Packets.{restrict_packed}
 use Rattle.rbc_rule_laws.proofs.Sendable as sendable

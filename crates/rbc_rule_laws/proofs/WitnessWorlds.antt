@@ -2,18 +2,18 @@
 use Rattle.std.proofs.Common.{◌≡◌, ◌⊎◌, ◌||◌, ℕ, ◌<◌, ◌≤◌, true, false, cond, List, [], ◌∷◌, Option, Some, None, inl, inr, refl, sym, ap, arith}
 use Rattle.std.specs.List.{All}
 use Rattle.std.proofs.lemmas.List.Elements.{All-nil, All-cons, All-head}
-use Rattle.rbc_train.specs.declared.train.TrainRec.{TrainRec}
-use Rattle.rbc_train.specs.Settling.{Stops, Limits, last_stamp}
+use Rattle.rbc_settle.specs.declared.train.TrainRec.{TrainRec}
+use Rattle.rbc_settle.specs.Settling.{Stops, Limits, last_stamp}
 use Rattle.rbc_settle.specs.UpToDate.{IsUpToDate}
 use Rattle.rbc_records.specs.declared.record.Key.{Key}
 use Rattle.rbc_records.specs.declared.record.Rec.{Rec}
 use Rattle.rbc_records.specs.declared.record.Rec.TheVariants as rec
 use Rattle.rbc_records.specs.Notes.{Part, same_key, is_noted, note_in}
 use Rattle.rbc_records.proofs.Keys.{same_key_is}
-use Rattle.rbc_step.specs.World.{World}
-use Rattle.rbc_step.specs.Records.{record_of, Agrees}
-use Rattle.rbc_step.specs.WellFormed.{IsWellFormed, IsGoodTrain}
-use Rattle.rbc_step.specs.Told.{EachTrainIsUpToDate}
+use Rattle.rbc_rule.specs.World.{World}
+use Rattle.rbc_rule.specs.Records.{record_of, Agrees}
+use Rattle.rbc_rule.specs.WellFormed.{IsWellFormed, IsGoodTrain}
+use Rattle.rbc_rule.specs.Told.{EachTrainIsUpToDate}
 use Rattle.rbc_rule_laws.specs.Witnesses.{track_a, world_of}
 
 -- what holds of one holds of all of a list of it alone

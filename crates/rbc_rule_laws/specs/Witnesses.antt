@@ -15,26 +15,26 @@ use Rattle.rbc_ids.specs.Table.{Slots, told_now}
 use Rattle.rbc_zones.specs.declared.segment.Segment.{Segment}
 use Rattle.rbc_zones.specs.declared.limit.Dirs.TheVariants as dirs
 use Rattle.rbc_zones.specs.Limits.{Limit}
-use Rattle.rbc_train.specs.declared.train.TrainRec.{TrainRec}
-use Rattle.rbc_train.specs.declared.change.StopChange.TheVariants as stop_change
-use Rattle.rbc_train.specs.declared.change.LimitChange.{LimitChange}
-use Rattle.rbc_train.specs.declared.change.LimitChange.TheVariants as limit_change
-use Rattle.rbc_train.specs.Actions.{ChangesStop, ChangesLimits}
-use Rattle.rbc_train.specs.declared.change.ToldStop.{ToldStop}
-use Rattle.rbc_train.specs.declared.change.ToldStop.TheVariants.{AtOnce, Before}
-use Rattle.rbc_train.specs.Told.{Part as ToldPart}
-use Rattle.rbc_train.specs.Settling.{Stops, Limits}
+use Rattle.rbc_settle.specs.declared.train.TrainRec.{TrainRec}
+use Rattle.rbc_settle.specs.declared.change.StopChange.TheVariants as stop_change
+use Rattle.rbc_settle.specs.declared.change.LimitChange.{LimitChange}
+use Rattle.rbc_settle.specs.declared.change.LimitChange.TheVariants as limit_change
+use Rattle.rbc_settle.specs.Actions.{ChangesStop, ChangesLimits}
+use Rattle.rbc_settle.specs.declared.change.ToldStop.{ToldStop}
+use Rattle.rbc_settle.specs.declared.change.ToldStop.TheVariants.{AtOnce, Before}
+use Rattle.rbc_settle.specs.Told.{Part as ToldPart}
+use Rattle.rbc_settle.specs.Settling.{Stops, Limits}
 use Rattle.rbc_records.specs.declared.record.Key.{Key}
 use Rattle.rbc_records.specs.declared.record.Key.TheVariants as key
 use Rattle.rbc_records.specs.declared.record.Rec.{Rec}
 use Rattle.rbc_records.specs.declared.record.Rec.TheVariants as rec
 use Rattle.rbc_records.specs.Notes.{Notes, Part}
-use Rattle.rbc_step.specs.declared.input.Input.{Input}
-use Rattle.rbc_step.specs.declared.input.Input.TheVariants.{Enrol, Stop, Restrict}
-use Rattle.rbc_step.specs.World.{World}
-use Rattle.rbc_step.specs.Effect.{effect}
-use Rattle.rbc_step.specs.Saying.{Spot, both_ways}
-use Rattle.rbc_step.specs.SaidFor.{IsSaidAfter, SaysByPlace, SaysFor, as_told}
+use Rattle.rbc_rule.specs.declared.input.Input.{Input}
+use Rattle.rbc_rule.specs.declared.input.Input.TheVariants.{Enrol, Stop, Restrict}
+use Rattle.rbc_rule.specs.World.{World}
+use Rattle.rbc_rule.specs.Effect.{effect}
+use Rattle.rbc_rule.specs.Saying.{Spot, both_ways}
+use Rattle.rbc_rule.specs.SaidFor.{IsSaidAfter, SaysByPlace, SaysFor, as_told}
 
 -- ---- the track, and a train on it
 

@@ -1,8 +1,8 @@
 //! What the rules promise of each step.
 
-ghost use Rattle.rbc_step.specs.Laws.{EachStepKeepsWorlds};
-ghost use Rattle.rbc_step.specs.SaidFor.{EachStepSays, EachMessageSaysOneThing, SayingIsByPlace};
-ghost use Rattle.rbc_step.specs.Told.{EachStepTells};
+ghost use Rattle.rbc_rule.specs.Laws.{EachStepKeepsWorlds};
+ghost use Rattle.rbc_rule.specs.SaidFor.{EachStepSays, EachMessageSaysOneThing, SayingIsByPlace};
+ghost use Rattle.rbc_rule.specs.Told.{EachStepTells};
 
 /// A step of a valid state leaves a valid state, in which every train is settled.
 pub fn step_law()

@@ -6,7 +6,7 @@
 
 ghost use Rattle.std.specs.Prelude.{pos, true, false, [], ◌∷◌};
 ghost use Rattle.rbc_zones.specs.declared.limit.Dirs.TheVariants as dirs;
-ghost use Rattle.rbc_step.specs.declared.input.Input.TheVariants as input;
+ghost use Rattle.rbc_rule.specs.declared.input.Input.TheVariants as input;
 ghost use Rattle.rbc_rule_laws.specs.Witnesses.{facing_up, short_of_5, on_line_0, stop_before, stop_before_as};
 ghost use Rattle.rbc_rule_laws.specs.Witnesses.{stop_at_once};
 ghost use Rattle.rbc_rule_laws.specs.Witnesses.{stop_now, restrict_to, restrict_as, revoke, lift, naming, told_world};

@@ -2,14 +2,14 @@
 //! ones, of which it does not.
 
 ghost use Rattle.std.specs.Prelude.{◌≡◌, ◌∷◌, [], Some, None};
-ghost use Rattle.rbc_train.specs.Settling.{last_stamp};
+ghost use Rattle.rbc_settle.specs.Settling.{last_stamp};
 ghost use Rattle.rbc_records.specs.declared.record.Key.TheVariants as key;
-ghost use Rattle.rbc_step.specs.declared.input.Input.TheVariants as input;
-ghost use Rattle.rbc_step.specs.Step.{step};
-ghost use Rattle.rbc_step.specs.WellFormed.{IsWellFormed};
-ghost use Rattle.rbc_step.specs.Saying.{StopsBefore, Says};
-ghost use Rattle.rbc_step.specs.Told.{EachTrainIsUpToDate};
-ghost use Rattle.rbc_step.specs.Records.{Agrees};
+ghost use Rattle.rbc_rule.specs.declared.input.Input.TheVariants as input;
+ghost use Rattle.rbc_rule.specs.Step.{step};
+ghost use Rattle.rbc_rule.specs.WellFormed.{IsWellFormed};
+ghost use Rattle.rbc_rule.specs.Saying.{StopsBefore, Says};
+ghost use Rattle.rbc_rule.specs.Told.{EachTrainIsUpToDate};
+ghost use Rattle.rbc_rule.specs.Records.{Agrees};
 ghost use Rattle.rbc_rule_laws.specs.Witnesses.{track_a, facing_up, facing_down, stop_before, stop_now, restrict_to};
 ghost use Rattle.rbc_rule_laws.specs.Witnesses.{revoke};
 ghost use Rattle.rbc_rule_laws.specs.Witnesses.{two_stops, told_as_0, world_told, told_world, told_twice};

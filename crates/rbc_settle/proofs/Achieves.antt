@@ -5,21 +5,21 @@ use Rattle.std.proofs.lemmas.Bool.{cases_lt}
 use Rattle.std.proofs.lemmas.List.{take_all, length-take-le}
 use Rattle.std.proofs.lemmas.List.Elements.{All-from_recursion}
 use Rattle.rbc_track.specs.Plan.{Plan}
-use Rattle.rbc_train.specs.Placing.{Place}
+use Rattle.rbc_zones.specs.Placing.{Place}
 use Rattle.rbc_maps.specs.Numbered.{AreNumbered}
 use Rattle.rbc_ids.specs.declared.slot.Kind.TheVariants.{Restriction}
 use Rattle.rbc_maps.proofs.MapValues.{map_of_numbered}
 use Rattle.rbc_ids.specs.Table.{Slots, free_identifiers}
 use Rattle.rbc_zones.specs.declared.segment.Segment.{Segment}
-use Rattle.rbc_train.specs.declared.train.TrainRec.{TrainRec}
-use Rattle.rbc_train.specs.declared.change.StopChange.{StopChange}
-use Rattle.rbc_train.specs.declared.change.LimitChange.{LimitChange}
-use Rattle.rbc_train.specs.declared.change.LimitChange.TheVariants as limit_change
-use Rattle.rbc_train.specs.Actions.{Action}
-use Rattle.rbc_train.specs.Settling.{Stops, Limits, last_stamp, carried_out, message_of, kind_of, revoke_stop, tell_stop, tell_limit, concern_to, is_used_by, is_stop_gone, is_limit_gone, due_number, spare_identifiers, escalated, is_stop_revoked, stops_revoked, stops_told, limits_revoked, limits_told, in_messages, actions, actions_with_stamp, settled}
+use Rattle.rbc_settle.specs.declared.train.TrainRec.{TrainRec}
+use Rattle.rbc_settle.specs.declared.change.StopChange.{StopChange}
+use Rattle.rbc_settle.specs.declared.change.LimitChange.{LimitChange}
+use Rattle.rbc_settle.specs.declared.change.LimitChange.TheVariants as limit_change
+use Rattle.rbc_settle.specs.Actions.{Action}
+use Rattle.rbc_settle.specs.Settling.{Stops, Limits, last_stamp, carried_out, message_of, kind_of, revoke_stop, tell_stop, tell_limit, concern_to, is_used_by, is_stop_gone, is_limit_gone, due_number, spare_identifiers, escalated, is_stop_revoked, stops_revoked, stops_told, limits_revoked, limits_told, in_messages, actions, actions_with_stamp, settled}
 use Rattle.rbc_settle.specs.UpToDate.{HasTables, IsToldIfItCan, IsLimitToldIfItCan, IsUpToDate, IsUpToDateOrAtTheEnd, StaysAsItIs, SettlingTwiceIsOnce}
 use Rattle.rbc_settle.proofs.Revoking.{by_one, each_not_gone, none_passes, revoked_is}
-use Rattle.rbc_settle.proofs.Telling.{told_all, all_held}
+use Rattle.rbc_settle.proofs.AfterTelling.{told_all, all_held}
 use Rattle.rbc_settle.proofs.Due.{dues}
 use Rattle.rbc_settle.proofs.NoneDue.{each_not_due}
 use Rattle.rbc_settle.proofs.Escalating.{IsNoneDueOrFull, told_table, stops_done, none_due_after}

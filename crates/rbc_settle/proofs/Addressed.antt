@@ -4,8 +4,8 @@ use Rattle.std.specs.List.{All}
 use Rattle.std.proofs.lemmas.List.Elements.{All-nil, All-cons, All-head, All-tail}
 use Rattle.ertms_codec.specs.declared.to_train.ToTrain.{ToTrain}
 use Rattle.ertms_codec.specs.ToTrain.{Fits}
-use Rattle.rbc_train.specs.declared.sent.Sent.{Sent}
-use Rattle.rbc_train.specs.Settling.{to_engine}
+use Rattle.rbc_settle.specs.declared.sent.Sent.{Sent}
+use Rattle.rbc_settle.specs.Settling.{to_engine}
 
 made_again : (engine : ℕ) (sent : List Sent) → All (λ one. one.engine ≡ engine) sent → sent ≡ to_engine engine (map (λ one. one.message) sent)
 made_again engine [] all = refl

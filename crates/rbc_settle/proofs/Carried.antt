@@ -3,16 +3,16 @@ use Rattle.std.proofs.Common.{◌≡◌, ℕ, ◌+◌, List, [], ◌∷◌, leng
 use Rattle.std.specs.List.{fold}
 use Rattle.rbc_maps.specs.Maps.{keys}
 use Rattle.rbc_ids.specs.Table.{Slots}
-use Rattle.rbc_train.specs.declared.train.TrainRec.{TrainRec}
-use Rattle.rbc_train.specs.declared.change.StopChange.TheVariants as stop_change
-use Rattle.rbc_train.specs.declared.change.LimitChange.{LimitChange}
-use Rattle.rbc_train.specs.Actions.{Action, ChangesStop, ChangesLimits, groups}
-use Rattle.rbc_train.specs.declared.change.ToldStop.{ToldStop}
-use Rattle.rbc_train.specs.Settling.{carried_out, kind_of, number_forced, revoke_stop, tell_stop}
+use Rattle.rbc_settle.specs.declared.train.TrainRec.{TrainRec}
+use Rattle.rbc_settle.specs.declared.change.StopChange.TheVariants as stop_change
+use Rattle.rbc_settle.specs.declared.change.LimitChange.{LimitChange}
+use Rattle.rbc_settle.specs.Actions.{Action, ChangesStop, ChangesLimits, groups}
+use Rattle.rbc_settle.specs.declared.change.ToldStop.{ToldStop}
+use Rattle.rbc_settle.specs.Settling.{carried_out, kind_of, number_forced, revoke_stop, tell_stop}
 use Rattle.rbc_settle.proofs.Forcing.{forced_all}
 use Rattle.rbc_settle.proofs.Revoking.{by_one, revoked_all}
 use Rattle.rbc_settle.proofs.Changed.{by_hundreds, changed_all, changed_by_groups}
-use Rattle.rbc_settle.proofs.Telling.{told_all}
+use Rattle.rbc_settle.proofs.AfterTelling.{told_all}
 
 -- the train after it, with these stops that it is told at once, and these tables
 pub record HasBecome (old new : TrainRec) (forced_then : List ℕ) (stops_then limits_then : Slots) : Type 0 where

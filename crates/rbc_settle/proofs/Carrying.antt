@@ -8,13 +8,13 @@ use Rattle.rbc_ids.specs.declared.slot.Kind.TheVariants.{Restriction}
 use Rattle.rbc_ids.specs.Table.{Slots, IsTable, is_used, is_used_at, told_now}
 use Rattle.rbc_ids.proofs.Tables.{has-any, held_below, stays_with}
 use Rattle.rbc_ids.proofs.Once.{apart-revoking, apart-told}
-use Rattle.rbc_train.specs.declared.train.TrainRec.{TrainRec}
-use Rattle.rbc_train.specs.declared.change.StopChange.TheVariants as stop_change
-use Rattle.rbc_train.specs.declared.change.LimitChange.{LimitChange}
-use Rattle.rbc_train.specs.declared.change.LimitChange.TheVariants as limit_change
-use Rattle.rbc_train.specs.Actions.{Action, ChangesStop, ChangesLimits}
-use Rattle.rbc_train.specs.Settling.{kind_of, limit_changed, carried_out}
-use Rattle.rbc_train.specs.Following.{CanChangeAll, Allows}
+use Rattle.rbc_settle.specs.declared.train.TrainRec.{TrainRec}
+use Rattle.rbc_settle.specs.declared.change.StopChange.TheVariants as stop_change
+use Rattle.rbc_settle.specs.declared.change.LimitChange.{LimitChange}
+use Rattle.rbc_settle.specs.declared.change.LimitChange.TheVariants as limit_change
+use Rattle.rbc_settle.specs.Actions.{Action, ChangesStop, ChangesLimits}
+use Rattle.rbc_settle.specs.Settling.{kind_of, limit_changed, carried_out}
+use Rattle.rbc_settle.specs.Following.{CanChangeAll, Allows}
 use Rattle.rbc_settle.specs.UpToDate.{HasTables}
 
 module _ (count : ℕ) (slots : Slots) where

@@ -4,16 +4,16 @@ use Rattle.std.specs.List.{fold}
 use Rattle.std.proofs.lemmas.List.{length-take, length-drop, take-append-drop}
 use Rattle.rbc_ids.specs.declared.slot.Kind.TheVariants.{Restriction}
 use Rattle.rbc_ids.specs.Table.{Slots}
-use Rattle.rbc_train.specs.declared.change.LimitChange.{LimitChange}
-use Rattle.rbc_train.specs.declared.change.LimitChange.TheVariants.{Revoke, Tell}
-use Rattle.rbc_train.specs.declared.train.TrainRec.{TrainRec}
-use Rattle.rbc_train.specs.Told.{Part}
-use Rattle.rbc_train.specs.Actions.{ChangesLimits, groups}
-use Rattle.rbc_train.specs.Settling.{limit_changed, carried_out, tell_limit}
-use Rattle.rbc_train.specs.Following.{CanChange, CanChangeAll, CanFollow}
+use Rattle.rbc_settle.specs.declared.change.LimitChange.{LimitChange}
+use Rattle.rbc_settle.specs.declared.change.LimitChange.TheVariants.{Revoke, Tell}
+use Rattle.rbc_settle.specs.declared.train.TrainRec.{TrainRec}
+use Rattle.rbc_settle.specs.Told.{Part}
+use Rattle.rbc_settle.specs.Actions.{ChangesLimits, groups}
+use Rattle.rbc_settle.specs.Settling.{limit_changed, carried_out, tell_limit}
+use Rattle.rbc_settle.specs.Following.{CanChange, CanChangeAll, CanFollow}
 use Rattle.rbc_settle.proofs.Groups.{groups_cons, by_groups}
 use Rattle.rbc_settle.proofs.Revoking.{Clock, revoked_all}
-use Rattle.rbc_settle.proofs.Telling.{told_all}
+use Rattle.rbc_settle.proofs.AfterTelling.{told_all}
 
 -- a message for each hundred changes, the first with the stamp after this one
 abbrev pub by_hundreds : ℕ → Clock

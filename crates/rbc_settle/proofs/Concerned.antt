@@ -3,7 +3,7 @@ use Rattle.std.proofs.Common.{◌≡◌, ℕ, ◌+◌, ◌≤◌, ◌⊎◌, Boo
 use Rattle.std.specs.List.{AllByRecursion}
 use Rattle.std.specs.Option.{option_map_or}
 use Rattle.std.proofs.lemmas.Bool.{or_left, or_right, and_parts, leb-true, eq-eqb, ne_eqb}
-use Rattle.rbc_train.specs.Placing.{Place}
+use Rattle.rbc_zones.specs.Placing.{Place}
 use Rattle.rbc_maps.specs.Maps.{has, value_of, keys, rises_from}
 use Rattle.rbc_maps.specs.Numbered.{AreNumbered}
 use Rattle.rbc_maps.proofs.MapFacts.{rises_from-lower}
@@ -12,11 +12,11 @@ use Rattle.rbc_zones.specs.declared.stop_meaning.Concern.{Concern}
 use Rattle.rbc_zones.specs.declared.stop_meaning.Concern.TheVariants as concern
 use Rattle.rbc_zones.specs.Concerns.{concern_of}
 use Rattle.rbc_zones.specs.Limits.{Limit, is_clear, ends_beyond_group, starts_within}
-use Rattle.rbc_train.specs.declared.change.ToldStop.{ToldStop}
-use Rattle.rbc_train.specs.declared.change.ToldStop.TheVariants.{AtOnce}
-use Rattle.rbc_train.specs.Told.{Part}
-use Rattle.rbc_train.specs.Numbers.{has_number}
-use Rattle.rbc_train.specs.Settling.{Stops, Limits, told_stop, told_limit, limit_told_to, is_stop_gone, is_limit_gone, is_clear_of}
+use Rattle.rbc_settle.specs.declared.change.ToldStop.{ToldStop}
+use Rattle.rbc_settle.specs.declared.change.ToldStop.TheVariants.{AtOnce}
+use Rattle.rbc_settle.specs.Told.{Part}
+use Rattle.rbc_settle.specs.Numbers.{has_number}
+use Rattle.rbc_settle.specs.Settling.{Stops, Limits, told_stop, told_limit, limit_told_to, is_stop_gone, is_limit_gone, is_clear_of}
 
 module _ {V : Type 0} where
   -- what is there stays beside one more pair

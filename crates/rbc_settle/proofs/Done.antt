@@ -5,9 +5,9 @@ use Rattle.std.proofs.lemmas.Bool.{cases_Bool}
 use Rattle.rbc_maps.specs.Maps.{keys, rises_from}
 use Rattle.rbc_ids.specs.declared.slot.Kind.{Kind}
 use Rattle.rbc_ids.specs.Table.{Slots, IsTable, is_told, free_identifiers}
-use Rattle.rbc_train.specs.Settling.{is_used_by, to_revoke}
+use Rattle.rbc_settle.specs.Settling.{is_used_by, to_revoke}
 use Rattle.rbc_settle.proofs.Revoking.{Clock, revoked_all, revoked_each, revoked_is, free-revoked, table-revoked, none-revoked, told-revoked, none_to_revoke, untold_each}
-use Rattle.rbc_settle.proofs.Telling.{told_all, IsTelling, is_telling, all_held}
+use Rattle.rbc_settle.proofs.AfterTelling.{told_all, IsTelling, is_telling, all_held}
 use Rattle.rbc_settle.proofs.Wanted.{wanted_of, wanted-rises, wanted-untold, all_wanted, each_wanted, none_wanted}
 
 -- no slot is used by a gone number, and each active entry is nothing to the train or told, unless no identifier is free

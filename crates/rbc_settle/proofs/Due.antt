@@ -6,8 +6,8 @@ use Rattle.rbc_maps.specs.Maps.{has}
 use Rattle.rbc_ids.specs.declared.slot.Slot.{Slot}
 use Rattle.rbc_ids.specs.declared.slot.Slot.TheVariants.{Used, Revoking}
 use Rattle.rbc_ids.specs.Table.{Slots, TellsOnce, tells, is_told, is_ripe}
-use Rattle.rbc_train.specs.Numbers.{has_number}
-use Rattle.rbc_train.specs.Settling.{Stops, due_number}
+use Rattle.rbc_settle.specs.Numbers.{has_number}
+use Rattle.rbc_settle.specs.Settling.{Stops, due_number}
 use Rattle.rbc_settle.specs.WellFormed.{AreDistinct}
 
 -- the numbers that are due, in order of their identifiers

@@ -3,24 +3,24 @@ use Rattle.std.proofs.Common.{◌≡◌, ℕ, ◌+◌, ◌<◌, ◌≤◌, ◌�
 use Rattle.std.specs.List.{filter, filter_map, cons_option, fold, list_any, zip, AllByRecursion}
 use Rattle.std.proofs.lemmas.Bool.{cases_Bool, cases_lt, or_right, or_from, or_parts}
 use Rattle.std.proofs.lemmas.List.{take_all, length-take-le}
-use Rattle.rbc_train.specs.Placing.{Place}
+use Rattle.rbc_zones.specs.Placing.{Place}
 use Rattle.rbc_maps.specs.Maps.{has}
 use Rattle.rbc_maps.specs.Numbered.{AreNumbered}
 use Rattle.rbc_maps.proofs.MapValues.{map_of_numbered}
 use Rattle.rbc_ids.specs.Table.{Slots, IsTable, is_told, free_identifiers}
 use Rattle.rbc_zones.specs.declared.segment.Segment.{Segment}
 use Rattle.rbc_zones.specs.Concerns.{concern_of}
-use Rattle.rbc_train.specs.declared.train.TrainRec.{TrainRec}
-use Rattle.rbc_train.specs.declared.change.ToldStop.{ToldStop}
-use Rattle.rbc_train.specs.declared.change.ToldStop.TheVariants.{AtOnce}
-use Rattle.rbc_train.specs.Numbers.{has_number, and_number}
-use Rattle.rbc_train.specs.Settling.{Stops, kind_of, told_stop, stop_to_tell, is_used_by, to_revoke, is_stop_gone, spare_identifiers, escalated, is_stop_revoked, next_to_tell, due_number}
-use Rattle.rbc_train.proofs.ToTell.{stop_told_already}
+use Rattle.rbc_settle.specs.declared.train.TrainRec.{TrainRec}
+use Rattle.rbc_settle.specs.declared.change.ToldStop.{ToldStop}
+use Rattle.rbc_settle.specs.declared.change.ToldStop.TheVariants.{AtOnce}
+use Rattle.rbc_settle.specs.Numbers.{has_number, and_number}
+use Rattle.rbc_settle.specs.Settling.{Stops, kind_of, told_stop, stop_to_tell, is_used_by, to_revoke, is_stop_gone, spare_identifiers, escalated, is_stop_revoked, next_to_tell, due_number}
+use Rattle.rbc_settle.proofs.ToTell.{stop_told_already}
 use Rattle.rbc_settle.proofs.Due.{dues, due_is_told, distinct_dues, first_of, distinct-take, as_many_as, as_many_both}
 use Rattle.rbc_settle.proofs.NoneDue.{each_not_due, none_due_from, each_due, none_due_revoked, none_due_told}
 use Rattle.rbc_settle.proofs.Forcing.{has-and, forced_all, has-forced_all, told_by_revoked}
 use Rattle.rbc_settle.proofs.Revoking.{by_one, revoked_all, revoked_each, free-revoked, table-revoked, none-revoked, none_of_fewer, told-revoked, untold-gone, none_to_revoke}
-use Rattle.rbc_settle.proofs.Telling.{told_all, none_free_then}
+use Rattle.rbc_settle.proofs.AfterTelling.{told_all, none_free_then}
 use Rattle.rbc_settle.proofs.Wanted.{to_tell, wanted_of}
 use Rattle.rbc_settle.proofs.Done.{IsDone, is_done}
 use Rattle.rbc_settle.proofs.Concerned.{told_as, each_has, stops_stay}

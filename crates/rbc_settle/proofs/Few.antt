@@ -8,10 +8,10 @@ use Rattle.rbc_track.specs.Plan.{Plan}
 use Rattle.rbc_maps.specs.Maps.{has}
 use Rattle.rbc_ids.specs.Table.{Slots, IsTable, free_identifiers}
 use Rattle.rbc_ids.proofs.Tables.{few}
-use Rattle.rbc_train.specs.declared.train.TrainRec.{TrainRec}
-use Rattle.rbc_train.specs.declared.change.LimitChange.TheVariants as limit_change
-use Rattle.rbc_train.specs.Actions.{ChangesStop, ChangesLimits, groups}
-use Rattle.rbc_train.specs.Settling.{Stops, Limits, last_stamp, carried_out, message_of, revoke_stop, tell_stop, tell_limit, limit_to_tell, is_used_by, to_revoke, is_limit_gone, escalated, is_stop_revoked, next_to_tell, stops_revoked, stops_told, limits_revoked, limits_told, stop_changes, limit_changes, actions, actions_with_stamp, messages_of}
+use Rattle.rbc_settle.specs.declared.train.TrainRec.{TrainRec}
+use Rattle.rbc_settle.specs.declared.change.LimitChange.TheVariants as limit_change
+use Rattle.rbc_settle.specs.Actions.{ChangesStop, ChangesLimits, groups}
+use Rattle.rbc_settle.specs.Settling.{Stops, Limits, last_stamp, carried_out, message_of, revoke_stop, tell_stop, tell_limit, limit_to_tell, is_used_by, to_revoke, is_limit_gone, escalated, is_stop_revoked, next_to_tell, stops_revoked, stops_told, limits_revoked, limits_told, stop_changes, limit_changes, actions, actions_with_stamp, messages_of}
 use Rattle.rbc_settle.specs.UpToDate.{HasTables}
 use Rattle.rbc_settle.proofs.Groups.{length-groups}
 

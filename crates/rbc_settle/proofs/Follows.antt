@@ -9,18 +9,18 @@ use Rattle.rbc_maps.proofs.MapValues.{map_of_numbered}
 use Rattle.rbc_ids.specs.declared.slot.Slot.TheVariants.{Revoking}
 use Rattle.rbc_ids.specs.declared.slot.Kind.TheVariants.{Restriction}
 use Rattle.rbc_ids.specs.Table.{Slots, IsTable, is_told, is_used_at, free_identifiers, told_now}
-use Rattle.rbc_train.specs.declared.train.TrainRec.{TrainRec}
-use Rattle.rbc_train.specs.declared.change.StopChange.TheVariants as stop_change
-use Rattle.rbc_train.specs.declared.change.LimitChange.TheVariants as limit_change
-use Rattle.rbc_train.specs.Actions.{Action, ChangesStop}
-use Rattle.rbc_train.specs.declared.change.ToldStop.{ToldStop}
-use Rattle.rbc_train.specs.Told.{Part}
-use Rattle.rbc_train.specs.Settling.{Stops, Limits, carried_out, kind_of, number_forced, revoke_stop, tell_stop, tell_limit, to_revoke, is_limit_gone, escalated, is_stop_revoked, next_to_tell, limits_revoked, limits_told, limit_changes, actions}
-use Rattle.rbc_train.specs.Following.{CanFollow}
+use Rattle.rbc_settle.specs.declared.train.TrainRec.{TrainRec}
+use Rattle.rbc_settle.specs.declared.change.StopChange.TheVariants as stop_change
+use Rattle.rbc_settle.specs.declared.change.LimitChange.TheVariants as limit_change
+use Rattle.rbc_settle.specs.Actions.{Action, ChangesStop}
+use Rattle.rbc_settle.specs.declared.change.ToldStop.{ToldStop}
+use Rattle.rbc_settle.specs.Told.{Part}
+use Rattle.rbc_settle.specs.Settling.{Stops, Limits, carried_out, kind_of, number_forced, revoke_stop, tell_stop, tell_limit, to_revoke, is_limit_gone, escalated, is_stop_revoked, next_to_tell, limits_revoked, limits_told, limit_changes, actions}
+use Rattle.rbc_settle.specs.Following.{CanFollow}
 use Rattle.rbc_settle.specs.UpToDate.{HasTables}
 use Rattle.rbc_settle.proofs.Revoking.{Clock, by_one, revoked_all, revoked_each, revoked_is, free-revoked, untold-revoked, to_revoke-rises, to_revoke-used, used_above}
 use Rattle.rbc_settle.proofs.Changed.{changed_all, CanChangeBy, changed-revoked, can-append, can_by_groups}
-use Rattle.rbc_settle.proofs.Telling.{can_tell, free_after, untold_above}
+use Rattle.rbc_settle.proofs.AfterTelling.{can_tell, free_after, untold_above}
 use Rattle.rbc_settle.proofs.Wanted.{wanted_of, wanted-rises, wanted-untold}
 use Rattle.rbc_settle.proofs.Concerned.{told_as, limit_as}
 use Rattle.rbc_settle.proofs.Escalating.{between, wanted_next}

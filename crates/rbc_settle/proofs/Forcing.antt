@@ -7,9 +7,9 @@ use Rattle.rbc_maps.specs.Maps.{rises_from}
 use Rattle.rbc_ids.specs.declared.slot.Slot.{Slot}
 use Rattle.rbc_ids.specs.declared.slot.Slot.TheVariants.{Used, Revoking}
 use Rattle.rbc_ids.specs.Table.{Slots, tells, is_told}
-use Rattle.rbc_train.specs.Numbers.{AreNumbers, has_number, with_number, and_number}
-use Rattle.rbc_train.specs.Settling.{is_used_by, number_forced, and_forced}
-use Rattle.rbc_train.proofs.NumberLists.{rises-with}
+use Rattle.rbc_settle.specs.Numbers.{AreNumbers, has_number, with_number, and_number}
+use Rattle.rbc_settle.specs.Settling.{is_used_by, number_forced, and_forced}
+use Rattle.rbc_settle.proofs.NumberLists.{rises-with}
 
 -- a number is in a list with one more if it is that one or was there
 has-with : (m n : ℕ) (xs : List ℕ) → has_number (with_number m xs) n ≡ (eqb m n || has_number xs n)

@@ -6,7 +6,7 @@ use Rattle.rbc_ids.specs.declared.slot.Slot.TheVariants.{Used, Revoking}
 use Rattle.rbc_ids.specs.declared.slot.Kind.{Kind}
 use Rattle.rbc_ids.specs.declared.slot.Kind.TheVariants.{Conditional, Unconditional, Restriction}
 use Rattle.rbc_ids.specs.Table.{Slots, tells, is_told, told_now}
-use Rattle.rbc_train.specs.Numbers.{has_number}
+use Rattle.rbc_settle.specs.Numbers.{has_number}
 use Rattle.rbc_settle.specs.WellFormed.{AreGoodSlots, IsGiven, has_kind, has_count, number_in, told_numbers}
 use Rattle.rbc_settle.proofs.Labels.{all_has, all_from, from_with, distinct_with, All-with_value}
 

@@ -3,7 +3,7 @@ use Rattle.std.proofs.Common.{◌≡◌, ℕ, zero, suc, ◌+◌, ◌-◌, ◌*�
 use Rattle.std.specs.List.{range_with_len}
 use Rattle.std.proofs.lemmas.List.{length-map, drop-take, take-take, take_all}
 use Rattle.std.proofs.lemmas.List.FromFn.{length-range_with_len}
-use Rattle.rbc_train.specs.Actions.{groups_for, groups}
+use Rattle.rbc_settle.specs.Actions.{groups_for, groups}
 
 -- with more than 100 items more, there is one group more
 one_more_group : (n : ℕ) → 1 ≤ n → groups_for n ≡ suc (groups_for (n - 100))

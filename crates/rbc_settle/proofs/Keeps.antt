@@ -12,18 +12,18 @@ use Rattle.rbc_ids.specs.declared.slot.Slot.TheVariants.{Used, Revoking}
 use Rattle.rbc_ids.specs.declared.slot.Kind.TheVariants.{Restriction}
 use Rattle.rbc_ids.specs.Table.{Slots, is_told, told_now, free_identifiers}
 use Rattle.rbc_zones.specs.declared.segment.Segment.{Segment}
-use Rattle.rbc_train.specs.declared.train.TrainRec.{TrainRec}
-use Rattle.rbc_train.specs.declared.change.StopChange.{StopChange}
-use Rattle.rbc_train.specs.declared.change.StopChange.TheVariants as stop_change
-use Rattle.rbc_train.specs.declared.change.LimitChange.{LimitChange}
-use Rattle.rbc_train.specs.declared.change.LimitChange.TheVariants as limit_change
-use Rattle.rbc_train.specs.declared.change.ToldStop.{ToldStop}
-use Rattle.rbc_train.specs.declared.change.ToldStop.TheVariants.{AtOnce, Before}
-use Rattle.rbc_train.specs.Told.{Part}
-use Rattle.rbc_train.specs.Actions.{Action, ChangesStop, ChangesLimits, groups}
-use Rattle.rbc_train.specs.Settling.{Stops, Limits, last_stamp, limit_changed, carried_out, kind_of, number_forced, and_forced, revoke_stop, tell_stop, tell_limit, told_stop, concern_to, stop_to_tell, is_used_by, to_revoke, is_limit_gone, spare_identifiers, escalated, is_stop_revoked, next_to_tell, stops_revoked, stops_told, limits_revoked, limits_told, actions, actions_with_stamp}
-use Rattle.rbc_train.specs.Following.{CanChangeAll, Allows, CanFollow}
-use Rattle.rbc_train.specs.Numbers.{AreNumbers, has_number}
+use Rattle.rbc_settle.specs.declared.train.TrainRec.{TrainRec}
+use Rattle.rbc_settle.specs.declared.change.StopChange.{StopChange}
+use Rattle.rbc_settle.specs.declared.change.StopChange.TheVariants as stop_change
+use Rattle.rbc_settle.specs.declared.change.LimitChange.{LimitChange}
+use Rattle.rbc_settle.specs.declared.change.LimitChange.TheVariants as limit_change
+use Rattle.rbc_settle.specs.declared.change.ToldStop.{ToldStop}
+use Rattle.rbc_settle.specs.declared.change.ToldStop.TheVariants.{AtOnce, Before}
+use Rattle.rbc_settle.specs.Told.{Part}
+use Rattle.rbc_settle.specs.Actions.{Action, ChangesStop, ChangesLimits, groups}
+use Rattle.rbc_settle.specs.Settling.{Stops, Limits, last_stamp, limit_changed, carried_out, kind_of, number_forced, and_forced, revoke_stop, tell_stop, tell_limit, told_stop, concern_to, stop_to_tell, is_used_by, to_revoke, is_limit_gone, spare_identifiers, escalated, is_stop_revoked, next_to_tell, stops_revoked, stops_told, limits_revoked, limits_told, actions, actions_with_stamp}
+use Rattle.rbc_settle.specs.Following.{CanChangeAll, Allows, CanFollow}
+use Rattle.rbc_settle.specs.Numbers.{AreNumbers, has_number}
 use Rattle.rbc_settle.specs.WellFormed.{IsGiven, AreGoodSlots, IsWellFormedTrain, SettlingKeepsTrains, is_stop_kind, is_limit_kind}
 use Rattle.rbc_settle.proofs.Forcing.{rises-and, All-and}
 use Rattle.rbc_settle.proofs.Due.{dues, due_is_told, first_of}

@@ -5,7 +5,7 @@ use Rattle.std.specs.List.{All, cons_option, filter_map}
 use Rattle.std.proofs.lemmas.Bool.{both_ways, false_from_ne_true, or_cases, or_left, or_parts, or_right, eqb-true, eq-eqb}
 use Rattle.std.proofs.lemmas.List.Elements.{All-nil, All-cons, All-head, All-tail}
 use Rattle.rbc_maps.specs.Maps.{with_value}
-use Rattle.rbc_train.specs.Numbers.{has_number}
+use Rattle.rbc_settle.specs.Numbers.{has_number}
 use Rattle.rbc_settle.specs.WellFormed.{AreDistinct}
 
 -- what holds of each number of a list holds of one that it has

@@ -1,6 +1,10 @@
+pub mod NumberLists
+pub mod NumberCopies
+pub mod Merging
+pub mod ToTell
 pub mod Forcing
 pub mod Revoking
-pub mod Telling
+pub mod AfterTelling
 pub mod Wanted
 pub mod Done
 pub mod Groups

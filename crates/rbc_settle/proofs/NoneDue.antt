@@ -8,10 +8,10 @@ use Rattle.rbc_ids.specs.declared.slot.Slot.TheVariants.{Used, Revoking}
 use Rattle.rbc_ids.specs.declared.slot.Kind.{Kind}
 use Rattle.rbc_ids.specs.declared.slot.Kind.TheVariants.{Conditional, Unconditional, Restriction}
 use Rattle.rbc_ids.specs.Table.{Slots, is_ripe, told_now}
-use Rattle.rbc_train.specs.Numbers.{has_number}
-use Rattle.rbc_train.specs.Settling.{Stops, due_number, is_used_by}
+use Rattle.rbc_settle.specs.Numbers.{has_number}
+use Rattle.rbc_settle.specs.Settling.{Stops, due_number, is_used_by}
 use Rattle.rbc_settle.proofs.Revoking.{Clock, revoked_each}
-use Rattle.rbc_settle.proofs.Telling.{told_all}
+use Rattle.rbc_settle.proofs.AfterTelling.{told_all}
 use Rattle.rbc_settle.proofs.Due.{dues}
 
 module _ (stops : Stops) where

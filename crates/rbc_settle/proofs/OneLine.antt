@@ -2,7 +2,7 @@
 use Rattle.std.proofs.Common.{◌≡◌, ℕ, Bool, true, false, cond, List, [], ◌∷◌, map, length, Option, Some, None, option_map, refl, sym, ap, ◌∙◌, arith}
 use Rattle.std.specs.List.{filter, filter_map, cons_option, zip, All}
 use Rattle.std.proofs.lemmas.List.Elements.{All-head, All-tail}
-use Rattle.rbc_train.specs.Placing.{Place}
+use Rattle.rbc_zones.specs.Placing.{Place}
 use Rattle.rbc_maps.specs.OnLines.{mark_of, has_mark, marked}
 use Rattle.rbc_ids.specs.Table.{is_told}
 use Rattle.rbc_zones.specs.declared.segment.Segment.{Segment}
@@ -12,11 +12,11 @@ use Rattle.rbc_zones.specs.Concerns.{concern_of}
 use Rattle.rbc_zones.specs.Limits.{Limit}
 use Rattle.rbc_zones.specs.Marks.{stop_marks, limit_marks}
 use Rattle.rbc_zones.proofs.Marks.{stop_elsewhere, limit_elsewhere}
-use Rattle.rbc_train.specs.declared.train.TrainRec.{TrainRec}
-use Rattle.rbc_train.specs.declared.change.ToldStop.{ToldStop}
-use Rattle.rbc_train.specs.Told.{Part}
-use Rattle.rbc_train.specs.Numbers.{has_number}
-use Rattle.rbc_train.specs.Settling.{told_stop, told_limit, concern_to, stop_to_tell, limit_told_to, limit_to_tell}
+use Rattle.rbc_settle.specs.declared.train.TrainRec.{TrainRec}
+use Rattle.rbc_settle.specs.declared.change.ToldStop.{ToldStop}
+use Rattle.rbc_settle.specs.Told.{Part}
+use Rattle.rbc_settle.specs.Numbers.{has_number}
+use Rattle.rbc_settle.specs.Settling.{told_stop, told_limit, concern_to, stop_to_tell, limit_told_to, limit_to_tell}
 use Rattle.rbc_settle.specs.OneLine.{IsJudgedOnLine}
 
 -- what is left out by a test, and would give nothing, is not missed

@@ -6,15 +6,15 @@ use Rattle.std.proofs.lemmas.List.Sums.{fold-append}
 use Rattle.rbc_track.specs.Plan.{Plan}
 use Rattle.rbc_ids.specs.declared.slot.Kind.TheVariants.{Restriction}
 use Rattle.rbc_ids.specs.Table.{Slots, free_identifiers}
-use Rattle.rbc_train.specs.declared.train.TrainRec.{TrainRec}
-use Rattle.rbc_train.specs.declared.change.LimitChange.TheVariants as limit_change
-use Rattle.rbc_train.specs.declared.change.ToldStop.{ToldStop}
-use Rattle.rbc_train.specs.Actions.{Action, ChangesStop, ChangesLimits, groups}
-use Rattle.rbc_train.specs.Told.{Part}
-use Rattle.rbc_train.specs.Settling.{Stops, Limits, carried_out, kind_of, limit_to_tell, to_revoke, is_used_by, is_limit_gone, escalated, is_stop_revoked, next_to_tell, stops_revoked, stops_told, limits_revoked, limits_told, limit_changes, actions}
+use Rattle.rbc_settle.specs.declared.train.TrainRec.{TrainRec}
+use Rattle.rbc_settle.specs.declared.change.LimitChange.TheVariants as limit_change
+use Rattle.rbc_settle.specs.declared.change.ToldStop.{ToldStop}
+use Rattle.rbc_settle.specs.Actions.{Action, ChangesStop, ChangesLimits, groups}
+use Rattle.rbc_settle.specs.Told.{Part}
+use Rattle.rbc_settle.specs.Settling.{Stops, Limits, carried_out, kind_of, limit_to_tell, to_revoke, is_used_by, is_limit_gone, escalated, is_stop_revoked, next_to_tell, stops_revoked, stops_told, limits_revoked, limits_told, limit_changes, actions}
 use Rattle.rbc_settle.proofs.Forcing.{forced_all}
 use Rattle.rbc_settle.proofs.Revoking.{Clock, by_one, revoked_all}
-use Rattle.rbc_settle.proofs.Telling.{told_all}
+use Rattle.rbc_settle.proofs.AfterTelling.{told_all}
 use Rattle.rbc_settle.proofs.Changed.{by_hundreds, changed_all, changed-revoked, changed-told, changed-append}
 use Rattle.rbc_settle.proofs.Carried.{HasBecome, revoking_stops, telling_stops, changing_limits}
 

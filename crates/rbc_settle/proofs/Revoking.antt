@@ -8,7 +8,7 @@ use Rattle.rbc_maps.proofs.MapFacts.{rises_from-lower}
 use Rattle.rbc_ids.specs.declared.slot.Slot.{Slot}
 use Rattle.rbc_ids.specs.declared.slot.Slot.TheVariants.{Used, Revoking}
 use Rattle.rbc_ids.specs.Table.{Slots, IsTable, TellsOnce, tells, is_told, is_used, is_used_at, free_identifiers}
-use Rattle.rbc_train.specs.Settling.{is_used_by, to_revoke}
+use Rattle.rbc_settle.specs.Settling.{is_used_by, to_revoke}
 
 -- the stamp of a change, by how many changes were made before it
 abbrev pub Clock : Type 0

@@ -8,14 +8,14 @@ use Rattle.ertms_codec.specs.declared.to_train.ToTrain.{ToTrain}
 use Rattle.ertms_codec.specs.ToTrain.{Fits}
 use Rattle.rbc_track.specs.Plan.{Plan}
 use Rattle.rbc_maps.specs.Numbered.{AreNumbered}
-use Rattle.rbc_train.specs.declared.train.TrainRec.{TrainRec}
-use Rattle.rbc_train.specs.declared.change.StopChange.{StopChange}
-use Rattle.rbc_train.specs.declared.change.StopChange.TheVariants as stop_change
-use Rattle.rbc_train.specs.declared.change.LimitChange.{LimitChange}
-use Rattle.rbc_train.specs.declared.sent.Sent.{Sent}
-use Rattle.rbc_train.specs.Actions.{Action, ChangesStop, ChangesLimits, groups}
-use Rattle.rbc_train.specs.Settling.{Stops, Limits, last_stamp, actions, actions_with_stamp, in_messages, carried_out, message_of, settled, messages_of, to_engine}
-use Rattle.rbc_train.specs.Following.{Allows, CanFollow}
+use Rattle.rbc_settle.specs.declared.train.TrainRec.{TrainRec}
+use Rattle.rbc_settle.specs.declared.change.StopChange.{StopChange}
+use Rattle.rbc_settle.specs.declared.change.StopChange.TheVariants as stop_change
+use Rattle.rbc_settle.specs.declared.change.LimitChange.{LimitChange}
+use Rattle.rbc_settle.specs.declared.sent.Sent.{Sent}
+use Rattle.rbc_settle.specs.Actions.{Action, ChangesStop, ChangesLimits, groups}
+use Rattle.rbc_settle.specs.Settling.{Stops, Limits, last_stamp, actions, actions_with_stamp, in_messages, carried_out, message_of, settled, messages_of, to_engine}
+use Rattle.rbc_settle.specs.Following.{Allows, CanFollow}
 use Rattle.rbc_settle.specs.Sending.{CanTake, HasTaken, AreBehind}
 use Rattle.rbc_settle.specs.UpToDate.{HasTables, IsUpToDateOrAtTheEnd}
 use Rattle.rbc_settle.proofs.Follows.{can_follow, can_follow-take, follows_first, follows_then}

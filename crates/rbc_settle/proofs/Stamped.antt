@@ -3,10 +3,10 @@ use Rattle.std.proofs.Common.{◌≡◌, ℕ, ◌+◌, ◌-◌, ◌*◌, List, �
 use Rattle.std.proofs.lemmas.Bool.{cases_lt}
 use Rattle.std.proofs.lemmas.List.{take-map, length-map, length-take-le, take_all, take-append-le, append-nil}
 use Rattle.std.proofs.Math.Seq.{take-append-add}
-use Rattle.rbc_train.specs.declared.change.StopChange.{StopChange}
-use Rattle.rbc_train.specs.declared.change.LimitChange.{LimitChange}
-use Rattle.rbc_train.specs.Actions.{Action, ChangesStop, ChangesLimits, groups}
-use Rattle.rbc_train.specs.Settling.{in_messages}
+use Rattle.rbc_settle.specs.declared.change.StopChange.{StopChange}
+use Rattle.rbc_settle.specs.declared.change.LimitChange.{LimitChange}
+use Rattle.rbc_settle.specs.Actions.{Action, ChangesStop, ChangesLimits, groups}
+use Rattle.rbc_settle.specs.Settling.{in_messages}
 use Rattle.rbc_settle.proofs.Groups.{take-groups}
 
 -- as many messages as there are stamps: first those of stops, and of what is left those of restrictions

@@ -7,7 +7,7 @@ use Rattle.std.proofs.lemmas.Option.{same_Some}
 use Rattle.rbc_maps.specs.Maps.{with_value}
 use Rattle.rbc_ids.specs.declared.slot.Slot.{Slot}
 use Rattle.rbc_ids.specs.Table.{Slots, stamp_of}
-use Rattle.rbc_train.specs.Numbers.{has_number}
+use Rattle.rbc_settle.specs.Numbers.{has_number}
 use Rattle.rbc_settle.specs.WellFormed.{AreDistinct, AreApart, stamps_in}
 use Rattle.rbc_settle.proofs.Labels.{all_has, all_from, in_first, in_second, labels, from_with, distinct_with}
 

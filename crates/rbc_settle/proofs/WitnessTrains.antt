@@ -3,15 +3,15 @@ use Rattle.std.proofs.Common.{◌≡◌, ℕ, ◌<◌, ◌≤◌, true, false, [
 use Rattle.std.specs.Option.{option_map_or}
 use Rattle.std.proofs.lemmas.List.Elements.{All-from_recursion, recursion_from_All}
 use Rattle.rbc_track.specs.declared.group.Group.{Group}
-use Rattle.rbc_train.specs.Placing.{Place, is_up}
+use Rattle.rbc_zones.specs.Placing.{Place, is_up}
 use Rattle.rbc_ids.specs.declared.slot.Slot.{Slot}
 use Rattle.rbc_ids.specs.declared.slot.Slot.TheVariants.{Revoking}
 use Rattle.rbc_ids.specs.declared.slot.Kind.{Kind}
 use Rattle.rbc_ids.specs.declared.slot.Kind.TheVariants.{Conditional, Unconditional}
 use Rattle.rbc_ids.specs.Table.{told_now}
 use Rattle.rbc_zones.specs.declared.stop_meaning.Concern.TheVariants as concern
-use Rattle.rbc_train.specs.declared.train.TrainRec.{TrainRec}
-use Rattle.rbc_train.specs.Settling.{is_used_by, is_stop_gone, is_limit_gone, due_number, settled}
+use Rattle.rbc_settle.specs.declared.train.TrainRec.{TrainRec}
+use Rattle.rbc_settle.specs.Settling.{is_used_by, is_stop_gone, is_limit_gone, due_number, settled}
 use Rattle.rbc_settle.proofs.GoodSlots.{no_report}
 use Rattle.rbc_settle.specs.UpToDate.{IsToldIfItCan, IsLimitToldIfItCan, IsUpToDate, StaysAsItIs}
 use Rattle.rbc_settle.specs.WellFormed.{IsGiven, has_kind, has_count, is_stop_kind, is_limit_kind, stamps, told_numbers, HasPlaceOn, IsWellFormedTrain}

@@ -1,7 +1,7 @@
 -- When a train is judged by what lies on its line alone (own rule).
 use Rattle.std.specs.Prelude.{◌≡◌, ℕ, [], Some}
-use Rattle.rbc_train.specs.Placing.{Place}
-use Rattle.rbc_train.specs.declared.train.TrainRec.{TrainRec}
+use Rattle.rbc_zones.specs.Placing.{Place}
+use Rattle.rbc_settle.specs.declared.train.TrainRec.{TrainRec}
 
 -- A train stands on a line and rejected no stop, so that no stop elsewhere concerns it.
 pub record IsJudgedOnLine (train : TrainRec) (line : ℕ) : Type 0 where

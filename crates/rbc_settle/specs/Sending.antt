@@ -2,11 +2,11 @@
 use Rattle.std.specs.Prelude.{◌≡◌, ◌+◌, ◌≤◌, List, ◌++◌, length}
 use Rattle.std.specs.List.{All, fold, scan}
 use Rattle.ertms_codec.specs.ToTrain.{Fits}
-use Rattle.rbc_train.specs.declared.train.TrainRec.{TrainRec}
-use Rattle.rbc_train.specs.declared.sent.Sent.{Sent}
-use Rattle.rbc_train.specs.Actions.{Action}
-use Rattle.rbc_train.specs.Settling.{last_stamp, carried_out, message_of, to_engine}
-use Rattle.rbc_train.specs.Following.{CanFollow}
+use Rattle.rbc_settle.specs.declared.train.TrainRec.{TrainRec}
+use Rattle.rbc_settle.specs.declared.sent.Sent.{Sent}
+use Rattle.rbc_settle.specs.Actions.{Action}
+use Rattle.rbc_settle.specs.Settling.{last_stamp, carried_out, message_of, to_engine}
+use Rattle.rbc_settle.specs.Following.{CanFollow}
 use Rattle.rbc_settle.specs.UpToDate.{HasTables}
 
 -- a train can take some actions, one after another: each is allowed then, and has a stamp

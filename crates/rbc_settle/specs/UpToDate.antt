@@ -7,9 +7,9 @@ use Rattle.rbc_ids.specs.Table.{IsTable, is_told}
 use Rattle.rbc_zones.specs.declared.segment.Segment.{Segment}
 use Rattle.rbc_zones.specs.declared.stop_meaning.Concern.TheVariants as concern
 use Rattle.rbc_zones.specs.Limits.{Limit}
-use Rattle.rbc_train.specs.declared.train.TrainRec.{TrainRec}
-use Rattle.rbc_train.specs.Trains.{stop_identifiers, limit_identifiers}
-use Rattle.rbc_train.specs.Settling.{Stops, Limits, last_stamp, concern_to, limit_told_to, is_stop_gone, is_limit_gone, is_used_by, due_number, actions, settled, messages_of}
+use Rattle.rbc_settle.specs.declared.train.TrainRec.{TrainRec}
+use Rattle.rbc_settle.specs.Trains.{stop_identifiers, limit_identifiers}
+use Rattle.rbc_settle.specs.Settling.{Stops, Limits, last_stamp, concern_to, limit_told_to, is_stop_gone, is_limit_gone, is_used_by, due_number, actions, settled, messages_of}
 
 -- A stop does not concern the train, or is told to it, or all stop identifiers are held.
 abbrev pub IsToldIfItCan : TrainRec → ℕ × List Segment → Type 0

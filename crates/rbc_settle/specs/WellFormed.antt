@@ -3,17 +3,17 @@ use Rattle.std.specs.Prelude.{◌≡◌, ℕ, ◌≤◌, Bool, true, false, ◌=
 use Rattle.std.specs.List.{All, filter_map}
 use Rattle.rbc_track.specs.Plan.{Plan, group_of}
 use Rattle.rbc_track.specs.declared.group.Way.TheVariants.{Up, Down}
-use Rattle.rbc_train.specs.Placing.{Place, LiesOnLine}
+use Rattle.rbc_zones.specs.Placing.{Place, LiesOnLine}
 use Rattle.rbc_maps.specs.Numbered.{AreNumbered}
 use Rattle.rbc_ids.specs.declared.slot.Slot.{Slot}
 use Rattle.rbc_ids.specs.declared.slot.Slot.TheVariants.{Used, Revoking}
 use Rattle.rbc_ids.specs.declared.slot.Kind.{Kind}
 use Rattle.rbc_ids.specs.declared.slot.Kind.TheVariants.{Conditional, Unconditional, Restriction}
 use Rattle.rbc_ids.specs.Table.{Slots, stamp_of, is_conditional, most_reports}
-use Rattle.rbc_train.specs.declared.train.TrainRec.{TrainRec}
-use Rattle.rbc_train.specs.Trains.{max_engine, max_train_length}
-use Rattle.rbc_train.specs.Numbers.{AreNumbers, has_number}
-use Rattle.rbc_train.specs.Settling.{Stops, Limits, last_stamp, settled}
+use Rattle.rbc_settle.specs.declared.train.TrainRec.{TrainRec}
+use Rattle.rbc_settle.specs.Trains.{max_engine, max_train_length}
+use Rattle.rbc_settle.specs.Numbers.{AreNumbers, has_number}
+use Rattle.rbc_settle.specs.Settling.{Stops, Limits, last_stamp, settled}
 use Rattle.rbc_settle.specs.UpToDate.{HasTables}
 
 -- no number stands twice in a list

@@ -2,14 +2,14 @@
 use Rattle.std.specs.Prelude.{ℕ, true, false, [], ◌∷◌, Some}
 use Rattle.rbc_track.specs.Plan.{Plan}
 use Rattle.rbc_track.specs.declared.group.Way.TheVariants.{Up, Down}
-use Rattle.rbc_train.specs.Placing.{Place}
+use Rattle.rbc_zones.specs.Placing.{Place}
 use Rattle.rbc_ids.specs.declared.slot.Slot.TheVariants.{Used, Revoking}
 use Rattle.rbc_ids.specs.declared.slot.Kind.TheVariants.{Conditional, Unconditional, Restriction}
 use Rattle.rbc_ids.specs.Table.{Slots, told_now}
 use Rattle.rbc_zones.specs.declared.limit.Dirs.TheVariants as dirs
-use Rattle.rbc_train.specs.declared.train.TrainRec.{TrainRec}
-use Rattle.rbc_train.specs.Trains.{new_train}
-use Rattle.rbc_train.specs.Settling.{Stops, Limits}
+use Rattle.rbc_settle.specs.declared.train.TrainRec.{TrainRec}
+use Rattle.rbc_settle.specs.Trains.{new_train}
+use Rattle.rbc_settle.specs.Settling.{Stops, Limits}
 
 -- two lines, with balise groups 5 and 6 on the first and 7 on the second
 abbrev pub track_a : Plan

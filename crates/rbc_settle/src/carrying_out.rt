@@ -3,17 +3,19 @@
 ghost use Rattle.std.specs.Prelude.{◌≡◌, ℕ, ◌+◌, ◌^◌, ◌<◌, ◌≤◌, length, map, fold, IfOk, OnOk};
 ghost use Rattle.ertms_codec.specs.PacketsToTrain.{PacketFits, ArePacketsThatFit, most_packets};
 ghost use Rattle.ertms_codec.specs.ToTrain.{Fits};
-ghost use Rattle.rbc_train.specs.declared.change.StopChange.TheVariants.{Tell};
-ghost use Rattle.rbc_train.specs.Trains.{stop_identifiers};
-ghost use Rattle.rbc_train.specs.Actions.{ChangesStop, ChangesLimits, groups};
-ghost use Rattle.rbc_train.specs.Settling.{head_of, limit_changed, packet_of, carried_out, message_of};
-ghost use Rattle.rbc_train.specs.Following.{CanChangeAll, Allows};
+ghost use Rattle.rbc_settle.specs.declared.change.StopChange.TheVariants.{Tell};
+ghost use Rattle.rbc_settle.specs.Trains.{stop_identifiers};
+ghost use Rattle.rbc_settle.specs.Actions.{ChangesStop, ChangesLimits, groups};
+ghost use Rattle.rbc_settle.specs.Settling.{head_of, limit_changed, packet_of, carried_out, message_of};
+ghost use Rattle.rbc_settle.specs.Following.{CanChangeAll, Allows};
 ghost use Rattle.rbc_settle.specs.Sending.{CanTake, HasTaken, AreBehind};
 ghost use Rattle.rbc_settle.specs.UpToDate.{HasTables};
 
+use crate::change::{LimitChange, StopChange, ToldStop};
+use crate::sent::Sent;
+use crate::train::TrainRec;
 use ertms_codec::{Head, MOST_PACKETS, Packets, Part, ToTrain};
 use rbc_ids::{IdTable, Kind};
-use rbc_train::{LimitChange, Sent, StopChange, ToldStop, TrainRec};
 use std::alloc::{AllocError, Global};
 
 /// NID_LRBG of a message to a train without a place.

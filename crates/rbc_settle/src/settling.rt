@@ -4,16 +4,17 @@ ghost use Rattle.std.specs.Prelude.{◌≡◌, ◌+◌, ◌≤◌, [], ◌++◌,
 ghost use Rattle.std.specs.Prelude.{false};
 ghost use Rattle.std.specs.List.{All};
 ghost use Rattle.ertms_codec.specs.ToTrain.{Fits};
-ghost use Rattle.rbc_train.specs.Settling.{most_messages, in_messages, actions_with_stamp, settled, messages_of};
-ghost use Rattle.rbc_train.specs.Settling.{to_engine};
+ghost use Rattle.rbc_settle.specs.Settling.{most_messages, in_messages, actions_with_stamp, settled, messages_of};
+ghost use Rattle.rbc_settle.specs.Settling.{to_engine};
 ghost use Rattle.rbc_settle.specs.Sending.{CanTake, HasTaken, AreBehind};
 ghost use Rattle.rbc_settle.specs.UpToDate.{IsUpToDateOrAtTheEnd};
 
 use crate::carrying_out::{change_limits, change_stops};
-use crate::change::Changes;
 use crate::judge::changes;
+use crate::needed_changes::Changes;
+use crate::sent::Sent;
+use crate::train::TrainRec;
 use rbc_track::Track;
-use rbc_train::{Sent, TrainRec};
 use rbc_zones::{Limits, Stops};
 use std::alloc::{AllocError, Global};
 

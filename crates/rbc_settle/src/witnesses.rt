@@ -10,7 +10,7 @@ ghost use Rattle.std.specs.Prelude.{◌≡◌, [], ◌∷◌};
 ghost use Rattle.rbc_ids.specs.declared.slot.Slot.TheVariants.{Revoking};
 ghost use Rattle.rbc_ids.specs.declared.slot.Kind.TheVariants.{Unconditional};
 ghost use Rattle.rbc_ids.specs.Table.{told_now};
-ghost use Rattle.rbc_train.specs.Settling.{settled};
+ghost use Rattle.rbc_settle.specs.Settling.{settled};
 
 /// What `settle_law` promises holds of a right train, and does not hold of wrong ones.
 ///

@@ -7,7 +7,7 @@ use Rattle.std.proofs.lemmas.Bool.{ne_eqb, and_from}
 use Rattle.std.proofs.lemmas.List.Elements.{All-head, All-tail}
 use Rattle.hex.specs.Hex.{decode_of, decode_sized, is_hex_digit}
 use Rattle.hex.proofs.HexLemmas.{IsOk-decode_sized, decode_sized-twice}
-use Rattle.rbc_step.specs.declared.input.Input.TheVariants.{Bad}
+use Rattle.rbc_rule.specs.declared.input.Input.TheVariants.{Bad}
 use Rattle.rbc_text.specs.BatchText.{is_space, words_of, is_hex_word, message_of, line_of_hex, Spelled, Heard}
 
 -- what is no digit is not among digits

@@ -7,6 +7,7 @@ pub mod ResultLines
 pub mod HexDigits
 pub mod HexWords
 pub mod Ranges
+pub mod Transfers
 pub use Rattle.rbc_desk.proofs.Begins
 pub use Rattle.rbc_desk.proofs.Posts
 pub use Rattle.rbc_desk.proofs.Sends

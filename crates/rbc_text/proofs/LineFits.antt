@@ -7,10 +7,10 @@ use Rattle.ertms_codec.specs.declared.error.DecodeError.{DecodeError}
 use Rattle.ertms_codec.specs.declared.error.DecodeError.TheVariants.{Length, Message, Packet, Field}
 use Rattle.rbc_zones.specs.declared.segment.Segment.{Segment}
 use Rattle.rbc_zones.specs.declared.limit.Dirs.{Dirs}
-use Rattle.rbc_step.specs.declared.input.Input.{Input}
-use Rattle.rbc_step.specs.declared.input.Input.TheVariants.{Enrol, Withdraw, Stop, Release, Restrict, Lift, Received, Bad}
-use Rattle.rbc_step.specs.Codes.{code_of}
-use Rattle.rbc_step.specs.Inputs.{Fits}
+use Rattle.rbc_rule.specs.declared.input.Input.{Input}
+use Rattle.rbc_rule.specs.declared.input.Input.TheVariants.{Enrol, Withdraw, Stop, Release, Restrict, Lift, Received, Bad}
+use Rattle.rbc_rule.specs.Codes.{code_of}
+use Rattle.rbc_rule.specs.Inputs.{Fits}
 use Rattle.rbc_text.specs.BatchText.{decimal_of, segment_of, onto_all, segments_of, enrolment_from, enrolment_of, withdrawal_from, withdrawal_of, number_of, stop_from, stop_of, release_of, lift_of, dirs_of, front_of, restriction_from, restriction_of, command_of, refusal_of, AreHeard}
 
 -- a bad line has a code

@@ -2,7 +2,7 @@
 use Rattle.std.proofs.Common.{◌≡◌, ℕ, true, false, List, [], ◌∷◌, Option, Some, None, is_some, refl, sym, ap, ◌∙◌}
 use Rattle.std.specs.Option.{unwrap_or}
 use denote.Ref.{Bor}
-use Rattle.rbc_step.specs.declared.input.Input.TheVariants.{Bad}
+use Rattle.rbc_rule.specs.declared.input.Input.TheVariants.{Bad}
 use Rattle.rbc_text.specs.BatchText.{is_space, words_of, number_of, withdrawal_of, restriction_of, message_of, is_hex_word, IsInput, Spelled}
 use Rattle.rbc_text.specs.Pieces.{pieces_behind}
 use Rattle.rbc_text.proofs.Cuts.{split_is_cons}

@@ -4,7 +4,7 @@ use Rattle.std.specs.Prelude.{codes}
 use Rattle.std.specs.Fmt.{decimal}
 use Rattle.std.proofs.lemmas.Fmt.{decimal_digit}
 use Rattle.std.proofs.lemmas.List.{append_assoc}
-use Rattle.rbc_step.specs.declared.outcome.Reply.TheVariants.{Done}
+use Rattle.rbc_rule.specs.declared.outcome.Reply.TheVariants.{Done}
 use Rattle.rbc_text.specs.OutputText.{result_line}
 
 regrouped : (text a b c d : List ℕ) → (text ++ a) ++ (b ++ (c ++ d)) ≡ text ++ (((a ++ b) ++ c) ++ d)

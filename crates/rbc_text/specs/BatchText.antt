@@ -12,12 +12,12 @@ use Rattle.ertms_codec.specs.RefusalsFromTrain.{Refuses}
 use Rattle.rbc_zones.specs.declared.segment.Segment.{Segment}
 use Rattle.rbc_zones.specs.declared.limit.Dirs.{Dirs}
 use Rattle.rbc_zones.specs.declared.limit.Dirs.TheVariants.{Up, Down, Both}
-use Rattle.rbc_train.specs.Trains.{max_engine, max_train_length}
-use Rattle.rbc_step.specs.declared.refuse.Refusal.{Refusal}
-use Rattle.rbc_step.specs.declared.refuse.Refusal.TheVariants as refusal
-use Rattle.rbc_step.specs.Codes.{code_of}
-use Rattle.rbc_step.specs.declared.input.Input.{Input}
-use Rattle.rbc_step.specs.declared.input.Input.TheVariants.{Enrol, Withdraw, Stop, Release, Restrict, Lift, Received, Bad}
+use Rattle.rbc_settle.specs.Trains.{max_engine, max_train_length}
+use Rattle.rbc_rule.specs.declared.refuse.Refusal.{Refusal}
+use Rattle.rbc_rule.specs.declared.refuse.Refusal.TheVariants as refusal
+use Rattle.rbc_rule.specs.Codes.{code_of}
+use Rattle.rbc_rule.specs.declared.input.Input.{Input}
+use Rattle.rbc_rule.specs.declared.input.Input.TheVariants.{Enrol, Withdraw, Stop, Release, Restrict, Lift, Received, Bad}
 
 abbrev pub is_line_feed : ℕ → Bool
 is_line_feed byte = byte == 10

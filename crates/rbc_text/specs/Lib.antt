@@ -1,6 +1,7 @@
 pub mod BatchText
 pub mod Pieces
 pub mod OutputText
+pub mod Streams
 pub use Rattle.rbc_desk.specs.Held
 pub use Rattle.rbc_desk.specs.Serial
 pub use Rattle.rbc_desk.specs.declared.outbox.Mail

@@ -4,9 +4,9 @@ use Rattle.std.specs.Fmt.{decimal}
 use Rattle.std.specs.List.{flat_map, enumerate_from}
 use Rattle.hex.specs.Hex.{encode_upper}
 use Rattle.ertms_codec.specs.ToTrain.{spelling_of}
-use Rattle.rbc_step.specs.declared.outcome.Reply.{Reply}
-use Rattle.rbc_step.specs.declared.outcome.Reply.TheVariants.{Done, Refused}
-use Rattle.rbc_train.specs.declared.sent.Sent.{Sent}
+use Rattle.rbc_rule.specs.declared.outcome.Reply.{Reply}
+use Rattle.rbc_rule.specs.declared.outcome.Reply.TheVariants.{Done, Refused}
+use Rattle.rbc_settle.specs.declared.sent.Sent.{Sent}
 use Rattle.rbc_desk.specs.declared.outbox.Mail.{Mail}
 
 -- `ok COUNT` or `refused CODE`

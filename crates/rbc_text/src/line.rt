@@ -1,15 +1,15 @@
 //! One line, read as an input.
 
 ghost use Rattle.std.specs.Prelude.{◌≡◌, IfOk};
-ghost use Rattle.rbc_step.specs.declared.input.Input.TheVariants.{Bad};
+ghost use Rattle.rbc_rule.specs.declared.input.Input.TheVariants.{Bad};
 ghost use Rattle.rbc_text.specs.BatchText.{enrolment_from, enrolment_of, stop_from, stop_of, withdrawal_from};
 ghost use Rattle.rbc_text.specs.BatchText.{withdrawal_of, restriction_from, restriction_of, command_of, words_of};
 ghost use Rattle.rbc_text.specs.BatchText.{line_of, IsInput};
-ghost use Rattle.rbc_step.specs.Inputs.{Fits};
+ghost use Rattle.rbc_rule.specs.Inputs.{Fits};
 
 use crate::messages::message;
 use crate::words::{cut, decimal, dirs, front, number, segment, segments};
-use rbc_step::{Input, MAX_ENGINE, MAX_LENGTH, Refusal, Segments};
+use rbc_rule::{Input, MAX_ENGINE, MAX_LENGTH, Refusal, Segments};
 use rbc_zones::{Dirs, Segment};
 use std::alloc::{AllocError, Global};
 

@@ -4,7 +4,7 @@ ghost use Rattle.std.specs.Prelude.{◌≡◌, ◌≤◌, length, IfOk, IfSome, 
 ghost use Rattle.std.specs.List.{list_all};
 ghost use Rattle.std.specs.Option.{unwrap_or};
 ghost use Rattle.hex.specs.Hex.{decode_of};
-ghost use Rattle.rbc_step.specs.declared.input.Input.TheVariants.{Bad};
+ghost use Rattle.rbc_rule.specs.declared.input.Input.TheVariants.{Bad};
 ghost use Rattle.rbc_text.specs.BatchText.{Spelled, is_hex_word, line_of_hex, message_of, words_of, refusal_of};
 ghost use Rattle.rbc_text.specs.BatchText.{AreHeard, IsInput};
 
@@ -13,7 +13,7 @@ use crate::words::cut;
 use ertms_codec::{DecodeError, read_from_train};
 use hex::FromHexError;
 use memchr::memchr;
-use rbc_step::{Input, Refusal};
+use rbc_rule::{Input, Refusal};
 use std::alloc::{AllocError, Global};
 
 /// A message of at most so many bytes is read without allocating. A position report has 23 of them, or 37 with what the

@@ -7,14 +7,14 @@ ghost use Rattle.std.specs.List.{flat_map, enumerate_from};
 ghost use Rattle.hex.specs.Hex.{encode_upper};
 ghost use Rattle.ertms_codec.specs.ToTrain.{Fits};
 ghost use Rattle.rbc_desk.specs.Sendable.{AreSendable};
-ghost use Rattle.rbc_step.specs.Gathered as sending;
+ghost use Rattle.rbc_rule.specs.Gathered as sending;
 ghost use Rattle.rbc_text.specs.OutputText.{reply_text, result_line, mail_line, sent_line, outbox_lines, output_of};
 ghost use Rattle.rbc_text.specs.OutputText.{answer_of};
 
 use ertms_codec::{ToTrain, write_to_train};
 use itoa::Buffer;
 use rbc_desk::{Desk, Mail};
-use rbc_step::{Reply, SentList};
+use rbc_rule::{Reply, SentList};
 use std::alloc::{AllocError, Global};
 
 /// Appends a number in decimal, without leading zeros.

@@ -7,7 +7,7 @@ ghost use Rattle.rbc_text.specs.BatchText.{dirs_of, front_of, words_of};
 ghost use Rattle.rbc_text.specs.Pieces.{pieces_behind, text_behind};
 
 use memchr::memchr;
-use rbc_step::Segments;
+use rbc_rule::Segments;
 use rbc_zones::{Dirs, Segment};
 use std::alloc::{AllocError, Global};
 

@@ -4,20 +4,20 @@ use Rattle.rbc_track.specs.Plan.{Plan, IsPlan}
 use Rattle.rbc_records.specs.declared.record.Key.{Key}
 use Rattle.rbc_records.specs.declared.record.Rec.{Rec}
 use Rattle.rbc_records.specs.Writes.{written}
-use Rattle.rbc_step.specs.declared.input.Input.{Input}
-use Rattle.rbc_step.specs.Lists.{is_list}
-use Rattle.rbc_step.specs.World.{World}
-use Rattle.rbc_step.proofs.AllGathered.{written-append}
+use Rattle.rbc_rule.specs.declared.input.Input.{Input}
+use Rattle.rbc_rule.specs.Lists.{is_list}
+use Rattle.rbc_rule.specs.World.{World}
+use Rattle.rbc_rule.proofs.AllGathered.{written-append}
 use Rattle.rbc_desk.specs.declared.answer.Answer.{Answer}
 use Rattle.rbc_desk.specs.Held.{Standing, Holds, AreOutboxes, AreRecordsOf}
 use Rattle.rbc_desk.specs.Answers.{after_answers}
 use Rattle.rbc_desk.specs.Serial.{Desk, serial}
 use Rattle.rbc_desk.proofs.EachAnswer.{all_answered}
 use Rattle.rbc_desk.proofs.Runs.{All-get}
-use Rattle.rbc_share.specs.declared.share.Share.{Share}
-use Rattle.rbc_share.specs.Messages.{Records, Setting, records_after}
-use Rattle.rbc_share.specs.Moving.{list_or}
-use Rattle.rbc_share.specs.Shares.{AreInPlaces, HasTaken, HasTakenIfDone, HaveTakenIfDone}
+use Rattle.rbc_window.specs.declared.share.Share.{Share}
+use Rattle.rbc_window.specs.Messages.{Records, Setting, records_after}
+use Rattle.rbc_window.specs.Moving.{list_or}
+use Rattle.rbc_window.specs.Shares.{AreInPlaces, HasTaken, HasTakenIfDone, HaveTakenIfDone}
 use Rattle.rbc_window.specs.Gathering.{HaveTrains, KeepRest}
 use Rattle.rbc_window.specs.Answers.{AreDone, setting_of}
 use Rattle.rbc_window.proofs.Serial.{all_messages}

@@ -2,25 +2,25 @@
 use Rattle.std.proofs.Common.{◌≡◌, ◌⊎◌, ℕ, zero, suc, ◌+◌, ◌≤◌, Bool, true, false, cond, List, [], ◌∷◌, ◌++◌, length, take, drop, Option, Some, None, IfSome, inl, inr, ⊎_elim, set, eqb, eq-eqb, ne_eqb, refl, sym, ap, subst, ◌∙◌, slice_get, All, IsTrue, append_assoc, append-nil, drop_of_length-le, take_all, true≢false, arith}
 use Rattle.std.proofs.lemmas.List.Elements.{All-nil, All-push}
 use Rattle.std.proofs.lemmas.Option.{none-some, same_Some}
-use Rattle.rbc_train.specs.declared.train.TrainRec.{TrainRec}
-use Rattle.rbc_train.specs.Numbers.{with_number, without_number}
+use Rattle.rbc_settle.specs.declared.train.TrainRec.{TrainRec}
+use Rattle.rbc_settle.specs.Numbers.{with_number, without_number}
 use Rattle.rbc_records.specs.declared.record.Key.{Key}
 use Rattle.rbc_records.specs.declared.record.Key.TheVariants as key
 use Rattle.rbc_records.specs.Notes.{same_key}
 use Rattle.rbc_records.specs.Writes.{written}
-use Rattle.rbc_step.specs.declared.input.Input.{Input}
-use Rattle.rbc_step.specs.Records.{engines_record}
-use Rattle.rbc_step.specs.Lists.{is_list, engines_in}
-use Rattle.rbc_step.specs.Gathered.{AreSendable}
+use Rattle.rbc_rule.specs.declared.input.Input.{Input}
+use Rattle.rbc_rule.specs.Records.{engines_record}
+use Rattle.rbc_rule.specs.Lists.{is_list, engines_in}
+use Rattle.rbc_rule.specs.Gathered.{AreSendable}
 use Rattle.rbc_desk.specs.declared.answer.Answer.{Answer}
-use Rattle.rbc_share.specs.declared.kept.Kept.{Kept}
-use Rattle.rbc_share.specs.declared.share.Share.{Share}
-use Rattle.rbc_share.specs.Messages.{Records, Setting, moves_in, outcome_of, next_records, records_after, sender}
-use Rattle.rbc_share.specs.Kept.{AreKept, BeginsWith, IsKept, engine_or_none, has_engine, share_of}
-use Rattle.rbc_share.specs.Moving.{list_or}
-use Rattle.rbc_share.specs.Shares.{TrainsStand}
-use Rattle.rbc_share.proofs.Hearings.{moves_elsewhere, train_no_list}
-use Rattle.rbc_share.proofs.Taking.{drop_at_place, records_then}
+use Rattle.rbc_window.specs.declared.kept.Kept.{Kept}
+use Rattle.rbc_window.specs.declared.share.Share.{Share}
+use Rattle.rbc_window.specs.Messages.{Records, Setting, moves_in, outcome_of, next_records, records_after, sender}
+use Rattle.rbc_window.specs.Kept.{AreKept, BeginsWith, IsKept, engine_or_none, has_engine, share_of}
+use Rattle.rbc_window.specs.Moving.{list_or}
+use Rattle.rbc_window.specs.Shares.{TrainsStand}
+use Rattle.rbc_window.proofs.Hearings.{moves_elsewhere, train_no_list}
+use Rattle.rbc_window.proofs.Taking.{drop_at_place, records_then}
 use Rattle.rbc_window.specs.Gathering.{AreAnswers, HaveTrains, KeepRest}
 
 -- what the first inputs leave: whatever answers the others have come behind the answers, and the lists stand as they do after the first

@@ -4,30 +4,30 @@ use Rattle.std.proofs.lemmas.List.Elements.{All-head, All-tail}
 use Rattle.ertms_codec.specs.declared.from_train.FromTrain.{FromTrain}
 use Rattle.rbc_track.specs.Plan.{Plan, IsPlan}
 use Rattle.rbc_maps.specs.Maps.{value_of, with_value}
-use Rattle.rbc_train.specs.declared.train.TrainRec.{TrainRec}
+use Rattle.rbc_settle.specs.declared.train.TrainRec.{TrainRec}
 use Rattle.rbc_records.specs.declared.record.Key.{Key}
 use Rattle.rbc_records.specs.declared.record.Rec.TheVariants as rec
-use Rattle.rbc_step.specs.declared.input.Input.{Input}
-use Rattle.rbc_step.specs.declared.input.Input.TheVariants.{Enrol, Withdraw, Stop, Release, Restrict, Lift, Received, Bad}
-use Rattle.rbc_step.specs.declared.outcome.Outcome.{Outcome}
-use Rattle.rbc_step.specs.declared.refuse.Refusal.TheVariants.{UnknownTrain}
-use Rattle.rbc_step.specs.Codes.{code_of}
-use Rattle.rbc_step.specs.Inputs.{Fits}
-use Rattle.rbc_step.specs.World.{World}
-use Rattle.rbc_step.specs.Effect.{effect, engine_of, heard, heard_from, received, then_do}
-use Rattle.rbc_step.specs.Step as rule
-use Rattle.rbc_step.specs.Records.{record_of}
-use Rattle.rbc_step.specs.Right.{IsStep}
-use Rattle.rbc_step.specs.WellFormed.{IsWellFormed}
-use Rattle.rbc_step.proofs.Worlds.{refused_right}
-use Rattle.rbc_step.proofs.OneTrain.{receive_refused, receive_right}
+use Rattle.rbc_rule.specs.declared.input.Input.{Input}
+use Rattle.rbc_rule.specs.declared.input.Input.TheVariants.{Enrol, Withdraw, Stop, Release, Restrict, Lift, Received, Bad}
+use Rattle.rbc_rule.specs.declared.outcome.Outcome.{Outcome}
+use Rattle.rbc_rule.specs.declared.refuse.Refusal.TheVariants.{UnknownTrain}
+use Rattle.rbc_rule.specs.Codes.{code_of}
+use Rattle.rbc_rule.specs.Inputs.{Fits}
+use Rattle.rbc_rule.specs.World.{World}
+use Rattle.rbc_rule.specs.Effect.{effect, engine_of, heard, heard_from, received, then_do}
+use Rattle.rbc_rule.specs.Step as rule
+use Rattle.rbc_rule.specs.Records.{record_of}
+use Rattle.rbc_rule.specs.Right.{IsStep}
+use Rattle.rbc_rule.specs.WellFormed.{IsWellFormed}
+use Rattle.rbc_rule.proofs.Worlds.{refused_right}
+use Rattle.rbc_rule.proofs.OneTrain.{receive_refused, receive_right}
 use Rattle.rbc_desk.specs.declared.answer.Answer.{Answer}
 use Rattle.rbc_desk.specs.Held.{Standing, Holds, AreOutboxes}
 use Rattle.rbc_desk.specs.Answers.{after_answer, after_each}
 use Rattle.rbc_desk.specs.Serial.{Desk, step, serial}
 use Rattle.rbc_desk.proofs.EachAnswer.{with_records, one_answered, boxes_after_answer}
-use Rattle.rbc_share.specs.Messages.{Records, Setting, train_in, outcome_of, outcome_of_message, outcome_of_train, next_records, records_after}
-use Rattle.rbc_share.specs.Kept.{IsAnswerOf}
+use Rattle.rbc_window.specs.Messages.{Records, Setting, train_in, outcome_of, outcome_of_message, outcome_of_train, next_records, records_after}
+use Rattle.rbc_window.specs.Kept.{IsAnswerOf}
 use Rattle.rbc_window.specs.Gathering.{IsMessage, AreAnswers}
 
 -- the train in a record of a world

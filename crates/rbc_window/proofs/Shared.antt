@@ -8,24 +8,24 @@ use Rattle.rbc_place.specs.Placing.{Place}
 use Rattle.rbc_maps.specs.Maps.{value_of, keys, rises_from, IsMap}
 use Rattle.rbc_maps.proofs.MapPlaces.{absent_below}
 use Rattle.rbc_maps.proofs.MapValues.{value_of-absent}
-use Rattle.rbc_train.specs.declared.train.TrainRec.{TrainRec}
+use Rattle.rbc_settle.specs.declared.train.TrainRec.{TrainRec}
 use Rattle.rbc_records.specs.declared.record.Key.{Key}
 use Rattle.rbc_records.specs.declared.record.Key.TheVariants as key
 use Rattle.rbc_records.specs.declared.record.Rec.{Rec}
 use Rattle.rbc_records.specs.declared.record.Rec.TheVariants as rec
 use Rattle.rbc_records.specs.Notes.{same_key}
 use Rattle.rbc_records.specs.Writes.{written, write_over}
-use Rattle.rbc_step.specs.declared.input.Input.{Input}
-use Rattle.rbc_step.specs.Effect.{engine_of}
-use Rattle.rbc_step.specs.Records.{list_of}
-use Rattle.rbc_step.specs.Lists.{is_list}
-use Rattle.rbc_step.proofs.AllGathered.{written-append}
-use Rattle.rbc_step.proofs.WorldMaps.{eqb_turned}
-use Rattle.rbc_share.specs.declared.share.Share.{Share}
-use Rattle.rbc_share.specs.Messages.{Records, Setting, next_records, records_after}
-use Rattle.rbc_share.specs.Kept.{share_of}
-use Rattle.rbc_share.specs.Shares.{train_or, train_write, train_writes}
-use Rattle.rbc_share.proofs.Hearings.{stays}
+use Rattle.rbc_rule.specs.declared.input.Input.{Input}
+use Rattle.rbc_rule.specs.Effect.{engine_of}
+use Rattle.rbc_rule.specs.Records.{list_of}
+use Rattle.rbc_rule.specs.Lists.{is_list}
+use Rattle.rbc_rule.proofs.AllGathered.{written-append}
+use Rattle.rbc_rule.proofs.WorldMaps.{eqb_turned}
+use Rattle.rbc_window.specs.declared.share.Share.{Share}
+use Rattle.rbc_window.specs.Messages.{Records, Setting, next_records, records_after}
+use Rattle.rbc_window.specs.Kept.{share_of}
+use Rattle.rbc_window.specs.Shares.{train_or, train_write, train_writes}
+use Rattle.rbc_window.proofs.Hearings.{stays}
 use Rattle.rbc_window.specs.Gathering.{HaveTrains}
 
 -- what all shares write

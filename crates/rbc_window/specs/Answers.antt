@@ -4,12 +4,12 @@ use Rattle.rbc_track.specs.Plan.{Plan}
 use Rattle.rbc_records.specs.declared.record.Key.{Key}
 use Rattle.rbc_records.specs.declared.record.Rec.{Rec}
 use Rattle.rbc_records.specs.Writes.{written}
-use Rattle.rbc_step.specs.declared.input.Input.{Input}
-use Rattle.rbc_step.specs.World.{World}
+use Rattle.rbc_rule.specs.declared.input.Input.{Input}
+use Rattle.rbc_rule.specs.World.{World}
 use Rattle.rbc_desk.specs.declared.answer.Answer.{Answer}
 use Rattle.rbc_desk.specs.Serial.{Desk, serial}
 use Rattle.rbc_desk.specs.Held.{Standing, Holds, AreRecordsOf}
-use Rattle.rbc_share.specs.Messages.{Records, Setting, records_after}
+use Rattle.rbc_window.specs.Messages.{Records, Setting, records_after}
 use Rattle.rbc_window.specs.Gathering.{IsMessage, AreAnswers}
 
 -- inputs are taken in, one after another: what stood there was a desk of the rules, and what stands there now is that desk after them

@@ -1,12 +1,12 @@
 -- What shares keep, gathered in the order of the inputs (own rule).
 use Rattle.std.specs.Prelude.{◌≡◌, ℕ, List, [], ◌∷◌, Some, slice_get}
-use Rattle.rbc_step.specs.declared.input.Input.{Input}
-use Rattle.rbc_step.specs.declared.input.Input.TheVariants.{Enrol, Withdraw, Stop, Release, Restrict, Lift, Received, Bad}
+use Rattle.rbc_rule.specs.declared.input.Input.{Input}
+use Rattle.rbc_rule.specs.declared.input.Input.TheVariants.{Enrol, Withdraw, Stop, Release, Restrict, Lift, Received, Bad}
 use Rattle.rbc_desk.specs.declared.answer.Answer.{Answer}
-use Rattle.rbc_share.specs.declared.share.Share.{Share}
-use Rattle.rbc_share.specs.Messages.{Records, Setting, outcome_of, next_records}
-use Rattle.rbc_share.specs.Kept.{AreKept, IsAnswerOf}
-use Rattle.rbc_share.specs.Shares.{TrainsStand}
+use Rattle.rbc_window.specs.declared.share.Share.{Share}
+use Rattle.rbc_window.specs.Messages.{Records, Setting, outcome_of, next_records}
+use Rattle.rbc_window.specs.Kept.{AreKept, IsAnswerOf}
+use Rattle.rbc_window.specs.Shares.{TrainsStand}
 
 -- an input is a message
 abbrev pub IsMessage : Input → Type 0

@@ -3,20 +3,21 @@
 ghost use Rattle.std.specs.Prelude.{◌≡◌, [], ◌∷◌, List, All, false, length, IfOk, IfSome, OnOk, IsTrue, Some};
 ghost use Rattle.rbc_records.specs.Notes.{record_in};
 ghost use Rattle.rbc_records.specs.declared.record.Key.{Key};
-ghost use Rattle.rbc_step.specs.declared.input.Input.{Input};
-ghost use Rattle.rbc_step.specs.Gathered.{AreSendable};
-ghost use Rattle.rbc_step.specs.Lists.{is_list};
-ghost use Rattle.rbc_share.specs.Messages.{Records, Setting, sender, outcome_of, next_records, records_after};
-ghost use Rattle.rbc_share.specs.Kept.{IsKept};
-ghost use Rattle.rbc_share.specs.Moving.{list_or};
+ghost use Rattle.rbc_rule.specs.declared.input.Input.{Input};
+ghost use Rattle.rbc_rule.specs.Gathered.{AreSendable};
+ghost use Rattle.rbc_rule.specs.Lists.{is_list};
+ghost use Rattle.rbc_window.specs.Messages.{Records, Setting, sender, outcome_of, next_records, records_after};
+ghost use Rattle.rbc_window.specs.Kept.{IsKept};
+ghost use Rattle.rbc_window.specs.Moving.{list_or};
 ghost use Rattle.rbc_window.specs.Gathering.{IsMessage, AreAnswers, HaveTrains, KeepRest};
 
+use crate::kept::Kept;
+use crate::lists::Lists;
+use crate::share::{Share, share_of};
 use crate::window::NotRun;
 use rbc_desk::Answer;
-use rbc_kinds::engine_of;
 use rbc_records::PlainStore;
-use rbc_share::{Kept, Lists, Share, share_of};
-use rbc_step::Input;
+use rbc_rule::{Input, engine_of};
 use std::alloc::Global;
 
 /// The answers to all messages, in the order of the inputs; the lists are then as they stand after all of them. Fails

@@ -1,8 +1,19 @@
-//! Windows: messages from trains that several workers take in side by side, each for trains of its own. A message
-//! concerns its train alone, so what comes of them is what comes of one after another.
+//! Windows: messages that several workers take in side by side, each for trains of its own, and which come to what
+//! they come to one after another.
 #![tactic(auto)]
 
 mod gathering;
+mod hearing;
+mod kept;
+mod lists;
+mod share;
+mod shares;
+mod trains;
 mod window;
 
+pub use hearing::Scene;
+pub use kept::Kept;
+pub use lists::Lists;
+pub use share::{Share, share_of};
+pub use shares::{are_done, taken_in, write_trains};
 pub use window::{NotRun, run_window};

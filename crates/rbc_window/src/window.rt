@@ -3,15 +3,17 @@
 ghost use Rattle.std.specs.Prelude.{◌≡◌, ◌≤◌, ◌+◌, All, length, IfOk, OnOk, OnErr};
 ghost use Rattle.rbc_track.specs.Plan.{IsPlan};
 ghost use Rattle.rbc_records.specs.Notes.{record_in};
-ghost use Rattle.rbc_step.specs.Gathered.{AreSendable};
+ghost use Rattle.rbc_rule.specs.Gathered.{AreSendable};
 ghost use Rattle.rbc_desk.specs.Held.{IsInOrder, standing};
 ghost use Rattle.rbc_window.specs.Answers.{AreDoneInAny, AreTakenIn};
 
 use crate::gathering::answers_in_order;
+use crate::hearing::Scene;
+use crate::lists::Lists;
+use crate::shares::{are_done, taken_in, write_trains};
 use rbc_desk::{Answer, Desk, MAX_RESULTS};
 use rbc_records::{PlainStore, Writes};
-use rbc_share::{Lists, Scene, are_done, taken_in, write_trains};
-use rbc_step::{Input, RuleFault, read};
+use rbc_rule::{Input, RuleFault, read};
 use rbc_track::Track;
 use rbc_zones::{Limits, Stops};
 use std::alloc::{AllocError, AllocFailed, Global};

@@ -1,8 +1,8 @@
 -- The names of the codes with which an input is refused (own rule).
 use Rattle.std.specs.Prelude.{◌≡◌, ℕ, List, codes}
-use Rattle.rbc_step.specs.Codes.{code_of}
-use Rattle.rbc_step.specs.declared.refuse.Refusal.{Refusal}
-use Rattle.rbc_step.specs.declared.refuse.Refusal.TheVariants.{BadLine, BadHex, Length, Message, Packet, Field, UnknownTrain, AlreadyEnrolled, TooManyTrains, StopsOutstanding, NumberUsed, BadArea, TooManyActive, NoSuchNumber, StampTooHigh, NothingToAcknowledge}
+use Rattle.rbc_rule.specs.Codes.{code_of}
+use Rattle.rbc_rule.specs.declared.refuse.Refusal.{Refusal}
+use Rattle.rbc_rule.specs.declared.refuse.Refusal.TheVariants.{BadLine, BadHex, Length, Message, Packet, Field, UnknownTrain, AlreadyEnrolled, TooManyTrains, StopsOutstanding, NumberUsed, BadArea, TooManyActive, NoSuchNumber, StampTooHigh, NothingToAcknowledge}
 use Rattle.rbc_words.specs.declared.codes.Row.{Row}
 
 -- the name of each reason

@@ -1,11 +1,11 @@
 //! What each result code means, and what to do about it.
 
 ghost use Rattle.std.specs.Prelude.{◌≡◌, ◌↔◌, IsSome, IsSomeAnd, IfSome};
-ghost use Rattle.rbc_step.specs.Codes.{code_of};
-ghost use Rattle.rbc_step.specs.declared.refuse.Refusal.{Refusal};
+ghost use Rattle.rbc_rule.specs.Codes.{code_of};
+ghost use Rattle.rbc_rule.specs.declared.refuse.Refusal.{Refusal};
 ghost use Rattle.rbc_words.specs.Rows.{IsRowOf, name_of};
 
-use rbc_step::Refusal;
+use rbc_rule::Refusal;
 
 /// A result code with its name, what it means and what to do about it. A sentence that is longer than a line is broken,
 /// and its further lines are indented as in the text of all codes.

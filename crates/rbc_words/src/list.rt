@@ -2,7 +2,7 @@
 
 use crate::codes::{Row, other_row_of, row_of_code};
 use crate::faults::FAULTS;
-use rbc_step::Refusal;
+use rbc_rule::Refusal;
 use std::alloc::{AllocError, Global};
 use std::fmt::Write;
 

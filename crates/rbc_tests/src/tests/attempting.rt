@@ -3,12 +3,12 @@
 ghost use Rattle.std.specs.Prelude.{◌≡◌, IfSome};
 ghost use Rattle.rbc_versions.specs.Log.{IsOf};
 ghost use Rattle.rbc_versions.specs.Entries.{AreOf};
-ghost use Rattle.rbc_book.specs.Runs.{IsInput};
+ghost use Rattle.rbc_core.specs.Runs.{IsInput};
 
-use rbc_book::{Attempt, Book, RunName};
+use rbc_core::{Attempt, Book, RunName};
 use rbc_desk::decide;
 use rbc_records::{Key, ReadFault, Reader, Rec};
-use rbc_step::Input;
+use rbc_rule::Input;
 use rbc_track::Track;
 use rbc_versions::{Notes, Published, Ticket, VersionLog, publish_all};
 use std::alloc::{AllocError, Global};

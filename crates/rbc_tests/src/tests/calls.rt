@@ -1,16 +1,16 @@
 //! Calls of a book, one after another.
 
 ghost use Rattle.std.specs.Prelude.{◌≡◌};
-ghost use Rattle.rbc_book.specs.Runs.{IsGoodRun};
+ghost use Rattle.rbc_core.specs.Runs.{IsGoodRun};
 
 use super::same;
 use crate::tests::attempting::{Ahead, Scene, Tried, attempt, read_ahead};
 use crate::tests::numbers::{Numbers, Origin};
 use crate::tests::setting::{all_fit, good_track};
-use rbc_book::{Attempt, Book, Commit, RunName, Stats};
+use rbc_core::{Attempt, Book, Commit, RunName, Stats};
 use rbc_desk::{Desk, MAX_RESULTS};
 use rbc_records::Key;
-use rbc_step::Input;
+use rbc_rule::Input;
 use rbc_track::Track;
 use rbc_versions::VersionLog;
 use std::alloc::Global;

@@ -2,7 +2,7 @@
 
 use super::same;
 use super::setting::TRACK;
-use rbc_prompt::{LiveDesk, PromptError, answer_lines};
+use rbc_live::{LiveDesk, PromptError, answer_lines};
 use std::cell::Cell;
 use std::io;
 use std::io::{ErrorKind, Read, Write};

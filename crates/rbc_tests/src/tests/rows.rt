@@ -4,10 +4,10 @@ use super::same;
 use crate::tests::calls::{Call, run};
 use crate::tests::numbers::Origin;
 use crate::tests::setting::{assert_outbox, enrol, stop, stopped};
-use rbc_book::{Commit, Stats};
+use rbc_core::{Commit, Stats};
 use rbc_desk::Mail;
 use rbc_records::Key;
-use rbc_step::{Input, Reply};
+use rbc_rule::{Input, Reply};
 use std::process::Abort;
 use std::sync::Wait;
 

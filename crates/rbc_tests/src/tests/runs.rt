@@ -7,7 +7,7 @@ use super::gates::{Both, Hold, Inside, Moment, Told};
 use super::same;
 use super::setting::good_track;
 use rbc_batch::{parse_batch, process, process_by_train, render};
-use rbc_book::Stats;
+use rbc_core::Stats;
 use rbc_desk::Desk;
 use rbc_engine::{Gate, OpenGate, PACE, Pace, RunError, Windows, run, run_by_train};
 use rbc_track::Track;

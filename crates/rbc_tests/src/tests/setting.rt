@@ -3,12 +3,12 @@
 ghost use Rattle.std.specs.Prelude.{◌≡◌, ◌≤◌, ◌↔◌, IsTrue};
 ghost use Rattle.std.specs.List.{All};
 ghost use Rattle.rbc_track.specs.Plan.{IsPlan};
-ghost use Rattle.rbc_step.specs.Inputs.{Fits};
+ghost use Rattle.rbc_rule.specs.Inputs.{Fits};
 
 use super::same;
 use ertms_codec::{Head, Position, ToTrain, write_to_train};
 use rbc_desk::{Desk, Mail};
-use rbc_step::{Input, Segments};
+use rbc_rule::{Input, Segments};
 use rbc_track::{Track, track_from_toml};
 use rbc_zones::Segment;
 use std::alloc::{AllocError, Global};

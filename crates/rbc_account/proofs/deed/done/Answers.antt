@@ -1,6 +1,6 @@
 use Rattle.std.proofs.Common.{option_copied, sym, subst}
 use Rattle.std.specs.Prelude.{IfOk}
-use Rattle.rbc_step.specs.declared.input.Input.{Input}
+use Rattle.rbc_rule.specs.declared.input.Input.{Input}
 use Rattle.rbc_account.specs.Deeds.{IsDeed}
 use Rattle.rbc_account.proofs.deed.done.Goals as goal
 

@@ -1,6 +1,6 @@
 use Rattle.std.proofs.Common.{Bool, Option, option_copied, sym, ap, ◌∙◌, subst}
 use Rattle.rbc_place.specs.Placing.{Place}
-use Rattle.rbc_train.specs.Numbers.{has_number}
+use Rattle.rbc_settle.specs.Numbers.{has_number}
 use Rattle.rbc_account.specs.Reasons.{IsStopReason}
 use Rattle.rbc_account.proofs.told.reason_of.Goals as goal
 

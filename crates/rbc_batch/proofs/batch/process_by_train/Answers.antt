@@ -1,6 +1,6 @@
 use Rattle.std.proofs.Common.{rules, ◌≡◌, ◌≤◌, length, take, List, Ok, subst}
 use Rattle.std.specs.Io.KnownBytes.{Appends}
-use Rattle.rbc_step.specs.declared.input.Input.{Input}
+use Rattle.rbc_rule.specs.declared.input.Input.{Input}
 use Rattle.rbc_text.specs.OutputText.{output_of}
 use Rattle.rbc_batch.specs.Parts.{joined}
 use Rattle.rbc_batch.specs.Process.{AreRead, IsRunOf}

@@ -3,11 +3,11 @@ use Rattle.std.proofs.lemmas.List.Elements.{All-nil, All-cons, All-head, All-tai
 use Rattle.rbc_records.specs.declared.record.Key.{Key}
 use Rattle.rbc_records.specs.declared.record.Key.TheVariants as key
 use Rattle.rbc_versions.specs.Entries.{NumberedRec, AreCurrent, records_of}
-use Rattle.rbc_step.specs.declared.input.Input.TheVariants as input
+use Rattle.rbc_rule.specs.declared.input.Input.TheVariants as input
 use Rattle.rbc_rule_laws.proofs.WitnessSays.{differ}
-use Rattle.rbc_book.specs.Core.{State}
-use Rattle.rbc_book.specs.Events.Event.{Reads, Deposits, Voids, Applies, Recomputes, Ends}
-use Rattle.rbc_book.specs.Conflicts.{after, IsOvertaken, WasVoided}
+use Rattle.rbc_core.specs.Core.{State}
+use Rattle.rbc_core.specs.Events.Event.{Reads, Deposits, Voids, Applies, Recomputes, Ends}
+use Rattle.rbc_core.specs.Conflicts.{after, IsOvertaken, WasVoided}
 use Rattle.rbc_core.specs.Witnesses.{two_inputs, absent, enrolled, refused, enrolled_numbers, start, first_try, reading_first, committing_first, second_try, stops_try, after_events, second_overtaken, second_given_up, stops_read, nothing_read, train_7, under, forwarded_try, forwarding, third_try, both_engines, third_read, started_with_4, stops_at_4, again_numbers, second_misled}
 use Rattle.rbc_core.proofs.Fates.{follow_append}
 use Rattle.rbc_core.proofs.WitnessEvents.{follow_given_up, again, right_first, right_second, recomputes_first}

@@ -1,8 +1,8 @@
 use Rattle.std.proofs.Common.{true, false, List, [], ◌∷◌, ◌++◌, Some, None, refl, arith, inl, inr}
 use Rattle.std.proofs.lemmas.List.Elements.{All-nil}
-use Rattle.rbc_book.specs.declared.stage.Stage.TheVariants.{Free}
-use Rattle.rbc_book.specs.Events.{Event, Follow}
-use Rattle.rbc_book.specs.Events.Event.{Takes, Deposits, Voids, Applies, Recomputes, Ends, Fails}
+use Rattle.rbc_core.specs.declared.stage.Stage.TheVariants.{Free}
+use Rattle.rbc_core.specs.Events.{Event, Follow}
+use Rattle.rbc_core.specs.Events.Event.{Takes, Deposits, Voids, Applies, Recomputes, Ends, Fails}
 use Rattle.rbc_core.specs.Witnesses.{two_inputs, refused, publishing, start, first_try, reading_first, committing_first, unread_try, after_events, second_overtaken}
 use Rattle.rbc_core.proofs.Fates.{follow_append}
 use Rattle.rbc_core.proofs.WitnessEvents.{right_first, right_second, both_taken, first_turn, follow_overtaken, again_by_number}

@@ -4,8 +4,8 @@ use Rattle.rbc_records.specs.declared.record.Key.{Key}
 use Rattle.rbc_records.specs.declared.record.Key.TheVariants as key
 use Rattle.rbc_versions.specs.Entries.{NumberedRec}
 use Rattle.rbc_rule_laws.proofs.WitnessSays.{differ}
-use Rattle.rbc_book.specs.Core.{Try}
-use Rattle.rbc_book.specs.Events.{record_at}
+use Rattle.rbc_core.specs.Core.{Try}
+use Rattle.rbc_core.specs.Events.{record_at}
 use Rattle.rbc_core.specs.Witnesses.{engines, under, enrolled, enrolled_numbers, stale_try, one_stale, published_again, second_enrols}
 use Rattle.rbc_core.proofs.WitnessEvents.{third_is_stale, again_by_number}
 use Rattle.rbc_core.proofs.witnesses.event_numbers_witnesses.Goals as goal

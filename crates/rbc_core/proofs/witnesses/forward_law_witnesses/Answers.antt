@@ -3,8 +3,8 @@ use Rattle.std.proofs.lemmas.List.Elements.{All-nil, All-cons, Contains-get_or}
 use Rattle.rbc_records.specs.declared.record.Key.{Key}
 use Rattle.rbc_records.specs.declared.record.Key.TheVariants as key
 use Rattle.rbc_versions.specs.Entries.{NumberedRec}
-use Rattle.rbc_book.specs.declared.stage.Stage.TheVariants.{Tried}
-use Rattle.rbc_book.specs.Events.Event.{Reads, Deposits, Voids, Applies, Recomputes, Ends}
+use Rattle.rbc_core.specs.declared.stage.Stage.TheVariants.{Tried}
+use Rattle.rbc_core.specs.Events.Event.{Reads, Deposits, Voids, Applies, Recomputes, Ends}
 use Rattle.rbc_core.specs.Witnesses.{two_inputs, absent, under, train_7, enrolled, refused, enrolled_numbers, start, first_try, reading_first, committing_first, second_try, after_events, second_overtaken, second_given_up, nothing_read, forwarded_try, first_tried, forwarding, applying_forwarded, passing_over}
 use Rattle.rbc_core.proofs.Fates.{follow_append}
 use Rattle.rbc_core.proofs.WitnessEvents.{right_first, right_second, both_taken, first_turn, follow_overtaken, follow_given_up, again, again_by_number, nothing_now}

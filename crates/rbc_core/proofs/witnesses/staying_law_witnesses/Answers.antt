@@ -2,8 +2,8 @@ use Rattle.std.proofs.Common.{◌≡◌, ◌⊎◌, zero, suc, Bool, true, false
 use Rattle.rbc_records.specs.declared.record.Key.TheVariants as key
 use Rattle.rbc_records.specs.declared.record.Rec.{Rec}
 use Rattle.rbc_rule_laws.proofs.WitnessSays.{differ}
-use Rattle.rbc_book.specs.declared.stage.Stage.TheVariants.{Tried}
-use Rattle.rbc_book.specs.Core.{Try, IsAt}
+use Rattle.rbc_core.specs.declared.stage.Stage.TheVariants.{Tried}
+use Rattle.rbc_core.specs.Core.{Try, IsAt}
 use Rattle.rbc_core.specs.Witnesses.{first_try, second_try, unread_try, both_tried, train_7}
 use Rattle.rbc_core.proofs.witnesses.staying_law_witnesses.Goals as goal
 

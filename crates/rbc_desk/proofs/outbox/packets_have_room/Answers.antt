@@ -5,7 +5,7 @@ use Rattle.std.proofs.lemmas.Option.{slice_get_within, get_or_from_slice_get}
 use Rattle.ertms_codec.specs.declared.packets.Part.{Part}
 use Rattle.ertms_codec.specs.Layout.{Field, HoldValues}
 use Rattle.ertms_codec.specs.PacketsToTrain.{fields_of_packet}
-use Rattle.rbc_step.proofs.GatherReading.{one_more_gathered}
+use Rattle.rbc_rule.proofs.GatherReading.{one_more_gathered}
 use Rattle.rbc_rule_laws.proofs.Packets.{hold_both}
 use Rattle.rbc_desk.proofs.outbox.packets_have_room.Goals as goal
 

@@ -1,5 +1,5 @@
 use Rattle.std.proofs.Common.{◌≡◌, ◌≤◌, ℕ, take, get_or}
-use Rattle.rbc_train.specs.declared.sent.Sent.{Sent}
+use Rattle.rbc_settle.specs.declared.sent.Sent.{Sent}
 use Rattle.rbc_desk.specs.Held.{AreOutboxes, AreToTheEnginesOf, post_each}
 use Rattle.rbc_desk.proofs.outbox.post_all.Given as goal
 

@@ -4,9 +4,9 @@ use Rattle.std.proofs.lemmas.Bool.{eqb-true}
 use Rattle.std.proofs.lemmas.Option.{same_Some}
 use Rattle.std.proofs.lemmas.List.Elements.{All-nil, All-cons, All-head, All-tail}
 use Rattle.rbc_zones.specs.declared.segment.Segment.{Segment}
-use Rattle.rbc_train.specs.Settling.{concern_to}
-use Rattle.rbc_step.specs.Saying.{Said, StopsAtOnce, StopsBefore, RevokesStop}
-use Rattle.rbc_step.specs.SaidFor.{IsEdgeSaid, IsConcernSaid}
+use Rattle.rbc_settle.specs.Settling.{concern_to}
+use Rattle.rbc_rule.specs.Saying.{Said, StopsAtOnce, StopsBefore, RevokesStop}
+use Rattle.rbc_rule.specs.SaidFor.{IsEdgeSaid, IsConcernSaid}
 use Rattle.rbc_rule_laws.specs.Witnesses.{on_line_0, stop_before, stop_now, revoke, naming}
 use Rattle.rbc_rule_laws.proofs.WitnessSays.{differ, revokes_right}
 use Rattle.rbc_desk.specs.declared.outbox.Mail.{Mail}

@@ -1,7 +1,7 @@
 use Rattle.std.proofs.Common.{subst, ℕ, Option}
 use Rattle.rbc_explain.specs.AccountTelling.{TooFewFor, TooLate}
-use Rattle.rbc_command_line.specs.Words.{IsExplainOn, IsLiveOn, IsPictureOn, IsRunOn}
-use Rattle.rbc_command_line.specs.declared.words.Task.{Task}
+use Rattle.rbc_dispatch.specs.Words.{IsExplainOn, IsLiveOn, IsPictureOn, IsRunOn}
+use Rattle.rbc_dispatch.specs.declared.words.Task.{Task}
 use Rattle.rbc_dispatch.specs.Figures.{IsQuiet}
 use Rattle.rbc_dispatch.specs.Living.{Lives}
 use Rattle.rbc_dispatch.specs.Running.{Runs}

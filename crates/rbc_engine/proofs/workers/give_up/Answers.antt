@@ -1,8 +1,8 @@
 use Rattle.std.proofs.Common.{◌<◌, subst}
-use Rattle.rbc_book.specs.Books.{state_of}
-use Rattle.rbc_book.specs.Core.{State}
-use Rattle.rbc_book.specs.Events.{Happens}
-use Rattle.rbc_book.specs.Events.Event.{Takes}
+use Rattle.rbc_core.specs.Books.{state_of}
+use Rattle.rbc_core.specs.Core.{State}
+use Rattle.rbc_core.specs.Events.{Happens}
+use Rattle.rbc_core.specs.Events.Event.{Takes}
 use Rattle.rbc_engine.proofs.Fronts.{takes_and_gives_up, left_untaken}
 use Rattle.rbc_engine.proofs.workers.give_up.Goals as goal
 

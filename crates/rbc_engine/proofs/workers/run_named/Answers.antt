@@ -1,5 +1,5 @@
 use Rattle.std.proofs.Common.{Err, sym, ◌∙◌, subst, arith}
-use Rattle.rbc_book.specs.Held.{Held}
+use Rattle.rbc_core.specs.Held.{Held}
 use Rattle.rbc_engine.specs.declared.workers.RunError.TheVariants.{OutOfMemory}
 use Rattle.rbc_engine.specs.Answers.{IsStretch}
 use Rattle.rbc_engine.proofs.Ends.{desk_before}

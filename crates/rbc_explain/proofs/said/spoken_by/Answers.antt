@@ -1,6 +1,6 @@
 use Rattle.std.proofs.Common.{rules, ◌≡◌, [], ◌∷◌, refl, subst, pos}
 use Rattle.ertms_codec.specs.declared.to_train.ToTrain.{ToTrain}
-use Rattle.rbc_step.specs.Saying.{Says}
+use Rattle.rbc_rule.specs.Saying.{Says}
 use Rattle.rbc_explain.proofs.Meaning.{by_stop_before, not_revoked, by_stop, by_revocation, by_escalation, not_on_stop}
 use Rattle.rbc_explain.proofs.said.spoken_by.Goals as goal
 

@@ -1,6 +1,6 @@
 use Rattle.std.proofs.Common.{rules, ◌≡◌, refl, subst}
 use Rattle.ertms_codec.specs.declared.packets.Part.{Part}
-use Rattle.rbc_step.specs.Saying.{PacketSays}
+use Rattle.rbc_rule.specs.Saying.{PacketSays}
 use Rattle.rbc_explain.proofs.Meaning.{by_restriction, by_lift}
 use Rattle.rbc_explain.proofs.said.spoken_by_packet.Goals as goal
 

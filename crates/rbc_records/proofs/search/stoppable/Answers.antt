@@ -1,7 +1,7 @@
 use Rattle.std.proofs.Common.{◌∙◌, sym}
-use Rattle.rbc_sought.specs.Extents.{meet}
+use Rattle.rbc_records.specs.Extents.{meet}
 use Rattle.rbc_records.specs.Columns.{extent_of}
-use Rattle.rbc_sought.specs.declared.bounds.Extent.{Extent}
+use Rattle.rbc_records.specs.declared.bounds.Extent.{Extent}
 use Rattle.rbc_records.proofs.Passing.{passed_by, added}
 use Rattle.rbc_records.proofs.search.stoppable.Goals as goal
 use Rattle.rbc_records.proofs.search.stoppable.Goals.{else-meets-via-then-meets+in_ok-add_train+else-not-branch, else-meets-via-else-meets}

@@ -1,5 +1,5 @@
 use Rattle.std.proofs.Common.{take}
-use Rattle.rbc_sought.specs.Extents.{meet}
+use Rattle.rbc_records.specs.Extents.{meet}
 use Rattle.rbc_records.specs.Columns.{extent_of, ArePassing}
 use Rattle.rbc_records.proofs.search.stoppable.Given as goal
 

@@ -1,7 +1,7 @@
 use Rattle.std.proofs.Common.{◌∙◌, sym}
-use Rattle.rbc_sought.specs.Tolds.{has_bit}
+use Rattle.rbc_records.specs.Tolds.{has_bit}
 use Rattle.rbc_records.specs.Columns.{told_of}
-use Rattle.rbc_sought.specs.declared.bounds.Told.{Told}
+use Rattle.rbc_records.specs.declared.bounds.Told.{Told}
 use Rattle.rbc_records.proofs.Passing.{passed_by, added}
 use Rattle.rbc_records.proofs.search.told_of_limit.Goals as goal
 use Rattle.rbc_records.proofs.search.told_of_limit.Goals.{else-has_bit-via-then-has_bit+in_ok-add_train+else-not-branch, else-has_bit-via-else-has_bit}

@@ -1,8 +1,8 @@
 use Rattle.std.proofs.Common.{◌≡◌, [], ◌∷◌, refl, sym, ap, ◌∙◌, arith, subst}
 use Rattle.std.proofs.lemmas.Option.{same_Some}
-use Rattle.rbc_train.specs.Settling.{concern_to}
-use Rattle.rbc_step.specs.Saying.{Said, StopsAtOnce, StopsBefore}
-use Rattle.rbc_step.specs.SaidFor.{IsConcernSaid, IsEdgeSaid}
+use Rattle.rbc_settle.specs.Settling.{concern_to}
+use Rattle.rbc_rule.specs.Saying.{Said, StopsAtOnce, StopsBefore}
+use Rattle.rbc_rule.specs.SaidFor.{IsConcernSaid, IsEdgeSaid}
 use Rattle.rbc_rule_laws.specs.Witnesses.{on_line_0, unanswered}
 use Rattle.rbc_rule_laws.proofs.Sendable as sendable
 use Rattle.rbc_rule_laws.proofs.WitnessSays.{at_5}

@@ -1,8 +1,8 @@
 use Rattle.std.proofs.Common.{◌≡◌, false, [], ◌∷◌, Some, refl, sym, ◌∙◌, arith}
 use Rattle.std.specs.List.{AllByRecursion}
-use Rattle.rbc_train.specs.declared.change.LimitChange.TheVariants as limit_change
+use Rattle.rbc_settle.specs.declared.change.LimitChange.TheVariants as limit_change
 use Rattle.rbc_track.specs.declared.group.Way.TheVariants.{Up}
-use Rattle.rbc_step.specs.Saying.{Stretch, Restricts, RevokesLimit, IsStretchTold}
+use Rattle.rbc_rule.specs.Saying.{Stretch, Restricts, RevokesLimit, IsStretchTold}
 use Rattle.rbc_rule_laws.specs.Witnesses.{track_a, facing_up, on_line_0, train_7, limit_80, restriction_1, told_1, two_changes, lift_0, restrict_1}
 use Rattle.rbc_rule_laws.proofs.Packets.{CanBePacked, restrict_packed, lift_packed}
 use Rattle.rbc_rule_laws.proofs.Sendable as sendable

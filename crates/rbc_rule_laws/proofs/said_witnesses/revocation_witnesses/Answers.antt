@@ -1,5 +1,5 @@
 use Rattle.std.proofs.Common.{[], ◌∷◌, refl, arith}
-use Rattle.rbc_step.specs.Saying.{RevokesLimit}
+use Rattle.rbc_rule.specs.Saying.{RevokesLimit}
 use Rattle.rbc_rule_laws.proofs.WitnessSays.{lift_sendable, lifts_right, lifts_both_ways, no_limit_revoked, no_stop_revoked, differ}
 use Rattle.rbc_rule_laws.proofs.said_witnesses.revocation_witnesses.Goals as goal
 

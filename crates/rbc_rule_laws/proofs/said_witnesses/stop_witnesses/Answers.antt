@@ -1,7 +1,7 @@
 use Rattle.std.proofs.Common.{◌≡◌, ◌+◌, ◌*◌, ◌<◌, ◌≤◌, pos, [], ◌∷◌, refl, arith}
 use Rattle.rbc_track.specs.declared.group.Way.TheVariants.{Up, Down}
 use Rattle.rbc_zones.proofs.ToldStops.{told_rightly}
-use Rattle.rbc_step.specs.Saying.{StopsAtOnce, StopsBefore}
+use Rattle.rbc_rule.specs.Saying.{StopsAtOnce, StopsBefore}
 use Rattle.rbc_rule_laws.specs.Witnesses.{facing_up, short_of_5, on_line_0}
 use Rattle.rbc_rule_laws.proofs.Sendable as sendable
 use Rattle.rbc_rule_laws.proofs.WitnessSays.{at_5, stop_before_sendable, right_stop, stop_seen, under_stop_id, not_at_once, under_edge_id, not_before, no_reference, differ, from_5, counted_from_5, from_6}

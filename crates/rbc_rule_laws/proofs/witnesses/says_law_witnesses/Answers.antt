@@ -1,7 +1,7 @@
 use Rattle.std.proofs.Common.{◌≡◌, ◌+◌, ◌*◌, ◌/◌, ◌^◌, ◌<◌, ◌≤◌, [], ◌∷◌, refl, ap, arith}
 use Rattle.rbc_track.specs.declared.group.Way.TheVariants.{Up, Down}
 use Rattle.rbc_zones.proofs.ToldStops.{told_rightly}
-use Rattle.rbc_step.specs.Saying.{Spot, StopsAtOnce, StopsBefore, RevokesStop}
+use Rattle.rbc_rule.specs.Saying.{Spot, StopsAtOnce, StopsBefore, RevokesStop}
 use Rattle.rbc_rule_laws.specs.Witnesses.{track_a, facing_up, facing_down, on_line_0, stop_before, spot_at}
 use Rattle.rbc_rule_laws.proofs.OneSaid.{says_one_thing}
 use Rattle.rbc_rule_laws.proofs.WitnessSays.{stop_before_sendable, stop_now_sendable, revoke_sendable, restrict_sendable, right_stop, right_limit, stop_seen, limit_seen, not_spare, has_way, revokes_right, differ, tens, from_5, counted_from_5, before_20000}

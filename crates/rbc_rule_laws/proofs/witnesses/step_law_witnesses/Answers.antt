@@ -7,9 +7,9 @@ use Rattle.rbc_ids.specs.Table.{told_now}
 use Rattle.rbc_ids.specs.declared.slot.Kind.TheVariants.{Conditional}
 use Rattle.rbc_place.specs.Placing.{Place}
 use Rattle.rbc_zones.specs.Limits.{Limit, is_good_limit}
-use Rattle.rbc_train.specs.Actions.{Action}
+use Rattle.rbc_settle.specs.Actions.{Action}
 use Rattle.rbc_settle.specs.WellFormed.{IsGiven, has_kind, has_count, is_stop_kind, is_limit_kind, IsPlaceOn, IsWellFormedTrain}
-use Rattle.rbc_step.specs.WellFormed.{IsGoodStop, AreGoodStops, AreGoodLimits, IsGoodTrain}
+use Rattle.rbc_rule.specs.WellFormed.{IsGoodStop, AreGoodStops, AreGoodLimits, IsGoodTrain}
 use Rattle.rbc_rule_laws.specs.Witnesses.{track_a, facing_up, on_line_0, train_7, stop_1, told_as_0}
 use Rattle.rbc_rule_laws.proofs.WitnessWorlds.{only, good_train}
 use Rattle.rbc_rule_laws.proofs.witnesses.step_law_witnesses.Goals as goal

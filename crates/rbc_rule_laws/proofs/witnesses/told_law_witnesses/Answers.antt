@@ -5,9 +5,9 @@ use Rattle.rbc_ids.specs.declared.slot.Slot.{Slot}
 use Rattle.rbc_ids.specs.Table.{told_now}
 use Rattle.rbc_ids.specs.declared.slot.Kind.TheVariants.{Conditional}
 use Rattle.rbc_zones.specs.declared.stop_meaning.Concern.TheVariants as concern
-use Rattle.rbc_train.specs.declared.train.TrainRec.{TrainRec}
-use Rattle.rbc_train.specs.Settling.{Stops, Limits, last_stamp, is_stop_gone, is_limit_gone, is_used_by, due_number}
-use Rattle.rbc_train.specs.Told.{Part}
+use Rattle.rbc_settle.specs.declared.train.TrainRec.{TrainRec}
+use Rattle.rbc_settle.specs.Settling.{Stops, Limits, last_stamp, is_stop_gone, is_limit_gone, is_used_by, due_number}
+use Rattle.rbc_settle.specs.Told.{Part}
 use Rattle.rbc_settle.specs.UpToDate.{IsToldIfItCan, IsLimitToldIfItCan, IsUpToDate, IsUpToDateOrAtTheEnd}
 use Rattle.rbc_rule_laws.specs.Witnesses.{track_a, facing_up, on_line_0, train_7, stop_1, limit_80, restriction_1, told_as_0}
 use Rattle.rbc_rule_laws.proofs.WitnessSays.{differ}

@@ -1,6 +1,6 @@
 use Rattle.std.proofs.Common.{◌≡◌, drop, fold}
-use Rattle.rbc_train.specs.Settling.{limit_changed}
-use Rattle.rbc_train.specs.Following.{CanChangeAll}
+use Rattle.rbc_settle.specs.Settling.{limit_changed}
+use Rattle.rbc_settle.specs.Following.{CanChangeAll}
 use Rattle.rbc_settle.proofs.carrying_out.change_all.Given as goal
 
 -- what is left may be made, and leads to what all lead to

@@ -1,8 +1,8 @@
 use Rattle.std.proofs.Common.{◌≡◌, ◌<◌, min, length, take, drop, rules, ap, ◌∙◌, arith}
 use Rattle.std.proofs.lemmas.Grind.{common_steps}
-use Rattle.rbc_train.specs.declared.train.TrainRec.{TrainRec}
-use Rattle.rbc_train.specs.declared.sent.Sent.{Sent}
-use Rattle.rbc_train.specs.Actions.{ChangesLimits}
+use Rattle.rbc_settle.specs.declared.train.TrainRec.{TrainRec}
+use Rattle.rbc_settle.specs.declared.sent.Sent.{Sent}
+use Rattle.rbc_settle.specs.Actions.{ChangesLimits}
 use Rattle.rbc_settle.proofs.SettleLoop.{sets_out, next_group, cut_first, cut_behind, is_allowed, same_engine, goes_on, are_behind}
 use Rattle.rbc_settle.proofs.carrying_out.change_limits.Goals as goal
 

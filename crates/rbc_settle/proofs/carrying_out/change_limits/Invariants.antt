@@ -1,5 +1,5 @@
 use Rattle.std.proofs.Common.{length, map}
-use Rattle.rbc_train.specs.Actions.{ChangesLimits, groups}
+use Rattle.rbc_settle.specs.Actions.{ChangesLimits, groups}
 use Rattle.rbc_settle.proofs.SettleLoop.{IsOnTheWay}
 use Rattle.rbc_settle.proofs.carrying_out.change_limits.Given as goal
 

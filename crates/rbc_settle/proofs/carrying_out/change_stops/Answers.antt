@@ -1,7 +1,7 @@
 use Rattle.std.proofs.Common.{ap, ◌∙◌}
-use Rattle.rbc_train.specs.declared.train.TrainRec.{TrainRec}
-use Rattle.rbc_train.specs.declared.sent.Sent.{Sent}
-use Rattle.rbc_train.specs.Actions.{ChangesStop}
+use Rattle.rbc_settle.specs.declared.train.TrainRec.{TrainRec}
+use Rattle.rbc_settle.specs.declared.sent.Sent.{Sent}
+use Rattle.rbc_settle.specs.Actions.{ChangesStop}
 use Rattle.rbc_settle.proofs.SettleLoop.{sets_out, next_stop, is_allowed, has_stamp, same_engine, goes_on, are_behind}
 use Rattle.rbc_settle.proofs.carrying_out.change_stops.Goals as goal
 

@@ -1,5 +1,5 @@
 use Rattle.std.proofs.Common.{drop, map}
-use Rattle.rbc_train.specs.Actions.{ChangesStop}
+use Rattle.rbc_settle.specs.Actions.{ChangesStop}
 use Rattle.rbc_settle.proofs.SettleLoop.{IsOnTheWay}
 use Rattle.rbc_settle.proofs.carrying_out.change_stops.Given as goal
 

@@ -1,7 +1,7 @@
 use Rattle.std.proofs.Common.{◌≡◌, ◌++◌, ◌+◌, ◌≤◌, length, map, drop}
 use Rattle.std.specs.List.{AllByRecursion}
 use Rattle.ertms_codec.specs.PacketsToTrain.{PacketFits}
-use Rattle.rbc_train.specs.Settling.{packet_of}
+use Rattle.rbc_settle.specs.Settling.{packet_of}
 use Rattle.rbc_settle.proofs.carrying_out.packets_of.Given as goal
 
 -- the packets that are made so far, with those that are left, are all

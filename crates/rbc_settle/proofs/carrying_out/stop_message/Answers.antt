@@ -1,9 +1,9 @@
 use Rattle.std.proofs.Common.{arith, ap, sym, ◌∙◌, subst}
-use Rattle.rbc_train.specs.declared.change.StopChange.{StopChange}
-use Rattle.rbc_train.specs.declared.change.StopChange.TheVariants.{Revoke}
-use Rattle.rbc_train.specs.Actions.{ChangesStop}
-use Rattle.rbc_train.specs.Settling.{message_of}
-use Rattle.rbc_train.specs.Following.{Allows}
+use Rattle.rbc_settle.specs.declared.change.StopChange.{StopChange}
+use Rattle.rbc_settle.specs.declared.change.StopChange.TheVariants.{Revoke}
+use Rattle.rbc_settle.specs.Actions.{ChangesStop}
+use Rattle.rbc_settle.specs.Settling.{message_of}
+use Rattle.rbc_settle.specs.Following.{Allows}
 use Rattle.rbc_settle.proofs.Carrying.{used_below}
 use Rattle.rbc_settle.proofs.carrying_out.stop_message.Goals as goal
 

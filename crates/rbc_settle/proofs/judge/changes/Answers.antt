@@ -1,7 +1,7 @@
 use Rattle.std.proofs.Common.{◌≡◌, ℕ, ◌-◌, ◌*◌, List, Vec, Global, vec_len, length, take, ap, ◌∙◌, arith}
-use Rattle.rbc_train.specs.declared.change.StopChange.{StopChange}
-use Rattle.rbc_train.specs.declared.change.LimitChange.{LimitChange}
-use Rattle.rbc_train.specs.Settling.{last_stamp, escalated, stops_revoked, stops_told, limits_revoked, limits_told, stop_changes, limit_changes}
+use Rattle.rbc_settle.specs.declared.change.StopChange.{StopChange}
+use Rattle.rbc_settle.specs.declared.change.LimitChange.{LimitChange}
+use Rattle.rbc_settle.specs.Settling.{last_stamp, escalated, stops_revoked, stops_told, limits_revoked, limits_told, stop_changes, limit_changes}
 use Rattle.rbc_settle.proofs.Stamped.{with_stamps, cut_of_both}
 use Rattle.rbc_settle.proofs.judge.changes.Goals as goal
 

@@ -2,9 +2,9 @@ use Rattle.std.proofs.Common.{◌≡◌, List, rules, sym, subst, ◌∙◌}
 use Rattle.std.proofs.lemmas.Iterator.{YieldsList-from_slice, YieldsList-from_map, items_from_collect}
 use Rattle.std.proofs.lemmas.Iterator.Consumers.{YieldsList-at, YieldsList-from_filter}
 use Rattle.std.specs.Result.{IfOk}
-use Rattle.rbc_train.specs.declared.change.LimitChange.{LimitChange}
-use Rattle.rbc_train.specs.declared.change.LimitChange.TheVariants as limit_change
-use Rattle.rbc_train.specs.Settling.{is_used_by, is_limit_gone}
+use Rattle.rbc_settle.specs.declared.change.LimitChange.{LimitChange}
+use Rattle.rbc_settle.specs.declared.change.LimitChange.TheVariants as limit_change
+use Rattle.rbc_settle.specs.Settling.{is_used_by, is_limit_gone}
 use Rattle.rbc_settle.proofs.Judging.{map_of_map}
 use Rattle.rbc_settle.proofs.judge.limits_revoked.Goals as goal
 

@@ -7,8 +7,8 @@ use Rattle.rbc_maps.specs.Maps.{has}
 use Rattle.rbc_maps.specs.OnLines.{mark_of, marked}
 use Rattle.rbc_zones.specs.Marks.{limit_marks}
 use Rattle.rbc_ids.specs.Table.{free_identifiers}
-use Rattle.rbc_train.specs.Trains.{limit_identifiers}
-use Rattle.rbc_train.specs.Settling.{limits_told, limit_to_tell, tell_limit}
+use Rattle.rbc_settle.specs.Trains.{limit_identifiers}
+use Rattle.rbc_settle.specs.Settling.{limits_told, limit_to_tell, tell_limit}
 use Rattle.rbc_settle.proofs.Judging.{value_is_none, none_paired}
 use Rattle.rbc_settle.proofs.OneLine.{limits_on_line, limits_nowhere, none_active, nothing_zipped}
 use Rattle.rbc_settle.proofs.judge.limits_told.Goals as goal

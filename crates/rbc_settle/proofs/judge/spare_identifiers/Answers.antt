@@ -4,7 +4,7 @@ use Rattle.std.proofs.lemmas.Iterator.{YieldsList-from_slice, YieldsList-from_ra
 use Rattle.std.proofs.lemmas.Iterator.Consumers.{YieldsList-at, YieldsList-from_filter, YieldsList-from_filter_map, count_from_yields_List}
 use Rattle.rbc_maps.specs.Maps.{has}
 use Rattle.rbc_ids.specs.Table.{free_identifiers}
-use Rattle.rbc_train.specs.Settling.{stop_to_tell}
+use Rattle.rbc_settle.specs.Settling.{stop_to_tell}
 use Rattle.rbc_settle.proofs.Judging.{value_is_none}
 use Rattle.rbc_settle.proofs.judge.spare_identifiers.Goals as goal
 

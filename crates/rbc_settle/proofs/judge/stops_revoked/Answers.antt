@@ -1,7 +1,7 @@
 use Rattle.std.proofs.Common.{rules, ◌∙◌}
 use Rattle.std.proofs.lemmas.Iterator.{YieldsList-from_slice, YieldsList-from_map, items_from_collect}
 use Rattle.std.proofs.lemmas.Iterator.Consumers.{YieldsList-at, YieldsList-from_filter}
-use Rattle.rbc_train.specs.Settling.{is_used_by, is_stop_revoked, revoke_stop}
+use Rattle.rbc_settle.specs.Settling.{is_used_by, is_stop_revoked, revoke_stop}
 use Rattle.rbc_settle.proofs.judge.stops_revoked.Goals as goal
 
 pub returns-clause-actions : goal.returns-clause-actions

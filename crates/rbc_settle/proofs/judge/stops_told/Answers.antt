@@ -1,8 +1,8 @@
 use Rattle.std.proofs.Common.{◌≡◌, ◌∙◌, [], sym, ap}
 use Rattle.std.specs.List.{filter_map}
 use Rattle.rbc_ids.specs.Table.{free_identifiers}
-use Rattle.rbc_train.specs.Trains.{stop_identifiers}
-use Rattle.rbc_train.specs.Settling.{stops_told, next_to_tell, tell_stop}
+use Rattle.rbc_settle.specs.Trains.{stop_identifiers}
+use Rattle.rbc_settle.specs.Settling.{stops_told, next_to_tell, tell_stop}
 use Rattle.rbc_settle.proofs.Judging.{none_paired}
 use Rattle.rbc_settle.proofs.OneLine.{none_active, nothing_zipped}
 use Rattle.rbc_settle.proofs.judge.stops_told.Goals as goal

@@ -2,7 +2,7 @@ use Rattle.std.proofs.Common.{rules, refl, not, ◌∙◌}
 use Rattle.std.proofs.lemmas.Iterator.{YieldsList-from_slice, YieldsList-from_range, YieldsList-from_map, YieldsList-from_zip, items_from_collect}
 use Rattle.std.proofs.lemmas.Iterator.Consumers.{YieldsList-at, YieldsList-from_filter, YieldsList-from_filter_map}
 use Rattle.rbc_maps.specs.Maps.{has}
-use Rattle.rbc_train.specs.Settling.{next_to_tell, tell_stop}
+use Rattle.rbc_settle.specs.Settling.{next_to_tell, tell_stop}
 use Rattle.rbc_settle.proofs.Judging.{value_is_none}
 use Rattle.rbc_settle.proofs.judge.stops_told_anywhere.Goals as goal
 

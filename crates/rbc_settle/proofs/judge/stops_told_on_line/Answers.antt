@@ -7,8 +7,8 @@ use Rattle.rbc_maps.specs.Maps.{has}
 use Rattle.rbc_maps.specs.OnLines.{mark_of, marked}
 use Rattle.rbc_zones.specs.Marks.{stop_marks}
 use Rattle.rbc_ids.specs.Table.{free_identifiers}
-use Rattle.rbc_train.specs.Trains.{stop_identifiers}
-use Rattle.rbc_train.specs.Settling.{stop_to_tell, tell_stop}
+use Rattle.rbc_settle.specs.Trains.{stop_identifiers}
+use Rattle.rbc_settle.specs.Settling.{stop_to_tell, tell_stop}
 use Rattle.rbc_settle.proofs.Judging.{value_is_none}
 use Rattle.rbc_settle.proofs.OneLine.{stops_on_line}
 use Rattle.rbc_settle.proofs.judge.stops_told_on_line.Goals as goal

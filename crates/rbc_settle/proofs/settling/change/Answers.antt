@@ -1,7 +1,7 @@
 use Rattle.std.proofs.Common.{List, map, sym, subst}
 use Rattle.std.proofs.lemmas.Result.{on_ok_weaker}
-use Rattle.rbc_train.specs.declared.change.StopChange.{StopChange}
-use Rattle.rbc_train.specs.Actions.{ChangesStop, ChangesLimits, groups}
+use Rattle.rbc_settle.specs.declared.change.StopChange.{StopChange}
+use Rattle.rbc_settle.specs.Actions.{ChangesStop, ChangesLimits, groups}
 use Rattle.rbc_settle.specs.Sending.{CanTake, HasTaken}
 use Rattle.rbc_settle.proofs.SettleLoop.{can_take_first, after_stops, all_taken}
 use Rattle.rbc_settle.proofs.settling.change.Goals as goal

@@ -1,6 +1,6 @@
 use Rattle.std.proofs.Common.{rules, sym, subst}
-use Rattle.rbc_train.specs.declared.train.TrainRec.{TrainRec}
-use Rattle.rbc_train.specs.Settling.{in_messages}
+use Rattle.rbc_settle.specs.declared.train.TrainRec.{TrainRec}
+use Rattle.rbc_settle.specs.Settling.{in_messages}
 use Rattle.rbc_settle.specs.Sending.{CanTake, HasTaken}
 use Rattle.rbc_settle.proofs.settling.changed.Goals as goal
 

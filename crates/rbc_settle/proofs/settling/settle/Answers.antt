@@ -1,7 +1,7 @@
 use Rattle.std.proofs.Common.{◌≡◌, List, ◌++◌, map, ap, sym, subst, ◌∙◌}
 use Rattle.std.proofs.lemmas.List.Elements.{All-same}
-use Rattle.rbc_train.specs.declared.sent.Sent.{Sent}
-use Rattle.rbc_train.specs.Settling.{settled, messages_of, to_engine, most_messages}
+use Rattle.rbc_settle.specs.declared.sent.Sent.{Sent}
+use Rattle.rbc_settle.specs.Settling.{settled, messages_of, to_engine, most_messages}
 use Rattle.rbc_settle.specs.UpToDate.{IsUpToDateOrAtTheEnd}
 use Rattle.rbc_settle.proofs.Addressed.{messages_are, all_to, none_to_fit, few_in_all}
 use Rattle.rbc_settle.proofs.SettleLoop.{found_settled, stays_settled}

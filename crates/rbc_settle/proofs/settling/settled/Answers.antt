@@ -1,6 +1,6 @@
 use Rattle.std.proofs.Common.{◌≡◌, ◌≤◌, [], List, length, sym, subst, ◌∙◌, arith}
-use Rattle.rbc_train.specs.Actions.{Action}
-use Rattle.rbc_train.specs.Settling.{in_messages, actions_with_stamp}
+use Rattle.rbc_settle.specs.Actions.{Action}
+use Rattle.rbc_settle.specs.Settling.{in_messages, actions_with_stamp}
 use Rattle.rbc_settle.specs.Sending.{HasTaken}
 use Rattle.rbc_settle.proofs.SettleLoop.{reached, can_take, few_sent, none_sent}
 use Rattle.rbc_settle.proofs.settling.settled.Goals as goal

@@ -2,8 +2,8 @@ use Rattle.std.proofs.Common.{◌≡◌, ◌+◌, ◌++◌, ◌∙◌, List, ℕ
 use Rattle.std.specs.Prelude.{slice_get, Some}
 use Rattle.std.specs.List.{flat_map}
 use Rattle.std.proofs.lemmas.Option.{slice_get_within, get_or_from_slice_get}
-use Rattle.rbc_train.specs.declared.sent.Sent.{Sent}
-use Rattle.rbc_step.proofs.GatherReading.{one_more_gathered}
+use Rattle.rbc_settle.specs.declared.sent.Sent.{Sent}
+use Rattle.rbc_rule.proofs.GatherReading.{one_more_gathered}
 use Rattle.rbc_text.specs.OutputText.{sent_line}
 use Rattle.rbc_text.proofs.output.push_messages.Goals as goal
 

@@ -1,7 +1,7 @@
 use Rattle.std.proofs.Common.{◌≡◌, ◌++◌, sym, ap, ◌∙◌, subst}
 use Rattle.std.specs.Prelude.{OnOk, codes}
 use Rattle.std.proofs.lemmas.Result.{on_ok_weaker}
-use Rattle.rbc_step.specs.declared.outcome.Reply.TheVariants.{Done}
+use Rattle.rbc_rule.specs.declared.outcome.Reply.TheVariants.{Done}
 use Rattle.rbc_text.specs.OutputText.{result_line}
 use Rattle.rbc_text.proofs.ResultLines.{nothing_sent}
 use Rattle.rbc_text.proofs.output.push_result.Goals as goal

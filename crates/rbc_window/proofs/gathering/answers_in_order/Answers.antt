@@ -2,9 +2,9 @@ use Rattle.std.proofs.Common.{◌≡◌, ◌+◌, ◌∷◌, List, Some, All, sl
 use Rattle.std.proofs.lemmas.Option.{slice_get_read}
 use Rattle.std.proofs.lemmas.List.Elements.{All-push}
 use Rattle.rbc_records.specs.Notes.{record_in}
-use Rattle.rbc_step.specs.declared.input.Input.{Input}
-use Rattle.rbc_share.specs.Messages.{records_after, sender}
-use Rattle.rbc_share.proofs.Taking.{drop_at_place, take_then}
+use Rattle.rbc_rule.specs.declared.input.Input.{Input}
+use Rattle.rbc_window.specs.Messages.{records_after, sender}
+use Rattle.rbc_window.proofs.Taking.{drop_at_place, take_then}
 use Rattle.rbc_window.specs.Gathering.{IsMessage, KeepRest}
 use Rattle.rbc_window.proofs.Gathers.{one_gathered, gathered_answers, gathered_lists}
 use Rattle.rbc_window.proofs.gathering.answers_in_order.Goals as goal

@@ -1,6 +1,6 @@
 use Rattle.std.proofs.Common.{◌≡◌, All, length, take}
 use Rattle.rbc_records.specs.Notes.{record_in}
-use Rattle.rbc_share.specs.Messages.{Setting}
+use Rattle.rbc_window.specs.Messages.{Setting}
 use Rattle.rbc_window.specs.Gathering.{IsMessage, HaveTrains, KeepRest}
 use Rattle.rbc_window.proofs.Gathers.{IsGathered}
 use Rattle.rbc_window.proofs.gathering.answers_in_order.Given as goal

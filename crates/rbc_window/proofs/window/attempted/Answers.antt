@@ -1,8 +1,8 @@
 use Rattle.std.proofs.Common.{rules, ◌≡◌, ◌∙◌, true, refl, sym, ap, subst, length}
 use Rattle.rbc_records.specs.Notes.{record_in}
 use Rattle.rbc_desk.proofs.Stands.{as_notes}
-use Rattle.rbc_share.specs.Messages.{Setting, records_after}
-use Rattle.rbc_share.specs.Shares.{AreInPlaces, HaveTakenIfDone}
+use Rattle.rbc_window.specs.Messages.{Setting, records_after}
+use Rattle.rbc_window.specs.Shares.{AreInPlaces, HaveTakenIfDone}
 use Rattle.rbc_window.specs.Gathering.{AreAnswers, KeepRest}
 use Rattle.rbc_window.proofs.Done.{keep_all, have_trains, written_after, in_world}
 use Rattle.rbc_window.proofs.window.attempted.Goals as goal

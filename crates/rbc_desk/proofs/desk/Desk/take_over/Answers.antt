@@ -1,6 +1,6 @@
 use Rattle.std.proofs.Common.{◌≡◌, ◌+◌, ◌≤◌, List, sym, ap, ◌∙◌, subst, length, take, drop, rules, arith}
 use Rattle.std.proofs.lemmas.List.{take_all, take_at}
-use Rattle.rbc_train.specs.declared.sent.Sent.{Sent}
+use Rattle.rbc_settle.specs.declared.sent.Sent.{Sent}
 use Rattle.rbc_desk.specs.Held.{AreOutboxes, AreToTheEnginesOf, post_each, max_results}
 use Rattle.rbc_desk.proofs.TakesBack.{as_many}
 use Rattle.rbc_desk.proofs.desk.Desk.take_over.Goals as goal

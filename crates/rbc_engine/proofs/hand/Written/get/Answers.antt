@@ -1,7 +1,7 @@
 use Rattle.std.proofs.Common.{◌≡◌, ℕ, ◌<◌, Option, Some, None, ap, arith}
 use Rattle.std.specs.Option.{IfSome}
 use Rattle.rbc_records.specs.declared.record.Key.{Key}
-use Rattle.rbc_book.specs.Runs.{Run}
+use Rattle.rbc_core.specs.Runs.{Run}
 use Rattle.rbc_engine.specs.Reading.{IsPutBefore, IsPutBy, Numbered}
 use Rattle.rbc_engine.proofs.hand.Written.get.Goals as goal
 

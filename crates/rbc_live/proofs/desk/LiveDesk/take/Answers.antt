@@ -2,7 +2,7 @@ use Rattle.std.proofs.Common.{sym, ap, ◌∙◌, subst, arith}
 use Rattle.std.proofs.Math.Logic.{∥∥₁_map, ∥∥₁_elim}
 use mathlib.Core.HLevel.{⊥_prop}
 use Rattle.rbc_records.specs.Notes.{Whole, record_in}
-use Rattle.rbc_step.specs.Right.{IsFault, IsTorn}
+use Rattle.rbc_rule.specs.Right.{IsFault, IsTorn}
 use Rattle.rbc_text.specs.Serial.{serial, new_desk}
 use Rattle.rbc_live.specs.History.{AreSentAt}
 use Rattle.rbc_live.proofs.Steps.{same_whole, steps, not_torn, either_way}

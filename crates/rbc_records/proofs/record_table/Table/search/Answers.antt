@@ -1,14 +1,14 @@
 use Rattle.std.proofs.Common.{◌≡◌, true, ap, ◌∙◌}
-use Rattle.rbc_sought.specs.Tolds.{has_bit}
-use Rattle.rbc_sought.specs.Extents.{meet}
+use Rattle.rbc_records.specs.Tolds.{has_bit}
+use Rattle.rbc_records.specs.Extents.{meet}
 use Rattle.rbc_records.specs.Columns.{Kept, told_of, extent_of}
-use Rattle.rbc_sought.specs.Seeking.{is_sought}
-use Rattle.rbc_sought.specs.declared.bounds.Extent.{Extent}
+use Rattle.rbc_records.specs.SoughtTrains.{is_sought}
+use Rattle.rbc_records.specs.declared.bounds.Extent.{Extent}
 use Rattle.rbc_records.specs.declared.record.Rec.TheVariants as rec
-use Rattle.rbc_sought.specs.TrainRec.{TrainRec}
+use Rattle.rbc_settle.specs.declared.train.TrainRec.{TrainRec}
 use Rattle.rbc_records.specs.declared.record.Rec.{Rec}
-use Rattle.rbc_sought.specs.declared.bounds.Sought.TheVariants as sought
-use Rattle.rbc_sought.proofs.Asked.{asked_by_stop, asked_by_limit, asked_by_place}
+use Rattle.rbc_records.specs.declared.bounds.Sought.TheVariants as sought
+use Rattle.rbc_records.proofs.Asked.{asked_by_stop, asked_by_limit, asked_by_place}
 use Rattle.rbc_records.proofs.Finding.{found_those}
 use Rattle.rbc_records.proofs.record_table.Table.search.Goals as goal
 

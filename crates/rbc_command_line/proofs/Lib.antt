@@ -1,4 +1,0 @@
-mod Added
-mod Findings
-mod Forms
-mod WitnessWords

@@ -1,4 +1,0 @@
-pub mod Forms
-pub mod NoTask
-pub mod Witnesses
-pub mod Words

@@ -1,0 +1,109 @@
+-- What was found for the arguments of a subcommand, and how it is read.
+use Rattle.std.proofs.Common.{ap, ◌≡◌, ◌&&◌, ℕ, Bool, List, Option, Some, None, Result, Ok, Err, true, false, refl, option_and_then, option_map, unwrap_or, [], ◌∷◌, length, nat_lt, lt-ltb, ltb-true}
+use Rattle.std.specs.Prelude.{Box}
+use Rattle.std.specs.Box.{box_value}
+use Rattle.std.specs.Option.{option_map_or}
+use Rattle.std.specs.Str.{bytes_eq}
+use Rattle.std.specs.List.{list_all}
+use Rattle.std.specs.Result.{result_ok, result_unwrap_or}
+use Rattle.std.specs.Char.{digit_value}
+use Rattle.std.specs.Str.Parse.{AllDigits, ParsesUnsigned, digits_value, without_leading_plus}
+use Rattle.std.proofs.lemmas.Slice.Eq.{bytes_eq-Decides}
+use Rattle.clap.specs.Matches.{ReadsOne}
+use Rattle.clap.specs.Simple.{subcommand_rows}
+use Rattle.clap.specs.Walk.{Row, Text, byte_or_zero}
+use Rattle.clap.specs.declared.parser.matches.SubCommand.{SubCommand}
+use Rattle.clap.specs.declared.parser.matches.ArgMatches.TheViews.{out-SubCommand}
+use Rattle.clap.proofs.WalkLemmas.{both, byte_read}
+use Rattle.rbc_dispatch.specs.Words.{count_or_one, found_after, number_in}
+
+-- the rows of a subcommand that has this name
+pub rows_named : {Z : Type 0} (sub : Option (Box SubCommand Z)) (name : Text) (rows : List Row)
+    → option_map (λ b. (out-SubCommand (box_value b)).name.now) sub ≡ Some name → option_map (λ p. p.1) (subcommand_rows sub) ≡ Some rows
+    → found_after name (subcommand_rows sub) ≡ Some rows
+rows_named None name rows is same = cc
+rows_named (Some b) name rows is same =
+    let called : (out-SubCommand (box_value b)).name.now ≡ name = ap (λ (o : Option Text). unwrap_or o []) is in
+    let equal : bytes_eq (out-SubCommand (box_value b)).name.now name ≡ true = (bytes_eq-Decides _ _).1 called in
+    rw equal same
+
+-- a byte that was read of the text that was found, or 0 where none was
+pub byte_found : {E : Type 0} (G : List ℕ → Result ℕ E → Type 0) (found : Option Text) (read : Option ℕ)
+    → (found ≡ None → read ≡ None) → ((t : Text) → found ≡ Some t → ReadsOne G t read)
+    → ((t : Text) (r : Result ℕ E) → G t r → ParsesUnsigned 8 10 t r) → unwrap_or read 0 ≡ option_map_or byte_or_zero found 0
+byte_found G None read none value only = rw (none refl) refl
+byte_found {E = E} G (Some t) read none value only = reads read (value t refl)
+  where
+    reads : (r : Option ℕ) → ReadsOne G t r → unwrap_or r 0 ≡ byte_or_zero t
+    reads (Some v) h = byte_read {E = E} t (Ok v) (only t (Ok v) h)
+    reads None h = byte_read {E = E} t (Err h.0) (only t (Err h.0) h.1)
+
+-- ---- a count
+
+digits_pass : (ds : List ℕ) → AllDigits 10 ds → list_all (λ d. nat_lt (digit_value d) 10) ds ≡ true
+digits_pass [] h = refl
+digits_pass (d ∷ ds) h = rw (lt-ltb (digit_value d) 10 h.0) (digits_pass ds h.1)
+
+digits_from : (ds : List ℕ) → list_all (λ d. nat_lt (digit_value d) 10) ds ≡ true → AllDigits 10 ds
+digits_from [] e = tt
+digits_from (d ∷ ds) e =
+    let parts = both _ _ e in
+    (ltb-true _ _ parts.0, digits_from ds parts.1)
+
+abbrev is_count : List ℕ → Bool
+is_count ds = nat_lt 0 (length ds) && list_all (λ d. nat_lt (digit_value d) 10) ds && nat_lt (digits_value 10 ds) 18446744073709551616
+
+-- a count that was read of a text, or 1 where it is none
+count_read : {E : Type 0} (text : Text) (r : Result ℕ E) → ParsesUnsigned 64 10 text r → result_unwrap_or r 1 ≡ count_or_one text
+count_read text (Ok n) h =
+    let ds = without_leading_plus text in
+    rw (lt-ltb 0 (length ds) h.0.0.0, digits_pass ds h.0.0.1, lt-ltb (digits_value 10 ds) 18446744073709551616 h.0.1) h.1
+count_read text (Err e) h = go (is_count (without_leading_plus text)) refl
+  where
+    go : (b : Bool) → is_count (without_leading_plus text) ≡ b → 1 ≡ count_or_one text
+    go false t = rw t refl
+    go true t =
+        let outer = both _ _ t in
+        let inner = both _ _ outer.0 in
+        absurd (h ((ltb-true _ _ inner.0, digits_from (without_leading_plus text) inner.1), ltb-true _ _ outer.1))
+
+-- a count that was read of the text that was found, or 1 where none was
+pub count_found : {E : Type 0} (G : List ℕ → Result ℕ E → Type 0) (found : Option Text) (read : Option ℕ)
+    → (found ≡ None → read ≡ None) → ((t : Text) → found ≡ Some t → ReadsOne G t read)
+    → ((t : Text) (r : Result ℕ E) → G t r → ParsesUnsigned 64 10 t r) → unwrap_or read 1 ≡ option_map_or count_or_one found 1
+count_found G None read none value only = rw (none refl) refl
+count_found {E = E} G (Some t) read none value only = reads read (value t refl)
+  where
+    reads : (r : Option ℕ) → ReadsOne G t r → unwrap_or r 1 ≡ count_or_one t
+    reads (Some v) h = count_read {E = E} t (Ok v) (only t (Ok v) h)
+    reads None h = count_read {E = E} t (Err h.0) (only t (Err h.0) h.1)
+
+-- ---- the number of an input
+
+abbrev is_number : List ℕ → Bool
+is_number ds = nat_lt 0 (length ds) && list_all (λ d. nat_lt (digit_value d) 10) ds && nat_lt (digits_value 10 ds) 4294967296
+
+-- a number that was read of a text, if it is one
+number_read : {E : Type 0} (text : Text) (r : Result ℕ E) → ParsesUnsigned 32 10 text r → result_ok r ≡ number_in text
+number_read text (Ok n) h =
+    let ds = without_leading_plus text in
+    rw (lt-ltb 0 (length ds) h.0.0.0, digits_pass ds h.0.0.1, lt-ltb (digits_value 10 ds) 4294967296 h.0.1) (ap Some h.1)
+number_read text (Err e) h = go (is_number (without_leading_plus text)) refl
+  where
+    go : (b : Bool) → is_number (without_leading_plus text) ≡ b → None ≡ number_in text
+    go false t = rw t refl
+    go true t =
+        let outer = both _ _ t in
+        let inner = both _ _ outer.0 in
+        absurd (h ((ltb-true _ _ inner.0, digits_from (without_leading_plus text) inner.1), ltb-true _ _ outer.1))
+
+-- a number that was read of the text that was found, if one was
+pub number_found : {E : Type 0} (G : List ℕ → Result ℕ E → Type 0) (found : Option Text) (read : Option ℕ)
+    → (found ≡ None → read ≡ None) → ((t : Text) → found ≡ Some t → ReadsOne G t read)
+    → ((t : Text) (r : Result ℕ E) → G t r → ParsesUnsigned 32 10 t r) → read ≡ option_and_then number_in found
+number_found G None read none value only = none refl
+number_found {E = E} G (Some t) read none value only = reads read (value t refl)
+  where
+    reads : (r : Option ℕ) → ReadsOne G t r → r ≡ number_in t
+    reads (Some v) h = number_read {E = E} t (Ok v) (only t (Ok v) h)
+    reads None h = number_read {E = E} t (Err h.0) (only t (Err h.0) h.1)

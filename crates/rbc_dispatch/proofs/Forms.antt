@@ -1,0 +1,256 @@
+-- What clap finds in each form of `run`, and in those of `live`, `explain` and `picture` without a number.
+use Rattle.std.proofs.Common.{refl, sym, ap, arith, ◌∙◌, ◌≡◌, ◌≢◌, ℕ, [], ◌∷◌, ◌++◌, List, Some, None, true, false, Ok, ◌==◌, codes, option_and_then}
+use Rattle.std.specs.Prelude.{find, pos, unwrap_or}
+use Rattle.std.specs.Option.{option_map_or}
+use Rattle.std.specs.Str.Parse.{IsNumeral, signed_digits_value, without_leading_plus}
+use Rattle.std.proofs.lemmas.Bool.{ne_eqb}
+use Rattle.std.proofs.lemmas.Int.{ints}
+use Rattle.std.proofs.lemmas.Str.Parse.{digit_from_value}
+use Rattle.clap.specs.Faults.{check_fault, defaults_fault, settle_fault, walk_fault}
+use Rattle.clap.specs.Kinds.{Kinds, or_else}
+use Rattle.clap.specs.Lexer.{without_minus}
+use Rattle.clap.specs.Simple.{App, Shape, built, filled, label_of, new_app, on_top, subcommand_of, with_rule, with_subcommand}
+use Rattle.clap.specs.Values.{IsSignedIn, read_as, reading_of}
+use Rattle.clap.specs.ValueTests.{accepts}
+use Rattle.clap.specs.Walk.{Rule, Text, Walk, answers_to, byte_or_zero, finished, idle, nothing_held, one_of, settled, used, walk, walk_from}
+use Rattle.clap.specs.Words.{fault_of}
+use Rattle.clap.specs.declared.builder.value_parser.ValueParser.{ValueParser}
+use Rattle.clap.specs.declared.builder.value_parser.ValueParser.TheVariants as vp
+use Rattle.clap.proofs.OnLiterals.{clap_on_literals}
+use Rattle.clap.proofs.ValueTestLemmas.{Accepts-accepts}
+use Rattle.clap.proofs.WalkLemmas.{byte_read}
+use Rattle.rbc_dispatch.specs.Forms.{AfterAllByDefault, AsManyAsNamed, BeginAtOneByDefault, FromOneByDefault, NoFiguresByDefault, NotByTrainByDefault, OneByDefault, WritesByte}
+use Rattle.rbc_dispatch.specs.Words.{AsksToDraw, AsksToExplain, AsksToLive, AsksToRun, by_train_rule, check_shape, codes_shape, command_line, decode_shape, explain_shape, finding_in, flag_after, found_after, live_shape, picture_shape, stats_rule, track_rule, word_after, workers_rule}
+
+no_hyphen : (c : ℕ) → c ≢ 45 → (c == 45) ≡ false
+no_hyphen c plain = ne_eqb c 45 plain
+
+-- the command line, with any parser of the number of workers
+abbrev line_with : ValueParser → App
+line_with q =
+    let run = (with_rule (with_rule (with_rule (with_rule (new_app (codes "run")) track_rule) (record workers_rule { parser = Some q })) by_train_rule) stats_rule).top in
+    let without_name = on_top (λ top. record top { no_binary_name = true; subcommand_required = true; has_version = true }) in
+    let inputs = with_subcommand (with_subcommand (with_subcommand (with_subcommand (without_name (new_app (codes "dispatch"))) run) live_shape) explain_shape) picture_shape in
+    with_subcommand (with_subcommand (with_subcommand inputs check_shape) decode_shape) codes_shape
+
+-- words without a fault name the file, and this word as the number of workers
+abbrev Finds : ValueParser → Text → Text → List Text → Type 0
+Finds q file word words = (fault_of (line_with q) words ≡ []) × (word_after (codes "run") (codes "track") (subcommand_of (line_with q) words) ≡ Some file)
+    × (option_and_then (one_of (codes "workers")) (found_after (codes "run") (subcommand_of (line_with q) words)) ≡ Some (read_as (reading_of q) word))
+
+-- ---- the walk is taken apart from what follows it
+
+-- a subcommand as it is built
+abbrev part_of : App → Text → Shape
+part_of line name = unwrap_or (find (λ s. answers_to name (label_of s)) (built line).subs) decode_shape
+
+-- the walk over words behind it
+abbrev walk_over : Shape → List Text → Walk
+walk_over s words = walk s.rules [] nothing_held words
+
+-- what is left to check at the end of a walk
+abbrev rest_fault : Shape → Walk → Kinds
+rest_fault s w = or_else (settle_fault s.rules s.args_override_self w.held)
+    (or_else (defaults_fault (settled s.rules w.held).rows s.rules) (check_fault s (finished s.rules w.held) false))
+
+-- it takes words if the walk does, and so does what follows it
+abbrev Takes : App → Text → List Text → Type 0
+Takes line name words = walk_fault (part_of line name) [] (walk_from nothing_held) words ≡ []
+    → (end : Walk) → walk_over (part_of line name) words ≡ end → rest_fault (part_of line name) end ≡ []
+    → fault_of line (name ∷ words) ≡ []
+
+run_takes_two : (q : ValueParser) (a b : Text) → Takes (line_with q) (codes "run") (a ∷ b ∷ [])
+unfolding clap_on_literals
+run_takes_two q a b walks end is rests = rw (walks, is, rests) refl
+
+run_takes_three : (q : ValueParser) (a b c : Text) → Takes (line_with q) (codes "run") (a ∷ b ∷ c ∷ [])
+unfolding clap_on_literals
+run_takes_three q a b c walks end is rests = rw (walks, is, rests) refl
+
+run_takes_four : (q : ValueParser) (a b c d : Text) → Takes (line_with q) (codes "run") (a ∷ b ∷ c ∷ d ∷ [])
+unfolding clap_on_literals
+run_takes_four q a b c d walks end is rests = rw (walks, is, rests) refl
+
+live_takes : (a b : Text) → Takes command_line (codes "live") (a ∷ b ∷ [])
+unfolding clap_on_literals
+live_takes a b walks end is rests = rw (walks, is, rests) refl
+
+explain_takes : (a b : Text) → Takes command_line (codes "explain") (a ∷ b ∷ [])
+unfolding clap_on_literals
+explain_takes a b walks end is rests = rw (walks, is, rests) refl
+
+picture_takes : (a b : Text) → Takes command_line (codes "picture") (a ∷ b ∷ [])
+unfolding clap_on_literals
+picture_takes a b walks end is rests = rw (walks, is, rests) refl
+
+-- ---- without a number
+
+module _ (c : ℕ) (rest : Text) (plain : (c == 45) ≡ false) where
+  abbrev track_alone : List Text
+  track_alone = codes "--track" ∷ (c ∷ rest) ∷ []
+
+  -- the walk with the option's value still pending
+  abbrev track_pending : Walk
+  track_pending = walk_from (record { rows = []; pending = Some (codes "track", (c ∷ rest) ∷ []); skip = 0 })
+
+  run_alone : AsksToRun (c ∷ rest) 1 (codes "run" ∷ track_alone)
+  unfolding clap_on_literals
+  run_alone = (run_takes_two (vp.Signed (pos 0) (pos 255)) (codes "--track") (c ∷ rest) (simp plain) track_pending (simp plain) refl, simp plain, simp plain)
+
+  unasked_alone : flag_after (codes "run") (codes "stats") (finding_in (codes "run" ∷ track_alone)) ≡ Some (codes "false")
+  unfolding clap_on_literals
+  unasked_alone = simp plain
+
+  unshared_alone : flag_after (codes "run") (codes "by-train") (finding_in (codes "run" ∷ track_alone)) ≡ Some (codes "false")
+  unfolding clap_on_literals
+  unshared_alone = simp plain
+
+  live_alone : AsksToLive (c ∷ rest) 1 (codes "live" ∷ track_alone)
+  unfolding clap_on_literals
+  live_alone = (live_takes (codes "--track") (c ∷ rest) (simp plain) track_pending (simp plain) refl, simp plain, simp plain)
+
+  explain_alone : AsksToExplain (c ∷ rest) 1 (codes "explain" ∷ track_alone)
+  unfolding clap_on_literals
+  explain_alone = (explain_takes (codes "--track") (c ∷ rest) (simp plain) track_pending (simp plain) refl, simp plain, simp plain)
+
+  picture_alone : AsksToDraw (c ∷ rest) None (codes "picture" ∷ track_alone)
+  unfolding clap_on_literals
+  picture_alone = (picture_takes (codes "--track") (c ∷ rest) (simp plain) track_pending (simp plain) refl, simp plain, simp plain)
+
+pub one_by_default : OneByDefault
+one_by_default [] plain = absurd plain
+one_by_default (c ∷ rest) plain = run_alone c rest (no_hyphen c plain)
+
+pub no_figures_by_default : NoFiguresByDefault
+no_figures_by_default [] plain = absurd plain
+no_figures_by_default (c ∷ rest) plain = unasked_alone c rest (no_hyphen c plain)
+
+pub not_by_train_by_default : NotByTrainByDefault
+not_by_train_by_default [] plain = absurd plain
+not_by_train_by_default (c ∷ rest) plain = unshared_alone c rest (no_hyphen c plain)
+
+pub from_one_by_default : FromOneByDefault
+from_one_by_default [] plain = absurd plain
+from_one_by_default (c ∷ rest) plain = live_alone c rest (no_hyphen c plain)
+
+pub begin_at_one_by_default : BeginAtOneByDefault
+begin_at_one_by_default [] plain = absurd plain
+begin_at_one_by_default (c ∷ rest) plain = explain_alone c rest (no_hyphen c plain)
+
+pub after_all_by_default : AfterAllByDefault
+after_all_by_default [] plain = absurd plain
+after_all_by_default (c ∷ rest) plain = picture_alone c rest (no_hyphen c plain)
+
+-- the walk with the last option's value still pending
+abbrev ends_at : Rule → Text → Text → Text → Walk
+ends_at first value id last = record (walk_from (record { rows = used (filled first) (value ∷ []) []; pending = Some (id, last ∷ []); skip = 0 })) { waiting = idle }
+
+-- ---- the number is in the option's own word
+
+module _ (q : ValueParser) (c : ℕ) (rest word : Text) (plain : (c == 45) ≡ false) (passes : accepts false q word ≡ true) where
+  last_in_one : Finds q (c ∷ rest) word (codes "run" ∷ codes "--track" ∷ (c ∷ rest) ∷ (codes "--workers=" ++ word) ∷ [])
+  unfolding clap_on_literals
+  last_in_one =
+      let rows = used (record (filled workers_rule) { parser = Some q }) (word ∷ []) (used (filled track_rule) ((c ∷ rest) ∷ []) []) in (
+        run_takes_three q (codes "--track") (c ∷ rest) (codes "--workers=" ++ word) (simp (plain, passes))
+            (walk_from (record { rows = rows; pending = None; skip = 0 })) (simp plain) refl,
+        simp plain,
+        simp plain,
+      )
+
+  first_in_one : Finds q (c ∷ rest) word (codes "run" ∷ (codes "--workers=" ++ word) ∷ codes "--track" ∷ (c ∷ rest) ∷ [])
+  unfolding clap_on_literals
+  first_in_one = (
+    run_takes_three q (codes "--workers=" ++ word) (codes "--track") (c ∷ rest) (simp (plain, passes))
+        (ends_at (record workers_rule { parser = Some q }) word (codes "track") (c ∷ rest)) (simp plain) refl,
+    simp plain,
+    simp plain,
+  )
+
+-- ---- the number is in the next word
+
+module _ (q : ValueParser) (c d : ℕ) (rest more : Text) (plain : (c == 45) ≡ false) (digit : (d == 45) ≡ false) where
+  abbrev workers_last : List Text
+  workers_last = codes "--track" ∷ (c ∷ rest) ∷ codes "--workers" ∷ (d ∷ more) ∷ []
+
+  last_walks : walk_fault (part_of (line_with q) (codes "run")) [] (walk_from nothing_held) workers_last ≡ []
+  unfolding clap_on_literals
+  last_walks = simp (plain, digit)
+
+  last_ends : walk_over (part_of (line_with q) (codes "run")) workers_last ≡ ends_at track_rule (c ∷ rest) (codes "workers") (d ∷ more)
+  unfolding clap_on_literals
+  last_ends = simp (plain, digit)
+
+  last_rests : accepts false q (d ∷ more) ≡ true → rest_fault (part_of (line_with q) (codes "run")) (ends_at track_rule (c ∷ rest) (codes "workers") (d ∷ more)) ≡ []
+  unfolding clap_on_literals
+  last_rests passes = simp passes
+
+  last_in_two : accepts false q (d ∷ more) ≡ true → Finds q (c ∷ rest) (d ∷ more) (codes "run" ∷ workers_last)
+  unfolding clap_on_literals
+  last_in_two passes =
+      (run_takes_four q (codes "--track") (c ∷ rest) (codes "--workers") (d ∷ more) last_walks _ last_ends (last_rests passes), simp (plain, digit), simp (plain, digit))
+
+  abbrev workers_first : List Text
+  workers_first = codes "--workers" ∷ (d ∷ more) ∷ codes "--track" ∷ (c ∷ rest) ∷ []
+
+  abbrev first_end : Walk
+  first_end = ends_at (record workers_rule { parser = Some q }) (d ∷ more) (codes "track") (c ∷ rest)
+
+  first_walks : accepts false q (d ∷ more) ≡ true → walk_fault (part_of (line_with q) (codes "run")) [] (walk_from nothing_held) workers_first ≡ []
+  unfolding clap_on_literals
+  first_walks passes = simp (plain, digit, passes)
+
+  first_ends : walk_over (part_of (line_with q) (codes "run")) workers_first ≡ first_end
+  unfolding clap_on_literals
+  first_ends = simp (plain, digit)
+
+  first_rests : rest_fault (part_of (line_with q) (codes "run")) first_end ≡ []
+  unfolding clap_on_literals
+  first_rests = refl
+
+  first_in_two : accepts false q (d ∷ more) ≡ true → Finds q (c ∷ rest) (d ∷ more) (codes "run" ∷ workers_first)
+  unfolding clap_on_literals
+  first_in_two passes =
+      (run_takes_four q (codes "--workers") (d ∷ more) (codes "--track") (c ∷ rest) (first_walks passes) _ first_ends first_rests, simp (plain, digit), simp (plain, digit))
+
+-- ---- a number in decimal digits
+
+no_sign : (d : ℕ) (more : Text) → IsNumeral 10 (d ∷ more) → ((d == 45) ≡ false) × ((d == 43) ≡ false)
+no_sign d more numeral = (ne_eqb d 45 (λ e. omega (arith, digit_from_value d numeral.1.0)), ne_eqb d 43 (λ e. omega (arith, digit_from_value d numeral.1.0)))
+
+no_plus : (d : ℕ) (more : Text) → (d == 43) ≡ false → without_leading_plus (d ∷ more) ≡ d ∷ more
+no_plus d more e = rw e refl
+
+in_range : (d : ℕ) (more : Text) (number : ℕ) → WritesByte (d ∷ more) number → IsSignedIn (pos 0) (pos 255) (d ∷ more)
+in_range d more number writes =
+    let sign = no_sign d more writes.0 in
+    let value : signed_digits_value 10 (d ∷ more) ≡ pos number = rw (sign.0, sign.1) (ap pos writes.1) in
+    rw (value, sign.0, sign.1) (writes.0, record { sfits = omega (arith, writes.2) }, omega (arith, ints), omega (arith, ints, writes.2))
+
+byte_value : (word : Text) (number : ℕ) → without_leading_plus word ≡ word → WritesByte word number → byte_or_zero word ≡ number
+byte_value word number same writes =
+    sym (byte_read {E = ℕ} word (Ok number) (rw same ((writes.0, rw writes.1 writes.2), sym writes.1)))
+
+-- what is found is what the words ask for
+asks : (file : Text) (d : ℕ) (more : Text) (number : ℕ) (words : List Text) → WritesByte (d ∷ more) number
+    → Finds (vp.Signed (pos 0) (pos 255)) file (d ∷ more) words → AsksToRun file number words
+asks file d more number words writes finds =
+    let sign = no_sign d more writes.0 in
+    let bare : without_minus (d ∷ more) ≡ d ∷ more = rw sign.0 refl in
+    (finds.0, finds.1, ap (λ o. option_map_or byte_or_zero o 0) finds.2 ∙ ap byte_or_zero bare ∙ byte_value (d ∷ more) number (no_plus d more sign.1) writes)
+
+pub as_many_as_named : AsManyAsNamed
+as_many_as_named [] word number plain writes = absurd plain
+as_many_as_named (c ∷ rest) [] number plain writes = absurd (omega (arith, writes.0.0))
+as_many_as_named (c ∷ rest) (d ∷ more) number plain writes =
+    let q = vp.Signed (pos 0) (pos 255) in
+    let hyphen = no_hyphen c plain in
+    let sign = no_sign d more writes.0 in
+    let passes = Accepts-accepts false q (d ∷ more) (in_range d more number writes) in
+    let found = asks (c ∷ rest) d more number in (
+      found _ writes (last_in_two q c d rest more hyphen sign.0 passes),
+      (
+        found _ writes (last_in_one q c rest (d ∷ more) hyphen passes),
+        (found _ writes (first_in_two q c d rest more hyphen sign.0 passes), (found _ writes (first_in_one q c rest (d ∷ more) hyphen passes), tt)),
+      ),
+    )

@@ -1,0 +1,108 @@
+-- What clap finds in the words of the worked cases.
+use Rattle.std.proofs.Common.{refl, ◌≡◌, ℕ, [], ◌∷◌, Some, codes}
+use Rattle.clap.specs.Kinds.{Kinds}
+use Rattle.clap.specs.declared.error.kind.ErrorKind.{ErrorKind}
+use Rattle.clap.specs.declared.error.kind.ErrorKind.TheVariants as kind
+use Rattle.clap.proofs.OnLiterals.{clap_on_literals}
+use Rattle.rbc_dispatch.specs.Witnesses.{AskByFlag, AskByTrain, AskFor, AskForNone, AskFrom, AskFromNone, AskToDraw, AskToDrawNone, AskToExplain, AskToExplainNone}
+
+pub one : AskFor 1 []
+unfolding clap_on_literals
+one = (refl, refl, refl)
+
+pub sixteen : AskFor 16 (codes "--workers" ∷ codes "16" ∷ [])
+unfolding clap_on_literals
+sixteen = (refl, refl, refl)
+
+pub leading_zeros : AskFor 7 (codes "--workers=007" ∷ [])
+unfolding clap_on_literals
+leading_zeros = (refl, refl, refl)
+
+pub zero : AskFor 0 (codes "--workers" ∷ codes "0" ∷ [])
+unfolding clap_on_literals
+zero = (refl, refl, refl)
+
+-- one number is not another
+other : (a b found : ℕ) → found ≡ a → (a ≡ b → ⊥) → found ≡ b → ⊥
+other a b found is apart same = apart (rw (← is) same)
+
+pub two_by_default : AskFor 2 [] → ⊥
+unfolding clap_on_literals
+two_by_default asked = other 1 2 _ refl (λ e. cc) asked.2
+
+pub one_whatever_is_named : AskFor 1 (codes "--workers" ∷ codes "2" ∷ []) → ⊥
+unfolding clap_on_literals
+one_whatever_is_named asked = other 2 1 _ refl (λ e. cc) asked.2
+
+-- words with a fault ask for nothing
+faulty : (found : Kinds) (fault : ErrorKind) → found ≡ fault ∷ [] → found ≡ [] → ⊥
+faulty [] fault is none = cc
+faulty (k ∷ more) fault is none = cc
+
+pub too_great : AskForNone (codes "--workers" ∷ codes "256" ∷ [])
+unfolding clap_on_literals
+too_great workers asked = faulty _ kind.ValueValidation refl asked.0
+
+pub below_zero : AskForNone (codes "--workers" ∷ codes "-1" ∷ [])
+unfolding clap_on_literals
+below_zero workers asked = faulty _ kind.UnknownArgument refl asked.0
+
+pub no_number : AskForNone (codes "--workers" ∷ codes "x" ∷ [])
+unfolding clap_on_literals
+no_number workers asked = faulty _ kind.ValueValidation refl asked.0
+
+pub twice : AskForNone (codes "--workers" ∷ codes "1" ∷ codes "--workers" ∷ codes "1" ∷ [])
+unfolding clap_on_literals
+twice workers asked = faulty _ kind.ArgumentConflict refl asked.0
+
+pub no_figures : AskByFlag (codes "false") []
+unfolding clap_on_literals
+no_figures = (refl, refl)
+
+pub figures : AskByFlag (codes "true") (codes "--stats" ∷ [])
+unfolding clap_on_literals
+figures = (refl, refl)
+
+pub figures_of_four : AskFor 4 (codes "--stats" ∷ codes "--workers" ∷ codes "4" ∷ [])
+unfolding clap_on_literals
+figures_of_four = (refl, refl, refl)
+
+pub figures_twice : AskForNone (codes "--stats" ∷ codes "--stats" ∷ [])
+unfolding clap_on_literals
+figures_twice workers asked = faulty _ kind.ArgumentConflict refl asked.0
+
+pub by_train : AskByTrain (codes "true") (codes "--by-train" ∷ [])
+unfolding clap_on_literals
+by_train = (refl, refl)
+
+pub by_train_of_four : AskFor 4 (codes "--workers" ∷ codes "4" ∷ codes "--by-train" ∷ [])
+unfolding clap_on_literals
+by_train_of_four = (refl, refl, refl)
+
+pub by_train_twice : AskForNone (codes "--by-train" ∷ codes "--by-train" ∷ [])
+unfolding clap_on_literals
+by_train_twice workers asked = faulty _ kind.ArgumentConflict refl asked.0
+
+pub from_seven : AskFrom 7 (codes "--from" ∷ codes "7" ∷ [])
+unfolding clap_on_literals
+from_seven = (refl, refl, refl)
+
+pub from_zero : AskFromNone (codes "--from" ∷ codes "0" ∷ [])
+unfolding clap_on_literals
+from_zero from asked = faulty _ kind.ValueValidation refl asked.0
+
+pub log_from_last : AskToExplain 4294967295 (codes "--from" ∷ codes "4294967295" ∷ [])
+unfolding clap_on_literals
+log_from_last = (refl, refl, refl)
+
+pub log_from_zero : AskToExplainNone (codes "--from" ∷ codes "0" ∷ [])
+unfolding clap_on_literals
+log_from_zero from asked = faulty _ kind.ValueValidation refl asked.0
+
+pub drawn_at_first : AskToDraw (Some 0) (codes "--after" ∷ codes "0" ∷ [])
+unfolding clap_on_literals
+drawn_at_first = (refl, refl, refl)
+
+pub drawn_too_late : AskToDrawNone (codes "--after" ∷ codes "4294967296" ∷ [])
+unfolding clap_on_literals
+drawn_too_late after asked = faulty _ kind.ValueValidation refl asked.0

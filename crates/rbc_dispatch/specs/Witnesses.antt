@@ -1,0 +1,49 @@
+-- Worked cases of what words ask for: `run`, `live`, `explain` and `picture`, on the track in the file `t`.
+use Rattle.std.specs.Prelude.{◌≡◌, ℕ, List, [], Option, Some, ◌∷◌, codes}
+use Rattle.clap.specs.Walk.{Text}
+use Rattle.clap.specs.Words.{fault_of}
+use Rattle.rbc_dispatch.specs.Words.{AsksToDraw, AsksToExplain, AsksToLive, AsksToRun, command_line, finding_in, flag_after}
+
+-- the words that name the track, and more words
+abbrev pub run_with : List Text → List Text
+run_with more = codes "run" ∷ codes "--track" ∷ codes "t" ∷ more
+
+-- they ask for so many workers
+abbrev pub AskFor : ℕ → List Text → Type 0
+AskFor workers more = AsksToRun (codes "t") workers (run_with more)
+
+-- they ask for no run, by any number of workers
+abbrev pub AskForNone : List Text → Type 0
+AskForNone more = (workers : ℕ) → AskFor workers more → ⊥
+
+-- they have no fault, and the text of the flag that asks for figures is this one
+abbrev pub AskByFlag : Text → List Text → Type 0
+AskByFlag text more = (fault_of command_line (run_with more) ≡ []) × (flag_after (codes "run") (codes "stats") (finding_in (run_with more)) ≡ Some text)
+
+-- they have no fault, and the text of the flag that asks for sharing by train is this one
+abbrev pub AskByTrain : Text → List Text → Type 0
+AskByTrain text more = (fault_of command_line (run_with more) ≡ []) × (flag_after (codes "run") (codes "by-train") (finding_in (run_with more)) ≡ Some text)
+
+-- the same behind `live`: they ask for the answers from this number on
+abbrev pub AskFrom : ℕ → List Text → Type 0
+AskFrom from more = AsksToLive (codes "t") from (codes "live" ∷ codes "--track" ∷ codes "t" ∷ more)
+
+-- they ask for no answers, from any number on
+abbrev pub AskFromNone : List Text → Type 0
+AskFromNone more = (from : ℕ) → AskFrom from more → ⊥
+
+-- the same behind `explain`: they ask for the log from this input on
+abbrev pub AskToExplain : ℕ → List Text → Type 0
+AskToExplain from more = AsksToExplain (codes "t") from (codes "explain" ∷ codes "--track" ∷ codes "t" ∷ more)
+
+-- they ask for no log, from any input on
+abbrev pub AskToExplainNone : List Text → Type 0
+AskToExplainNone more = (from : ℕ) → AskToExplain from more → ⊥
+
+-- the same behind `picture`: they ask for the picture after so many inputs
+abbrev pub AskToDraw : Option ℕ → List Text → Type 0
+AskToDraw after more = AsksToDraw (codes "t") after (codes "picture" ∷ codes "--track" ∷ codes "t" ∷ more)
+
+-- they ask for no picture, after any inputs
+abbrev pub AskToDrawNone : List Text → Type 0
+AskToDrawNone more = (after : Option ℕ) → AskToDraw after more → ⊥

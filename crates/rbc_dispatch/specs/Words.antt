@@ -1,0 +1,294 @@
+-- What the words ask for.
+use Rattle.std.specs.Prelude.{◌≡◌, ◌⊎◌, ℕ, Bool, List, [], ◌∷◌, Option, Some, None, Result, MatchResult, option_and_then, unwrap_or, if◌then◌else◌, ◌&&◌, nat_lt, length, pos, true, false, codes}
+use Rattle.std.specs.Option.{option_map_or}
+use Rattle.std.specs.List.{list_all}
+use Rattle.std.specs.Char.{digit_value}
+use Rattle.std.specs.Str.Parse.{digits_value, without_leading_plus}
+use Rattle.std.specs.Str.{bytes_eq}
+use Rattle.clap.specs.Simple.{App, Shape, new_app, new_rule, on_top, subcommand_of, with_rule, with_subcommand}
+use Rattle.clap.specs.Walk.{Row, Rule, Text, byte_or_zero, first_of, one_of}
+use Rattle.clap.specs.Words.{fault_of}
+use Rattle.clap.specs.declared.builder.action.ArgAction.TheVariants.{SetTrue}
+use Rattle.clap.specs.declared.builder.value_parser.ValueParser.TheVariants as vp
+use Rattle.rbc_dispatch.specs.declared.no_task.NoTask.{NoTask}
+use Rattle.rbc_dispatch.specs.declared.no_task.NoTask.TheVariants.{OutOfMemory}
+use Rattle.rbc_dispatch.specs.declared.words.Task.{Task}
+use Rattle.rbc_dispatch.specs.declared.words.Task.TheVariants.{Run, Live, Explain, Picture, Check, Decode, Codes}
+
+-- the option that names the track file
+abbrev pub track_rule : Rule
+track_rule = record (new_rule (codes "track")) { long = Some (codes "track"); value_names = 1; required = true }
+
+-- the option that says how many workers there are: a number up to 255, which is 1 by default
+abbrev pub workers_rule : Rule
+workers_rule = record (new_rule (codes "workers")) {
+  long = Some (codes "workers");
+  value_names = 1;
+  parser = Some (vp.Signed (pos 0) (pos 255));
+  defaults = codes "1" ∷ [];
+}
+
+-- the flag that has workers share messages by train
+abbrev pub by_train_rule : Rule
+by_train_rule = record (new_rule (codes "by-train")) { long = Some (codes "by-train"); action = Some SetTrue }
+
+-- the flag that reports what the workers did
+abbrev pub stats_rule : Rule
+stats_rule = record (new_rule (codes "stats")) { long = Some (codes "stats"); action = Some SetTrue }
+
+-- `run`, with its four options
+abbrev pub run_shape : Shape
+run_shape = (with_rule (with_rule (with_rule (with_rule (new_app (codes "run")) track_rule) workers_rule) by_train_rule) stats_rule).top
+
+-- the option that says from which number on answers are written: a number from 1 on, which is 1 by default
+abbrev pub from_rule : Rule
+from_rule = record (new_rule (codes "from")) {
+  long = Some (codes "from");
+  value_names = 1;
+  parser = Some (vp.Unsigned 1 18446744073709551615);
+  defaults = codes "1" ∷ [];
+}
+
+-- `live`, with both options
+abbrev pub live_shape : Shape
+live_shape = (with_rule (with_rule (new_app (codes "live")) track_rule) from_rule).top
+
+-- the option that says at which input the log begins: a number of 32 bits, from 1 on
+abbrev pub begin_rule : Rule
+begin_rule = record (new_rule (codes "from")) {
+  long = Some (codes "from");
+  value_names = 1;
+  parser = Some (vp.Signed (pos 1) (pos 4294967295));
+}
+
+-- `explain`, with both options
+abbrev pub explain_shape : Shape
+explain_shape = (with_rule (with_rule (new_app (codes "explain")) track_rule) begin_rule).top
+
+-- the option that says after how many inputs the picture is drawn: a number of 32 bits
+abbrev pub after_rule : Rule
+after_rule = record (new_rule (codes "after")) {
+  long = Some (codes "after");
+  value_names = 1;
+  parser = Some (vp.Signed (pos 0) (pos 4294967295));
+}
+
+-- `picture`, with both options
+abbrev pub picture_shape : Shape
+picture_shape = (with_rule (with_rule (new_app (codes "picture")) track_rule) after_rule).top
+
+-- the option by which unknown keys are notes
+abbrev pub other_keys_rule : Rule
+other_keys_rule = record (new_rule (codes "other-keys")) { long = Some (codes "other-keys"); action = Some SetTrue }
+
+-- `check`, with both options
+abbrev pub check_shape : Shape
+check_shape = (with_rule (with_rule (new_app (codes "check")) track_rule) other_keys_rule).top
+
+-- `codes`, alone
+abbrev pub codes_shape : Shape
+codes_shape = (new_app (codes "codes")).top
+
+-- `decode`, with one word after it
+abbrev pub decode_shape : Shape
+decode_shape = (with_rule (new_app (codes "decode")) (record (new_rule (codes "HEX")) { required = true })).top
+
+-- the command line without its subcommands, from the word after its name
+abbrev pub bare_line : App
+bare_line = on_top (λ top. record top { no_binary_name = true; subcommand_required = true; has_version = true }) (new_app (codes "dispatch"))
+
+-- the command line with those subcommands alone that take a track and inputs
+abbrev pub input_line : App
+input_line = with_subcommand (with_subcommand (with_subcommand (with_subcommand bare_line run_shape) live_shape) explain_shape) picture_shape
+
+-- the command line with those subcommands alone that take a track
+abbrev pub track_line : App
+track_line = with_subcommand input_line check_shape
+
+-- the command line that the program takes: `run`, `live`, `explain`, `picture`, `check`, `decode` or `codes`
+abbrev pub command_line : App
+command_line = with_subcommand (with_subcommand track_line decode_shape) codes_shape
+
+-- memory ran out
+abbrev pub IsWantOfMemory : NoTask → Type 0
+IsWantOfMemory no_task = no_task ≡ OutOfMemory
+
+-- the name of a subcommand, and what was found for its arguments
+abbrev pub Finding : Type 0
+Finding = Option (Text × List Row)
+
+-- what clap finds in the words
+abbrev pub finding_in : List Text → Finding
+finding_in words = subcommand_of command_line words
+
+-- what was found for the arguments of the subcommand of this name
+abbrev pub found_after : Text → Finding → Option (List Row)
+found_after name None = None
+found_after name (Some p) = if bytes_eq p.0 name then Some p.1 else None
+
+-- the word that an argument was given after the subcommand of this name
+abbrev pub word_after : Text → Text → Finding → Option Text
+word_after name id found = option_and_then (first_of id) (found_after name found)
+
+-- the number that an argument was given after the subcommand of this name, or 0 where it was given none
+abbrev pub number_after : Text → Text → Finding → ℕ
+number_after name id found = option_map_or byte_or_zero (option_and_then (one_of id) (found_after name found)) 0
+
+-- `text.parse::<u64>().unwrap_or(1)`
+abbrev pub count_or_one : Text → ℕ
+count_or_one text =
+    let digits = without_leading_plus text in
+    if nat_lt 0 (length digits) && list_all (λ digit. nat_lt (digit_value digit) 10) digits && nat_lt (digits_value 10 digits) 18446744073709551616
+    then digits_value 10 digits else 1
+
+-- the count that an argument was given after the subcommand of this name, or 1 where it was given none
+abbrev pub count_after : Text → Text → Finding → ℕ
+count_after name id found = option_map_or count_or_one (option_and_then (one_of id) (found_after name found)) 1
+
+-- `text.parse::<u32>().ok()`
+abbrev pub number_in : Text → Option ℕ
+number_in text =
+    let digits = without_leading_plus text in
+    if nat_lt 0 (length digits) && list_all (λ digit. nat_lt (digit_value digit) 10) digits && nat_lt (digits_value 10 digits) 4294967296
+    then Some (digits_value 10 digits) else None
+
+-- the number of an input that an argument was given after the subcommand of this name, if it was given one
+abbrev pub input_after : Text → Text → Finding → Option ℕ
+input_after name id found = option_and_then number_in (option_and_then (one_of id) (found_after name found))
+
+-- the text of a flag after the subcommand of this name: "true" where the flag stands there, and else "false"
+abbrev pub flag_after : Text → Text → Finding → Option Text
+flag_after name id found = option_and_then (one_of id) (found_after name found)
+
+-- the flag is as its text says
+abbrev pub IsFlag : Option Text → Bool → Type 0
+IsFlag text flag = (text ≡ Some (codes "true") → flag ≡ true) × (text ≡ Some (codes "false") → flag ≡ false)
+
+-- the words name no run, or not the flag that asks for figures
+abbrev pub AsksForNoFigures : List Text → Type 0
+AsksForNoFigures words = (word_after (codes "run") (codes "track") (finding_in words) ≡ None) ⊎ (flag_after (codes "run") (codes "stats") (finding_in words) ≡ Some (codes "false"))
+
+-- words without a fault that ask for the batch, on the track in the file of this name, with so many workers
+abbrev pub AsksToRun : Text → ℕ → List Text → Type 0
+AsksToRun file workers words = (fault_of command_line words ≡ [])
+    × (word_after (codes "run") (codes "track") (finding_in words) ≡ Some file)
+    × (number_after (codes "run") (codes "workers") (finding_in words) ≡ workers)
+
+-- words without a fault that ask for lines to be answered as they come, on the track in the file of this name, from this number on
+abbrev pub AsksToLive : Text → ℕ → List Text → Type 0
+AsksToLive file from words = (fault_of command_line words ≡ [])
+    × (word_after (codes "live") (codes "track") (finding_in words) ≡ Some file)
+    × (count_after (codes "live") (codes "from") (finding_in words) ≡ from)
+
+-- words without a fault that ask for the log of the batch, on the track in the file of this name, from this input on
+abbrev pub AsksToExplain : Text → ℕ → List Text → Type 0
+AsksToExplain file from words = (fault_of command_line words ≡ [])
+    × (word_after (codes "explain") (codes "track") (finding_in words) ≡ Some file)
+    × (unwrap_or (input_after (codes "explain") (codes "from") (finding_in words)) 1 ≡ from)
+
+-- words without a fault that ask for the picture of the track in the file of this name, after so many inputs of the batch, or after all
+abbrev pub AsksToDraw : Text → Option ℕ → List Text → Type 0
+AsksToDraw file after words = (fault_of command_line words ≡ [])
+    × (word_after (codes "picture") (codes "track") (finding_in words) ≡ Some file)
+    × (input_after (codes "picture") (codes "after") (finding_in words) ≡ after)
+
+-- words without a fault that ask for the text of the message that this word stands for
+abbrev pub AsksToDecode : Text → List Text → Type 0
+AsksToDecode word words = (fault_of command_line words ≡ []) × (word_after (codes "decode") (codes "HEX") (finding_in words) ≡ Some word)
+
+-- words without a fault that ask for the report on the track in the file of this name
+abbrev pub AsksToCheck : Text → List Text → Type 0
+AsksToCheck file words = (fault_of command_line words ≡ []) × (word_after (codes "check") (codes "track") (finding_in words) ≡ Some file)
+
+-- no word was found for a run, for lines as they come, for a message, for a log or for a picture
+abbrev pub IsNeither : Finding → Type 0
+IsNeither found = (word_after (codes "run") (codes "track") found ≡ None)
+    × (word_after (codes "live") (codes "track") found ≡ None)
+    × (word_after (codes "decode") (codes "HEX") found ≡ None)
+    × (word_after (codes "explain") (codes "track") found ≡ None)
+    × (word_after (codes "picture") (codes "track") found ≡ None)
+
+-- the task is what was found
+abbrev pub IsFound : Finding → Task → Type 0
+IsFound found (Run track workers by_train stats) = (word_after (codes "run") (codes "track") found ≡ Some track.now)
+    × (number_after (codes "run") (codes "workers") found ≡ workers)
+    × IsFlag (flag_after (codes "run") (codes "by-train") found) by_train
+    × IsFlag (flag_after (codes "run") (codes "stats") found) stats
+IsFound found (Live track from) = (word_after (codes "live") (codes "track") found ≡ Some track.now)
+    × (count_after (codes "live") (codes "from") found ≡ from)
+IsFound found (Explain track from) = (word_after (codes "explain") (codes "track") found ≡ Some track.now)
+    × (unwrap_or (input_after (codes "explain") (codes "from") found) 1 ≡ from)
+IsFound found (Picture track after) = (word_after (codes "picture") (codes "track") found ≡ Some track.now)
+    × (input_after (codes "picture") (codes "after") found ≡ after)
+IsFound found (Check track other) = IsNeither found × (word_after (codes "check") (codes "track") found ≡ Some track.now)
+    × IsFlag (flag_after (codes "check") (codes "other-keys") found) other
+IsFound found Codes = IsNeither found × (word_after (codes "check") (codes "track") found ≡ None)
+IsFound found (Decode hex) = word_after (codes "decode") (codes "HEX") found ≡ Some hex.now
+
+-- no word was found for any task
+abbrev pub IsNoTask : Finding → Type 0
+IsNoTask found = IsNeither found × (word_after (codes "check") (codes "track") found ≡ None)
+
+-- the task is the batch, on the track in the file of this name, with so many workers
+abbrev pub IsRunOn : Text → ℕ → Task → Type 0
+IsRunOn file workers (Run track number by_train stats) = (track.now ≡ file) × (number ≡ workers)
+IsRunOn file workers (Live track from) = ⊥
+IsRunOn file workers (Check track other) = ⊥
+IsRunOn file workers (Decode hex) = ⊥
+IsRunOn file workers (Explain track first) = ⊥
+IsRunOn file workers (Picture track after) = ⊥
+IsRunOn file workers Codes = ⊥
+
+-- the task is lines as they come, on the track in the file of this name, from this number on
+abbrev pub IsLiveOn : Text → ℕ → Task → Type 0
+IsLiveOn file from (Live track first) = (track.now ≡ file) × (first ≡ from)
+IsLiveOn file from (Run track number by_train stats) = ⊥
+IsLiveOn file from (Check track other) = ⊥
+IsLiveOn file from (Decode hex) = ⊥
+IsLiveOn file from (Explain track first) = ⊥
+IsLiveOn file from (Picture track after) = ⊥
+IsLiveOn file from Codes = ⊥
+
+-- the task is the log of the batch, on the track in the file of this name, from this input on
+abbrev pub IsExplainOn : Text → ℕ → Task → Type 0
+IsExplainOn file from (Explain track first) = (track.now ≡ file) × (first ≡ from)
+IsExplainOn file from (Run track number by_train stats) = ⊥
+IsExplainOn file from (Live track first) = ⊥
+IsExplainOn file from (Picture track after) = ⊥
+IsExplainOn file from (Check track other) = ⊥
+IsExplainOn file from (Decode hex) = ⊥
+IsExplainOn file from Codes = ⊥
+
+-- the task is the picture of the track in the file of this name, after so many inputs of the batch, or after all
+abbrev pub IsPictureOn : Text → Option ℕ → Task → Type 0
+IsPictureOn file after (Picture track count) = (track.now ≡ file) × (count ≡ after)
+IsPictureOn file after (Run track number by_train stats) = ⊥
+IsPictureOn file after (Live track from) = ⊥
+IsPictureOn file after (Explain track from) = ⊥
+IsPictureOn file after (Check track other) = ⊥
+IsPictureOn file after (Decode hex) = ⊥
+IsPictureOn file after Codes = ⊥
+
+-- the task is the text of the message that this word stands for
+abbrev pub IsDecode : Text → Task → Type 0
+IsDecode word (Run track number by_train stats) = ⊥
+IsDecode word (Live track from) = ⊥
+IsDecode word (Check track other) = ⊥
+IsDecode word (Explain track first) = ⊥
+IsDecode word (Picture track after) = ⊥
+IsDecode word Codes = ⊥
+IsDecode word (Decode hex) = hex.now ≡ word
+
+-- the task is the report on the track in the file of this name
+abbrev pub IsCheckOf : Text → Task → Type 0
+IsCheckOf file (Check track other) = track.now ≡ file
+IsCheckOf file (Run track number by_train stats) = ⊥
+IsCheckOf file (Live track from) = ⊥
+IsCheckOf file (Decode hex) = ⊥
+IsCheckOf file (Explain track first) = ⊥
+IsCheckOf file (Picture track after) = ⊥
+IsCheckOf file Codes = ⊥
+
+-- the words are taken for a task, unless memory runs out
+abbrev pub IsTakenFor : (Task → Type 0) → Result Task NoTask → Type 0
+IsTakenFor P r = MatchResult r P IsWantOfMemory

@@ -1,0 +1,44 @@
+//! Worked cases of the law of forms, right ones and wrong ones.
+
+ghost use Rattle.std.specs.Prelude.{[], ◌∷◌, Some, codes};
+ghost use Rattle.rbc_dispatch.specs.Witnesses.{AskByFlag, AskByTrain, AskFor, AskForNone, AskFrom, AskFromNone};
+ghost use Rattle.rbc_dispatch.specs.Witnesses.{AskToDraw, AskToDrawNone, AskToExplain, AskToExplainNone};
+
+/// What words behind `run --track t` ask for.
+///
+/// - No word asks for one worker, and not for two. `--workers 16` asks for 16 workers, and `--workers=007` for 7.
+/// - `--workers 0` asks for none, which the run refuses. `--workers 2` does not ask for one.
+/// - `--workers 256`, `--workers -1`, `--workers x` and a number that is named twice ask for no run.
+/// - The text of the flag is "false" where no word asks for figures, and "true" with `--stats`, which leaves the number
+///   of workers as it is. `--stats` twice asks for no run.
+/// - `--by-train` asks for sharing by train, and leaves the number of workers as it is. `--by-train` twice asks for no
+///   run.
+///
+/// Behind `live --track t`, `--from 7` asks for the answers from number 7 on, and `--from 0` for none. Behind
+/// `explain --track t`, `--from 4294967295` asks for the log from that input on, and `--from 0` for none. Behind
+/// `picture --track t`, `--after 0` asks for the picture before all inputs, and `--after 4294967296` for none.
+pub fn forms_law_witnesses()
+    ensures one { AskFor 1 [] }
+    ensures sixteen { AskFor 16 (codes "--workers" ∷ codes "16" ∷ []) }
+    ensures leading_zeros { AskFor 7 (codes "--workers=007" ∷ []) }
+    ensures zero { AskFor 0 (codes "--workers" ∷ codes "0" ∷ []) }
+    ensures two_by_default { AskFor 2 [] → ⊥ }
+    ensures one_whatever_is_named { AskFor 1 (codes "--workers" ∷ codes "2" ∷ []) → ⊥ }
+    ensures too_great { AskForNone (codes "--workers" ∷ codes "256" ∷ []) }
+    ensures below_zero { AskForNone (codes "--workers" ∷ codes "-1" ∷ []) }
+    ensures no_number { AskForNone (codes "--workers" ∷ codes "x" ∷ []) }
+    ensures twice { AskForNone (codes "--workers" ∷ codes "1" ∷ codes "--workers" ∷ codes "1" ∷ []) }
+    ensures no_figures { AskByFlag (codes "false") [] }
+    ensures figures { AskByFlag (codes "true") (codes "--stats" ∷ []) }
+    ensures figures_of_four { AskFor 4 (codes "--stats" ∷ codes "--workers" ∷ codes "4" ∷ []) }
+    ensures figures_twice { AskForNone (codes "--stats" ∷ codes "--stats" ∷ []) }
+    ensures by_train { AskByTrain (codes "true") (codes "--by-train" ∷ []) }
+    ensures by_train_of_four { AskFor 4 (codes "--workers" ∷ codes "4" ∷ codes "--by-train" ∷ []) }
+    ensures by_train_twice { AskForNone (codes "--by-train" ∷ codes "--by-train" ∷ []) }
+    ensures from_seven { AskFrom 7 (codes "--from" ∷ codes "7" ∷ []) }
+    ensures from_zero { AskFromNone (codes "--from" ∷ codes "0" ∷ []) }
+    ensures log_from_last { AskToExplain 4294967295 (codes "--from" ∷ codes "4294967295" ∷ []) }
+    ensures log_from_zero { AskToExplainNone (codes "--from" ∷ codes "0" ∷ []) }
+    ensures drawn_at_first { AskToDraw (Some 0) (codes "--after" ∷ codes "0" ∷ []) }
+    ensures drawn_too_late { AskToDrawNone (codes "--after" ∷ codes "4294967296" ∷ []) }
+{}

@@ -1,0 +1,540 @@
+//! The arguments that the program takes.
+ghost use Rattle.std.specs.Prelude.{◌≡◌, ◌⊎◌, ℕ, List, Option, Some, [], codes, false, IfErr, IfNone, IfOk, IfSome};
+ghost use Rattle.std.specs.Prelude.{OnOk, map, option_map, string_bytes, true};
+ghost use Rattle.clap.specs.Simple.{App, Shape, new_app, new_rule, with_rule, with_subcommand};
+ghost use Rattle.clap.specs.Walk.{Rule};
+ghost use Rattle.clap.specs.Words.{app_of, fault_of, kind_of, rule_of, shape_of, subcommand_rows_of};
+ghost use Rattle.clap.specs.declared.builder.command.Command.TheViews.{out-Command as fields_of};
+ghost use Rattle.rbc_dispatch.specs.NoTask.{status_of, status_of_kind};
+ghost use Rattle.rbc_dispatch.specs.Words.{AsksToCheck, AsksToDecode, AsksToDraw, AsksToExplain, AsksToLive};
+ghost use Rattle.rbc_dispatch.specs.Words.{AsksToRun, IsCheckOf, IsDecode, IsExplainOn, IsFound, IsLiveOn};
+ghost use Rattle.rbc_dispatch.specs.Words.{IsNoTask, IsPictureOn, IsRunOn, IsTakenFor, IsWantOfMemory, bare_line};
+ghost use Rattle.rbc_dispatch.specs.Words.{by_train_rule, command_line, count_after, finding_in, flag_after};
+ghost use Rattle.rbc_dispatch.specs.Words.{input_after, number_after, other_keys_rule, run_shape, stats_rule};
+ghost use Rattle.rbc_dispatch.specs.Words.{track_rule, word_after};
+
+use crate::no_task::NoTask;
+use clap::builder::ValueParser;
+use clap::error::ErrorKind;
+use clap::{Arg, ArgAction, ArgMatches, Command};
+use std::alloc::{AllocError, Global};
+use std::env::{Env, FillError};
+use std::{env, io};
+
+/// What the arguments ask the program to do.
+#[derive(Clone, Copy)]
+pub enum Task<'a> {
+    /// `dispatch run --track FILE --workers N --by-train --stats`: run the batch on standard input, on the track in
+    /// FILE.
+    ///
+    /// - `workers`: the number of workers, 1 by default. One worker takes the inputs in order. Several workers attempt
+    ///   many inputs at once, commit them in input order, and recompute the attempts that went stale.
+    /// - `by_train`: several workers share runs of messages by train instead.
+    /// - `stats`: report on standard error what the workers did.
+    Run {
+        track: &'a str,
+        workers: u8,
+        by_train: bool,
+        stats: bool,
+    },
+    /// `dispatch live --track FILE --from N`: answer the lines on standard input as they come, on the track in
+    /// the file of this name, and write the answers from this number on, or from 1 where the arguments name none.
+    Live {
+        track: &'a str,
+        from: u64,
+    },
+    /// `dispatch explain --track FILE --from N`: tell the batch on standard input in words, on the track in the file of
+    /// this name, from this input on, 1 or more, or from 1 where the arguments name none.
+    Explain {
+        track: &'a str,
+        from: u32,
+    },
+    /// `dispatch picture --track FILE --after N`: draw what stands after so many inputs of the batch on standard input,
+    /// on the track in the file of this name, or after all where the arguments name no number.
+    Picture {
+        track: &'a str,
+        after: Option<u32>,
+    },
+    /// `dispatch check --track FILE --other-keys`: report on the track in the file of this name, with
+    /// or without the option.
+    Check {
+        track: &'a str,
+        other_keys: bool,
+    },
+    /// `dispatch decode HEX`: write the text of the message whose bytes this word is an encoding of.
+    Decode(&'a str),
+    /// `dispatch codes`: list what each code and each fault means.
+    Codes,
+}
+
+/// A subcommand's name, and what its help says at the top and at the end.
+struct Page {
+    name: &'static str,
+    about: &'static str,
+    after_help: &'static str,
+}
+
+/// An option that takes a number.
+struct NumberOption {
+    /// Its name, without hyphens.
+    name: &'static str,
+    /// What the number has to be.
+    parser: ValueParser<'static>,
+    /// The number where the option is not given, if there is one.
+    default: &'static [&'static str],
+    /// What help says of it.
+    help: &'static str,
+}
+
+const AFTER_HELP: &str = "\
+First:    dispatch check --track FILE                 what the track file says
+Then:     dispatch run --track FILE < BATCH           results and messages, as bytes
+Or:       dispatch live --track FILE                  the same, an answer as each line comes
+To read:  dispatch explain --track FILE < BATCH       the same run in words
+          dispatch picture --track FILE < BATCH > out.svg
+More:     README.md, docs/GUIDE.md; `dispatch help COMMAND` for one command.";
+
+const RUN: &Page = &Page {
+    name: "run",
+    about: "Run a batch: its results, and each train's messages as bytes",
+    after_help: "\
+Reads a batch from standard input, to its end, and writes one line for each input in order,
+`INPUT ok COUNT` or `INPUT refused CODE`, and then one line for each message, by engine number:
+`ENGINE INPUT HEX`. Nothing is written before the whole batch is run.
+
+One worker takes the inputs in order. Several workers attempt many inputs at once, commit them in
+input order, and recompute an attempt if a record that it read has changed. Most inputs take about
+a microsecond to decide, so one worker is usually fastest. With --by-train, several workers share
+long runs of messages by train instead: faster where trains hold many restrictions. The output is
+the same in every case.
+
+Exit status: 0 done; 1 a fault, one line on standard error; 2 bad arguments.
+`dispatch codes` says what each code and each fault means, `dispatch explain` tells a run in words.",
+};
+
+const LIVE: &Page = &Page {
+    name: "live",
+    about: "Answer inputs one line at a time, each before the next is waited for",
+    after_help: "\
+Reads inputs from standard input, a line each, and answers each before it waits for the next one:
+`INPUT ok COUNT` or `INPUT refused CODE`, and then one line for each message that it sends, in the
+order in which they are sent: `ENGINE INPUT HEX`. Ends where standard input ends.
+
+No state is kept. Keep the lines in a log. After a crash, start the program again, give it the log
+first, and name in --from the first input whose answer you do not have.
+
+Exit status: 0 done; 1 a fault, one line on standard error; 2 bad arguments. What was written before
+a fault stands.",
+};
+
+const EXPLAIN: &Page = &Page {
+    name: "explain",
+    about: "Tell a run in words, as a log",
+    after_help: "\
+Reads a batch from standard input, as `run` does, and tells for each input what came of it and each
+message with its reason; then what is active, told, not told and not acknowledged at the end. The
+lines that begin with \"= \" are those of `run`. Places are in km from the beginning of their line.
+
+Exit status: 0 done; 1 a fault, one line on standard error; 2 bad arguments.",
+};
+
+const PICTURE: &Page = &Page {
+    name: "picture",
+    about: "Draw the track with its trains, stops and restrictions, as SVG",
+    after_help: "\
+Reads a batch from standard input, as `run` does, and writes one SVG document: for each line its
+balise groups, the stops and restrictions that are active, and each train where it may be, with the
+places before which it is told to stop. Trains without a place are listed below.
+
+Exit status: 0 done; 1 a fault, one line on standard error; 2 bad arguments.",
+};
+
+const CHECK: &Page = &Page {
+    name: "check",
+    about: "Show what a track file says, and what is wrong with it",
+    after_help: "\
+Writes the lines with their balise groups in order, then warnings and notes. Where the file is
+refused, writes the rule that it breaks and where. Standard input is not read.
+
+Exit status: 0 good, without a warning; 1 refused (`track: RULE` on standard error, as `run` has
+it), or good with warnings (`track: N warnings`); 2 bad arguments.",
+};
+
+const DECODE: &Page = &Page {
+    name: "decode",
+    about: "Show what the bytes of one message mean",
+    after_help: "\
+Messages 15, 16, 18 and 24 are read as messages to a train, all others as messages from one.
+Writes one line: the message's number, then each variable with its value.
+
+  dispatch decode 1002800000009FFFFFE2
+  16 stamp 2 ack 0 lrbg 16777215 em 1
+
+Exit status: 0 done; 1 a fault: `bad hex`, or `decode: NAME` with NAME Length, Message, Packet or
+Field; 2 bad arguments.",
+};
+
+const CODES: &Page = &Page {
+    name: "codes",
+    about: "List all result codes and faults, and what to do about each",
+    after_help: "\
+Writes for each its number or its line, its name, what it means and what to do. Reads nothing.
+
+Exit status: 0 done; 1 a fault, one line on standard error; 2 bad arguments.",
+};
+
+const WORKERS: &NumberOption = &NumberOption {
+    name: "workers",
+    parser: ValueParser::Signed(0, 255),
+    default: &["1"],
+    help: "How many threads may work at once, 1 to 16",
+};
+
+const FIRST_ANSWER: &NumberOption = &NumberOption {
+    name: "from",
+    parser: ValueParser::Unsigned(1, 18_446_744_073_709_551_615),
+    default: &["1"],
+    help: "The first input whose answer is written, 1 or more",
+};
+
+const FIRST_TOLD: &NumberOption = &NumberOption {
+    name: "from",
+    parser: ValueParser::Signed(1, 4_294_967_295),
+    default: &[],
+    help: "Begin the log at input N; earlier inputs are run all the same",
+};
+
+const LAST_DRAWN: &NumberOption = &NumberOption {
+    name: "after",
+    parser: ValueParser::Signed(0, 4_294_967_295),
+    default: &[],
+    help: "Draw what stands after the first N inputs; without it, after all",
+};
+
+/// The command line that the program takes, by the name `dispatch` whatever its file is called.
+fn command<'a>(alloc: Global) -> Result<Command<'a>, AllocError>
+    ensures { IfOk result (λ command. app_of command ≡ command_line) }
+{
+    let with_run = with_subcommand(bare_command(alloc), run_command(alloc));
+    let answer = number_option(alloc, FIRST_ANSWER);
+    let with_live = with_subcommand(with_run, with_track(alloc, LIVE, answer));
+    let told = number_option(alloc, FIRST_TOLD);
+    let with_explain = with_subcommand(with_live, with_track(alloc, EXPLAIN, told));
+    let drawn = number_option(alloc, LAST_DRAWN);
+    let with_picture = with_subcommand(with_explain, with_track(alloc, PICTURE, drawn));
+    let other_keys = other_keys_option(alloc);
+    let with_check = with_subcommand(with_picture, with_track(alloc, CHECK, other_keys));
+    let decode = subcommand(alloc, DECODE).arg(hex_word(alloc));
+    let with_decode = with_subcommand(with_check, decode);
+    with_subcommand(with_decode, Ok(subcommand(alloc, CODES)))
+}
+
+/// The command line with one more subcommand, where memory was had for both.
+fn with_subcommand<'a>(
+    command: Result<Command<'a>, AllocError>,
+    subcommand: Result<Command<'a>, AllocError>,
+) -> Result<Command<'a>, AllocError>
+    ensures { (app : App) (shape : Shape) → IfOk command.entry (λ c. app_of c ≡ app)
+        → IfOk subcommand.entry (λ s. shape_of s ≡ shape)
+        → IfOk subcommand.entry (λ s. (fields_of s).has_globals ≡ false)
+        → IfOk result (λ r. app_of r ≡ with_subcommand app shape) }
+{
+    match (command, subcommand) {
+        (Ok(command), Ok(subcommand)) => command.subcommand(subcommand),
+        _ => Err(AllocError),
+    }
+}
+
+/// The command line without its subcommands.
+fn bare_command<'a>(alloc: Global) -> Result<Command<'a>, AllocError>
+    ensures { IfOk result (λ command. app_of command ≡ bare_line) }
+{
+    Command::new(alloc, "dispatch")
+        .no_binary_name(true)
+        .version("3.6.1, rules 3")
+        .about(
+            "Emergency stops and speed restrictions, from a signaller's batch to each train's messages",
+        )
+        .after_help(AFTER_HELP)
+        .subcommand_required(true)
+        .bin_name("dispatch")
+}
+
+/// `run`, with its four options.
+fn run_command<'a>(alloc: Global) -> Result<Command<'a>, AllocError>
+    ensures shape { IfOk result (λ command. shape_of command ≡ run_shape) }
+    ensures local { IfOk result (λ command. (fields_of command).has_globals ≡ false) }
+{
+    let workers = number_option(alloc, WORKERS);
+    with_track(alloc, RUN, workers)?
+        .arg(by_train_option(alloc))?
+        .arg(stats_option(alloc))
+}
+
+/// A subcommand that takes a track and one more option.
+fn with_track<'a>(alloc: Global, page: &Page, option: Arg<'a>) -> Result<Command<'a>, AllocError>
+    requires { option.global ≡ false }
+    ensures shape { (rule : Rule) → rule_of option.entry ≡ rule → IfOk result (λ command. shape_of command
+        ≡ (with_rule (with_rule (new_app page.now.name.now) track_rule) rule).top) }
+    ensures local { IfOk result (λ command. (fields_of command).has_globals ≡ false) }
+{
+    subcommand(alloc, page)
+        .arg(track_option(alloc))?
+        .arg(option)
+}
+
+/// A subcommand without arguments.
+fn subcommand<'a>(alloc: Global, page: &Page) -> Command<'a>
+    ensures app { app_of result ≡ new_app page.now.name.now }
+    ensures local { (fields_of result).has_globals ≡ false }
+{
+    Command::new(alloc, page.name)
+        .about(page.about)
+        .after_help(page.after_help)
+}
+
+fn track_option<'a>(alloc: Global) -> Arg<'a>
+    ensures rule { rule_of result ≡ track_rule }
+    ensures local { result.global ≡ false }
+{
+    Arg::new(alloc, "track")
+        .long("track")
+        .value_name("FILE")
+        .required(true)
+        .help("The track file, a TOML document")
+}
+
+fn number_option<'a>(alloc: Global, option: &NumberOption) -> Arg<'a>
+    ensures rule { rule_of result ≡ record (new_rule option.now.name.now) {
+      long = Some option.now.name.now;
+      value_names = 1;
+      parser = Some option.now.parser;
+      defaults = map (λ text. text.now) option.now.default.now;
+    } }
+    ensures local { result.global ≡ false }
+{
+    Arg::new(alloc, option.name)
+        .long(option.name)
+        .value_name("N")
+        .value_parser(option.parser)
+        .default_values(option.default)
+        .help(option.help)
+}
+
+fn by_train_option<'a>(alloc: Global) -> Arg<'a>
+    ensures rule { rule_of result ≡ by_train_rule }
+    ensures local { result.global ≡ false }
+{
+    Arg::new(alloc, "by-train")
+        .long("by-train")
+        .action(ArgAction::SetTrue)
+        .help("Let workers share messages by train, not attempt inputs")
+}
+
+fn stats_option<'a>(alloc: Global) -> Arg<'a>
+    ensures rule { rule_of result ≡ stats_rule }
+    ensures local { result.global ≡ false }
+{
+    Arg::new(alloc, "stats")
+        .long("stats")
+        .action(ArgAction::SetTrue)
+        .help("Say on standard error what the workers did")
+}
+
+fn other_keys_option<'a>(alloc: Global) -> Arg<'a>
+    ensures rule { rule_of result ≡ other_keys_rule }
+    ensures local { result.global ≡ false }
+{
+    Arg::new(alloc, "other-keys")
+        .long("other-keys")
+        .action(ArgAction::SetTrue)
+        .help("Count unknown keys as notes, not as warnings")
+}
+
+fn hex_word<'a>(alloc: Global) -> Arg<'a>
+    ensures rule { rule_of result ≡ record (new_rule (codes "HEX")) { required = true } }
+    ensures local { result.global ≡ false }
+{
+    Arg::new(alloc, "HEX")
+        .required(true)
+        .help("The bytes of the message, two hexadecimal digits each")
+}
+
+/// The arguments, as words. Where one is not UTF-8, they are bad.
+pub fn read<R: Env + AllocGlobal>(rt: &R) -> Result<Vec<String>, NoTask>
+    ensures { IfErr result (λ no_task. IsWantOfMemory no_task ⊎ (status_of no_task ≡ 2)) }
+{
+    match env::args(&Nameless(rt)) {
+        Ok(words) => Ok(words.collect(rt.alloc())?),
+        Err(error) if error.kind() == io::ErrorKind::OutOfMemory => {
+            Err(NoTask::from(AllocError))
+        }
+        Err(_) => {
+            let message = "invalid UTF-8 was detected in one or more arguments";
+            Err(refuse(rt.alloc(), ErrorKind::InvalidValue, message))
+        }
+    }
+}
+
+// What the program says of words that it refuses itself, if there is memory for it.
+fn refuse(alloc: Global, kind: ErrorKind, message: &str) -> NoTask
+    ensures { IsWantOfMemory result ⊎ (status_of result ≡ status_of_kind kind) }
+{
+    match refusal(alloc, kind, message) {
+        Ok(error) => NoTask::Words(error),
+        Err(refused) => NoTask::from(refused),
+    }
+}
+
+fn refusal(alloc: Global, kind: ErrorKind, message: &str) -> Result<clap::Error, AllocError>
+    ensures { IfOk result (λ error. kind_of error ≡ kind) }
+{
+    command(alloc)?.error(kind, message)
+}
+
+/// The task that the arguments ask for. The error is help, where they ask for that, what is wrong
+/// with them, or out of memory.
+pub fn parse<'a>(alloc: Global, words: &'a [String]) -> Result<Task<'a>, NoTask>
+    ensures run { (file : List ℕ) (workers : ℕ) → AsksToRun file workers (map string_bytes words.now)
+        → IsTakenFor (IsRunOn file workers) result }
+    ensures live { (file : List ℕ) (from : ℕ) → AsksToLive file from (map string_bytes words.now)
+        → IsTakenFor (IsLiveOn file from) result }
+    ensures explain { (file : List ℕ) (from : ℕ) → AsksToExplain file from (map string_bytes words.now)
+        → IsTakenFor (IsExplainOn file from) result }
+    ensures picture { (file : List ℕ) (after : Option ℕ) → AsksToDraw file after (map string_bytes words.now)
+        → IsTakenFor (IsPictureOn file after) result }
+    ensures decode { (word : List ℕ) → AsksToDecode word (map string_bytes words.now)
+        → IsTakenFor (IsDecode word) result }
+    ensures check { (file : List ℕ) → AsksToCheck file (map string_bytes words.now)
+        → IsTakenFor (IsCheckOf file) result }
+    ensures only { OnOk result (fault_of command_line (map string_bytes words.now) ≡ []) }
+    ensures task { IfOk result (IsFound (finding_in (map string_bytes words.now))) }
+{
+    let matches = command(alloc)?.try_get_matches_from(words)?;
+    match task_of(&matches) {
+        Some(task) => Ok(task),
+        // Not met: clap asks for a subcommand, and each subcommand for its word.
+        None => Err(refuse(alloc, ErrorKind::MissingSubcommand, "no task was named")),
+    }
+}
+
+// The task that the words named, by what was found in them.
+fn task_of<'a>(matches: &ArgMatches<'a>) -> Option<Task<'a>>
+    ensures found { IfSome result (IsFound (subcommand_rows_of matches.now)) }
+    ensures none { IfNone result (IsNoTask (subcommand_rows_of matches.now)) }
+{
+    if let Some(track) = word_after(matches, "run", "track") {
+        let workers = number_after(matches, "run", "workers");
+        let by_train = has_flag_after(matches, "run", "by-train");
+        let stats = has_flag_after(matches, "run", "stats");
+        return Some(Task::Run {
+            track,
+            workers,
+            by_train,
+            stats,
+        });
+    }
+    if let Some(track) = word_after(matches, "live", "track") {
+        let from = count_after(matches, "live", "from");
+        return Some(Task::Live { track, from });
+    }
+    if let Some(track) = word_after(matches, "explain", "track") {
+        let from = input_after(matches, "explain", "from").unwrap_or(1);
+        return Some(Task::Explain { track, from });
+    }
+    if let Some(track) = word_after(matches, "picture", "track") {
+        let after = input_after(matches, "picture", "after");
+        return Some(Task::Picture { track, after });
+    }
+    if let Some(hex) = word_after(matches, "decode", "HEX") {
+        return Some(Task::Decode(hex));
+    }
+    if let Some(track) = word_after(matches, "check", "track") {
+        let other_keys = has_flag_after(matches, "check", "other-keys");
+        return Some(Task::Check { track, other_keys });
+    }
+    if matches.subcommand_matches("codes").is_some() {
+        return Some(Task::Codes);
+    }
+    None
+}
+
+// The word that an argument was given after the subcommand of this name, if that one was named.
+fn word_after<'a>(matches: &ArgMatches<'a>, name: &str, id: &str) -> Option<&'a str>
+    ensures { option_map (λ word. word.now) result
+        ≡ word_after name.now id.now (subcommand_rows_of matches.now) }
+{
+    matches.subcommand_matches(name)?.get_str(id)
+}
+
+// The number that an argument was given after the subcommand of this name, or 0 if it was given none:
+// no run takes that many workers.
+fn number_after<'a>(matches: &ArgMatches<'a>, name: &str, id: &str) -> u8
+    ensures { result ≡ number_after name.now id.now (subcommand_rows_of matches.now) }
+{
+    match matches.subcommand_matches(name) {
+        Some(found) => found.get_one::<u8>(id).unwrap_or(0),
+        None => 0,
+    }
+}
+
+// The count that an argument was given after the subcommand of this name, or 1 if it was given none.
+fn count_after<'a>(matches: &ArgMatches<'a>, name: &str, id: &str) -> u64
+    ensures { result ≡ count_after name.now id.now (subcommand_rows_of matches.now) }
+{
+    match matches.subcommand_matches(name) {
+        Some(found) => found.get_one::<u64>(id).unwrap_or(1),
+        None => 1,
+    }
+}
+
+// The number of an input that an argument was given after the subcommand of this name, if it was given one.
+fn input_after<'a>(matches: &ArgMatches<'a>, name: &str, id: &str) -> Option<u32>
+    ensures { result ≡ input_after name.now id.now (subcommand_rows_of matches.now) }
+{
+    match matches.subcommand_matches(name) {
+        Some(found) => found.get_one::<u32>(id),
+        None => None,
+    }
+}
+
+// Whether a flag stands after the subcommand of this name.
+fn has_flag_after(matches: &ArgMatches<'_>, name: &str, id: &str) -> bool
+    ensures set { flag_after name.now id.now (subcommand_rows_of matches.now) ≡ Some (codes "true") → result ≡ true }
+    ensures unset { flag_after name.now id.now (subcommand_rows_of matches.now) ≡ Some (codes "false")
+        → result ≡ false }
+{
+    match matches.subcommand_matches(name) {
+        Some(found) => found.get_flag(id),
+        None => false,
+    }
+}
+
+/// An environment without the program's name, which may be any bytes.
+#[derive(Clone, Copy)]
+struct Nameless<'a, R>(&'a R);
+
+impl<R: Env> Env for Nameless<'_, R> {
+    fn arg(&self, i: usize, buf: &mut [u8]) -> Result<usize, FillError> {
+        match i.checked_add(1) {
+            Some(next) => self.0.arg(next, buf),
+            None => Err(FillError::NotPresent),
+        }
+    }
+
+    fn var(&self, name: &str, buf: &mut [u8]) -> Result<usize, FillError> {
+        self.0.var(name, buf)
+    }
+
+    fn var_at(&self, i: usize, buf: &mut [u8]) -> Result<usize, FillError> {
+        self.0.var_at(i, buf)
+    }
+}
+
+impl<R: Alloc> Alloc for Nameless<'_, R> {
+    type A = R::A;
+
+    fn alloc(&self) -> R::A {
+        self.0.alloc()
+    }
+}

@@ -1,2 +1,0 @@
-mod FirstLines
-mod LineInputs

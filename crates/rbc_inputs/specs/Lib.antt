@@ -1,2 +1,0 @@
-pub use Rattle.rbc_text.specs.BatchText
-pub use Rattle.rbc_text.specs.Pieces

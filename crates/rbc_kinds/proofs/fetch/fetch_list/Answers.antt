@@ -1,8 +1,0 @@
-use Rattle.rbc_step.specs.Lists.{engines_at}
-use Rattle.rbc_step.proofs.Worlds.{may_have_been}
-use Rattle.rbc_step.proofs.Engines.{alone}
-use Rattle.rbc_kinds.proofs.fetch.fetch_list.Goals as goal
-
-pub returns-clause-engines : goal.returns-clause-engines
-returns-clause-engines g c = λ plan w m engine.
-    alone (engines_at w c.args.list) c.in_ok-engines.engines _ c.new-nobody.ensures (c.in_ok-engines.ensures.both plan w (may_have_been c.fetch_trains.ensures.extends m)) engine

@@ -1,0 +1,5 @@
+use Rattle.rbc_live.proofs.Alike.{shows_nothing}
+use Rattle.rbc_live.proofs.line.UnfinishedLine.clear.Goals as goal
+
+pub returns : goal.returns
+returns c = shows_nothing _ c.clear.ensures.items

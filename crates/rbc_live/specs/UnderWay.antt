@@ -1,0 +1,80 @@
+-- Lines that are being taken.
+use Rattle.std.specs.Prelude.{◌≡◌, ◌≤◌, ◌+◌, ℕ, List, [], ◌∷◌, ◌++◌, map, length, take, true, Option, Result, Ok, Err}
+use Rattle.std.specs.Io.KnownBytes.{Appends}
+use Rattle.rbc_track.specs.Plan.{Plan}
+use Rattle.rbc_records.specs.declared.record.Key.{Key}
+use Rattle.rbc_records.specs.declared.record.Rec.{Rec}
+use Rattle.rbc_live.specs.History.{Taken, IsHistory}
+use Rattle.rbc_live.specs.Lines.{but_last, answers_from, AreAnswers, AreFirstAnswers}
+use Rattle.rbc_live.specs.Answers.{count_of, IsPartOut}
+use Rattle.rbc_live.specs.GoingOn.{GoesOnAs, max_kept}
+use Rattle.rbc_live.specs.declared.line.UnfinishedLine.{UnfinishedLine}
+use Rattle.rbc_live.specs.declared.session.Session.{Session}
+use Rattle.rbc_live.specs.declared.prompt.PromptError.{PromptError}
+use Rattle.rbc_live.specs.declared.prompt.PromptError.TheVariants.{Read, Memory, Write}
+
+-- what is kept of a line that has not ended: few bytes, which go on as the line does, and none only where it has none
+pub record Shows (line : List ℕ) (kept : UnfinishedLine) : Type 0 where
+  pub alike : GoesOnAs kept.bytes.items line
+  pub some : 1 ≤ length line → 1 ≤ length kept.bytes.items
+  pub within : length kept.bytes.items ≤ length line
+  pub few : length kept.bytes.items ≤ max_kept
+
+-- The answers to these lines, which were taken from a new desk, are out, or else in the text; so many bytes are out.
+pub record ArePending (plan : Plan) (from : ℕ) (text : List ℕ) (sent : ℕ) (old new : Option (List ℕ)) (ended : List (List ℕ)) : Type 0 where
+  pub taken : List Taken
+  pub records : List (Key × Rec)
+  pub written : List ℕ
+  pub fed : map (λ one. one.line) taken ≡ ended
+  pub history : IsHistory plan [] taken records
+  pub all : written ++ text ≡ answers_from from 1 taken
+  pub out : Appends old new written
+  pub count : sent ≡ count_of (length written)
+
+-- The same of a session, which can go on: the next line has begun with these bytes.
+pub record IsUnderWay (plan : Plan) (from : ℕ) (session : Session) (old new : Option (List ℕ)) (ended : List (List ℕ)) (rest : List ℕ) : Type 0 where
+  pub taken : List Taken
+  pub written : List ℕ
+  pub fed : map (λ one. one.line) taken ≡ ended
+  pub history : IsHistory plan [] taken session.desk.records
+  pub all : written ++ session.text.items ≡ answers_from from 1 taken
+  pub out : Appends old new written
+  pub count : session.outlet.sent ≡ count_of (length written)
+  pub track : session.desk.track ≡ plan
+  pub first : session.from ≡ from
+  pub next : session.number ≡ length taken + 1
+  pub begun : Shows rest session.line
+
+-- nothing is left to be written, and nothing to be flushed
+abbrev pub IsWaiting : Session → Type 0
+IsWaiting session = (session.text.items ≡ []) × (session.outlet.flushed ≡ true)
+
+-- the first bytes of a text are out, behind so many others; the fault counts them all
+abbrev pub IsCutShort : ℕ → List ℕ → Option (List ℕ) → Option (List ℕ) → PromptError → Type 0
+IsCutShort sent text old new fault = (part : ℕ) × (part ≤ length text) × Appends old new (take part text) × (fault ≡ Write (count_of (sent + part)))
+
+-- a fault in mid-course: the answers to the first of these lines are out, or at a write fault the first bytes of them
+abbrev pub IsEnded : Plan → ℕ → List (List ℕ) → Option (List ℕ) → Option (List ℕ) → PromptError → Type 0
+IsEnded plan from lines old new Read = ⊥
+IsEnded plan from lines old new Memory = (text : List ℕ) × AreFirstAnswers plan from lines text × Appends old new text
+IsEnded plan from lines old new (Write sent) = (text : List ℕ) × AreFirstAnswers plan from lines text × IsPartOut old new text sent
+
+-- it goes on, or ends with a fault
+abbrev pub GoesOn : {E : Type 0} → Plan → ℕ → List (List ℕ) → Option (List ℕ) → Option (List ℕ) → Result E PromptError → Type 0 → Type 0
+GoesOn plan from lines old new (Ok done) P = P
+GoesOn plan from lines old new (Err fault) P = IsEnded plan from lines old new fault
+
+-- pieces, of which the first goes on from what stands before it
+abbrev pub joined : List ℕ → List (List ℕ) → List (List ℕ)
+joined rest [] = rest ∷ []
+joined rest (first ∷ more) = (rest ++ first) ∷ more
+
+-- the answers to all these lines are out
+abbrev pub IsDone : Plan → ℕ → List (List ℕ) → Option (List ℕ) → Option (List ℕ) → Type 0
+IsDone plan from lines old new = (text : List ℕ) × AreAnswers plan from lines text × Appends old new text
+
+-- all pieces but the last one were taken as lines, and the last one has begun; or it ends with a fault
+abbrev pub HasTaken : {E : Type 0} → Plan → ℕ → List (List ℕ) → Option (List ℕ) → Option (List ℕ) → Session → Result E PromptError → Type 0
+HasTaken plan from pieces old new session (Ok done) =
+    (ended : List (List ℕ)) × (rest : List ℕ) × (pieces ≡ ended ++ rest ∷ []) × IsUnderWay plan from session old new ended rest
+HasTaken plan from pieces old new session (Err fault) = IsEnded plan from (but_last pieces) old new fault

@@ -1,0 +1,215 @@
+//! Lines under way: a desk, the line that has not ended, and the answers that are not written yet.
+
+ghost use Rattle.std.specs.Prelude.{◌≡◌, ◌≤◌, ◌<◌, ◌+◌, ◌^◌, ◌++◌, ◌∷◌, [], ℕ, List, Option, length, OnOk, OnErr};
+ghost use Rattle.std.specs.List.{slice_split};
+ghost use Rattle.rbc_track.specs.Plan.{Plan};
+ghost use Rattle.rbc_text.specs.BatchText.{is_line_feed, without_empty_end};
+ghost use Rattle.rbc_live.specs.Lines.{but_last};
+ghost use Rattle.rbc_live.specs.UnderWay.{ArePending, IsUnderWay, IsWaiting, IsDone, GoesOn, IsEnded, HasTaken};
+ghost use Rattle.rbc_live.specs.UnderWay.{joined};
+
+use crate::desk::{LiveDesk, LiveFault};
+use crate::line::UnfinishedLine;
+use crate::outlet::Outlet;
+use crate::prompt::PromptError;
+use rbc_text::{cut, render_answer};
+use std::alloc::{AllocError, Global};
+use std::io::Write;
+
+/// Answers are written once there are so many bytes of them, and at the end of each piece that is read.
+const ENOUGH: usize = 65_536;
+
+/// A desk that takes lines, and what it has to say of them.
+#[derive(Drop)]
+pub struct Session {
+    desk: LiveDesk,
+    /// The number of the first line whose answer is written.
+    from: u64,
+    /// The number of the next line; the first has number 1.
+    number: u64,
+    line: UnfinishedLine,
+    /// The answers that are not written yet.
+    text: Vec<u8>,
+    outlet: Outlet,
+}
+
+impl Session {
+    /// Begins at a desk that has taken no line. It takes no memory.
+    pub fn new(alloc: Global, desk: LiveDesk, from: u64) -> Session
+        requires { desk.records ≡ [] }
+        ensures under_way { (known : Option (List ℕ)) → IsUnderWay desk.track from result known known [] [] }
+        ensures waiting { IsWaiting result }
+        ensures number { result.number ≡ 1 }
+    {
+        Session {
+            desk,
+            from,
+            number: 1,
+            line: UnfinishedLine::new(alloc),
+            text: Vec::new(alloc),
+            outlet: Outlet::new(),
+        }
+    }
+
+    /// Takes the line to its end, which these bytes are, and puts its answer behind the text. Fails only for lack of
+    /// memory; the text is then as it was.
+    fn take_line(&mut self, alloc: Global, end: &[u8]) -> Result<(), AllocError>
+        requires { self.old.number + 1 < 2 ^ 64 }
+        ensures taken { (plan : Plan) (from : ℕ) (old new : Option (List ℕ)) (ended : List (List ℕ)) (rest : List ℕ)
+            → IsUnderWay plan from self.old old new ended rest
+            → OnOk result (IsUnderWay plan from self.new old new (ended ++ (rest ++ end.now) ∷ []) []) }
+        ensures number { OnOk result (self.new.number ≡ self.old.number + 1) }
+        ensures text { OnErr result (self.new.text.items ≡ self.old.text.items) }
+        ensures sent { self.new.outlet.sent ≡ self.old.outlet.sent }
+    {
+        self.line.add(alloc, end)?;
+        let answer = match self.desk.feed(alloc, self.line.bytes(), usize::MAX) {
+            Ok(answer) => answer,
+            Err(LiveFault::Memory) => return Err(AllocError),
+            // There is room for as many messages as can be counted.
+            Err(LiveFault::Room(_)) => unreachable!(),
+        };
+        let number = self.number;
+        self.number += 1;
+        self.line.clear();
+        if number < self.from {
+            return Ok(());
+        }
+        let text = render_answer(alloc, number, answer.reply, &answer.messages)?;
+        self.text.extend_from_slice(&text)
+    }
+
+    /// Writes the answers that are not written yet, and flushes them.
+    ///
+    /// # Errors
+    ///
+    /// `Write`.
+    fn write_out<W: Write>(&mut self, writer: &mut W) -> Result<(), PromptError>
+        ensures written { (plan : Plan) (from : ℕ) (old : Option (List ℕ)) (ended : List (List ℕ))
+            → ArePending plan from self.old.text.items self.old.outlet.sent old (W.contents writer.old) ended
+            → GoesOn plan from ended old (W.contents writer.new) result
+            (IsDone plan from ended old (W.contents writer.new)) }
+        ensures under_way { (plan : Plan) (from : ℕ) (old : Option (List ℕ)) (ended : List (List ℕ)) (rest : List ℕ)
+            → IsUnderWay plan from self.old old (W.contents writer.old) ended rest
+            → OnOk result (IsUnderWay plan from self.new old (W.contents writer.new) ended rest) }
+        ensures waiting { OnOk result (IsWaiting self.new) }
+        ensures number { self.new.number ≡ self.old.number }
+    {
+        self.outlet.write(writer, &self.text)?;
+        self.text.clear();
+        self.outlet.flush(writer)
+    }
+
+    /// The fault of a line to which memory was refused: the answers to the lines before it are written first.
+    fn out_of_memory<W: Write>(&mut self, writer: &mut W) -> PromptError
+        ensures { (plan : Plan) (from : ℕ) (old : Option (List ℕ)) (ended : List (List ℕ))
+            → ArePending plan from self.old.text.items self.old.outlet.sent old (W.contents writer.old) ended
+            → IsEnded plan from ended old (W.contents writer.new) result }
+    {
+        match self.write_out(writer) {
+            Ok(()) => PromptError::Memory,
+            Err(fault) => fault,
+        }
+    }
+
+    /// Takes the line to its end, which these bytes are. Its answer is written if there is enough to write.
+    ///
+    /// # Errors
+    ///
+    /// `Memory`, with the answers to the lines before it written, or `Write`.
+    fn end_line<W: Write>(
+        &mut self,
+        alloc: Global,
+        end: &[u8],
+        writer: &mut W,
+    ) -> Result<(), PromptError>
+        requires { self.old.number + 1 < 2 ^ 64 }
+        ensures taken { (plan : Plan) (from : ℕ) (old : Option (List ℕ)) (ended : List (List ℕ)) (rest : List ℕ)
+            → IsUnderWay plan from self.old old (W.contents writer.old) ended rest
+            → GoesOn plan from (ended ++ (rest ++ end.now) ∷ []) old (W.contents writer.new) result
+            (IsUnderWay plan from self.new old (W.contents writer.new) (ended ++ (rest ++ end.now) ∷ []) []) }
+        ensures number { OnOk result (self.new.number ≡ self.old.number + 1) }
+    {
+        if self.take_line(alloc, end).is_err() {
+            return Err(self.out_of_memory(writer));
+        }
+        if self.text.len() < ENOUGH {
+            return Ok(());
+        }
+        self.write_out(writer)
+    }
+
+    /// Adds bytes of a line that they do not end.
+    ///
+    /// # Errors
+    ///
+    /// `Memory`, with the answers to the lines before it written, or `Write`.
+    fn go_on_line<W: Write>(
+        &mut self,
+        alloc: Global,
+        more: &[u8],
+        writer: &mut W,
+    ) -> Result<(), PromptError>
+        ensures added { (plan : Plan) (from : ℕ) (old : Option (List ℕ)) (ended : List (List ℕ)) (rest : List ℕ)
+            → IsUnderWay plan from self.old old (W.contents writer.old) ended rest
+            → GoesOn plan from ended old (W.contents writer.new) result
+            (IsUnderWay plan from self.new old (W.contents writer.new) ended (rest ++ more.now)) }
+        ensures number { OnOk result (self.new.number ≡ self.old.number) }
+    {
+        if self.line.add(alloc, more).is_err() {
+            return Err(self.out_of_memory(writer));
+        }
+        Ok(())
+    }
+
+    /// Takes the lines of a piece of what is read, in which the last one may go on, and writes their answers.
+    ///
+    /// # Errors
+    ///
+    /// `Memory`, with the answers to the lines before it written, or `Write`.
+    pub fn take_piece<W: Write>(
+        &mut self,
+        alloc: Global,
+        piece: &[u8],
+        writer: &mut W,
+    ) -> Result<(), PromptError>
+        requires { self.old.number + length piece.now < 2 ^ 64 }
+        ensures taken { (plan : Plan) (from : ℕ) (old : Option (List ℕ)) (ended : List (List ℕ)) (rest : List ℕ)
+            → IsUnderWay plan from self.old old (W.contents writer.old) ended rest
+            → HasTaken plan from (ended ++ joined rest (slice_split is_line_feed piece.now))
+            old (W.contents writer.new) self.new result }
+        ensures waiting { OnOk result (IsWaiting self.new) }
+        ensures number { OnOk result (self.new.number ≤ self.old.number + length piece.now) }
+    {
+        let mut left = Some(piece);
+        while let Some(bytes) = left {
+            let (line, behind) = cut(bytes, b'\n');
+            match behind {
+                Some(_) => self.end_line(alloc, line, writer)?,
+                None => self.go_on_line(alloc, line, writer)?,
+            }
+            left = behind;
+        }
+        self.write_out(writer)
+    }
+
+    /// Takes what is left as a line, if there is anything, and writes its answer.
+    ///
+    /// # Errors
+    ///
+    /// `Memory` or `Write`.
+    pub fn finish<W: Write>(mut self, alloc: Global, writer: &mut W) -> Result<(), PromptError>
+        requires number { self.number + 1 < 2 ^ 64 }
+        requires waiting { IsWaiting self }
+        ensures { (plan : Plan) (from : ℕ) (old : Option (List ℕ)) (ended : List (List ℕ)) (rest : List ℕ)
+            → IsUnderWay plan from self old (W.contents writer.old) ended rest
+            → GoesOn plan from (without_empty_end (ended ++ rest ∷ [])) old (W.contents writer.new) result
+            (IsDone plan from (without_empty_end (ended ++ rest ∷ [])) old (W.contents writer.new)) }
+    {
+        if self.line.is_empty() {
+            return Ok(());
+        }
+        self.end_line(alloc, &[], writer)?;
+        self.write_out(writer)
+    }
+}

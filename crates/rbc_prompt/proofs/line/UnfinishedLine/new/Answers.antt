@@ -1,5 +1,0 @@
-use Rattle.rbc_prompt.proofs.Alike.{shows_nothing}
-use Rattle.rbc_prompt.proofs.line.UnfinishedLine.new.Goals as goal
-
-pub returns : goal.returns
-returns c = shows_nothing _ c.new.ensures.items

@@ -1,7 +1,0 @@
-use Rattle.rbc_prompt.proofs.Writing.{pending}
-use Rattle.rbc_prompt.proofs.session.Session.go_on_line.Goals as goal
-
--- memory was refused
-pub returns-then-is_err-clause-added : goal.returns-then-is_err-clause-added
-returns-then-is_err-clause-added g c = λ plan from old ended rest is.
-    c.out_of_memory.ensures plan from old ended (pending plan from c.args.self.now old (g.W.Write.contents c.args.writer.now) ended rest is)

@@ -1,5 +1,0 @@
-use Rattle.rbc_prompt.proofs.Writing.{memory_refused}
-use Rattle.rbc_prompt.proofs.session.Session.out_of_memory.Goals as goal
-
-pub returns-in-Ok : goal.returns-in-Ok
-returns-in-Ok g c = λ plan from old ended are. memory_refused plan from ended old _ (c.in-Ok.ensures.written plan from old ended are)

@@ -1,0 +1,32 @@
+use Rattle.std.proofs.Common.{None, flat_map, ◌∙◌}
+use Rattle.std.proofs.lemmas.Result.{IfOk-weaker}
+use Rattle.rbc_rule.proofs.WorldReading.{read_or}
+use Rattle.rbc_rule.proofs.Begun.{limit_changed}
+use Rattle.rbc_rule.specs.Gathered.{write_at, sent_at}
+use Rattle.rbc_rule.proofs.begin_and_end.gather_with_limits.Goals as goal
+
+pub settle_trains-requires-clause-enrolled : goal.settle_trains-requires-clause-enrolled
+settle_trains-requires-clause-enrolled g c = λ w m. (c.requires.enough w m).enrolled
+
+pub settle_trains-requires-clause-changed : goal.settle_trains-requires-clause-changed
+settle_trains-requires-clause-changed g c = λ w m.
+    let stops = read_or c.in_ok-stops.field-0 c.unwrap_or-stops.result _ _ c.unwrap_or-stops.ensures c.new-none.ensures ∙ c.in_ok-stops.ensures.stops c.args.track.now w m in
+    limit_changed c.args.number c.get.result w c.unwrap_or-stops.result.now c.args.limits.now c.get.ensures (c.requires.changed w m) stops
+
+pub returns-clause-writes : goal.returns-clause-writes
+returns-clause-writes g c =
+    let plan = c.args.track.now in
+    IfOk-weaker c.settle_trains.result _ _
+    (λ gathered is w m.
+    let stops = read_or c.in_ok-stops.field-0 c.unwrap_or-stops.result _ _ c.unwrap_or-stops.ensures c.new-none.ensures ∙ c.in_ok-stops.ensures.stops plan w m in
+    is w m ∙ (λ i. flat_map (write_at plan (stops i) c.args.limits.now None w.trains) c.args.engines.now) ∙ (c.requires.enough w m).writes)
+    c.settle_trains.ensures.writes
+
+pub returns-clause-messages : goal.returns-clause-messages
+returns-clause-messages g c =
+    let plan = c.args.track.now in
+    IfOk-weaker c.settle_trains.result _ _
+    (λ gathered is w m.
+    let stops = read_or c.in_ok-stops.field-0 c.unwrap_or-stops.result _ _ c.unwrap_or-stops.ensures c.new-none.ensures ∙ c.in_ok-stops.ensures.stops plan w m in
+    is w m ∙ (λ i. flat_map (sent_at plan (stops i) c.args.limits.now None w.trains) c.args.engines.now) ∙ (c.requires.enough w m).sent)
+    c.settle_trains.ensures.messages

@@ -1,0 +1,64 @@
+use Rattle.std.proofs.Common.{rules, ◌≡◌, ◌∙◌, [], sym, ap, option_copied}
+use Rattle.std.proofs.lemmas.Result.{IfOk-weaker}
+use Rattle.rbc_maps.specs.Maps.{value_of}
+use Rattle.rbc_settle.specs.Numbers.{has_number}
+use Rattle.rbc_records.specs.Notes.{same_key}
+use Rattle.rbc_rule.specs.declared.input.Input.TheVariants.{Received}
+use Rattle.rbc_rule.specs.declared.outcome.Reply.TheVariants.{Refused}
+use Rattle.rbc_rule.specs.Codes.{code_of}
+use Rattle.rbc_rule.specs.Lists.{engines_at, moves}
+use Rattle.rbc_rule.specs.Gathered.{heard_outcome}
+use Rattle.rbc_rule.proofs.Worlds.{may_have_been, refused_right, refusal_is, fault_handed_on}
+use Rattle.rbc_rule.proofs.Engines.{list_of_is}
+use Rattle.rbc_rule.proofs.EachChanges.{heard_changes}
+use Rattle.rbc_rule.proofs.OneTrain.{receive_refused, receive_right, comes_anew}
+use Rattle.rbc_rule.proofs.receive.receive.Goals as goal
+
+pub returns-in_err-before-clause-fault : goal.returns-in_err-before-clause-fault
+returns-in_err-before-clause-fault g c =
+    let residual = c.from_residual-in_err-before in
+    fault_handed_on c.args.track.now _ _ _ residual.result c.in_err-before.field-0.0 residual.ensures.1 (c.in_err-before.ensures.fault c.args.track.now) c.in_ok-spare.ensures.failed
+
+pub returns-in-Err-Refused-clause-right : goal.returns-in-Err-Refused-clause-right
+returns-in-Err-Refused-clause-right g c = λ w m.
+    let plan = c.args.track.now in
+    let found = sym (ap option_copied c.in-Some.is) ∙ c.in_ok-before.ensures.train plan w m ∙ ap (value_of w.trains) c.engine_of-engine.ensures in
+    let refused : c.refused-in-Err-Refused.result ≡ record { result = Refused (code_of c.in-Err-Refused.refusal); writes = []; messages = [] } = search rules in
+    refused_right plan (Received c.args.message.now) w (code_of c.in-Err-Refused.refusal) c.refused-in-Err-Refused.result refused
+    (receive_refused plan c.args.message.now w c.in-Some.before.now found (code_of c.in-Err-Refused.refusal) (refusal_is _ c.in-Err-Refused.field-0 c.in-Err-Refused.refusal c.in-Err-Refused.field-0-is c.in-Err-Refused.ensures.err))
+
+-- a train that leaves its list comes anew into the other
+pub moves-requires-clause-comes : goal.moves-requires-clause-comes
+moves-requires-clause-comes g c = λ plan w m apart.
+    let found = sym (ap option_copied c.in-Some.is) ∙ c.in_ok-before.ensures.train plan w m ∙ ap (value_of w.trains) c.engine_of-engine.ensures in
+    let left = c.list_of-left.ensures.list in
+    let entered = c.list_of-entered.ensures.list in
+    (λ i. has_number (engines_at w (entered i)) (c.engine_of-engine.ensures i))
+    ∙ comes_anew plan c.args.message.now w c.in-Some.before.now found _ m.well_formed (list_of_is c.in-Ok.train) (sym (λ i. same_key (left i) (entered i)) ∙ apart)
+
+-- what was read is the world's, so the outcome is the step's
+pub returns-clause-right : goal.returns-clause-right
+returns-clause-right g c =
+    IfOk-weaker c.received.result _ _
+    (λ outcome is w m.
+    let plan = c.args.track.now in
+    let engine = c.engine_of-engine.ensures in
+    let before = may_have_been c.received.ensures.extends m in
+    let found = sym (ap option_copied c.in-Some.is) ∙ c.in_ok-before.ensures.train plan w (may_have_been c.moves.ensures.extends before) ∙ ap (value_of w.trains) engine in
+    let moved = c.in_ok-moved.ensures.writes plan w before ∙ (λ i. moves w (engine i) (c.list_of-left.ensures.list i) (c.list_of-entered.ensures.list i)) in
+    receive_right plan c.args.message.now w c.in-Some.before.now found c.in-Ok.train outcome c.in-Ok.ensures.ok
+    (is w m ∙ (λ i. heard_outcome plan w.stops w.limits (engine i) c.in-Ok.train (moved i))) m.well_formed)
+    c.received.ensures.outcome
+
+pub returns-clause-changes : goal.returns-clause-changes
+returns-clause-changes g c =
+    IfOk-weaker c.received.result _ _
+    (λ outcome is w m.
+    let plan = c.args.track.now in
+    let engine = c.engine_of-engine.ensures in
+    let before = may_have_been c.received.ensures.extends m in
+    let found = sym (ap option_copied c.in-Some.is) ∙ c.in_ok-before.ensures.train plan w (may_have_been c.moves.ensures.extends before) ∙ ap (value_of w.trains) engine in
+    let moved = c.in_ok-moved.ensures.writes plan w before ∙ (λ i. moves w (engine i) (c.list_of-left.ensures.list i) (c.list_of-entered.ensures.list i)) in
+    heard_changes plan c.args.message.now w c.in-Some.before.now c.in-Ok.train m.well_formed.ascending found outcome
+    (is w m ∙ (λ i. heard_outcome plan w.stops w.limits (engine i) c.in-Ok.train (moved i))))
+    c.received.ensures.outcome

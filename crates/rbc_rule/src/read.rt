@@ -1,0 +1,100 @@
+//! Looks up records that were read.
+
+ghost use Rattle.std.specs.Prelude.{◌≡◌, ℕ, ◌≤◌, IsTrue, IfOk, IfErr, IfSome, option_copied, length};
+ghost use Rattle.rbc_track.specs.Plan.{Plan};
+ghost use Rattle.rbc_maps.specs.Maps.{value_of};
+ghost use Rattle.rbc_maps.specs.Numbered.{none_numbered};
+ghost use Rattle.rbc_records.specs.declared.record.Key.TheVariants as key;
+ghost use Rattle.rbc_records.specs.Notes.{knows, noted};
+ghost use Rattle.rbc_rule.specs.Bounds.{max_trains};
+ghost use Rattle.rbc_rule.specs.World.{World};
+ghost use Rattle.rbc_rule.specs.Right.{MayBe};
+ghost use Rattle.rbc_rule.specs.Faults.{IsFaultOf};
+ghost use Rattle.rbc_rule.specs.Lists.{engines_at, is_list, or_nobody};
+ghost use Rattle.rbc_rule.specs.Gathered.{or_none};
+
+use crate::limits::MAX_TRAINS;
+use crate::outcome::RuleFault;
+use rbc_records::{Key, Reader, Rec};
+use rbc_settle::{Numbers, TrainRec};
+use rbc_zones::{Limits, Stops};
+
+/// Returns the engines of a list, or `None` if the list has no record.
+pub fn engines<S: Reader>(store: &S, list: Key) -> Result<Option<&Numbers>, RuleFault>
+    requires known { IsTrue (knows (S.notes store.now) list) }
+    requires list { IsTrue (is_list list) }
+    ensures engines { IfOk result (λ engines. (plan : Plan) (w : World) → MayBe plan (S.notes store.now) w
+        → or_nobody (option_copied engines) ≡ engines_at w list) }
+    ensures few { IfOk result (λ engines. length (or_nobody (option_copied engines)) ≤ max_trains) }
+    ensures fault { (plan : Plan) → IfErr result (λ fault. IsFaultOf plan fault (S.notes store.now)) }
+{
+    match store.seen(list) {
+        None => Ok(None),
+        Some(Rec::Engines(engines)) if engines.len() > MAX_TRAINS => Err(RuleFault::Torn),
+        Some(Rec::Engines(engines)) => Ok(Some(engines)),
+        Some(Rec::Train(_) | Rec::Stops(_) | Rec::Limits(_)) => Err(RuleFault::Torn),
+    }
+}
+
+/// Returns the train with this engine number, if it is enrolled.
+pub fn train<S: Reader>(store: &S, engine: u32) -> Result<Option<&TrainRec>, RuleFault>
+    requires { IsTrue (knows (S.notes store.now) (key.Train engine)) }
+    ensures train { IfOk result (λ train. (plan : Plan) (w : World) → MayBe plan (S.notes store.now) w
+        → option_copied train ≡ value_of w.trains engine) }
+    ensures fault { (plan : Plan) → IfErr result (λ fault. IsFaultOf plan fault (S.notes store.now)) }
+{
+    match store.seen(Key::Train(engine)) {
+        None => Ok(None),
+        Some(Rec::Train(train)) => Ok(Some(train)),
+        Some(_) => Err(RuleFault::Torn),
+    }
+}
+
+/// Returns the stops, if there ever was one.
+pub fn stops<S: Reader>(store: &S) -> Result<Option<&Stops>, RuleFault>
+    requires { IsTrue (knows (S.notes store.now) key.Stops) }
+    ensures stops { IfOk result (λ stops. (plan : Plan) (w : World) → MayBe plan (S.notes store.now) w
+        → or_none (option_copied stops) ≡ w.stops) }
+    ensures fault { (plan : Plan) → IfErr result (λ fault. IsFaultOf plan fault (S.notes store.now)) }
+{
+    match store.seen(Key::Stops) {
+        None => Ok(None),
+        Some(Rec::Stops(stops)) => Ok(Some(stops)),
+        Some(_) => Err(RuleFault::Torn),
+    }
+}
+
+/// Returns the restrictions, if there ever was one.
+pub fn limits<S: Reader>(store: &S) -> Result<Option<&Limits>, RuleFault>
+    requires { IsTrue (knows (S.notes store.now) key.Limits) }
+    ensures limits { IfOk result (λ limits. (plan : Plan) (w : World) → MayBe plan (S.notes store.now) w
+        → or_none (option_copied limits) ≡ w.limits) }
+    ensures fault { (plan : Plan) → IfErr result (λ fault. IsFaultOf plan fault (S.notes store.now)) }
+{
+    match store.seen(Key::Limits) {
+        None => Ok(None),
+        Some(Rec::Limits(limits)) => Ok(Some(limits)),
+        Some(_) => Err(RuleFault::Torn),
+    }
+}
+
+/// Returns the stops and the restrictions, or what the caller lends for those of which there never was one.
+pub fn stops_and_limits<'a, S: Reader>(
+    store: &'a S,
+    no_stops: &'a Stops,
+    no_limits: &'a Limits,
+) -> Result<(&'a Stops, &'a Limits), RuleFault>
+    requires stops_known { IsTrue (knows (S.notes store.now) key.Stops) }
+    requires limits_known { IsTrue (knows (S.notes store.now) key.Limits) }
+    requires no_stops { no_stops.now ≡ none_numbered }
+    requires no_limits { no_limits.now ≡ none_numbered }
+    ensures stops { IfOk result (λ both. (plan : Plan) (w : World) → MayBe plan (S.notes store.now) w
+        → both.0.now ≡ w.stops) }
+    ensures limits { IfOk result (λ both. (plan : Plan) (w : World) → MayBe plan (S.notes store.now) w
+        → both.1.now ≡ w.limits) }
+    ensures fault { (plan : Plan) → IfErr result (λ fault. IsFaultOf plan fault (S.notes store.now)) }
+{
+    let stops = stops(store)?.unwrap_or(no_stops);
+    let limits = limits(store)?.unwrap_or(no_limits);
+    Ok((stops, limits))
+}

@@ -1,0 +1,185 @@
+//! Decides a message from a train.
+
+ghost use Rattle.std.specs.Prelude.{◌≡◌, ◌+◌, ◌<◌, ◌^◌, [], IsTrue, IfOk, IfErr, OnOk, Ok, false};
+ghost use Rattle.rbc_track.specs.Plan.{Plan};
+ghost use Rattle.rbc_records.specs.declared.record.Key.TheVariants as key;
+ghost use Rattle.rbc_records.specs.Notes.{Extends, knows, same_key};
+ghost use Rattle.rbc_settle.specs.Numbers.{has_number};
+ghost use Rattle.rbc_rule.specs.declared.outcome.RuleFault.TheVariants.{OutOfMemory};
+ghost use Rattle.rbc_rule.specs.World.{World};
+ghost use Rattle.rbc_rule.specs.Effect.{engine_of};
+ghost use Rattle.rbc_rule.specs.Right.{EachWriteChanges, IsRight, IsSilentIfRefused, FailsAs, MayBe};
+ghost use Rattle.rbc_rule.specs.Faults.{IsFaultOf};
+ghost use Rattle.rbc_rule.specs.Lists.{engines_at, is_list, moves};
+ghost use Rattle.rbc_rule.specs.Gathered.{AreSendable, heard_outcome};
+
+use crate::fetch::{fetch, fetch_with_spare};
+use crate::input::Input;
+use crate::lists::{list_of, write_with, write_without};
+use crate::outcome::{Outcome, RuleFault, SentList};
+use crate::read;
+use crate::refuse::{NotChanged, Refusal};
+use crate::train_message::{engine_of, heard};
+use ertms_codec::FromTrain;
+use rbc_records::{Key, Reader, Rec, Writes};
+use rbc_settle::{Numbers, TrainRec, settle};
+use rbc_track::Track;
+use rbc_zones::{Limits, Stops};
+use std::alloc::Global;
+
+/// Reads the records and decides a message from a train.
+pub fn receive<S: Reader>(
+    alloc: Global,
+    track: &Track,
+    message: &FromTrain,
+    store: &mut S,
+) -> Result<Outcome, RuleFault>
+    requires { S.failed store.old + 1 < 2 ^ 64 }
+    ensures right { IfOk result (λ outcome. IsRight track.now (Input.Received message.now)
+        (S.notes store.new) outcome.result outcome.writes outcome.messages) }
+    ensures changes { IfOk result (λ outcome. EachWriteChanges track.now (Input.Received message.now)
+        (S.notes store.new) outcome.writes) }
+    ensures refused { IfOk result (λ outcome. IsSilentIfRefused outcome.result outcome.writes outcome.messages) }
+    ensures fit { IfOk result (λ outcome. AreSendable outcome.messages) }
+    ensures extends { Extends (S.notes store.old) (S.notes store.new) }
+    ensures fault { FailsAs track.now (S.notes store.new) (S.failed store.old) (S.failed store.new) result }
+    ensures failed { OnOk result (S.failed store.new ≡ S.failed store.old) }
+{
+    let engine = engine_of(message);
+    let spare = fetch_with_spare(store, Key::Train(engine))?;
+    let (writes, spare) = emptied(alloc, spare);
+    let Some(before) = read::train(store, engine)? else {
+        return Ok(Outcome::refused(alloc, Refusal::UnknownTrain));
+    };
+    let train = match heard(alloc, track, message, before, spare) {
+        Ok(train) => train,
+        Err(NotChanged::Refused(refusal)) => return Ok(Outcome::refused(alloc, refusal)),
+        Err(NotChanged::OutOfMemory) => return Err(RuleFault::OutOfMemory),
+    };
+    let (left, entered) = (list_of(before), list_of(&train));
+    let moved = moves(alloc, engine, left, entered, writes, store)?;
+    received(alloc, track, engine, train, moved, store)
+}
+
+/// An empty list of writes, and the record of a train that is not needed any more: both from writes that are spare, if
+/// there are any.
+fn emptied(alloc: Global, spare: Option<Writes>) -> (Writes, Option<TrainRec>)
+    ensures { result.0 ≡ [] }
+{
+    let mut writes = spare.unwrap_or(Writes::new(alloc));
+    let train = writes.empty();
+    (writes, train)
+}
+
+/// Reads the two lists of a train that leaves one and comes into another, and returns what is written to them, in an
+/// empty list that is given: nothing for a train that stays in its list.
+fn moves<S: Reader>(
+    alloc: Global,
+    engine: u32,
+    left: Key,
+    entered: Key,
+    writes: Writes,
+    store: &mut S,
+) -> Result<Writes, RuleFault>
+    requires room { S.failed store.old + 1 < 2 ^ 64 }
+    requires empty { writes ≡ [] }
+    requires left { IsTrue (is_list left) }
+    requires entered { IsTrue (is_list entered) }
+    requires comes { (plan : Plan) (w : World) → MayBe plan (S.notes store.old) w → same_key left entered ≡ false
+        → has_number (engines_at w entered) engine ≡ false }
+    ensures writes { IfOk result (λ writes. (plan : Plan) (w : World) → MayBe plan (S.notes store.new) w
+        → writes ≡ moves w engine left entered) }
+    ensures extends { Extends (S.notes store.old) (S.notes store.new) }
+    ensures fault { (plan : Plan) → FailsAs plan (S.notes store.new) (S.failed store.old) (S.failed store.new) result }
+    ensures failed { OnOk result (S.failed store.new ≡ S.failed store.old) }
+{
+    if left == entered {
+        return Ok(writes);
+    }
+    fetch(store, left)?;
+    fetch(store, entered)?;
+    moved(alloc, engine, left, entered, writes, store)
+}
+
+/// Returns what is written to the two lists of a train that leaves one and comes into another, by the records that were
+/// read, in an empty list that is given.
+fn moved<S: Reader>(
+    alloc: Global,
+    engine: u32,
+    left: Key,
+    entered: Key,
+    writes: Writes,
+    store: &S,
+) -> Result<Writes, RuleFault>
+    requires empty { writes ≡ [] }
+    requires left { IsTrue (is_list left) }
+    requires entered { IsTrue (is_list entered) }
+    requires left_known { IsTrue (knows (S.notes store.now) left) }
+    requires entered_known { IsTrue (knows (S.notes store.now) entered) }
+    requires apart { same_key left entered ≡ false }
+    requires comes { (plan : Plan) (w : World) → MayBe plan (S.notes store.now) w
+        → has_number (engines_at w entered) engine ≡ false }
+    ensures writes { IfOk result (λ writes. (plan : Plan) (w : World) → MayBe plan (S.notes store.now) w
+        → writes ≡ moves w engine left entered) }
+    ensures fault { (plan : Plan) → IfErr result (λ fault. IsFaultOf plan fault (S.notes store.now)) }
+{
+    let nobody = Numbers::new(alloc);
+    let others = read::engines(store, left)?.unwrap_or(&nobody);
+    let engines = read::engines(store, entered)?.unwrap_or(&nobody);
+    if engines.has(engine) {
+        return Err(RuleFault::Torn);
+    }
+    let mut writes = writes;
+    write_without(alloc, left, others, engine, &mut writes)?;
+    write_with(alloc, entered, engines, engine, &mut writes)?;
+    Ok(writes)
+}
+
+/// Reads the stops and the restrictions and settles a train after its message.
+fn received<S: Reader>(
+    alloc: Global,
+    track: &Track,
+    engine: u32,
+    train: TrainRec,
+    moved: Writes,
+    store: &mut S,
+) -> Result<Outcome, RuleFault>
+    requires { S.failed store.old + 1 < 2 ^ 64 }
+    ensures outcome { IfOk result (λ outcome. (w : World) → MayBe track.now (S.notes store.new) w
+        → outcome ≡ heard_outcome track.now w.stops w.limits engine train moved) }
+    ensures refused { IfOk result (λ outcome. IsSilentIfRefused outcome.result outcome.writes outcome.messages) }
+    ensures fit { IfOk result (λ outcome. AreSendable outcome.messages) }
+    ensures extends { Extends (S.notes store.old) (S.notes store.new) }
+    ensures fault { FailsAs track.now (S.notes store.new) (S.failed store.old) (S.failed store.new) result }
+    ensures failed { OnOk result (S.failed store.new ≡ S.failed store.old) }
+{
+    fetch(store, Key::Stops)?;
+    fetch(store, Key::Limits)?;
+    let no_stops = Stops::new(alloc);
+    let no_limits = Limits::new(alloc);
+    let (stops, limits) = read::stops_and_limits(store, &no_stops, &no_limits)?;
+    heard_outcome(alloc, track, engine, train, moved, stops, limits)
+}
+
+/// Makes the outcome for a train after its message, behind what it writes where it moves from list to list.
+fn heard_outcome(
+    alloc: Global,
+    track: &Track,
+    engine: u32,
+    train: TrainRec,
+    moved: Writes,
+    stops: &Stops,
+    limits: &Limits,
+) -> Result<Outcome, RuleFault>
+    ensures outcome { IfOk result (λ outcome. outcome
+        ≡ heard_outcome track.now stops.now limits.now engine train moved) }
+    ensures refused { IfOk result (λ outcome. IsSilentIfRefused outcome.result outcome.writes outcome.messages) }
+    ensures fit { IfOk result (λ outcome. AreSendable outcome.messages) }
+    ensures memory { IfErr result (λ fault. fault ≡ OutOfMemory) }
+{
+    let mut train = train;
+    let sent = settle(alloc, track, stops, limits, &mut train)?;
+    let mut writes = moved;
+    writes.set(Key::Train(engine), Some(Rec::Train(train)))?;
+    Ok(Outcome::done(writes, SentList::from_vec(sent)))
+}

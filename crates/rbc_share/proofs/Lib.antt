@@ -1,4 +1,0 @@
-pub mod Hearings
-pub mod Taking
-pub mod Pushed
-pub mod ChangedLists

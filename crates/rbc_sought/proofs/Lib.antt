@@ -1,4 +1,0 @@
-pub mod Bits
-pub mod Reached
-pub mod Meeting
-pub mod Asked

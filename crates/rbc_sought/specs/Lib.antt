@@ -1,9 +1,0 @@
-pub mod Tolds
-pub mod Extents
-pub mod Seeking
-pub use Rattle.rbc_train.specs.Concerns
-pub use Rattle.rbc_train.specs.Numbers
-pub use Rattle.rbc_train.specs.Placing
-pub use Rattle.rbc_train.specs.Segment
-pub use Rattle.rbc_train.specs.Table
-pub use Rattle.rbc_train.specs.declared.train.TrainRec

@@ -1,4 +1,0 @@
-pub mod NumberLists
-pub mod NumberCopies
-pub mod Merging
-pub mod ToTell

@@ -1,0 +1,11 @@
+use Rattle.rbc_settle.specs.Numbers.{with_number}
+use Rattle.rbc_records.specs.Notes.{record_in}
+use Rattle.rbc_window.proofs.ChangedLists.{changed_there}
+use Rattle.rbc_window.proofs.lists.Lists.put_in.Goals as goal
+
+pub returns : goal.returns
+returns c =
+    changed_there c.args.self.now c.own.new.self c.self.inside.all.items (record_in c.args.store.now)
+    c.args.key c.in_ok-index.index c.index_mut.result.now (with_number c.args.engine) c.add.new.self c.self.view_is
+    c.in_ok-index.ensures.same c.in_ok-index.ensures.first c.in_ok-index.ensures.within
+    c.index_mut.ensures.value c.in_ok-add.ensures.ok
