@@ -241,61 +241,50 @@ module _ {V : Type 0} where
       by true e = one_or_more old.last (some_above number 1 old.last old.active numbered.ascending numbered.within e)
       by false e = tt
 
--- ---- the four inputs, by what was read
+-- ---- the four inputs
 
--- what was read is the world's
-read_effect : {A : Type 0} (f : A → Result A ℕ) (old now : A) (result : Result A ℕ) → old ≡ now → result ≡ f old → f now ≡ result
-read_effect f old now result old_is is = sym (is ∙ ap f old_is)
-
-module _ (plan : Plan) (w : World) (number : ℕ) (old : Stops) (old_is : old ≡ w.stops) where
+module _ (plan : Plan) (w : World) (number : ℕ) where
   module _ (segments : List Segment) where
-    pub stop_refused : (code : ℕ) → Err code ≡ stops_after plan number segments old → effect plan (Stop number segments) w ≡ Err code
-    stop_refused code is = ap (then_do (λ stops. record w { stops = stops })) (read_effect (stops_after plan number segments) old w.stops (Err code) old_is is)
+    pub stop_refused : (code : ℕ) → Err code ≡ stops_after plan number segments w.stops → effect plan (Stop number segments) w ≡ Err code
+    stop_refused code is = ap (then_do (λ stops. record w { stops = stops })) (sym is)
 
-    pub stop_right : (new : Stops) (outcome : Outcome) → Ok new ≡ stops_after plan number segments old → outcome ≡ settled_outcome plan new w.limits None w.trains key.Stops (rec.Stops new) → IsWellFormed plan w
+    pub stop_right : (new : Stops) (outcome : Outcome) → Ok new ≡ stops_after plan number segments w.stops → outcome ≡ settled_outcome plan new w.limits None w.trains key.Stops (rec.Stops new) → IsWellFormed plan w
         → IsStep plan (Stop number segments) w outcome.result outcome.writes outcome.messages
     stop_right new outcome new_is is well =
-        let now = read_effect (stops_after plan number segments) old w.stops (Ok new) old_is new_is in
         stops_step plan (Stop number segments) w None well outcome new is
-        (ap (then_do (λ stops. record w { stops = stops })) now ∙ ap (λ trains. Ok (record w { stops = new; trains = trains })) (none_forgotten w.trains))
-        (adding_above max_stops _ number segments w.stops new now)
+        (ap (then_do (λ stops. record w { stops = stops })) (sym new_is) ∙ ap (λ trains. Ok (record w { stops = new; trains = trains })) (none_forgotten w.trains))
+        (adding_above max_stops _ number segments w.stops new (sym new_is))
 
-  pub release_refused : (code : ℕ) → Err code ≡ after_removing number old → effect plan (Release number) w ≡ Err code
-  release_refused code is =
-      ap (then_do (λ stops. record w { stops = stops; trains = forget_all number w.trains })) (read_effect (after_removing number) old w.stops (Err code) old_is is)
+  pub release_refused : (code : ℕ) → Err code ≡ after_removing number w.stops → effect plan (Release number) w ≡ Err code
+  release_refused code is = ap (then_do (λ stops. record w { stops = stops; trains = forget_all number w.trains })) (sym is)
 
-  pub release_right : (new : Stops) (outcome : Outcome) → Ok new ≡ after_removing number old → outcome ≡ settled_outcome plan new w.limits (Some number) w.trains key.Stops (rec.Stops new) → IsWellFormed plan w
+  pub release_right : (new : Stops) (outcome : Outcome) → Ok new ≡ after_removing number w.stops → outcome ≡ settled_outcome plan new w.limits (Some number) w.trains key.Stops (rec.Stops new) → IsWellFormed plan w
       → IsStep plan (Release number) w outcome.result outcome.writes outcome.messages
   release_right new outcome new_is is well =
-      let now = read_effect (after_removing number) old w.stops (Ok new) old_is new_is in
       stops_step plan (Release number) w (Some number) well outcome new is
-      (ap (then_do (λ stops. record w { stops = stops; trains = forget_all number w.trains })) now)
-      (removing_above number w.stops new well.stops.numbered now)
+      (ap (then_do (λ stops. record w { stops = stops; trains = forget_all number w.trains })) (sym new_is))
+      (removing_above number w.stops new well.stops.numbered (sym new_is))
 
-module _ (plan : Plan) (w : World) (number : ℕ) (old : Limits) (old_is : old ≡ w.limits) where
   module _ (segment : Segment) (dirs : Dirs) (speed : ℕ) (front : Bool) where
-    pub restrict_refused : (code : ℕ) → Err code ≡ limits_after plan number segment dirs speed front old → effect plan (Restrict number segment dirs speed front) w ≡ Err code
-    restrict_refused code is =
-        ap (then_do (λ limits. record w { limits = limits })) (read_effect (limits_after plan number segment dirs speed front) old w.limits (Err code) old_is is)
+    pub restrict_refused : (code : ℕ) → Err code ≡ limits_after plan number segment dirs speed front w.limits → effect plan (Restrict number segment dirs speed front) w ≡ Err code
+    restrict_refused code is = ap (then_do (λ limits. record w { limits = limits })) (sym is)
 
-    pub restrict_right : (new : Limits) (outcome : Outcome) → Ok new ≡ limits_after plan number segment dirs speed front old → outcome ≡ settled_outcome plan w.stops new None w.trains key.Limits (rec.Limits new) → IsWellFormed plan w
+    pub restrict_right : (new : Limits) (outcome : Outcome) → Ok new ≡ limits_after plan number segment dirs speed front w.limits → outcome ≡ settled_outcome plan w.stops new None w.trains key.Limits (rec.Limits new) → IsWellFormed plan w
         → IsStep plan (Restrict number segment dirs speed front) w outcome.result outcome.writes outcome.messages
     restrict_right new outcome new_is is well =
-        let now = read_effect (limits_after plan number segment dirs speed front) old w.limits (Ok new) old_is new_is in
         limits_step plan (Restrict number segment dirs speed front) w None well outcome new is
-        (ap (then_do (λ limits. record w { limits = limits })) now ∙ ap (λ trains. Ok (record w { limits = new; trains = trains })) (none_forgotten w.trains))
-        (adding_above max_limits _ number _ w.limits new now)
+        (ap (then_do (λ limits. record w { limits = limits })) (sym new_is) ∙ ap (λ trains. Ok (record w { limits = new; trains = trains })) (none_forgotten w.trains))
+        (adding_above max_limits _ number _ w.limits new (sym new_is))
 
-  pub lift_refused : (code : ℕ) → Err code ≡ after_removing number old → effect plan (Lift number) w ≡ Err code
-  lift_refused code is = ap (then_do (λ limits. record w { limits = limits })) (read_effect (after_removing number) old w.limits (Err code) old_is is)
+  pub lift_refused : (code : ℕ) → Err code ≡ after_removing number w.limits → effect plan (Lift number) w ≡ Err code
+  lift_refused code is = ap (then_do (λ limits. record w { limits = limits })) (sym is)
 
-  pub lift_right : (new : Limits) (outcome : Outcome) → Ok new ≡ after_removing number old → outcome ≡ settled_outcome plan w.stops new None w.trains key.Limits (rec.Limits new) → IsWellFormed plan w
+  pub lift_right : (new : Limits) (outcome : Outcome) → Ok new ≡ after_removing number w.limits → outcome ≡ settled_outcome plan w.stops new None w.trains key.Limits (rec.Limits new) → IsWellFormed plan w
       → IsStep plan (Lift number) w outcome.result outcome.writes outcome.messages
   lift_right new outcome new_is is well =
-      let now = read_effect (after_removing number) old w.limits (Ok new) old_is new_is in
       limits_step plan (Lift number) w None well outcome new is
-      (ap (then_do (λ limits. record w { limits = limits })) now ∙ ap (λ trains. Ok (record w { limits = new; trains = trains })) (none_forgotten w.trains))
-      (removing_above number w.limits new well.limits.numbered now)
+      (ap (then_do (λ limits. record w { limits = limits })) (sym new_is) ∙ ap (λ trains. Ok (record w { limits = new; trains = trains })) (none_forgotten w.trains))
+      (removing_above number w.limits new well.limits.numbered (sym new_is))
 
 -- ---- what was gathered, by engines
 

@@ -1,15 +1,14 @@
 -- What stays known while records are read.
-use Rattle.std.proofs.Common.{◌≡◌, ℕ, ◌<◌, ◌+◌, List, length, take, get_or, IsTrue, sym, subst, ◌∙◌}
+use Rattle.std.proofs.Common.{◌≡◌, ℕ, ◌<◌, ◌+◌, List, length, take, get_or, IsTrue, refl, sym, subst, ◌∙◌}
 use Rattle.std.specs.List.{All}
 use Rattle.std.proofs.lemmas.List.{take_more}
 use Rattle.std.proofs.lemmas.List.Elements.{All-push, All-weaker}
-use Rattle.rbc_track.specs.Plan.{Plan}
 use Rattle.rbc_records.specs.declared.record.Key.TheVariants as key
 use Rattle.rbc_records.specs.Notes.{Notes, Extends, Learns, knows}
-use Rattle.rbc_rule.specs.declared.outcome.RuleFault.{RuleFault}
-use Rattle.rbc_rule.specs.declared.outcome.RuleFault.TheVariants as fault
-use Rattle.rbc_rule.specs.Right.{IsFault}
-use Rattle.rbc_rule.specs.Faults.{IsFaultOf}
+
+-- where nothing is read, all stays known
+pub extends_same : {notes : Notes} → Extends notes notes
+extends_same = record { stays_known = λ k known. known; stays_noted = λ k known. refl }
 
 -- what stays known twice stays known
 pub extends_on : {old middle new : Notes} → Extends old middle → Extends middle new → Extends old new
@@ -26,9 +25,3 @@ one_more_known old new engines i d within known learns =
     All-weaker (λ engine. IsTrue (knows old (key.Train engine))) (λ engine. IsTrue (knows new (key.Train engine))) (λ engine k. learns.extends.stays_known (key.Train engine) k) (take i engines) known in
     subst (All (λ engine. IsTrue (knows new (key.Train engine)))) (sym (take_more engines i d within))
     (All-push (λ engine. IsTrue (knows new (key.Train engine))) (take i engines) (get_or engines i d) now learns.known)
-
--- a fault where nothing more was read
-pub fault_of : (plan : Plan) (it : RuleFault) (notes : Notes) (old new : ℕ) → IsFaultOf plan it notes → new ≡ old → IsFault plan it notes old new
-fault_of plan fault.OutOfMemory notes old new h same = same
-fault_of plan fault.Torn notes old new h same = (same, h)
-fault_of plan fault.Reader notes old new h same = absurd h

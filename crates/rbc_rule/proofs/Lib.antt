@@ -4,6 +4,7 @@ pub mod AllTrains
 pub mod Begun
 pub mod Changes
 pub mod Concerned
+pub mod Deciding
 pub mod Differs
 pub mod EachChanges
 pub mod Elsewhere

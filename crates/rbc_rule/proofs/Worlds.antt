@@ -48,15 +48,15 @@ refusal_is given why refusal is reason = subst (IsReason given) is reason
 -- ---- faults
 
 -- a fault of what was read, where no read has failed since
-fault_stays : (plan : Plan) (fault : RuleFault) (notes : Notes) (old new : ℕ) → IsFaultOf plan fault notes → new ≡ old → IsFault plan fault notes old new
-fault_stays plan OutOfMemory notes old new h e = e
-fault_stays plan Torn notes old new h e = (e, h)
-fault_stays plan Reader notes old new h e = absurd h
+pub fault_of : (plan : Plan) (fault : RuleFault) (notes : Notes) (old new : ℕ) → IsFaultOf plan fault notes → new ≡ old → IsFault plan fault notes old new
+fault_of plan OutOfMemory notes old new h e = e
+fault_of plan Torn notes old new h e = (e, h)
+fault_of plan Reader notes old new h e = absurd h
 
 pub fault_handed_on : {T : Type 0} (plan : Plan) (notes : Notes) (old new : ℕ) (result : Result T RuleFault) (fault : RuleFault) → IsErrAnd result (λ other. other ≡ fault)
     → IsFaultOf plan fault notes → new ≡ old → IfErr result (λ other. IsFault plan other notes old new)
 fault_handed_on plan notes old new (Ok value) fault is h e = tt
-fault_handed_on plan notes old new (Err other) fault is h e = subst (λ f. IsFault plan f notes old new) (sym is) (fault_stays plan fault notes old new h e)
+fault_handed_on plan notes old new (Err other) fault is h e = subst (λ f. IsFault plan f notes old new) (sym is) (fault_of plan fault notes old new h e)
 
 -- a lack of memory, where no read has failed since
 pub out_of_memory : (plan : Plan) (fault : RuleFault) (notes : Notes) (old new : ℕ) → fault ≡ OutOfMemory → new ≡ old → IsFault plan fault notes old new

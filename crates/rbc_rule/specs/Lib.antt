@@ -11,6 +11,7 @@ pub mod Right
 pub mod Faults
 pub mod Touching
 pub mod Gathered
+pub mod Deciding
 pub mod Saying
 pub mod SaidFor
 pub mod Told

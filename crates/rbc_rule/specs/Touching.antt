@@ -9,6 +9,7 @@ use Rattle.rbc_zones.specs.declared.segment.Segment.{Segment}
 use Rattle.rbc_zones.specs.Limits.{Limit}
 use Rattle.rbc_settle.specs.declared.train.TrainRec.{TrainRec}
 use Rattle.rbc_settle.specs.Numbers.{has_number}
+use Rattle.rbc_settle.specs.Trains.{stop_identifiers, limit_identifiers}
 use Rattle.rbc_settle.specs.Settling.{Stops, Limits, concern_to, limit_told_to}
 use Rattle.rbc_records.specs.SoughtTrains.{is_concern}
 use Rattle.rbc_rule.specs.declared.restriction.Restriction.{Restriction}
@@ -19,11 +20,11 @@ use Rattle.rbc_rule.specs.Effect.{with_next, with_less}
 
 -- a stop that begins concerns a train that has a free identifier
 abbrev pub is_stop_for : TrainRec → ℕ × List Segment → Bool
-is_stop_for train stop = nat_lt (length train.stops) 15 && is_concern (concern_to train stop)
+is_stop_for train stop = nat_lt (length train.stops) stop_identifiers && is_concern (concern_to train stop)
 
 -- a restriction that begins concerns a train that has a free identifier
 abbrev pub is_limit_for : ℕ → TrainRec → Limit → Bool
-is_limit_for horizon train limit = nat_lt (length train.limits) 255 && is_some (limit_told_to horizon train.place limit)
+is_limit_for horizon train limit = nat_lt (length train.limits) limit_identifiers && is_some (limit_told_to horizon train.place limit)
 
 -- a train has been told of a stop, or stops at once for it
 abbrev pub has_stop : TrainRec → ℕ → Bool

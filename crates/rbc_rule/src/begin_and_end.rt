@@ -1,20 +1,19 @@
 //! Settles the trains that a stop or a restriction touches which begins or ends.
 
-ghost use Rattle.std.specs.Prelude.{◌≡◌, ◌+◌, ◌*◌, ◌≤◌, ◌<◌, ◌^◌, IsTrue, IfOk, IfErr, OnOk, length, Some, None};
+ghost use Rattle.std.specs.Prelude.{◌≡◌, ◌+◌, ◌*◌, ◌≤◌, ◌<◌, ◌^◌, IsTrue, length, Some, None};
 ghost use Rattle.rbc_zones.specs.Segments.{is_good_area};
 ghost use Rattle.rbc_zones.specs.Limits.{is_good_limit};
 ghost use Rattle.rbc_records.specs.declared.record.Key.TheVariants as key;
 ghost use Rattle.rbc_records.specs.declared.record.Rec.TheVariants as rec;
-ghost use Rattle.rbc_records.specs.Notes.{Extends, knows};
+ghost use Rattle.rbc_records.specs.Notes.{knows};
 ghost use Rattle.rbc_rule.specs.Bounds.{max_trains};
 ghost use Rattle.rbc_rule.specs.World.{World};
 ghost use Rattle.rbc_rule.specs.Effect.{with_less};
-ghost use Rattle.rbc_rule.specs.Right.{MayBe, IsSilentIfRefused, FailsAs};
-ghost use Rattle.rbc_rule.specs.Faults.{IsFaultOf};
+ghost use Rattle.rbc_rule.specs.Right.{MayBe};
 ghost use Rattle.rbc_rule.specs.Touching.{BeginsOrEnds, HasBegun, limit_of, released_from};
 ghost use Rattle.rbc_rule.specs.Lists.{AreTrainsKnown};
-ghost use Rattle.rbc_settle.specs.Settling.{most_messages};
-ghost use Rattle.rbc_rule.specs.Gathered.{AreSendable, IsEnough, writes_of, all_sent, settled_outcome};
+ghost use Rattle.rbc_rule.specs.Gathered.{IsEnough, settled_outcome};
+ghost use Rattle.rbc_rule.specs.Deciding.{GivesOutcome, MakesOutcome};
 
 use crate::fetch::{fetch, fetch_concerned, fetch_list, fetch_told};
 use crate::input::Segments;
@@ -22,8 +21,8 @@ use crate::lists::line_of;
 use crate::outcome::{Outcome, RuleFault};
 use crate::read;
 use crate::restriction::Restriction;
-use crate::settling::{Gathered, settle_trains};
 use crate::touch::Change;
+use crate::touched_trains::settle_trains;
 use rbc_records::{Key, Reader, Rec, Sought};
 use rbc_settle::Numbers;
 use rbc_track::Track;
@@ -42,13 +41,8 @@ pub(crate) fn stop_begun<S: Reader>(
     requires room { S.failed store.old + 1 < 2 ^ 64 }
     requires good { IsTrue (is_good_area track.now segments.now) }
     requires begun { (w : World) → MayBe track.now (S.notes store.old) w → HasBegun number segments.now w.stops stops }
-    ensures outcome { IfOk result (λ outcome. (w : World) → MayBe track.now (S.notes store.new) w
-        → outcome ≡ settled_outcome track.now stops w.limits None w.trains key.Stops (rec.Stops stops)) }
-    ensures refused { IfOk result (λ outcome. IsSilentIfRefused outcome.result outcome.writes outcome.messages) }
-    ensures fit { IfOk result (λ outcome. AreSendable outcome.messages) }
-    ensures extends { Extends (S.notes store.old) (S.notes store.new) }
-    ensures fault { FailsAs track.now (S.notes store.new) (S.failed store.old) (S.failed store.new) result }
-    ensures failed { OnOk result (S.failed store.new ≡ S.failed store.old) }
+    ensures { GivesOutcome track.now (S.notes store.old) (S.notes store.new) (S.failed store.old) (S.failed store.new)
+        (λ w. settled_outcome track.now stops w.limits None w.trains key.Stops (rec.Stops stops)) result }
 {
     fetch(store, Key::Limits)?;
     let engines = fetch_concerned(alloc, track, number, segments, &stops, store)?;
@@ -65,48 +59,16 @@ pub(crate) fn stop_ended<S: Reader>(
 ) -> Result<Outcome, RuleFault>
     requires room { S.failed store.old + 1 < 2 ^ 64 }
     requires ended { (w : World) → MayBe track.now (S.notes store.old) w → stops ≡ with_less number w.stops }
-    ensures outcome { IfOk result (λ outcome. (w : World) → MayBe track.now (S.notes store.new) w
-        → outcome ≡ settled_outcome track.now stops w.limits (Some number) w.trains key.Stops (rec.Stops stops)) }
-    ensures refused { IfOk result (λ outcome. IsSilentIfRefused outcome.result outcome.writes outcome.messages) }
-    ensures fit { IfOk result (λ outcome. AreSendable outcome.messages) }
-    ensures extends { Extends (S.notes store.old) (S.notes store.new) }
-    ensures fault { FailsAs track.now (S.notes store.new) (S.failed store.old) (S.failed store.new) result }
-    ensures failed { OnOk result (S.failed store.new ≡ S.failed store.old) }
+    ensures { GivesOutcome track.now (S.notes store.old) (S.notes store.new) (S.failed store.old) (S.failed store.new)
+        (λ w. settled_outcome track.now stops w.limits (Some number) w.trains key.Stops (rec.Stops stops)) result }
 {
     fetch(store, Key::Limits)?;
     let engines = fetch_told(alloc, Sought::ToldOfStop(number), store)?;
     settled_with_stops(alloc, track, number, stops, &engines, store)
 }
 
-/// Settles the trains of these engines after a stop has begun or ended, by the records that were read.
-fn gather_with_stops<S: Reader>(
-    alloc: Global,
-    track: &Track,
-    number: u32,
-    stops: &Stops,
-    engines: &Numbers,
-    store: &S,
-) -> Result<Gathered, RuleFault>
-    requires limits { IsTrue (knows (S.notes store.now) key.Limits) }
-    requires trains { AreTrainsKnown (S.notes store.now) engines.now }
-    requires changed { (w : World) → MayBe track.now (S.notes store.now) w → BeginsOrEnds number w.stops stops.now }
-    requires enough { (w : World) → MayBe track.now (S.notes store.now) w
-        → IsEnough track.now stops.now w.limits (released_from number stops.now) w.trains engines.now }
-    ensures writes { IfOk result (λ gathered. (w : World) → MayBe track.now (S.notes store.now) w
-        → gathered.writes ≡ writes_of track.now stops.now w.limits (released_from number stops.now) w.trains) }
-    ensures messages { IfOk result (λ gathered. (w : World) → MayBe track.now (S.notes store.now) w
-        → gathered.messages ≡ all_sent track.now stops.now w.limits (released_from number stops.now) w.trains) }
-    ensures few { IfOk result (λ gathered. length gathered.messages ≤ length engines.now * most_messages) }
-    ensures fit { IfOk result (λ gathered. AreSendable gathered.messages) }
-    ensures fault { IfErr result (λ fault. IsFaultOf track.now fault (S.notes store.now)) }
-{
-    let none = Limits::new(alloc);
-    let limits = read::limits(store)?.unwrap_or(&none);
-    let change = Change::Stop(number, stops.get(number));
-    settle_trains(alloc, track, store, engines, stops, limits, change)
-}
-
-/// Does the same, and returns the outcome, which writes the stops too.
+/// Settles the trains of these engines after a stop has begun or ended, by the records that were read, and writes the
+/// stops too.
 fn settled_with_stops<S: Reader>(
     alloc: Global,
     track: &Track,
@@ -121,14 +83,14 @@ fn settled_with_stops<S: Reader>(
     requires changed { (w : World) → MayBe track.now (S.notes store.now) w → BeginsOrEnds number w.stops stops }
     requires enough { (w : World) → MayBe track.now (S.notes store.now) w
         → IsEnough track.now stops w.limits (released_from number stops) w.trains engines.now }
-    ensures outcome { IfOk result (λ outcome. (w : World) → MayBe track.now (S.notes store.now) w
-        → outcome ≡ settled_outcome track.now stops w.limits (released_from number stops) w.trains key.Stops
-        (rec.Stops stops)) }
-    ensures refused { IfOk result (λ outcome. IsSilentIfRefused outcome.result outcome.writes outcome.messages) }
-    ensures fit { IfOk result (λ outcome. AreSendable outcome.messages) }
-    ensures fault { IfErr result (λ fault. IsFaultOf track.now fault (S.notes store.now)) }
+    ensures { MakesOutcome track.now (S.notes store.now)
+        (λ w. settled_outcome track.now stops w.limits (released_from number stops) w.trains key.Stops
+        (rec.Stops stops)) result }
 {
-    let mut gathered = gather_with_stops(alloc, track, number, &stops, engines, store)?;
+    let none = Limits::new(alloc);
+    let limits = read::limits(store, &none)?;
+    let change = Change::Stop(number, stops.get(number));
+    let mut gathered = settle_trains(alloc, track, store, engines, &stops, limits, change)?;
     gathered.writes.set(Key::Stops, Some(Rec::Stops(stops)))?;
     Ok(Outcome::done(gathered.writes, gathered.messages))
 }
@@ -146,13 +108,8 @@ pub(crate) fn limit_begun<S: Reader>(
     requires good { IsTrue (is_good_limit track.now new.now.segment new.now.speed) }
     requires begun { (w : World) → MayBe track.now (S.notes store.old) w
         → HasBegun new.now.number (limit_of new.now) w.limits limits }
-    ensures outcome { IfOk result (λ outcome. (w : World) → MayBe track.now (S.notes store.new) w
-        → outcome ≡ settled_outcome track.now w.stops limits None w.trains key.Limits (rec.Limits limits)) }
-    ensures refused { IfOk result (λ outcome. IsSilentIfRefused outcome.result outcome.writes outcome.messages) }
-    ensures fit { IfOk result (λ outcome. AreSendable outcome.messages) }
-    ensures extends { Extends (S.notes store.old) (S.notes store.new) }
-    ensures fault { FailsAs track.now (S.notes store.new) (S.failed store.old) (S.failed store.new) result }
-    ensures failed { OnOk result (S.failed store.new ≡ S.failed store.old) }
+    ensures { GivesOutcome track.now (S.notes store.old) (S.notes store.new) (S.failed store.old) (S.failed store.new)
+        (λ w. settled_outcome track.now w.stops limits None w.trains key.Limits (rec.Limits limits)) result }
 {
     fetch(store, Key::Stops)?;
     let engines = fetch_list(alloc, line_of(track, &new.segment), store)?;
@@ -169,48 +126,16 @@ pub(crate) fn limit_ended<S: Reader>(
 ) -> Result<Outcome, RuleFault>
     requires room { S.failed store.old + 1 < 2 ^ 64 }
     requires ended { (w : World) → MayBe track.now (S.notes store.old) w → limits ≡ with_less number w.limits }
-    ensures outcome { IfOk result (λ outcome. (w : World) → MayBe track.now (S.notes store.new) w
-        → outcome ≡ settled_outcome track.now w.stops limits None w.trains key.Limits (rec.Limits limits)) }
-    ensures refused { IfOk result (λ outcome. IsSilentIfRefused outcome.result outcome.writes outcome.messages) }
-    ensures fit { IfOk result (λ outcome. AreSendable outcome.messages) }
-    ensures extends { Extends (S.notes store.old) (S.notes store.new) }
-    ensures fault { FailsAs track.now (S.notes store.new) (S.failed store.old) (S.failed store.new) result }
-    ensures failed { OnOk result (S.failed store.new ≡ S.failed store.old) }
+    ensures { GivesOutcome track.now (S.notes store.old) (S.notes store.new) (S.failed store.old) (S.failed store.new)
+        (λ w. settled_outcome track.now w.stops limits None w.trains key.Limits (rec.Limits limits)) result }
 {
     fetch(store, Key::Stops)?;
     let engines = fetch_told(alloc, Sought::ToldOfLimit(number), store)?;
     settled_with_limits(alloc, track, number, limits, &engines, store)
 }
 
-/// Settles the trains of these engines after a restriction has begun or ended, by the records that were read.
-fn gather_with_limits<S: Reader>(
-    alloc: Global,
-    track: &Track,
-    number: u32,
-    limits: &Limits,
-    engines: &Numbers,
-    store: &S,
-) -> Result<Gathered, RuleFault>
-    requires stops { IsTrue (knows (S.notes store.now) key.Stops) }
-    requires trains { AreTrainsKnown (S.notes store.now) engines.now }
-    requires changed { (w : World) → MayBe track.now (S.notes store.now) w → BeginsOrEnds number w.limits limits.now }
-    requires enough { (w : World) → MayBe track.now (S.notes store.now) w
-        → IsEnough track.now w.stops limits.now None w.trains engines.now }
-    ensures writes { IfOk result (λ gathered. (w : World) → MayBe track.now (S.notes store.now) w
-        → gathered.writes ≡ writes_of track.now w.stops limits.now None w.trains) }
-    ensures messages { IfOk result (λ gathered. (w : World) → MayBe track.now (S.notes store.now) w
-        → gathered.messages ≡ all_sent track.now w.stops limits.now None w.trains) }
-    ensures few { IfOk result (λ gathered. length gathered.messages ≤ length engines.now * most_messages) }
-    ensures fit { IfOk result (λ gathered. AreSendable gathered.messages) }
-    ensures fault { IfErr result (λ fault. IsFaultOf track.now fault (S.notes store.now)) }
-{
-    let none = Stops::new(alloc);
-    let stops = read::stops(store)?.unwrap_or(&none);
-    let change = Change::Limit(number, limits.get(number));
-    settle_trains(alloc, track, store, engines, stops, limits, change)
-}
-
-/// Does the same, and returns the outcome, which writes the restrictions too.
+/// Settles the trains of these engines after a restriction has begun or ended, by the records that were read, and
+/// writes the restrictions too.
 fn settled_with_limits<S: Reader>(
     alloc: Global,
     track: &Track,
@@ -225,13 +150,13 @@ fn settled_with_limits<S: Reader>(
     requires changed { (w : World) → MayBe track.now (S.notes store.now) w → BeginsOrEnds number w.limits limits }
     requires enough { (w : World) → MayBe track.now (S.notes store.now) w
         → IsEnough track.now w.stops limits None w.trains engines.now }
-    ensures outcome { IfOk result (λ outcome. (w : World) → MayBe track.now (S.notes store.now) w
-        → outcome ≡ settled_outcome track.now w.stops limits None w.trains key.Limits (rec.Limits limits)) }
-    ensures refused { IfOk result (λ outcome. IsSilentIfRefused outcome.result outcome.writes outcome.messages) }
-    ensures fit { IfOk result (λ outcome. AreSendable outcome.messages) }
-    ensures fault { IfErr result (λ fault. IsFaultOf track.now fault (S.notes store.now)) }
+    ensures { MakesOutcome track.now (S.notes store.now)
+        (λ w. settled_outcome track.now w.stops limits None w.trains key.Limits (rec.Limits limits)) result }
 {
-    let mut gathered = gather_with_limits(alloc, track, number, &limits, engines, store)?;
+    let none = Stops::new(alloc);
+    let stops = read::stops(store, &none)?;
+    let change = Change::Limit(number, limits.get(number));
+    let mut gathered = settle_trains(alloc, track, store, engines, stops, &limits, change)?;
     gathered.writes.set(Key::Limits, Some(Rec::Limits(limits)))?;
     Ok(Outcome::done(gathered.writes, gathered.messages))
 }

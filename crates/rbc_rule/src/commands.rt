@@ -1,9 +1,7 @@
 //! The signaller's commands.
 
-ghost use Rattle.std.specs.Prelude.{◌≡◌, ◌+◌, ◌≤◌, ◌<◌, ◌^◌, IfOk, OnOk, length};
-ghost use Rattle.rbc_records.specs.Notes.{Extends};
-ghost use Rattle.rbc_rule.specs.Right.{EachWriteChanges, IsRight, IsSilentIfRefused, FailsAs};
-ghost use Rattle.rbc_rule.specs.Gathered.{AreSendable};
+ghost use Rattle.std.specs.Prelude.{◌+◌, ◌≤◌, ◌<◌, ◌^◌, length};
+ghost use Rattle.rbc_rule.specs.Deciding.{IsDecided};
 
 use crate::begin_and_end::{limit_begun, limit_ended, stop_begun, stop_ended};
 use crate::fetch::fetch;
@@ -11,7 +9,7 @@ use crate::input::{Input, Segments};
 use crate::outcome::{Outcome, RuleFault};
 use crate::refuse::NotChanged;
 use crate::restriction::Restriction;
-use crate::{change, read};
+use crate::{active_lists, read};
 use rbc_records::{Key, Reader};
 use rbc_track::Track;
 use rbc_zones::{Limits, Stops};
@@ -27,20 +25,13 @@ pub fn stop<S: Reader>(
 ) -> Result<Outcome, RuleFault>
     requires room { S.failed store.old + 1 < 2 ^ 64 }
     requires some { 1 ≤ length segments.now }
-    ensures right { IfOk result (λ outcome. IsRight track.now (Input.Stop number segments.now)
-        (S.notes store.new) outcome.result outcome.writes outcome.messages) }
-    ensures changes { IfOk result (λ outcome. EachWriteChanges track.now (Input.Stop number segments.now)
-        (S.notes store.new) outcome.writes) }
-    ensures refused { IfOk result (λ outcome. IsSilentIfRefused outcome.result outcome.writes outcome.messages) }
-    ensures fit { IfOk result (λ outcome. AreSendable outcome.messages) }
-    ensures extends { Extends (S.notes store.old) (S.notes store.new) }
-    ensures fault { FailsAs track.now (S.notes store.new) (S.failed store.old) (S.failed store.new) result }
-    ensures failed { OnOk result (S.failed store.new ≡ S.failed store.old) }
+    ensures { IsDecided track.now (Input.Stop number segments.now) (S.notes store.old) (S.notes store.new)
+        (S.failed store.old) (S.failed store.new) result }
 {
     fetch(store, Key::Stops)?;
     let none = Stops::new(alloc);
-    let stops = read::stops(store)?.unwrap_or(&none);
-    match change::stops_after(alloc, track, number, segments, stops) {
+    let stops = read::stops(store, &none)?;
+    match active_lists::stops_after(alloc, track, number, segments, stops) {
         Ok(stops) => stop_begun(alloc, track, number, segments, stops, store),
         Err(NotChanged::Refused(refusal)) => Ok(Outcome::refused(alloc, refusal)),
         Err(NotChanged::OutOfMemory) => Err(RuleFault::OutOfMemory),
@@ -55,20 +46,13 @@ pub fn release<S: Reader>(
     store: &mut S,
 ) -> Result<Outcome, RuleFault>
     requires { S.failed store.old + 1 < 2 ^ 64 }
-    ensures right { IfOk result (λ outcome. IsRight track.now (Input.Release number)
-        (S.notes store.new) outcome.result outcome.writes outcome.messages) }
-    ensures changes { IfOk result (λ outcome. EachWriteChanges track.now (Input.Release number)
-        (S.notes store.new) outcome.writes) }
-    ensures refused { IfOk result (λ outcome. IsSilentIfRefused outcome.result outcome.writes outcome.messages) }
-    ensures fit { IfOk result (λ outcome. AreSendable outcome.messages) }
-    ensures extends { Extends (S.notes store.old) (S.notes store.new) }
-    ensures fault { FailsAs track.now (S.notes store.new) (S.failed store.old) (S.failed store.new) result }
-    ensures failed { OnOk result (S.failed store.new ≡ S.failed store.old) }
+    ensures { IsDecided track.now (Input.Release number) (S.notes store.old) (S.notes store.new)
+        (S.failed store.old) (S.failed store.new) result }
 {
     fetch(store, Key::Stops)?;
     let none = Stops::new(alloc);
-    let stops = read::stops(store)?.unwrap_or(&none);
-    match change::stops_without(alloc, number, stops) {
+    let stops = read::stops(store, &none)?;
+    match active_lists::without(alloc, number, stops) {
         Ok(stops) => stop_ended(alloc, track, number, stops, store),
         Err(NotChanged::Refused(refusal)) => Ok(Outcome::refused(alloc, refusal)),
         Err(NotChanged::OutOfMemory) => Err(RuleFault::OutOfMemory),
@@ -83,22 +67,14 @@ pub fn restrict<S: Reader>(
     store: &mut S,
 ) -> Result<Outcome, RuleFault>
     requires { S.failed store.old + 1 < 2 ^ 64 }
-    ensures right { IfOk result (λ outcome. IsRight track.now
+    ensures { IsDecided track.now
         (Input.Restrict new.now.number new.now.segment new.now.dirs new.now.speed new.now.front)
-        (S.notes store.new) outcome.result outcome.writes outcome.messages) }
-    ensures changes { IfOk result (λ outcome. EachWriteChanges track.now
-        (Input.Restrict new.now.number new.now.segment new.now.dirs new.now.speed new.now.front)
-        (S.notes store.new) outcome.writes) }
-    ensures refused { IfOk result (λ outcome. IsSilentIfRefused outcome.result outcome.writes outcome.messages) }
-    ensures fit { IfOk result (λ outcome. AreSendable outcome.messages) }
-    ensures extends { Extends (S.notes store.old) (S.notes store.new) }
-    ensures fault { FailsAs track.now (S.notes store.new) (S.failed store.old) (S.failed store.new) result }
-    ensures failed { OnOk result (S.failed store.new ≡ S.failed store.old) }
+        (S.notes store.old) (S.notes store.new) (S.failed store.old) (S.failed store.new) result }
 {
     fetch(store, Key::Limits)?;
     let none = Limits::new(alloc);
-    let limits = read::limits(store)?.unwrap_or(&none);
-    match change::limits_after(alloc, track, new, limits) {
+    let limits = read::limits(store, &none)?;
+    match active_lists::limits_after(alloc, track, new, limits) {
         Ok(limits) => limit_begun(alloc, track, new, limits, store),
         Err(NotChanged::Refused(refusal)) => Ok(Outcome::refused(alloc, refusal)),
         Err(NotChanged::OutOfMemory) => Err(RuleFault::OutOfMemory),
@@ -113,20 +89,13 @@ pub fn lift<S: Reader>(
     store: &mut S,
 ) -> Result<Outcome, RuleFault>
     requires { S.failed store.old + 1 < 2 ^ 64 }
-    ensures right { IfOk result (λ outcome. IsRight track.now (Input.Lift number)
-        (S.notes store.new) outcome.result outcome.writes outcome.messages) }
-    ensures changes { IfOk result (λ outcome. EachWriteChanges track.now (Input.Lift number)
-        (S.notes store.new) outcome.writes) }
-    ensures refused { IfOk result (λ outcome. IsSilentIfRefused outcome.result outcome.writes outcome.messages) }
-    ensures fit { IfOk result (λ outcome. AreSendable outcome.messages) }
-    ensures extends { Extends (S.notes store.old) (S.notes store.new) }
-    ensures fault { FailsAs track.now (S.notes store.new) (S.failed store.old) (S.failed store.new) result }
-    ensures failed { OnOk result (S.failed store.new ≡ S.failed store.old) }
+    ensures { IsDecided track.now (Input.Lift number) (S.notes store.old) (S.notes store.new)
+        (S.failed store.old) (S.failed store.new) result }
 {
     fetch(store, Key::Limits)?;
     let none = Limits::new(alloc);
-    let limits = read::limits(store)?.unwrap_or(&none);
-    match change::limits_without(alloc, number, limits) {
+    let limits = read::limits(store, &none)?;
+    match active_lists::without(alloc, number, limits) {
         Ok(limits) => limit_ended(alloc, track, number, limits, store),
         Err(NotChanged::Refused(refusal)) => Ok(Outcome::refused(alloc, refusal)),
         Err(NotChanged::OutOfMemory) => Err(RuleFault::OutOfMemory),

@@ -2,18 +2,19 @@
 
 ghost use Rattle.std.specs.Prelude.{◌≡◌, ◌+◌, ◌<◌, ◌^◌, IsTrue, IfOk, IfErr, OnOk, false};
 ghost use Rattle.rbc_records.specs.declared.record.Key.TheVariants as key;
-ghost use Rattle.rbc_records.specs.Notes.{Extends, knows};
+ghost use Rattle.rbc_records.specs.Notes.{knows};
 ghost use Rattle.rbc_settle.specs.Numbers.{has_number};
 ghost use Rattle.rbc_settle.specs.Trains.{new_train};
 ghost use Rattle.rbc_rule.specs.Inputs as inputs;
-ghost use Rattle.rbc_rule.specs.Right.{EachWriteChanges, IsRight, IsSilentIfRefused, FailsAs};
+ghost use Rattle.rbc_rule.specs.Right.{EachWriteChanges, IsRight, IsSilentIfRefused};
 ghost use Rattle.rbc_rule.specs.Faults.{IsFaultOf};
 ghost use Rattle.rbc_rule.specs.Gathered.{AreSendable, enrolled_outcome};
+ghost use Rattle.rbc_rule.specs.Deciding.{IsDecided};
 
 use crate::fetch::fetch;
 use crate::input::Input;
-use crate::limits::MAX_TRAINS;
 use crate::lists::write_with;
+use crate::maxima::MAX_TRAINS;
 use crate::outcome::{Outcome, RuleFault, SentList};
 use crate::read;
 use crate::refuse::Refusal;
@@ -33,15 +34,8 @@ pub fn enrol<S: Reader>(
 ) -> Result<Outcome, RuleFault>
     requires room { S.failed store.old + 1 < 2 ^ 64 }
     requires fits { inputs.Fits (Input.Enrol engine train_length) }
-    ensures right { IfOk result (λ outcome. IsRight track.now (Input.Enrol engine train_length)
-        (S.notes store.new) outcome.result outcome.writes outcome.messages) }
-    ensures changes { IfOk result (λ outcome. EachWriteChanges track.now (Input.Enrol engine train_length)
-        (S.notes store.new) outcome.writes) }
-    ensures refused { IfOk result (λ outcome. IsSilentIfRefused outcome.result outcome.writes outcome.messages) }
-    ensures fit { IfOk result (λ outcome. AreSendable outcome.messages) }
-    ensures extends { Extends (S.notes store.old) (S.notes store.new) }
-    ensures fault { FailsAs track.now (S.notes store.new) (S.failed store.old) (S.failed store.new) result }
-    ensures failed { OnOk result (S.failed store.new ≡ S.failed store.old) }
+    ensures { IsDecided track.now (Input.Enrol engine train_length) (S.notes store.old) (S.notes store.new)
+        (S.failed store.old) (S.failed store.new) result }
 {
     fetch(store, Key::Roster)?;
     fetch(store, Key::Unplaced)?;
@@ -72,14 +66,14 @@ fn enrolled<S: Reader>(
     ensures fault { IfErr result (λ fault. IsFaultOf track.now fault (S.notes store.now)) }
 {
     let nobody = Numbers::new(alloc);
-    let engines = read::engines(store, Key::Roster)?.unwrap_or(&nobody);
+    let engines = read::engines(store, Key::Roster, &nobody)?;
     if engines.has(engine) {
         return Ok(Outcome::refused(alloc, Refusal::AlreadyEnrolled));
     }
     if engines.len() >= MAX_TRAINS {
         return Ok(Outcome::refused(alloc, Refusal::TooManyTrains));
     }
-    let unplaced = read::engines(store, Key::Unplaced)?.unwrap_or(&nobody);
+    let unplaced = read::engines(store, Key::Unplaced, &nobody)?;
     if unplaced.has(engine) {
         return Err(RuleFault::Torn);
     }

@@ -6,18 +6,19 @@ ghost use Rattle.std.specs.List.{All};
 ghost use Rattle.rbc_track.specs.Plan.{Plan};
 ghost use Rattle.rbc_zones.specs.Segments.{is_good_segment, is_good_area};
 ghost use Rattle.rbc_settle.specs.Numbers.{IsUnion, has_number};
-ghost use Rattle.rbc_records.specs.Notes.{Extends, Learns};
+ghost use Rattle.rbc_records.specs.Notes.{Learns};
 ghost use Rattle.rbc_rule.specs.Bounds.{max_trains};
 ghost use Rattle.rbc_rule.specs.World.{World};
-ghost use Rattle.rbc_rule.specs.Right.{MayBe, FailsAs};
+ghost use Rattle.rbc_rule.specs.Right.{MayBe};
 ghost use Rattle.rbc_rule.specs.Faults.{IsFaultOf};
 ghost use Rattle.rbc_rule.specs.Touching.{HasBegun};
 ghost use Rattle.rbc_rule.specs.Gathered.{IsEnough};
+ghost use Rattle.rbc_rule.specs.Deciding.{Reads};
 ghost use Rattle.rbc_rule.specs.Lists.{AreEnginesOf, AreTrainsKnown, HaveSought, engines_at, is_list, may_stop};
 
 use crate::input::Segments;
-use crate::limits::MAX_TRAINS;
 use crate::lists::line_of;
+use crate::maxima::MAX_TRAINS;
 use crate::outcome::RuleFault;
 use crate::read;
 use rbc_records::{Key, ReadFault, Reader, Sought, Writes};
@@ -30,9 +31,7 @@ use std::alloc::Global;
 pub(crate) fn fetch<S: Reader>(store: &mut S, key: Key) -> Result<(), RuleFault>
     requires { S.failed store.old + 1 < 2 ^ 64 }
     ensures learns { OnOk result (Learns (S.notes store.old) key (S.notes store.new)) }
-    ensures extends { Extends (S.notes store.old) (S.notes store.new) }
-    ensures failed { OnOk result (S.failed store.new ≡ S.failed store.old) }
-    ensures fault { (plan : Plan) → FailsAs plan (S.notes store.new) (S.failed store.old) (S.failed store.new) result }
+    ensures reads { Reads (S.notes store.old) (S.notes store.new) (S.failed store.old) (S.failed store.new) result }
 {
     match store.fetch(key) {
         Ok(()) => Ok(()),
@@ -48,9 +47,7 @@ pub(crate) fn fetch_with_spare<S: Reader>(
 ) -> Result<Option<Writes>, RuleFault>
     requires { S.failed store.old + 1 < 2 ^ 64 }
     ensures learns { OnOk result (Learns (S.notes store.old) key (S.notes store.new)) }
-    ensures extends { Extends (S.notes store.old) (S.notes store.new) }
-    ensures failed { OnOk result (S.failed store.new ≡ S.failed store.old) }
-    ensures fault { (plan : Plan) → FailsAs plan (S.notes store.new) (S.failed store.old) (S.failed store.new) result }
+    ensures reads { Reads (S.notes store.old) (S.notes store.new) (S.failed store.old) (S.failed store.new) result }
 {
     fetch(store, key)?;
     Ok(store.spare())
@@ -60,9 +57,7 @@ pub(crate) fn fetch_with_spare<S: Reader>(
 fn fetch_trains<S: Reader>(store: &mut S, engines: &Numbers) -> Result<(), RuleFault>
     requires { S.failed store.old + 1 < 2 ^ 64 }
     ensures known { OnOk result (AreTrainsKnown (S.notes store.new) engines.now) }
-    ensures extends { Extends (S.notes store.old) (S.notes store.new) }
-    ensures failed { OnOk result (S.failed store.new ≡ S.failed store.old) }
-    ensures fault { (plan : Plan) → FailsAs plan (S.notes store.new) (S.failed store.old) (S.failed store.new) result }
+    ensures reads { Reads (S.notes store.old) (S.notes store.new) (S.failed store.old) (S.failed store.new) result }
 {
     for engine in engines.as_slice() {
         fetch(store, Key::Train(*engine))?;
@@ -82,13 +77,11 @@ fn with_list<S: Reader>(
     ensures both { IfOk result (λ both. (plan : Plan) (w : World) → MayBe plan (S.notes store.new) w
         → IsUnion both engines.now (engines_at w list)) }
     ensures few { IfOk result (λ both. length both ≤ length engines.now + max_trains) }
-    ensures extends { Extends (S.notes store.old) (S.notes store.new) }
-    ensures failed { OnOk result (S.failed store.new ≡ S.failed store.old) }
-    ensures fault { (plan : Plan) → FailsAs plan (S.notes store.new) (S.failed store.old) (S.failed store.new) result }
+    ensures reads { Reads (S.notes store.old) (S.notes store.new) (S.failed store.old) (S.failed store.new) result }
 {
     fetch(store, list)?;
     let nobody = Numbers::new(alloc);
-    let others = read::engines(store, list)?.unwrap_or(&nobody);
+    let others = read::engines(store, list, &nobody)?;
     Ok(engines.union(alloc, others)?)
 }
 
@@ -104,9 +97,7 @@ fn stop_lists<S: Reader>(
     ensures engines { IfOk result (λ engines. (plan : Plan) (w : World) → MayBe plan (S.notes store.new) w
         → AreEnginesOf (may_stop segments.now) w engines) }
     ensures few { IfOk result (λ engines. length engines ≤ (length segments.now + 1) * max_trains) }
-    ensures extends { Extends (S.notes store.old) (S.notes store.new) }
-    ensures failed { OnOk result (S.failed store.new ≡ S.failed store.old) }
-    ensures fault { (plan : Plan) → FailsAs plan (S.notes store.new) (S.failed store.old) (S.failed store.new) result }
+    ensures reads { Reads (S.notes store.old) (S.notes store.new) (S.failed store.old) (S.failed store.new) result }
 {
     let nobody = Numbers::new(alloc);
     let mut engines = with_list(alloc, Key::Unplaced, &nobody, store)?;
@@ -130,9 +121,7 @@ fn fetch_stoppable<S: Reader>(
     ensures engines { IfOk result (λ engines. (plan : Plan) (w : World) → MayBe plan (S.notes store.new) w
         → AreEnginesOf (may_stop segments.now) w engines) }
     ensures few { IfOk result (λ engines. length engines ≤ (length segments.now + 1) * max_trains) }
-    ensures extends { Extends (S.notes store.old) (S.notes store.new) }
-    ensures failed { OnOk result (S.failed store.new ≡ S.failed store.old) }
-    ensures fault { (plan : Plan) → FailsAs plan (S.notes store.new) (S.failed store.old) (S.failed store.new) result }
+    ensures reads { Reads (S.notes store.old) (S.notes store.new) (S.failed store.old) (S.failed store.new) result }
 {
     let engines = stop_lists(alloc, track, segments, store)?;
     fetch_trains(store, &engines)?;
@@ -151,9 +140,7 @@ pub(crate) fn fetch_list<S: Reader>(
     ensures engines { IfOk result (λ engines. (plan : Plan) (w : World) → MayBe plan (S.notes store.new) w
         → (engine : ℕ) → has_number engines engine ≡ has_number (engines_at w list) engine) }
     ensures few { IfOk result (λ engines. length engines ≤ max_trains) }
-    ensures extends { Extends (S.notes store.old) (S.notes store.new) }
-    ensures failed { OnOk result (S.failed store.new ≡ S.failed store.old) }
-    ensures fault { (plan : Plan) → FailsAs plan (S.notes store.new) (S.failed store.old) (S.failed store.new) result }
+    ensures reads { Reads (S.notes store.old) (S.notes store.new) (S.failed store.old) (S.failed store.new) result }
 {
     let nobody = Numbers::new(alloc);
     let engines = with_list(alloc, list, &nobody, store)?;
@@ -191,9 +178,7 @@ pub(crate) fn fetch_told<S: Reader>(
     ensures sought { IfOk result (λ engines. (plan : Plan) (w : World) → MayBe plan (S.notes store.new) w
         → HaveSought sought.entry w engines) }
     ensures few { IfOk result (λ engines. length engines ≤ max_trains) }
-    ensures extends { Extends (S.notes store.old) (S.notes store.new) }
-    ensures failed { OnOk result (S.failed store.new ≡ S.failed store.old) }
-    ensures fault { (plan : Plan) → FailsAs plan (S.notes store.new) (S.failed store.old) (S.failed store.new) result }
+    ensures reads { Reads (S.notes store.old) (S.notes store.new) (S.failed store.old) (S.failed store.new) result }
 {
     if let Some(engines) = search(alloc, sought, store)? {
         return Ok(engines);
@@ -219,9 +204,7 @@ pub(crate) fn fetch_concerned<S: Reader>(
     ensures enough { IfOk result (λ engines. (w : World) → MayBe track.now (S.notes store.new) w
         → IsEnough track.now stops.now w.limits None w.trains engines) }
     ensures few { IfOk result (λ engines. length engines ≤ 9 * max_trains) }
-    ensures extends { Extends (S.notes store.old) (S.notes store.new) }
-    ensures failed { OnOk result (S.failed store.new ≡ S.failed store.old) }
-    ensures fault { (plan : Plan) → FailsAs plan (S.notes store.new) (S.failed store.old) (S.failed store.new) result }
+    ensures reads { Reads (S.notes store.old) (S.notes store.new) (S.failed store.old) (S.failed store.new) result }
 {
     if let Some(area) = stops.get(number) {
         if let Some(engines) = search(alloc, Sought::Stoppable(number, area), store)? {

@@ -3,7 +3,7 @@
 ghost use Rattle.std.specs.Prelude.{◌≡◌, ◌↔◌, ◌∷◌, ◌++◌, [], OnOk, OnErr, IsTrue};
 ghost use Rattle.rbc_rule.specs.Inputs.{Fits};
 
-use crate::limits::{MAX_ENGINE, MAX_LENGTH};
+use crate::maxima::{MAX_ENGINE, MAX_LENGTH};
 use ertms_codec::FromTrain;
 use rbc_zones::{Dirs, Segment};
 use std::alloc::{AllocError, Global};

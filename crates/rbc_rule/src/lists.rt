@@ -42,8 +42,8 @@ pub(crate) fn line_of(track: &Track, segment: &Segment) -> Key
     Key::Line(segment.line as u8)
 }
 
-/// Returns the record of a list of engines, or `None` for an empty list.
-fn engines_record(engines: Numbers) -> Option<Rec>
+/// Returns the record of a list of engines, or `None` for an empty list. It takes no memory.
+pub fn engines_record(engines: Numbers) -> Option<Rec>
     ensures { result ≡ engines_record engines }
 {
     if engines.len() == 0 {

@@ -1,6 +1,6 @@
 //! Looks up records that were read.
 
-ghost use Rattle.std.specs.Prelude.{◌≡◌, ℕ, ◌≤◌, IsTrue, IfOk, IfErr, IfSome, option_copied, length};
+ghost use Rattle.std.specs.Prelude.{◌≡◌, ◌≤◌, [], IsTrue, IfOk, IfErr, option_copied, length};
 ghost use Rattle.rbc_track.specs.Plan.{Plan};
 ghost use Rattle.rbc_maps.specs.Maps.{value_of};
 ghost use Rattle.rbc_maps.specs.Numbered.{none_numbered};
@@ -10,28 +10,32 @@ ghost use Rattle.rbc_rule.specs.Bounds.{max_trains};
 ghost use Rattle.rbc_rule.specs.World.{World};
 ghost use Rattle.rbc_rule.specs.Right.{MayBe};
 ghost use Rattle.rbc_rule.specs.Faults.{IsFaultOf};
-ghost use Rattle.rbc_rule.specs.Lists.{engines_at, is_list, or_nobody};
-ghost use Rattle.rbc_rule.specs.Gathered.{or_none};
+ghost use Rattle.rbc_rule.specs.Lists.{engines_at, is_list};
 
-use crate::limits::MAX_TRAINS;
+use crate::maxima::MAX_TRAINS;
 use crate::outcome::RuleFault;
 use rbc_records::{Key, Reader, Rec};
 use rbc_settle::{Numbers, TrainRec};
 use rbc_zones::{Limits, Stops};
 
-/// Returns the engines of a list, or `None` if the list has no record.
-pub fn engines<S: Reader>(store: &S, list: Key) -> Result<Option<&Numbers>, RuleFault>
+/// Returns the engines of a list, or `nobody`, which the caller lends, if the list has no record.
+pub fn engines<'a, S: Reader>(
+    store: &'a S,
+    list: Key,
+    nobody: &'a Numbers,
+) -> Result<&'a Numbers, RuleFault>
     requires known { IsTrue (knows (S.notes store.now) list) }
     requires list { IsTrue (is_list list) }
+    requires nobody { nobody.now ≡ [] }
     ensures engines { IfOk result (λ engines. (plan : Plan) (w : World) → MayBe plan (S.notes store.now) w
-        → or_nobody (option_copied engines) ≡ engines_at w list) }
-    ensures few { IfOk result (λ engines. length (or_nobody (option_copied engines)) ≤ max_trains) }
+        → engines.now ≡ engines_at w list) }
+    ensures few { IfOk result (λ engines. length engines.now ≤ max_trains) }
     ensures fault { (plan : Plan) → IfErr result (λ fault. IsFaultOf plan fault (S.notes store.now)) }
 {
     match store.seen(list) {
-        None => Ok(None),
+        None => Ok(nobody),
         Some(Rec::Engines(engines)) if engines.len() > MAX_TRAINS => Err(RuleFault::Torn),
-        Some(Rec::Engines(engines)) => Ok(Some(engines)),
+        Some(Rec::Engines(engines)) => Ok(engines),
         Some(Rec::Train(_) | Rec::Stops(_) | Rec::Limits(_)) => Err(RuleFault::Torn),
     }
 }
@@ -50,30 +54,32 @@ pub fn train<S: Reader>(store: &S, engine: u32) -> Result<Option<&TrainRec>, Rul
     }
 }
 
-/// Returns the stops, if there ever was one.
-pub fn stops<S: Reader>(store: &S) -> Result<Option<&Stops>, RuleFault>
-    requires { IsTrue (knows (S.notes store.now) key.Stops) }
+/// Returns the stops, or `none`, which the caller lends, if there never was one.
+pub fn stops<'a, S: Reader>(store: &'a S, none: &'a Stops) -> Result<&'a Stops, RuleFault>
+    requires known { IsTrue (knows (S.notes store.now) key.Stops) }
+    requires none { none.now ≡ none_numbered }
     ensures stops { IfOk result (λ stops. (plan : Plan) (w : World) → MayBe plan (S.notes store.now) w
-        → or_none (option_copied stops) ≡ w.stops) }
+        → stops.now ≡ w.stops) }
     ensures fault { (plan : Plan) → IfErr result (λ fault. IsFaultOf plan fault (S.notes store.now)) }
 {
     match store.seen(Key::Stops) {
-        None => Ok(None),
-        Some(Rec::Stops(stops)) => Ok(Some(stops)),
+        None => Ok(none),
+        Some(Rec::Stops(stops)) => Ok(stops),
         Some(_) => Err(RuleFault::Torn),
     }
 }
 
-/// Returns the restrictions, if there ever was one.
-pub fn limits<S: Reader>(store: &S) -> Result<Option<&Limits>, RuleFault>
-    requires { IsTrue (knows (S.notes store.now) key.Limits) }
+/// Returns the restrictions, or `none`, which the caller lends, if there never was one.
+pub fn limits<'a, S: Reader>(store: &'a S, none: &'a Limits) -> Result<&'a Limits, RuleFault>
+    requires known { IsTrue (knows (S.notes store.now) key.Limits) }
+    requires none { none.now ≡ none_numbered }
     ensures limits { IfOk result (λ limits. (plan : Plan) (w : World) → MayBe plan (S.notes store.now) w
-        → or_none (option_copied limits) ≡ w.limits) }
+        → limits.now ≡ w.limits) }
     ensures fault { (plan : Plan) → IfErr result (λ fault. IsFaultOf plan fault (S.notes store.now)) }
 {
     match store.seen(Key::Limits) {
-        None => Ok(None),
-        Some(Rec::Limits(limits)) => Ok(Some(limits)),
+        None => Ok(none),
+        Some(Rec::Limits(limits)) => Ok(limits),
         Some(_) => Err(RuleFault::Torn),
     }
 }
@@ -94,7 +100,7 @@ pub fn stops_and_limits<'a, S: Reader>(
         → both.1.now ≡ w.limits) }
     ensures fault { (plan : Plan) → IfErr result (λ fault. IsFaultOf plan fault (S.notes store.now)) }
 {
-    let stops = stops(store)?.unwrap_or(no_stops);
-    let limits = limits(store)?.unwrap_or(no_limits);
+    let stops = stops(store, no_stops)?;
+    let limits = limits(store, no_limits)?;
     Ok((stops, limits))
 }

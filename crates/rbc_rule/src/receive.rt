@@ -1,17 +1,17 @@
 //! Decides a message from a train.
 
-ghost use Rattle.std.specs.Prelude.{◌≡◌, ◌+◌, ◌<◌, ◌^◌, [], IsTrue, IfOk, IfErr, OnOk, Ok, false};
+ghost use Rattle.std.specs.Prelude.{◌≡◌, ◌+◌, ◌<◌, ◌^◌, [], IsTrue, IfOk, IfErr, false};
 ghost use Rattle.rbc_track.specs.Plan.{Plan};
 ghost use Rattle.rbc_records.specs.declared.record.Key.TheVariants as key;
-ghost use Rattle.rbc_records.specs.Notes.{Extends, knows, same_key};
+ghost use Rattle.rbc_records.specs.Notes.{knows, same_key};
 ghost use Rattle.rbc_settle.specs.Numbers.{has_number};
-ghost use Rattle.rbc_rule.specs.declared.outcome.RuleFault.TheVariants.{OutOfMemory};
 ghost use Rattle.rbc_rule.specs.World.{World};
 ghost use Rattle.rbc_rule.specs.Effect.{engine_of};
-ghost use Rattle.rbc_rule.specs.Right.{EachWriteChanges, IsRight, IsSilentIfRefused, FailsAs, MayBe};
+ghost use Rattle.rbc_rule.specs.Right.{MayBe};
 ghost use Rattle.rbc_rule.specs.Faults.{IsFaultOf};
 ghost use Rattle.rbc_rule.specs.Lists.{engines_at, is_list, moves};
-ghost use Rattle.rbc_rule.specs.Gathered.{AreSendable, heard_outcome};
+ghost use Rattle.rbc_rule.specs.Gathered.{heard_outcome};
+ghost use Rattle.rbc_rule.specs.Deciding.{IsDecided, GivesOutcome, Reads};
 
 use crate::fetch::{fetch, fetch_with_spare};
 use crate::input::Input;
@@ -35,15 +35,8 @@ pub fn receive<S: Reader>(
     store: &mut S,
 ) -> Result<Outcome, RuleFault>
     requires { S.failed store.old + 1 < 2 ^ 64 }
-    ensures right { IfOk result (λ outcome. IsRight track.now (Input.Received message.now)
-        (S.notes store.new) outcome.result outcome.writes outcome.messages) }
-    ensures changes { IfOk result (λ outcome. EachWriteChanges track.now (Input.Received message.now)
-        (S.notes store.new) outcome.writes) }
-    ensures refused { IfOk result (λ outcome. IsSilentIfRefused outcome.result outcome.writes outcome.messages) }
-    ensures fit { IfOk result (λ outcome. AreSendable outcome.messages) }
-    ensures extends { Extends (S.notes store.old) (S.notes store.new) }
-    ensures fault { FailsAs track.now (S.notes store.new) (S.failed store.old) (S.failed store.new) result }
-    ensures failed { OnOk result (S.failed store.new ≡ S.failed store.old) }
+    ensures { IsDecided track.now (Input.Received message.now) (S.notes store.old) (S.notes store.new)
+        (S.failed store.old) (S.failed store.new) result }
 {
     let engine = engine_of(message);
     let spare = fetch_with_spare(store, Key::Train(engine))?;
@@ -89,9 +82,7 @@ fn moves<S: Reader>(
         → has_number (engines_at w entered) engine ≡ false }
     ensures writes { IfOk result (λ writes. (plan : Plan) (w : World) → MayBe plan (S.notes store.new) w
         → writes ≡ moves w engine left entered) }
-    ensures extends { Extends (S.notes store.old) (S.notes store.new) }
-    ensures fault { (plan : Plan) → FailsAs plan (S.notes store.new) (S.failed store.old) (S.failed store.new) result }
-    ensures failed { OnOk result (S.failed store.new ≡ S.failed store.old) }
+    ensures reads { Reads (S.notes store.old) (S.notes store.new) (S.failed store.old) (S.failed store.new) result }
 {
     if left == entered {
         return Ok(writes);
@@ -124,8 +115,8 @@ fn moved<S: Reader>(
     ensures fault { (plan : Plan) → IfErr result (λ fault. IsFaultOf plan fault (S.notes store.now)) }
 {
     let nobody = Numbers::new(alloc);
-    let others = read::engines(store, left)?.unwrap_or(&nobody);
-    let engines = read::engines(store, entered)?.unwrap_or(&nobody);
+    let others = read::engines(store, left, &nobody)?;
+    let engines = read::engines(store, entered, &nobody)?;
     if engines.has(engine) {
         return Err(RuleFault::Torn);
     }
@@ -135,7 +126,8 @@ fn moved<S: Reader>(
     Ok(writes)
 }
 
-/// Reads the stops and the restrictions and settles a train after its message.
+/// Reads the stops and the restrictions, settles a train after its message, and makes the outcome. What the train
+/// writes where it moves from list to list comes first.
 fn received<S: Reader>(
     alloc: Global,
     track: &Track,
@@ -145,38 +137,14 @@ fn received<S: Reader>(
     store: &mut S,
 ) -> Result<Outcome, RuleFault>
     requires { S.failed store.old + 1 < 2 ^ 64 }
-    ensures outcome { IfOk result (λ outcome. (w : World) → MayBe track.now (S.notes store.new) w
-        → outcome ≡ heard_outcome track.now w.stops w.limits engine train moved) }
-    ensures refused { IfOk result (λ outcome. IsSilentIfRefused outcome.result outcome.writes outcome.messages) }
-    ensures fit { IfOk result (λ outcome. AreSendable outcome.messages) }
-    ensures extends { Extends (S.notes store.old) (S.notes store.new) }
-    ensures fault { FailsAs track.now (S.notes store.new) (S.failed store.old) (S.failed store.new) result }
-    ensures failed { OnOk result (S.failed store.new ≡ S.failed store.old) }
+    ensures { GivesOutcome track.now (S.notes store.old) (S.notes store.new) (S.failed store.old) (S.failed store.new)
+        (λ w. heard_outcome track.now w.stops w.limits engine train moved) result }
 {
     fetch(store, Key::Stops)?;
     fetch(store, Key::Limits)?;
     let no_stops = Stops::new(alloc);
     let no_limits = Limits::new(alloc);
     let (stops, limits) = read::stops_and_limits(store, &no_stops, &no_limits)?;
-    heard_outcome(alloc, track, engine, train, moved, stops, limits)
-}
-
-/// Makes the outcome for a train after its message, behind what it writes where it moves from list to list.
-fn heard_outcome(
-    alloc: Global,
-    track: &Track,
-    engine: u32,
-    train: TrainRec,
-    moved: Writes,
-    stops: &Stops,
-    limits: &Limits,
-) -> Result<Outcome, RuleFault>
-    ensures outcome { IfOk result (λ outcome. outcome
-        ≡ heard_outcome track.now stops.now limits.now engine train moved) }
-    ensures refused { IfOk result (λ outcome. IsSilentIfRefused outcome.result outcome.writes outcome.messages) }
-    ensures fit { IfOk result (λ outcome. AreSendable outcome.messages) }
-    ensures memory { IfErr result (λ fault. fault ≡ OutOfMemory) }
-{
     let mut train = train;
     let sent = settle(alloc, track, stops, limits, &mut train)?;
     let mut writes = moved;

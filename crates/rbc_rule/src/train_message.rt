@@ -5,7 +5,7 @@ ghost use Rattle.rbc_rule.specs.Codes.{IsReason};
 ghost use Rattle.rbc_rule.specs.Effect.{is_too_high, raised, placed, acknowledged, answered, stamp_of, engine_of};
 ghost use Rattle.rbc_rule.specs.Effect.{heard};
 
-use crate::limits::MAX_STAMP;
+use crate::maxima::MAX_STAMP;
 use crate::refuse::{NotChanged, Refusal};
 use ertms_codec::{FromTrain, Position};
 use rbc_place::place_of;
@@ -14,7 +14,7 @@ use rbc_track::Track;
 use std::alloc::Global;
 
 /// T_TRAIN of a message whose time is unknown (SUBSET-026, chapter 7).
-const UNKNOWN_STAMP: u32 = 4_294_967_295;
+pub const UNKNOWN_STAMP: u32 = 4_294_967_295;
 
 /// Returns the engine number in a message.
 pub fn engine_of(message: &FromTrain) -> u32

@@ -4,12 +4,11 @@ ghost use Rattle.std.specs.Prelude.{◌≡◌, ◌+◌, ◌<◌, ◌^◌, IsTrue
 ghost use Rattle.rbc_track.specs.Plan.{Plan};
 ghost use Rattle.rbc_maps.specs.Maps.{keys};
 ghost use Rattle.rbc_records.specs.declared.record.Key.TheVariants as key;
-ghost use Rattle.rbc_records.specs.Notes.{Extends, knows};
-ghost use Rattle.rbc_rule.specs.World.{World};
-ghost use Rattle.rbc_rule.specs.Right.{EachWriteChanges, IsRight, IsSilentIfRefused, FailsAs, MayBe};
-ghost use Rattle.rbc_rule.specs.Faults.{IsFaultOf};
+ghost use Rattle.rbc_records.specs.Notes.{knows};
+ghost use Rattle.rbc_rule.specs.Right.{IsSilentIfRefused};
 ghost use Rattle.rbc_rule.specs.Lists.{engines_at, is_list};
 ghost use Rattle.rbc_rule.specs.Gathered.{AreSendable, withdrawn_outcome};
+ghost use Rattle.rbc_rule.specs.Deciding.{IsDecided, MakesOutcome};
 
 use crate::fetch::fetch;
 use crate::input::Input;
@@ -30,15 +29,8 @@ pub fn withdraw<S: Reader>(
     store: &mut S,
 ) -> Result<Outcome, RuleFault>
     requires { S.failed store.old + 1 < 2 ^ 64 }
-    ensures right { IfOk result (λ outcome. IsRight track.now (Input.Withdraw engine)
-        (S.notes store.new) outcome.result outcome.writes outcome.messages) }
-    ensures changes { IfOk result (λ outcome. EachWriteChanges track.now (Input.Withdraw engine)
-        (S.notes store.new) outcome.writes) }
-    ensures refused { IfOk result (λ outcome. IsSilentIfRefused outcome.result outcome.writes outcome.messages) }
-    ensures fit { IfOk result (λ outcome. AreSendable outcome.messages) }
-    ensures extends { Extends (S.notes store.old) (S.notes store.new) }
-    ensures fault { FailsAs track.now (S.notes store.new) (S.failed store.old) (S.failed store.new) result }
-    ensures failed { OnOk result (S.failed store.new ≡ S.failed store.old) }
+    ensures { IsDecided track.now (Input.Withdraw engine) (S.notes store.old) (S.notes store.new)
+        (S.failed store.old) (S.failed store.new) result }
 {
     fetch(store, Key::Train(engine))?;
     let Some(train) = read::train(store, engine)? else {
@@ -63,15 +55,12 @@ fn withdrawn<S: Reader>(
     requires roster { IsTrue (knows (S.notes store.now) key.Roster) }
     requires list { IsTrue (is_list list) }
     requires others { IsTrue (knows (S.notes store.now) list) }
-    ensures outcome { IfOk result (λ outcome. (plan : Plan) (w : World) → MayBe plan (S.notes store.now) w
-        → outcome ≡ withdrawn_outcome engine (keys w.trains) list (engines_at w list)) }
-    ensures refused { IfOk result (λ outcome. IsSilentIfRefused outcome.result outcome.writes outcome.messages) }
-    ensures fit { IfOk result (λ outcome. AreSendable outcome.messages) }
-    ensures fault { (plan : Plan) → IfErr result (λ fault. IsFaultOf plan fault (S.notes store.now)) }
+    ensures { (plan : Plan) → MakesOutcome plan (S.notes store.now)
+        (λ w. withdrawn_outcome engine (keys w.trains) list (engines_at w list)) result }
 {
     let nobody = Numbers::new(alloc);
-    let engines = read::engines(store, Key::Roster)?.unwrap_or(&nobody);
-    let others = read::engines(store, list)?.unwrap_or(&nobody);
+    let engines = read::engines(store, Key::Roster, &nobody)?;
+    let others = read::engines(store, list, &nobody)?;
     let outcome = withdrawn_outcome(alloc, engine, engines, list, others)?;
     Ok(outcome)
 }

@@ -5,13 +5,15 @@ use Rattle.rbc_records.specs.declared.bounds.Sought.TheVariants as sought
 use Rattle.rbc_rule.specs.World.{World}
 use Rattle.rbc_rule.specs.Right.{MayBe}
 use Rattle.rbc_rule.specs.Lists.{AreEnginesOf, HaveSought, may_stop}
-use Rattle.rbc_rule.proofs.Worlds.{fault_handed_on, may_have_been}
+use Rattle.rbc_rule.proofs.Worlds.{may_have_been}
+use Rattle.rbc_rule.proofs.GatherKnown.{extends_same}
+use Rattle.rbc_rule.proofs.Deciding.{read_fault}
 use Rattle.rbc_rule.proofs.Concerned.{concerned_enough, stop_enough}
 use Rattle.rbc_rule.proofs.fetch.fetch_concerned.Goals as goal
 
-pub returns-in_err-engines-clause-fault : goal.returns-in_err-engines-clause-fault
-returns-in_err-engines-clause-fault g c = λ plan.
-    fault_handed_on plan _ _ _ c.from_residual.result c.in_err-engines.field-0.0 c.from_residual.ensures.1 (c.in_err-engines.ensures.fault plan) refl
+pub returns-in_err-engines-clause-reads : goal.returns-in_err-engines-clause-reads
+returns-in_err-engines-clause-reads g c =
+    read_fault c.from_residual.result c.in_err-engines.field-0.0 c.from_residual.ensures.1 c.in_err-engines.ensures.fault extends_same refl
 
 pub returns-in-Some-2-clause-enough : goal.returns-in-Some-2-clause-enough
 returns-in-Some-2-clause-enough g c = λ w m.
@@ -30,5 +32,5 @@ returns-clause-enough g c = λ w m.
     let plan = c.args.track.now in
     let engines = c.in_ok-engines-2.engines in
     let numbers : AreNumbers engines = search rules in
-    stop_enough plan w m.well_formed c.args.stops.now c.args.number c.args.segments.now engines (c.requires.begun w (may_have_been c.fetch_stoppable.ensures.extends m)) numbers
+    stop_enough plan w m.well_formed c.args.stops.now c.args.number c.args.segments.now engines (c.requires.begun w (may_have_been c.fetch_stoppable.ensures.reads.extends m)) numbers
     (subst (λ segments. AreEnginesOf (may_stop segments) w engines) c.as_slice.ensures (c.in_ok-engines-2.ensures.engines plan w m))

@@ -14,8 +14,8 @@ loop-engine-preserved g c =
     let within : c.loop-engine.engine-index < length items = search rules in
     record {
       known = one_more_known (notes c.loop-engine.store) (notes c.fetch.new.store) items c.loop-engine.engine-index _ within so_far.known c.in_ok-fetch.ensures.learns;
-      extends = extends_on so_far.extends c.in_ok-fetch.ensures.extends;
-      failed = c.in_ok-fetch.ensures.failed ∙ so_far.failed;
+      extends = extends_on so_far.extends c.in_ok-fetch.ensures.reads.extends;
+      failed = c.in_ok-fetch.ensures.reads.failed ∙ so_far.failed;
     }
 
 pub returns-clause-known : goal.returns-clause-known

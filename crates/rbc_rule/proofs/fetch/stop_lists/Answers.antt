@@ -13,8 +13,8 @@ loop-segment-init g c =
     record {
       engines = λ plan w m. no_line_yet w c.in_ok-engines.engines _ m.well_formed.ascending c.new-nobody.ensures (c.in_ok-engines.ensures.both plan w m);
       few = few;
-      extends = c.in_ok-engines.ensures.extends;
-      failed = c.in_ok-engines.ensures.failed;
+      extends = c.in_ok-engines.ensures.reads.extends;
+      failed = c.in_ok-engines.ensures.reads.failed;
     }
 
 pub loop-segment-preserved : goal.loop-segment-preserved
@@ -27,11 +27,11 @@ loop-segment-preserved g c =
     record {
       engines = λ plan w m.
           one_more_line w c.args.segments.now c.loop-segment.segment-index _ c.loop-segment.engines new.engines m.well_formed.ascending within
-          (so_far.engines plan w (may_have_been c.with_list-in-loop-segment.ensures.extends m))
+          (so_far.engines plan w (may_have_been c.with_list-in-loop-segment.ensures.reads.extends m))
           (subst (λ list. IsUnion new.engines c.loop-segment.engines (engines_at w list)) c.line_of.ensures.line (new.ensures.both plan w m));
       few = omega (arith, few_so_far, few);
-      extends = extends_on so_far.extends new.ensures.extends;
-      failed = new.ensures.failed ∙ so_far.failed;
+      extends = extends_on so_far.extends new.ensures.reads.extends;
+      failed = new.ensures.reads.failed ∙ so_far.failed;
     }
 
 pub returns-clause-engines : goal.returns-clause-engines

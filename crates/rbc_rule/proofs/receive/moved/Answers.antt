@@ -4,21 +4,20 @@ use Rattle.rbc_records.specs.declared.record.Key.{Key}
 use Rattle.rbc_records.specs.declared.record.Rec.{Rec}
 use Rattle.rbc_rule.specs.Records.{engines_record}
 use Rattle.rbc_rule.specs.Lists.{engines_at}
-use Rattle.rbc_rule.proofs.WorldReading.{read_or}
 use Rattle.rbc_rule.proofs.receive.moved.Goals as goal
 
 -- a train that comes into a list did not stand there
 pub returns-then-has-clause-fault : goal.returns-then-has-clause-fault
 returns-then-has-clause-fault g c = λ plan w m.
-    let engines = read_or c.in_ok-engines-2.field-0 c.unwrap_or-engines.result _ _ c.unwrap_or-engines.ensures c.new-nobody.ensures ∙ c.in_ok-engines-2.ensures.engines plan w m in
-    let there : has_number c.unwrap_or-engines.result.now c.args.engine ≡ true = sym c.has.ensures ∙ c.if-has.true in
+    let engines = c.in_ok-engines.ensures.engines plan w m in
+    let there : has_number c.in_ok-engines.engines.now c.args.engine ≡ true = sym c.has.ensures ∙ c.if-has.true in
     let bad : true ≡ false = sym there ∙ ap (λ list. has_number list c.args.engine) engines ∙ c.requires.comes plan w m in
     absurd cc
 
 pub returns-clause-writes : goal.returns-clause-writes
 returns-clause-writes g c = λ plan w m.
-    let others = read_or c.in_ok-engines.field-0 c.unwrap_or-others.result _ _ c.unwrap_or-others.ensures c.new-nobody.ensures ∙ c.in_ok-engines.ensures.engines plan w m in
-    let engines = read_or c.in_ok-engines-2.field-0 c.unwrap_or-engines.result _ _ c.unwrap_or-engines.ensures c.new-nobody.ensures ∙ c.in_ok-engines-2.ensures.engines plan w m in
+    let others = c.in_ok-others.ensures.engines plan w m in
+    let engines = c.in_ok-engines.ensures.engines plan w m in
     let none = c.requires.empty in
     let left : Key × Option Rec = (c.args.left, engines_record (without_number c.args.engine (engines_at w c.args.left))) in
     let entered : Key × Option Rec = (c.args.entered, engines_record (with_number c.args.engine (engines_at w c.args.entered))) in

@@ -1,5 +1,4 @@
 use Rattle.std.proofs.Common.{rules, ◌≡◌, ◌∙◌, [], sym, ap, option_copied}
-use Rattle.std.proofs.lemmas.Result.{IfOk-weaker}
 use Rattle.rbc_maps.specs.Maps.{value_of}
 use Rattle.rbc_settle.specs.Numbers.{has_number}
 use Rattle.rbc_records.specs.Notes.{same_key}
@@ -8,24 +7,29 @@ use Rattle.rbc_rule.specs.declared.outcome.Reply.TheVariants.{Refused}
 use Rattle.rbc_rule.specs.Codes.{code_of}
 use Rattle.rbc_rule.specs.Lists.{engines_at, moves}
 use Rattle.rbc_rule.specs.Gathered.{heard_outcome}
-use Rattle.rbc_rule.proofs.Worlds.{may_have_been, refused_right, refusal_is, fault_handed_on}
+use Rattle.rbc_rule.proofs.GatherKnown.{extends_on}
+use Rattle.rbc_rule.proofs.Worlds.{may_have_been, refusal_is}
+use Rattle.rbc_rule.proofs.Deciding.{fault_decides, outcome_decides, refusal_decides}
 use Rattle.rbc_rule.proofs.Engines.{list_of_is}
 use Rattle.rbc_rule.proofs.EachChanges.{heard_changes}
 use Rattle.rbc_rule.proofs.OneTrain.{receive_refused, receive_right, comes_anew}
 use Rattle.rbc_rule.proofs.receive.receive.Goals as goal
 
-pub returns-in_err-before-clause-fault : goal.returns-in_err-before-clause-fault
-returns-in_err-before-clause-fault g c =
+pub returns-in_err-before : goal.returns-in_err-before
+returns-in_err-before g c =
     let residual = c.from_residual-in_err-before in
-    fault_handed_on c.args.track.now _ _ _ residual.result c.in_err-before.field-0.0 residual.ensures.1 (c.in_err-before.ensures.fault c.args.track.now) c.in_ok-spare.ensures.failed
+    fault_decides residual.result c.in_err-before.field-0.0 residual.ensures.1 (c.in_err-before.ensures.fault c.args.track.now) c.fetch_with_spare.ensures.reads.extends c.in_ok-spare.ensures.reads.failed
 
-pub returns-in-Err-Refused-clause-right : goal.returns-in-Err-Refused-clause-right
-returns-in-Err-Refused-clause-right g c = λ w m.
+pub returns-in-Err-Refused : goal.returns-in-Err-Refused
+returns-in-Err-Refused g c =
     let plan = c.args.track.now in
+    let code = code_of c.in-Err-Refused.refusal in
+    let refused : c.refused-in-Err-Refused.result ≡ record { result = Refused code; writes = []; messages = [] } = search rules in
+    refusal_decides code c.refused-in-Err-Refused.result refused
+    (λ w m.
     let found = sym (ap option_copied c.in-Some.is) ∙ c.in_ok-before.ensures.train plan w m ∙ ap (value_of w.trains) c.engine_of-engine.ensures in
-    let refused : c.refused-in-Err-Refused.result ≡ record { result = Refused (code_of c.in-Err-Refused.refusal); writes = []; messages = [] } = search rules in
-    refused_right plan (Received c.args.message.now) w (code_of c.in-Err-Refused.refusal) c.refused-in-Err-Refused.result refused
-    (receive_refused plan c.args.message.now w c.in-Some.before.now found (code_of c.in-Err-Refused.refusal) (refusal_is _ c.in-Err-Refused.field-0 c.in-Err-Refused.refusal c.in-Err-Refused.field-0-is c.in-Err-Refused.ensures.err))
+    receive_refused plan c.args.message.now w c.in-Some.before.now found code (refusal_is _ c.in-Err-Refused.field-0 c.in-Err-Refused.refusal c.in-Err-Refused.field-0-is c.in-Err-Refused.ensures.err))
+    c.fetch_with_spare.ensures.reads.extends c.in_ok-spare.ensures.reads.failed
 
 -- a train that leaves its list comes anew into the other
 pub moves-requires-clause-comes : goal.moves-requires-clause-comes
@@ -37,28 +41,17 @@ moves-requires-clause-comes g c = λ plan w m apart.
     ∙ comes_anew plan c.args.message.now w c.in-Some.before.now found _ m.well_formed (list_of_is c.in-Ok.train) (sym (λ i. same_key (left i) (entered i)) ∙ apart)
 
 -- what was read is the world's, so the outcome is the step's
-pub returns-clause-right : goal.returns-clause-right
-returns-clause-right g c =
-    IfOk-weaker c.received.result _ _
-    (λ outcome is w m.
+pub returns : goal.returns
+returns g c =
+    outcome_decides (Received c.args.message.now) c.received.result c.received.ensures (extends_on c.fetch_with_spare.ensures.reads.extends c.moves.ensures.reads.extends)
+    (c.in_ok-moved.ensures.reads.failed ∙ c.in_ok-spare.ensures.reads.failed)
+    (λ w outcome m is.
     let plan = c.args.track.now in
     let engine = c.engine_of-engine.ensures in
     let before = may_have_been c.received.ensures.extends m in
-    let found = sym (ap option_copied c.in-Some.is) ∙ c.in_ok-before.ensures.train plan w (may_have_been c.moves.ensures.extends before) ∙ ap (value_of w.trains) engine in
+    let found = sym (ap option_copied c.in-Some.is) ∙ c.in_ok-before.ensures.train plan w (may_have_been c.moves.ensures.reads.extends before) ∙ ap (value_of w.trains) engine in
     let moved = c.in_ok-moved.ensures.writes plan w before ∙ (λ i. moves w (engine i) (c.list_of-left.ensures.list i) (c.list_of-entered.ensures.list i)) in
-    receive_right plan c.args.message.now w c.in-Some.before.now found c.in-Ok.train outcome c.in-Ok.ensures.ok
-    (is w m ∙ (λ i. heard_outcome plan w.stops w.limits (engine i) c.in-Ok.train (moved i))) m.well_formed)
-    c.received.ensures.outcome
-
-pub returns-clause-changes : goal.returns-clause-changes
-returns-clause-changes g c =
-    IfOk-weaker c.received.result _ _
-    (λ outcome is w m.
-    let plan = c.args.track.now in
-    let engine = c.engine_of-engine.ensures in
-    let before = may_have_been c.received.ensures.extends m in
-    let found = sym (ap option_copied c.in-Some.is) ∙ c.in_ok-before.ensures.train plan w (may_have_been c.moves.ensures.extends before) ∙ ap (value_of w.trains) engine in
-    let moved = c.in_ok-moved.ensures.writes plan w before ∙ (λ i. moves w (engine i) (c.list_of-left.ensures.list i) (c.list_of-entered.ensures.list i)) in
-    heard_changes plan c.args.message.now w c.in-Some.before.now c.in-Ok.train m.well_formed.ascending found outcome
-    (is w m ∙ (λ i. heard_outcome plan w.stops w.limits (engine i) c.in-Ok.train (moved i))))
-    c.received.ensures.outcome
+    let made = is ∙ (λ i. heard_outcome plan w.stops w.limits (engine i) c.in-Ok.train (moved i)) in (
+      receive_right plan c.args.message.now w c.in-Some.before.now found c.in-Ok.train outcome c.in-Ok.ensures.ok made m.well_formed,
+      heard_changes plan c.args.message.now w c.in-Some.before.now c.in-Ok.train m.well_formed.ascending found outcome made,
+    ))

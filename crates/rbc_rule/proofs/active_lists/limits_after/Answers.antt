@@ -2,7 +2,7 @@ use Rattle.std.proofs.Common.{rules, ◌≡◌, ◌<◌, ◌∷◌, ◌++◌, []
 use Rattle.rbc_zones.specs.Limits.{Limit, is_good_limit}
 use Rattle.rbc_rule.specs.Bounds.{max_limits}
 use Rattle.rbc_rule.proofs.Changes.{added}
-use Rattle.rbc_rule.proofs.change.limits_after.Goals as goal
+use Rattle.rbc_rule.proofs.active_lists.limits_after.Goals as goal
 
 pub returns : goal.returns
 returns c =

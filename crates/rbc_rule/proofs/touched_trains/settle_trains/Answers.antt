@@ -2,7 +2,7 @@ use Rattle.std.proofs.Common.{rules, ◌<◌, ◌≤◌, ◌+◌, ◌*◌, lengt
 use Rattle.rbc_rule.specs.Touching.{released_by}
 use Rattle.rbc_rule.specs.Gathered.{write_at, sent_at}
 use Rattle.rbc_rule.proofs.GatherReading.{one_more_gathered}
-use Rattle.rbc_rule.proofs.settling.settle_trains.Goals as goal
+use Rattle.rbc_rule.proofs.touched_trains.settle_trains.Goals as goal
 
 pub loop-engine-preserved : goal.loop-engine-preserved
 loop-engine-preserved g c =

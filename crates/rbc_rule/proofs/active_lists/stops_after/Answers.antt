@@ -2,7 +2,7 @@ use Rattle.std.proofs.Common.{rules, ◌≡◌, ◌<◌, ◌∷◌, ◌++◌, []
 use Rattle.rbc_zones.specs.Segments.{is_good_area}
 use Rattle.rbc_rule.specs.Bounds.{max_stops}
 use Rattle.rbc_rule.proofs.Changes.{added}
-use Rattle.rbc_rule.proofs.change.stops_after.Goals as goal
+use Rattle.rbc_rule.proofs.active_lists.stops_after.Goals as goal
 
 pub returns : goal.returns
 returns c =

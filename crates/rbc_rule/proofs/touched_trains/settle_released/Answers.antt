@@ -10,7 +10,7 @@ use Rattle.rbc_records.specs.declared.record.Rec.{Rec}
 use Rattle.rbc_records.specs.declared.record.Rec.TheVariants as rec
 use Rattle.rbc_rule.specs.Effect.{forget}
 use Rattle.rbc_rule.proofs.Gathering.{few_more, forgetting_written}
-use Rattle.rbc_rule.proofs.settling.settle_released.Goals as goal
+use Rattle.rbc_rule.proofs.touched_trains.settle_released.Goals as goal
 
 pub returns-clause-writes : goal.returns-clause-writes
 returns-clause-writes c =

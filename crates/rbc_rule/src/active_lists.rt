@@ -5,9 +5,10 @@ ghost use Rattle.rbc_rule.specs.Codes.{IsReason};
 ghost use Rattle.rbc_rule.specs.Effect.{stops_after, limits_after, after_removing};
 
 use crate::input::Segments;
-use crate::limits::{MAX_LIMITS, MAX_STOPS};
+use crate::maxima::{MAX_LIMITS, MAX_STOPS};
 use crate::refuse::{NotChanged, Refusal};
 use crate::restriction::Restriction;
+use rbc_maps::{Numbered, OnLines};
 use rbc_track::Track;
 use rbc_zones::{Area, Limit, Limits, Stops};
 use std::alloc::Global;
@@ -38,19 +39,6 @@ pub(crate) fn stops_after(
     Ok(after)
 }
 
-/// Returns the stops without one, or why it cannot be taken out.
-pub(crate) fn stops_without(alloc: Global, number: u32, stops: &Stops) -> Result<Stops, NotChanged>
-    ensures ok { IfOk result (λ after. Ok after ≡ after_removing number stops.now) }
-    ensures err { IfErr result (λ why. IsReason (after_removing number stops.now) why) }
-{
-    if stops.get(number).is_none() {
-        return Err(NotChanged::Refused(Refusal::NoSuchNumber));
-    }
-    let mut after = stops.copy(alloc)?;
-    let _ = after.remove(number);
-    Ok(after)
-}
-
 /// Returns the restrictions with one more, or why there cannot be one more.
 pub(crate) fn limits_after(
     alloc: Global,
@@ -77,19 +65,19 @@ pub(crate) fn limits_after(
     Ok(after)
 }
 
-/// Returns the restrictions without one, or why it cannot be taken out.
-pub(crate) fn limits_without(
+/// Returns the stops, or the restrictions, without one, or why it cannot be taken out.
+pub(crate) fn without<V: OnLines<N> + Copy + Drop, const N: usize>(
     alloc: Global,
     number: u32,
-    limits: &Limits,
-) -> Result<Limits, NotChanged>
-    ensures ok { IfOk result (λ after. Ok after ≡ after_removing number limits.now) }
-    ensures err { IfErr result (λ why. IsReason (after_removing number limits.now) why) }
+    active: &Numbered<V, N>,
+) -> Result<Numbered<V, N>, NotChanged>
+    ensures ok { IfOk result (λ after. Ok after ≡ after_removing number active.now) }
+    ensures err { IfErr result (λ why. IsReason (after_removing number active.now) why) }
 {
-    if limits.get(number).is_none() {
+    if active.get(number).is_none() {
         return Err(NotChanged::Refused(Refusal::NoSuchNumber));
     }
-    let mut after = limits.copy(alloc)?;
+    let mut after = active.copy(alloc)?;
     let _ = after.remove(number);
     Ok(after)
 }

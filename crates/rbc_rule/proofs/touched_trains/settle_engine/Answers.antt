@@ -3,7 +3,7 @@ use Rattle.rbc_maps.specs.Maps.{value_of}
 use Rattle.rbc_rule.specs.Gathered.{write_of, sent_of, write_at, sent_at}
 use Rattle.rbc_rule.proofs.GatherReading.{has_value, gathered_of}
 use Rattle.rbc_rule.proofs.Quiet.{nothing_written, nothing_sent}
-use Rattle.rbc_rule.proofs.settling.settle_engine.Goals as goal
+use Rattle.rbc_rule.proofs.touched_trains.settle_engine.Goals as goal
 
 pub returns-in_default-clause-fault : goal.returns-in_default-clause-fault
 returns-in_default-clause-fault g c =

@@ -5,8 +5,8 @@ use Rattle.rbc_records.specs.declared.record.Rec.{Rec}
 use Rattle.rbc_settle.specs.declared.sent.Sent.{Sent}
 use Rattle.rbc_rule.specs.Gathered.{is_forced_by, write_of, sent_of}
 use Rattle.rbc_rule.proofs.Gathering.{same_write, same_sent}
-use Rattle.rbc_rule.proofs.settling.settle_one.Goals.{in_default-via-in-Some+else-has, in_default-via-in_default}
-use Rattle.rbc_rule.proofs.settling.settle_one.Goals as goal
+use Rattle.rbc_rule.proofs.touched_trains.settle_one.Goals.{in_default-via-in-Some+else-has, in_default-via-in_default}
+use Rattle.rbc_rule.proofs.touched_trains.settle_one.Goals as goal
 
 pub returns-in-Some-clause-writes : goal.returns-in-Some-clause-writes
 returns-in-Some-clause-writes c =

@@ -3,7 +3,7 @@ use Rattle.rbc_rule.specs.World.{World}
 use Rattle.rbc_rule.specs.Right.{MayBe}
 use Rattle.rbc_rule.specs.Touching.{released_by}
 use Rattle.rbc_rule.specs.Gathered.{write_at, sent_at, AreSendable}
-use Rattle.rbc_rule.proofs.settling.settle_trains.Given as goal
+use Rattle.rbc_rule.proofs.touched_trains.settle_trains.Given as goal
 
 -- the trains of the engines so far are settled, in each world that may be the one that was read
 abbrev pub invariant-loop-engine : goal.invariant-loop-engine

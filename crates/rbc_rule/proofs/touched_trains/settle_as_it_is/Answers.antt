@@ -1,9 +1,9 @@
 use Rattle.std.proofs.Common.{rules, ◌≡◌, ◌+◌, ◌≤◌, ◌++◌, length, None, sym, ap, subst, ◌∙◌}
 use Rattle.std.proofs.lemmas.Result.{IfOk-from_err}
 use Rattle.rbc_rule.specs.Gathered.{sent_of, AreSendable}
-use Rattle.rbc_rule.specs.declared.settling.Gathered.{Gathered}
+use Rattle.rbc_rule.specs.declared.touched_trains.Gathered.{Gathered}
 use Rattle.rbc_rule.proofs.Gathering.{changed_written, same_not_written}
-use Rattle.rbc_rule.proofs.settling.settle_as_it_is.Goals as goal
+use Rattle.rbc_rule.proofs.touched_trains.settle_as_it_is.Goals as goal
 
 pub returns-in_err-after-clause-writes : goal.returns-in_err-after-clause-writes
 returns-in_err-after-clause-writes c = IfOk-from_err c.from_residual.result _ c.from_residual.ensures.0
