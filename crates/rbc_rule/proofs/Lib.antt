@@ -21,6 +21,5 @@ pub mod Seeking
 pub mod SettledPlaces
 pub mod Untouched
 pub mod WorldMaps
-pub mod WorldReading
 pub mod WorldSettling
 pub mod Worlds

@@ -1,5 +1,5 @@
 -- What holds in each world that may be the one that was read.
-use Rattle.std.proofs.Common.{◌≡◌, ℕ, [], Result, Ok, Err, IfErr, IsErrAnd, sym, ap, subst, ◌∙◌}
+use Rattle.std.proofs.Common.{◌≡◌, ℕ, [], Result, Err, sym, ap, subst, ◌∙◌}
 use Rattle.rbc_track.specs.Plan.{Plan}
 use Rattle.rbc_maps.specs.Maps.{value_or}
 use Rattle.rbc_records.specs.Notes.{Notes, Extends}
@@ -52,12 +52,3 @@ pub fault_of : (plan : Plan) (fault : RuleFault) (notes : Notes) (old new : ℕ)
 fault_of plan OutOfMemory notes old new h e = e
 fault_of plan Torn notes old new h e = (e, h)
 fault_of plan Reader notes old new h e = absurd h
-
-pub fault_handed_on : {T : Type 0} (plan : Plan) (notes : Notes) (old new : ℕ) (result : Result T RuleFault) (fault : RuleFault) → IsErrAnd result (λ other. other ≡ fault)
-    → IsFaultOf plan fault notes → new ≡ old → IfErr result (λ other. IsFault plan other notes old new)
-fault_handed_on plan notes old new (Ok value) fault is h e = tt
-fault_handed_on plan notes old new (Err other) fault is h e = subst (λ f. IsFault plan f notes old new) (sym is) (fault_of plan fault notes old new h e)
-
--- a lack of memory, where no read has failed since
-pub out_of_memory : (plan : Plan) (fault : RuleFault) (notes : Notes) (old new : ℕ) → fault ≡ OutOfMemory → new ≡ old → IsFault plan fault notes old new
-out_of_memory plan fault notes old new is same = subst (λ f. IsFault plan f notes old new) (sym is) same

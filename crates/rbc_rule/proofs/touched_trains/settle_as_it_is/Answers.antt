@@ -1,7 +1,5 @@
-use Rattle.std.proofs.Common.{rules, ◌≡◌, ◌+◌, ◌≤◌, ◌++◌, length, None, sym, ap, subst, ◌∙◌}
+use Rattle.std.proofs.Common.{rules, ◌≡◌, ◌++◌, None, ap, ◌∙◌}
 use Rattle.std.proofs.lemmas.Result.{IfOk-from_err}
-use Rattle.rbc_rule.specs.Gathered.{sent_of, AreSendable}
-use Rattle.rbc_rule.specs.declared.touched_trains.Gathered.{Gathered}
 use Rattle.rbc_rule.proofs.Gathering.{changed_written, same_not_written}
 use Rattle.rbc_rule.proofs.touched_trains.settle_as_it_is.Goals as goal
 
