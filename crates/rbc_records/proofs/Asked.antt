@@ -8,8 +8,8 @@ use Rattle.rbc_settle.specs.Segment.{Segment}
 use Rattle.rbc_settle.specs.Concerns.{concern_of, concern_at}
 use Rattle.rbc_settle.specs.declared.train.TrainRec.{TrainRec}
 use Rattle.rbc_settle.specs.Numbers.{has_number}
-use Rattle.rbc_records.specs.declared.bounds.Extent.{Extent}
-use Rattle.rbc_records.specs.Tolds.{has_bit, told_of_train}
+use Rattle.rbc_records.specs.declared.extent.Extent.{Extent}
+use Rattle.rbc_records.specs.ToldBits.{has_bit, told_bits_of_train}
 use Rattle.rbc_records.specs.Extents.{nowhere, everywhere, ahead_of, extent_of_train, extent_of_area, meet}
 use Rattle.rbc_records.specs.SoughtTrains.{is_concern}
 use Rattle.rbc_records.proofs.Reached.{reaches, unreached}
@@ -17,15 +17,15 @@ use Rattle.rbc_records.proofs.Meeting.{met_anywhere, met_ahead}
 use Rattle.rbc_records.proofs.Bits.{told_bit, bits_kept, numbers_bit, few_bit}
 
 -- the bit of a stop is set in each train that was told of it or rejected it
-pub asked_by_stop : (number : ℕ) (train : TrainRec) → (is_told train.stops number || has_number train.forced number) ≡ true → has_bit (told_of_train train).stops number ≡ true
+pub asked_by_stop : (number : ℕ) (train : TrainRec) → (is_told train.stops number || has_number train.forced number) ≡ true → has_bit (told_bits_of_train train).stops number ≡ true
 asked_by_stop number train h = by (is_told train.stops number) refl h
   where
-    by : (told : Bool) → is_told train.stops number ≡ told → (told || has_number train.forced number) ≡ true → has_bit (told_of_train train).stops number ≡ true
+    by : (told : Bool) → is_told train.stops number ≡ told → (told || has_number train.forced number) ≡ true → has_bit (told_bits_of_train train).stops number ≡ true
     by true told h = bits_kept train.forced number _ (told_bit train.stops number told)
     by false told h = numbers_bit train.forced number _ h
 
 -- the bit of a restriction in each that was told of it
-pub asked_by_limit : (number : ℕ) (train : TrainRec) → is_told train.limits number ≡ true → has_bit (told_of_train train).limits number ≡ true
+pub asked_by_limit : (number : ℕ) (train : TrainRec) → is_told train.limits number ≡ true → has_bit (told_bits_of_train train).limits number ≡ true
 asked_by_limit number train h = few_bit train.limits number h
 
 -- a list with a number is not empty

@@ -9,10 +9,10 @@ use Rattle.std.specs.Map.{keys_of}
 use Rattle.indexmap.specs.IndexMap.{insert_entry, swap_remove_entry}
 use Rattle.rbc_records.specs.declared.record.Key.{Key}
 use Rattle.rbc_records.specs.declared.record.Rec.{Rec}
-use Rattle.rbc_records.specs.declared.bounds.Told.{Told}
-use Rattle.rbc_records.specs.declared.bounds.Extent.{Extent}
+use Rattle.rbc_records.specs.declared.told_bits.ToldBits.{ToldBits}
+use Rattle.rbc_records.specs.declared.extent.Extent.{Extent}
 use Rattle.rbc_records.specs.contracts.record.KeyPartialEq.TheImpl.{eq-value}
-use Rattle.rbc_records.specs.Columns.{told_of, extent_of, tolds_of, extents_of, AreBeside}
+use Rattle.rbc_records.specs.Columns.{told_bits_of, extent_of, column_of, AreBeside}
 
 module _ {K V B : Type 0} (eq : K → K → Bool) (f : V → B) where
   -- the column that tells f of each value
@@ -71,35 +71,43 @@ found_within test (entry ∷ entries) index at =
     let place = position-Some test (keys_of (entry ∷ entries)) index entry.0 at in
     omega (arith, place.0, length-keys_of (entry ∷ entries))
 
-module _ (entries new : List (Key × Rec)) (tolds : List Told) (extents : List Extent) (beside : AreBeside entries tolds extents) where
+module _ (entries : List (Key × Rec)) (bits : List ToldBits) (extents : List Extent) (beside : AreBeside entries bits extents) where
+  -- a column is as long as the list of the records
+  pub bits_as_long : length bits ≡ length entries
+  bits_as_long = ap length beside.bits_are ∙ length-map entries (λ (entry : Key × Rec). told_bits_of entry.1)
+
+  pub extents_as_long : length extents ≡ length entries
+  extents_as_long = ap length beside.extents_are ∙ length-map entries (λ (entry : Key × Rec). extent_of entry.1)
+
+module _ (entries new : List (Key × Rec)) (bits : List ToldBits) (extents : List Extent) (beside : AreBeside entries bits extents) where
   module _ (k : Key) (rec : Rec) (put : new ≡ insert_entry eq-value.it entries k rec)
       (index : ℕ) (place : index ≡ position_or_len (eq-value.it k) (keys_of entries))
-      (told : Told) (told_is : told ≡ told_of rec) (extent : Extent) (extent_is : extent ≡ extent_of rec) where
-    pub put_over : index < length tolds → AreBeside new (set tolds index told) (set extents index extent)
+      (told : ToldBits) (told_is : told ≡ told_bits_of rec) (extent : Extent) (extent_is : extent ≡ extent_of rec) where
+    pub put_over : index < length bits → AreBeside new (set bits index told) (set extents index extent)
     put_over within =
-        let old : index < length entries = omega (arith, ap length beside.tolds_are, length-map entries (λ (entry : Key × Rec). told_of entry.1)) in
+        let old : index < length entries = omega (arith, bits_as_long entries bits extents beside) in
         let held = rw place at old in
         record {
-          tolds_are = (λ j. set (beside.tolds_are j) (place j) (told_is j)) ∙ sym (over eq-value.it told_of k rec entries held) ∙ ap tolds_of (sym put);
-          extents_are = (λ j. set (beside.extents_are j) (place j) (extent_is j)) ∙ sym (over eq-value.it extent_of k rec entries held) ∙ ap extents_of (sym put);
+          bits_are = (λ j. set (beside.bits_are j) (place j) (told_is j)) ∙ sym (over eq-value.it told_bits_of k rec entries held) ∙ ap (column_of told_bits_of) (sym put);
+          extents_are = (λ j. set (beside.extents_are j) (place j) (extent_is j)) ∙ sym (over eq-value.it extent_of k rec entries held) ∙ ap (column_of extent_of) (sym put);
         }
 
-    pub put_behind : length tolds ≤ index → AreBeside new (tolds ++ told ∷ []) (extents ++ extent ∷ [])
+    pub put_behind : length bits ≤ index → AreBeside new (bits ++ told ∷ []) (extents ++ extent ∷ [])
     put_behind beyond =
-        let old : length entries ≤ index = omega (arith, ap length beside.tolds_are, length-map entries (λ (entry : Key × Rec). told_of entry.1)) in
+        let old : length entries ≤ index = omega (arith, bits_as_long entries bits extents beside) in
         let held = rw place at old in
         record {
-          tolds_are = (λ j. beside.tolds_are j ++ told_is j ∷ []) ∙ sym (behind eq-value.it told_of k rec entries held) ∙ ap tolds_of (sym put);
-          extents_are = (λ j. beside.extents_are j ++ extent_is j ∷ []) ∙ sym (behind eq-value.it extent_of k rec entries held) ∙ ap extents_of (sym put);
+          bits_are = (λ j. beside.bits_are j ++ told_is j ∷ []) ∙ sym (behind eq-value.it told_bits_of k rec entries held) ∙ ap (column_of told_bits_of) (sym put);
+          extents_are = (λ j. beside.extents_are j ++ extent_is j ∷ []) ∙ sym (behind eq-value.it extent_of k rec entries held) ∙ ap (column_of extent_of) (sym put);
         }
 
-  pub taken_out : (test : Key → Bool) (index : ℕ) (told : Told) (extent : Extent) → Some index ≡ position test (keys_of entries) → new ≡ swap_remove_entry test entries
-      → AreBeside new (swap_remove tolds index told) (swap_remove extents index extent)
+  pub taken_out : (test : Key → Bool) (index : ℕ) (told : ToldBits) (extent : Extent) → Some index ≡ position test (keys_of entries) → new ≡ swap_remove_entry test entries
+      → AreBeside new (swap_remove bits index told) (swap_remove extents index extent)
   taken_out test index told extent at taken =
       let within = found_within test entries index (sym at) in
       let left = left_by test entries index (sym at) in
       let now : new ≡ swap_remove entries index left.0 = taken ∙ left.1 in
       record {
-        tolds_are = ap (λ (all : List Told). swap_remove all index told) beside.tolds_are ∙ sym (removed eq-value.it told_of entries index left.0 told within) ∙ ap tolds_of (sym now);
-        extents_are = ap (λ (all : List Extent). swap_remove all index extent) beside.extents_are ∙ sym (removed eq-value.it extent_of entries index left.0 extent within) ∙ ap extents_of (sym now);
+        bits_are = ap (λ (all : List ToldBits). swap_remove all index told) beside.bits_are ∙ sym (removed eq-value.it told_bits_of entries index left.0 told within) ∙ ap (column_of told_bits_of) (sym now);
+        extents_are = ap (λ (all : List Extent). swap_remove all index extent) beside.extents_are ∙ sym (removed eq-value.it extent_of entries index left.0 extent within) ∙ ap (column_of extent_of) (sym now);
       }

@@ -9,7 +9,7 @@ use Rattle.rbc_settle.specs.Table.{Slots, tells, is_told}
 use Rattle.rbc_settle.specs.Slot.{Slot}
 use Rattle.rbc_settle.specs.Slot.TheVariants.{Used, Revoking}
 use Rattle.rbc_settle.specs.Numbers.{has_number}
-use Rattle.rbc_records.specs.Tolds.{has_bit, with_bit, with_slot, bits_of_slots, bits_of_few}
+use Rattle.rbc_records.specs.ToldBits.{has_bit, with_bit, with_slot, bits_of_slots, bits_of_few}
 
 -- a set bit stays with one more number
 pub bit_kept : (n bits m : ℕ) → has_bit bits n ≡ true → has_bit (with_bit bits m) n ≡ true

@@ -1,29 +1,18 @@
 -- The engines that pass a column's test are those of all trains that are sought.
-use Rattle.std.proofs.Common.{◌≡◌, ℕ, Bool, true, false, cond, if◌then◌else◌, ◌&&◌, ◌||◌, nat_lt, List, [], ◌∷◌, Option, None, Some, is_some, Result, Ok, Err, IfOk, IfSome, length, suc, arith, refl, sym, ap, ◌∙◌, lt-ltb}
+use Rattle.std.proofs.Common.{◌≡◌, ℕ, Bool, true, false, cond, ◌&&◌, ◌||◌, List, [], ◌∷◌, Option, None, Some, is_some, Result, Ok, Err, IfOk, IfSome, refl, sym, ap, ◌∙◌}
 use Rattle.std.specs.List.{list_any}
-use Rattle.std.specs.Option.{option_map_or}
-use Rattle.rbc_settle.specs.Table.{is_told}
-use Rattle.rbc_settle.specs.Placing.{Place}
-use Rattle.rbc_settle.specs.Segment.{Segment}
-use Rattle.rbc_settle.specs.Concerns.{concern_of, concern_at}
 use Rattle.rbc_settle.specs.declared.train.TrainRec.{TrainRec}
 use Rattle.rbc_settle.specs.Numbers.{has_number}
 use Rattle.rbc_records.specs.declared.record.Key.{Key}
 use Rattle.rbc_records.specs.declared.record.Key.TheVariants as key
 use Rattle.rbc_records.specs.declared.record.Rec.{Rec}
 use Rattle.rbc_records.specs.declared.record.Rec.TheVariants as rec
-use Rattle.rbc_records.specs.declared.bounds.Sought.{Sought}
+use Rattle.rbc_records.specs.declared.search.Sought.{Sought}
 use Rattle.rbc_records.specs.Notes.{Whole, record_in, same_key}
-use Rattle.rbc_records.specs.SoughtTrains.{is_sought, is_concern}
+use Rattle.rbc_records.specs.SoughtTrains.{is_sought}
 use Rattle.rbc_records.specs.Seeking.{AreFound}
-use Rattle.rbc_records.specs.declared.bounds.Extent.{Extent}
-use Rattle.rbc_records.specs.Tolds.{has_bit}
-use Rattle.rbc_records.specs.Extents.{nowhere, everywhere, extent_of_area, ahead_of, meet}
-use Rattle.rbc_records.specs.Columns.{told_of, extent_of, is_of_train, ArePassing}
+use Rattle.rbc_records.specs.Columns.{is_of_train, ArePassing}
 use Rattle.rbc_records.proofs.Keys.{same_key_sym, same_key_is, same_key_own}
-use Rattle.rbc_records.proofs.Reached.{reaches, unreached}
-use Rattle.rbc_records.proofs.Meeting.{met_anywhere, met_ahead}
-use Rattle.rbc_records.proofs.Bits.{told_bit, bits_kept, numbers_bit, few_bit}
 
 -- the entry of a train has its key
 own_key : (engine : ℕ) (k : Key) (r : Rec) → is_of_train engine k r ≡ true → same_key (key.Train engine) k ≡ true

@@ -8,8 +8,8 @@ use Rattle.rbc_settle.specs.Way.{Way}
 use Rattle.rbc_settle.specs.Way.TheVariants.{Up, Down}
 use Rattle.rbc_settle.specs.Placing.{Place}
 use Rattle.rbc_settle.specs.Segment.{Segment}
-use Rattle.rbc_records.specs.declared.bounds.Extent.{Extent}
-use Rattle.rbc_records.specs.Tolds.{has_bit, with_bit}
+use Rattle.rbc_records.specs.declared.extent.Extent.{Extent}
+use Rattle.rbc_records.specs.ToldBits.{has_bit, with_bit}
 use Rattle.rbc_records.specs.Extents.{nowhere, everywhere, ahead_of, with_segment, extent_of_area, meet}
 use Rattle.rbc_records.proofs.Bits.{bit_kept, bit_set, every_bit, shared_bit}
 use Rattle.rbc_records.proofs.Reached.{reaches}

@@ -2,9 +2,9 @@
 use Rattle.std.specs.Prelude.{◌≡◌, ℕ, Bool, false, ◌==◌, ◌&&◌, List, map}
 use Rattle.std.specs.List.{list_any}
 use Rattle.rbc_settle.specs.Numbers.{has_number}
-use Rattle.rbc_records.specs.declared.bounds.Told.{Told}
-use Rattle.rbc_records.specs.declared.bounds.Extent.{Extent}
-use Rattle.rbc_records.specs.Tolds.{told_of_train}
+use Rattle.rbc_records.specs.declared.told_bits.ToldBits.{ToldBits}
+use Rattle.rbc_records.specs.declared.extent.Extent.{Extent}
+use Rattle.rbc_records.specs.ToldBits.{told_bits_of_train}
 use Rattle.rbc_records.specs.Extents.{nowhere, extent_of_train}
 use Rattle.rbc_records.specs.declared.record.Key.TheVariants as key
 use Rattle.rbc_records.specs.declared.record.Key.{Key}
@@ -12,11 +12,11 @@ use Rattle.rbc_records.specs.declared.record.Rec.TheVariants as rec
 use Rattle.rbc_records.specs.declared.record.Rec.{Rec}
 
 -- what the train of a record was told; nothing if it is that of no train
-abbrev pub told_of : Rec → Told
-told_of (rec.Engines engines) = record { stops = 0; limits = 0 }
-told_of (rec.Train train) = told_of_train train
-told_of (rec.Stops stops) = record { stops = 0; limits = 0 }
-told_of (rec.Limits limits) = record { stops = 0; limits = 0 }
+abbrev pub told_bits_of : Rec → ToldBits
+told_bits_of (rec.Engines engines) = record { stops = 0; limits = 0 }
+told_bits_of (rec.Train train) = told_bits_of_train train
+told_bits_of (rec.Stops stops) = record { stops = 0; limits = 0 }
+told_bits_of (rec.Limits limits) = record { stops = 0; limits = 0 }
 
 -- where a new stop has to lie that is told to the train of a record
 abbrev pub extent_of : Rec → Extent
@@ -25,18 +25,14 @@ extent_of (rec.Train train) = extent_of_train train
 extent_of (rec.Stops stops) = nowhere
 extent_of (rec.Limits limits) = nowhere
 
--- what was told, for each record
-abbrev pub tolds_of : List (Key × Rec) → List Told
-tolds_of entries = map (λ entry. told_of entry.1) entries
-
--- where a new stop has to lie that its train is told, for each record
-abbrev pub extents_of : List (Key × Rec) → List Extent
-extents_of entries = map (λ entry. extent_of entry.1) entries
+-- a column: what f gives of each record, in their order
+abbrev pub column_of : {T : Type 0} → (Rec → T) → List (Key × Rec) → List T
+column_of {T} f entries = map {B = T} (λ (entry : Key × Rec). f entry.1) entries
 
 -- The columns of a table stand beside its records, index by index.
-pub record AreBeside (entries : List (Key × Rec)) (tolds : List Told) (extents : List Extent) : Type 0 where
-  pub tolds_are : tolds ≡ tolds_of entries
-  pub extents_are : extents ≡ extents_of entries
+pub record AreBeside (entries : List (Key × Rec)) (bits : List ToldBits) (extents : List Extent) : Type 0 where
+  pub bits_are : bits ≡ column_of told_bits_of entries
+  pub extents_are : extents ≡ column_of extent_of entries
 
 -- the records of a table, and how many more it can take without memory
 pub record Kept : Type 0 where

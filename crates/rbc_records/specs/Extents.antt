@@ -7,8 +7,8 @@ use Rattle.rbc_settle.specs.Way.{Way}
 use Rattle.rbc_settle.specs.Way.TheVariants as way
 use Rattle.rbc_settle.specs.Placing.{Place}
 use Rattle.rbc_settle.specs.declared.train.TrainRec.{TrainRec}
-use Rattle.rbc_records.specs.Tolds.{with_bit}
-use Rattle.rbc_records.specs.declared.bounds.Extent.{Extent}
+use Rattle.rbc_records.specs.ToldBits.{with_bit}
+use Rattle.rbc_records.specs.declared.extent.Extent.{Extent}
 
 -- no place, and all places
 abbrev pub nowhere : Extent

@@ -1,4 +1,4 @@
-pub mod Tolds
+pub mod ToldBits
 pub mod Extents
 pub mod SoughtTrains
 pub mod Notes

@@ -2,7 +2,7 @@
 use Rattle.std.specs.Prelude.{◌≡◌, ℕ, true, List, Some, is_some, IsTrue}
 use Rattle.rbc_settle.specs.declared.train.TrainRec.{TrainRec}
 use Rattle.rbc_settle.specs.Numbers.{has_number}
-use Rattle.rbc_records.specs.declared.bounds.Sought.{Sought}
+use Rattle.rbc_records.specs.declared.search.Sought.{Sought}
 use Rattle.rbc_records.specs.SoughtTrains.{is_sought}
 use Rattle.rbc_records.specs.declared.record.Key.TheVariants as key
 use Rattle.rbc_records.specs.declared.record.Key.{Key}

@@ -6,8 +6,8 @@ use Rattle.rbc_settle.specs.Concern.TheVariants as concern
 use Rattle.rbc_settle.specs.declared.train.TrainRec.{TrainRec}
 use Rattle.rbc_settle.specs.Numbers.{has_number}
 use Rattle.rbc_settle.specs.Settling.{concern_to}
-use Rattle.rbc_records.specs.declared.bounds.Sought.{Sought}
-use Rattle.rbc_records.specs.declared.bounds.Sought.TheVariants as sought
+use Rattle.rbc_records.specs.declared.search.Sought.{Sought}
+use Rattle.rbc_records.specs.declared.search.Sought.TheVariants as sought
 
 -- a stop is something to a train
 abbrev pub is_concern : Concern → Bool

@@ -1,7 +1,7 @@
 //! Reading single records.
 
-use crate::bounds::Sought;
 use crate::record::{Key, Rec};
+use crate::search::Sought;
 use crate::writes::Writes;
 use rbc_settle::Numbers;
 use std::alloc::{AllocError, Global};

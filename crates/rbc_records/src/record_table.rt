@@ -1,16 +1,17 @@
 //! A table of records, with what a search reads of them beside it.
 
-ghost use Rattle.std.specs.Prelude.{◌≡◌, ℕ, ◌+◌, ◌<◌, ◌≤◌, [], length, slice_get, Some, None, is_some, IsTrue, IsFalse};
-ghost use Rattle.std.specs.Prelude.{OnOk, OnErr, IfOk, IfSome, option_copied};
+ghost use Rattle.std.specs.Prelude.{◌≡◌, ◌+◌, ◌<◌, ◌≤◌, [], length, slice_get, Some, None, is_some, IsTrue, IsFalse};
+ghost use Rattle.std.specs.Prelude.{OnOk, IfOk, IfSome, option_copied};
 ghost use Rattle.rbc_records.specs.declared.record.Key.{Key};
 ghost use Rattle.rbc_records.specs.Notes.{Whole, record_in};
-ghost use Rattle.rbc_records.specs.Columns.{told_of, extent_of};
+ghost use Rattle.rbc_records.specs.Columns.{told_bits_of, extent_of};
 ghost use Rattle.rbc_records.specs.Seeking.{AreFound};
 ghost use Rattle.rbc_records.specs.Writes.{write_over};
 
-use crate::bounds::{Extent, Sought, Told};
+use crate::extent::{Extent, NOWHERE};
 use crate::record::{Key, Rec};
-use crate::search;
+use crate::search::{Sought, passing};
+use crate::told_bits::{ToldBits, has_bit};
 use indexmap::IndexMap;
 use rbc_settle::Numbers;
 use std::alloc::{AllocError, Global};
@@ -22,7 +23,7 @@ use std::mem;
 #[derive(Drop)]
 pub struct Table {
     entries: IndexMap<Key, Rec>,
-    tolds: Vec<Told>,
+    bits: Vec<ToldBits>,
     extents: Vec<Extent>,
 }
 
@@ -36,10 +37,10 @@ impl Model for Table {
     ghost view = { λ table. record {
       entries = table.entries.entries;
       room = min (spare table.entries)
-          (min (vec_capacity table.tolds - vec_len table.tolds) (vec_capacity table.extents - vec_len table.extents));
+          (min (vec_capacity table.bits - vec_len table.bits) (vec_capacity table.extents - vec_len table.extents));
     } };
 
-    ghost invariant = { λ table. AreBeside table.entries.entries table.tolds.items table.extents.items };
+    ghost invariant = { λ table. AreBeside table.entries.entries table.bits.items table.extents.items };
 }
 
 impl Table {
@@ -49,7 +50,7 @@ impl Table {
     {
         Table {
             entries: IndexMap::new(alloc),
-            tolds: Vec::new(alloc),
+            bits: Vec::new(alloc),
             extents: Vec::new(alloc),
         }
     }
@@ -82,7 +83,7 @@ impl Table {
         ensures entries { self.new.entries ≡ self.old.entries }
         ensures ok { OnOk result (additional ≤ self.new.room) }
     {
-        self.tolds.reserve(additional)?;
+        self.bits.reserve(additional)?;
         self.extents.reserve(additional)?;
         self.entries.reserve(additional)
     }
@@ -95,14 +96,14 @@ impl Table {
         ensures replaced { result ≡ record_in self.old.entries key }
         ensures room { self.old.room ≤ self.new.room + 1 }
     {
-        let told = told_of(&rec);
+        let bits = told_bits_of(&rec);
         let extent = extent_of(&rec);
         let (index, old) = self.entries.insert_full(key, rec).unwrap();
-        if index < self.tolds.len() {
-            self.tolds[index] = told;
+        if index < self.bits.len() {
+            self.bits[index] = bits;
             self.extents[index] = extent;
         } else {
-            self.tolds.push(told).unwrap();
+            self.bits.push(bits).unwrap();
             self.extents.push(extent).unwrap();
         }
         old
@@ -121,7 +122,7 @@ impl Table {
         let Some(index) = self.entries.get_index_of(&key) else {
             return false;
         };
-        self.tolds[index] = told_of(rec);
+        self.bits[index] = told_bits_of(rec);
         self.extents[index] = extent_of(rec);
         mem::swap(self.entries.get_index_mut(index).unwrap(), rec);
         true
@@ -135,7 +136,7 @@ impl Table {
         ensures room { self.old.room ≤ self.new.room }
     {
         let (index, _, rec) = self.entries.swap_remove_full(&key)?;
-        let _ = self.tolds.swap_remove(index);
+        let _ = self.bits.swap_remove(index);
         let _ = self.extents.swap_remove(index);
         Some(rec)
     }
@@ -145,27 +146,35 @@ impl Table {
     pub fn search(&self, alloc: Global, sought: Sought<'_>) -> Result<Option<Numbers>, AllocError>
         ensures { IfOk result (λ found. IfSome found (AreFound (Whole self.now.entries) sought.entry)) }
     {
-        let tolds = self.tolds.as_slice();
+        let entries = &self.entries;
+        let bits = self.bits.as_slice();
         match sought {
-            Sought::ToldOfStop(number) => search::told_of_stop(alloc, &self.entries, tolds, number),
+            Sought::ToldOfStop(number) => {
+                passing(alloc, entries, bits, |told| has_bit(told.stops, number))
+            }
             Sought::ToldOfLimit(number) => {
-                search::told_of_limit(alloc, &self.entries, tolds, number)
+                passing(alloc, entries, bits, |told| has_bit(told.limits, number))
             }
             Sought::Stoppable(_, area) => {
-                let extent = Extent::of_area(area);
-                search::stoppable(alloc, &self.entries, self.extents.as_slice(), extent)
+                let of_area = Extent::of_area(area);
+                passing(
+                    alloc,
+                    entries,
+                    self.extents.as_slice(),
+                    |extent| of_area.meets(&extent),
+                )
             }
         }
     }
 }
 
 /// What the train of a record was told; nothing if it is that of no train.
-fn told_of(rec: &Rec) -> Told
-    ensures { result ≡ told_of rec.now }
+fn told_bits_of(rec: &Rec) -> ToldBits
+    ensures { result ≡ told_bits_of rec.now }
 {
     match rec {
-        Rec::Train(train) => Told::of(train),
-        Rec::Engines(_) | Rec::Stops(_) | Rec::Limits(_) => Told {
+        Rec::Train(train) => ToldBits::of(train),
+        Rec::Engines(_) | Rec::Stops(_) | Rec::Limits(_) => ToldBits {
             stops: 0,
             limits: 0,
         },
@@ -178,6 +187,6 @@ fn extent_of(rec: &Rec) -> Extent
 {
     match rec {
         Rec::Train(train) => Extent::of_train(train),
-        Rec::Engines(_) | Rec::Stops(_) | Rec::Limits(_) => Extent::nowhere(),
+        Rec::Engines(_) | Rec::Stops(_) | Rec::Limits(_) => NOWHERE,
     }
 }

@@ -1,77 +1,46 @@
 //! Searches for trains, each by a scan of one column.
 
-ghost use Rattle.std.specs.Prelude.{◌≡◌, ℕ, ◌<◌, ◌||◌, length, slice_get, Some, IfOk, IfSome, IsTrue};
+ghost use Rattle.std.specs.Prelude.{◌≡◌, ℕ, ◌<◌, ◌||◌, Bool, length, slice_get, Some, IfOk, IfSome, IsTrue};
 ghost use Rattle.rbc_settle.specs.Numbers.{has_number};
 ghost use Rattle.rbc_records.specs.declared.record.Key.{Key};
 ghost use Rattle.rbc_records.specs.declared.record.Rec.{Rec};
-ghost use Rattle.rbc_records.specs.Tolds.{has_bit};
-ghost use Rattle.rbc_records.specs.Extents.{meet};
-ghost use Rattle.rbc_records.specs.Columns.{told_of, extent_of, tolds_of, extents_of, is_of_train, ArePassing};
+ghost use Rattle.rbc_records.specs.Columns.{column_of, is_of_train, ArePassing};
 
-use crate::bounds::{Extent, Told, has_bit};
 use crate::record::{Key, Rec};
 use indexmap::IndexMap;
-use rbc_settle::Numbers;
+use rbc_settle::{Area, Numbers};
 use std::alloc::{AllocError, Global};
+
+/// The trains for which a command may have something to do.
+#[derive(Clone, Copy)]
+pub enum Sought<'a> {
+    /// Those that were told of the stop of this number, or that stop at once for it.
+    ToldOfStop(u32),
+    /// Those that were told of the temporary speed restriction of this number.
+    ToldOfLimit(u32),
+    /// Those with a free stop identifier (NID_EM) that the stop of this number concerns, which closes this area.
+    Stoppable(u32, &'a Area),
+}
 
 /// The most trains that a search returns. A command for more of them goes through all as fast.
 const MAX_FOUND: usize = 256;
 
-/// The engines of the trains that may have been told of a stop or have rejected it. `None` where they are many.
-pub fn told_of_stop(
+/// The engines of the trains whose entries in a column pass a test. `None` where they are many.
+pub fn passing<T: Copy, F: Fn(T) -> bool>(
     alloc: Global,
     entries: &IndexMap<Key, Rec>,
-    tolds: &[Told],
-    number: u32,
+    column: &[T],
+    passes: F,
 ) -> Result<Option<Numbers>, AllocError>
-    requires { tolds.now ≡ tolds_of entries.now.entries }
-    ensures { IfOk result (λ found. IfSome found
-        (ArePassing (λ rec. has_bit (told_of rec).stops number) entries.now.entries)) }
+    requires beside { length column.now ≡ length entries.now.entries }
+    requires calls { F.IsAlwaysCallable passes }
+    ensures { (of : Rec → T) (test : T → Bool) → column.now ≡ column_of of entries.now.entries
+        → ((entry : T) (answer : Bool) → F.post passes entry answer → answer ≡ test entry)
+        → IfOk result (λ found. IfSome found (ArePassing (λ rec. test (of rec)) entries.now.entries)) }
 {
     let mut found = Numbers::new(alloc);
-    for (index, told) in tolds.iter().enumerate() {
-        if has_bit(told.stops, number) && !add_train(entries, index, &mut found)? {
-            return Ok(None);
-        }
-    }
-    Ok(Some(found))
-}
-
-/// The engines of the trains that may have been told of a temporary speed restriction. `None` where they are many.
-pub fn told_of_limit(
-    alloc: Global,
-    entries: &IndexMap<Key, Rec>,
-    tolds: &[Told],
-    number: u32,
-) -> Result<Option<Numbers>, AllocError>
-    requires { tolds.now ≡ tolds_of entries.now.entries }
-    ensures { IfOk result (λ found. IfSome found
-        (ArePassing (λ rec. has_bit (told_of rec).limits number) entries.now.entries)) }
-{
-    let mut found = Numbers::new(alloc);
-    for (index, told) in tolds.iter().enumerate() {
-        if has_bit(told.limits, number) && !add_train(entries, index, &mut found)? {
-            return Ok(None);
-        }
-    }
-    Ok(Some(found))
-}
-
-/// The engines of the trains that may have to be told of a new stop that lies somewhere in an extent. `None` where they
-/// are many.
-pub fn stoppable(
-    alloc: Global,
-    entries: &IndexMap<Key, Rec>,
-    extents: &[Extent],
-    sought: Extent,
-) -> Result<Option<Numbers>, AllocError>
-    requires { extents.now ≡ extents_of entries.now.entries }
-    ensures { IfOk result (λ found. IfSome found
-        (ArePassing (λ rec. meet sought (extent_of rec)) entries.now.entries)) }
-{
-    let mut found = Numbers::new(alloc);
-    for (index, extent) in extents.iter().enumerate() {
-        if sought.meets(extent) && !add_train(entries, index, &mut found)? {
+    for (index, entry) in column.iter().enumerate() {
+        if passes(*entry) && !add_train(entries, index, &mut found)? {
             return Ok(None);
         }
     }

@@ -1,15 +1,15 @@
 //! A store of all records.
 
-ghost use Rattle.std.specs.Prelude.{◌≡◌, ℕ, ◌+◌, ◌<◌, ◌≤◌, [], length, slice_get, Some, OnOk, OnErr, IfOk, IfErr, IsOk};
+ghost use Rattle.std.specs.Prelude.{◌≡◌, ◌+◌, ◌<◌, ◌≤◌, [], length, slice_get, Some, OnOk, OnErr, IfOk, IfErr, IsOk};
 ghost use Rattle.std.specs.Prelude.{option_copied};
 ghost use Rattle.rbc_records.specs.declared.record.Key.{Key};
 ghost use Rattle.rbc_records.specs.Notes.{record_in};
 ghost use Rattle.rbc_records.specs.Writes.{written, write_over, replaced};
 
-use crate::bounds::Sought;
 use crate::reader::{ReadFault, Reader};
 use crate::record::{Key, Rec};
 use crate::record_table::Table;
+use crate::search::Sought;
 use crate::writes::Writes;
 use rbc_settle::Numbers;
 use std::alloc::{AllocError, Global};

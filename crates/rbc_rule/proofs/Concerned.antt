@@ -15,7 +15,7 @@ use Rattle.rbc_settle.specs.declared.train.TrainRec.{TrainRec}
 use Rattle.rbc_settle.specs.Numbers.{AreNumbers, has_number}
 use Rattle.rbc_settle.specs.Settling.{Stops, Limits}
 use Rattle.rbc_records.specs.declared.record.Key.TheVariants as key
-use Rattle.rbc_records.specs.declared.bounds.Sought.TheVariants as sought
+use Rattle.rbc_records.specs.declared.search.Sought.TheVariants as sought
 use Rattle.rbc_records.specs.Notes.{same_key}
 use Rattle.rbc_rule.specs.Bounds.{max_trains}
 use Rattle.rbc_rule.specs.declared.touch.Change.TheVariants as change

@@ -9,7 +9,7 @@ use Rattle.rbc_settle.specs.Settling.{Stops, Limits}
 use Rattle.rbc_settle.proofs.Labels.{all_from}
 use Rattle.rbc_records.specs.declared.record.Key.TheVariants as key
 use Rattle.rbc_records.specs.declared.record.Rec.TheVariants as rec
-use Rattle.rbc_records.specs.declared.bounds.Sought.{Sought}
+use Rattle.rbc_records.specs.declared.search.Sought.{Sought}
 use Rattle.rbc_records.specs.Notes.{Notes, knows}
 use Rattle.rbc_records.specs.SoughtTrains.{is_sought}
 use Rattle.rbc_records.specs.Seeking.{AreFound}

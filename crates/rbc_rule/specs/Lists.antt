@@ -10,7 +10,7 @@ use Rattle.rbc_records.specs.declared.record.Key.{Key}
 use Rattle.rbc_records.specs.declared.record.Key.TheVariants as key
 use Rattle.rbc_records.specs.declared.record.Rec.{Rec}
 use Rattle.rbc_records.specs.declared.record.Rec.TheVariants as rec
-use Rattle.rbc_records.specs.declared.bounds.Sought.{Sought}
+use Rattle.rbc_records.specs.declared.search.Sought.{Sought}
 use Rattle.rbc_records.specs.Notes.{Notes, knows, same_key}
 use Rattle.rbc_records.specs.SoughtTrains.{is_sought}
 use Rattle.rbc_rule.specs.World.{World}

@@ -4,7 +4,7 @@ use Rattle.std.proofs.lemmas.List.Elements.{All-head, All-tail}
 use Rattle.std.specs.Map.{lookup}
 use Rattle.std.specs.Option.{option_map}
 use Rattle.rbc_records.proofs.Keys.{eq_is, same_key_is}
-use Rattle.rbc_records.proofs.Learning.{found_is_noted, found_is_note}
+use Rattle.rbc_versions.proofs.Learning.{found_is_noted, found_is_note}
 use Rattle.rbc_records.specs.declared.record.Key.{Key}
 use Rattle.rbc_records.specs.declared.record.Rec.{Rec}
 use Rattle.rbc_records.specs.contracts.record.KeyPartialEq.TheImpl.{eq-value}

@@ -1,3 +1,4 @@
+pub mod Learning
 pub mod Finding
 pub mod Putting
 pub mod Standing

@@ -1,7 +1,7 @@
 use Rattle.std.proofs.Common.{rules, refl, subst, sym, ap, ◌∙◌, IfSome, option_copied}
 use Rattle.rbc_track.specs.Plan.{Plan}
 use Rattle.rbc_settle.specs.Numbers.{AreNumbers}
-use Rattle.rbc_records.specs.declared.bounds.Sought.TheVariants as sought
+use Rattle.rbc_records.specs.declared.search.Sought.TheVariants as sought
 use Rattle.rbc_rule.specs.World.{World}
 use Rattle.rbc_rule.specs.Right.{MayBe}
 use Rattle.rbc_rule.specs.Lists.{AreEnginesOf, HaveSought, may_stop}

@@ -3,7 +3,7 @@ use Rattle.std.specs.Option.{option_map}
 use Rattle.indexmap.proofs.CallerLemmas.{insert_entry-new}
 use Rattle.rbc_records.specs.contracts.record.KeyPartialEq.TheImpl.{eq-value}
 use Rattle.rbc_records.specs.Notes.{Part, Learns, IsNotedOnce}
-use Rattle.rbc_records.proofs.Learning.{learned, once_more}
+use Rattle.rbc_versions.proofs.Learning.{learned, once_more}
 use Rattle.rbc_versions.specs.Entries.{shown, record_of}
 use Rattle.rbc_versions.proofs.Finding.{no_ticket, shown_append}
 use Rattle.rbc_versions.proofs.noted_numbers.append.Goals as goal

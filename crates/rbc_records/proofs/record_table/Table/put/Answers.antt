@@ -9,16 +9,16 @@ pub invariant_of-self : goal.invariant_of-self
 invariant_of-self c =
     let entries = rw c.unwrap-index.ensures at c.insert_full.ensures.entries in
     let index = rw c.unwrap-index.ensures at c.insert_full.ensures.index in
-    put_over _ _ _ _ c.self.invariant c.args.key c.args.rec entries _ index _ c.told_of-told.ensures _ c.extent_of-extent.ensures (search rules)
+    put_over _ _ _ _ c.self.invariant c.args.key c.args.rec entries _ index _ c.told_bits_of-bits.ensures _ c.extent_of-extent.ensures (search rules)
 
 pub invariant_of-self-else-index-len : goal.invariant_of-self-else-index-len
 invariant_of-self-else-index-len c =
     let entries = rw c.unwrap-index.ensures at c.insert_full.ensures.entries in
     let index = rw c.unwrap-index.ensures at c.insert_full.ensures.index in
-    let beside = put_behind _ _ _ _ c.self.invariant c.args.key c.args.rec entries _ index _ c.told_of-told.ensures _ c.extent_of-extent.ensures (search rules) in
-    let tolds = rw c.unwrap.ensures at c.push.ensures.items in
+    let beside = put_behind _ _ _ _ c.self.invariant c.args.key c.args.rec entries _ index _ c.told_bits_of-bits.ensures _ c.extent_of-extent.ensures (search rules) in
+    let bits = rw c.unwrap.ensures at c.push.ensures.items in
     let extents = rw c.unwrap-else-index-len.ensures at c.push-else-index-len.ensures.items in
-    rw (tolds, extents) beside
+    rw (bits, extents) beside
 
 pub returns-then-index-len-clause-records : goal.returns-then-index-len-clause-records
 returns-then-index-len-clause-records c =

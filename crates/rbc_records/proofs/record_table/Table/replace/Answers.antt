@@ -1,14 +1,12 @@
 use Rattle.std.proofs.Common.{◌≡◌, ◌<◌, ◌∙◌, ap, sym, arith, cond, is_some, length, position, Some}
 use Rattle.std.specs.Map.{keys_of}
 use Rattle.std.specs.Option.{option_copied_mut}
-use Rattle.std.proofs.lemmas.List.{length-map}
 use Rattle.indexmap.specs.IndexMap.{set_value_at}
-use Rattle.rbc_records.specs.declared.record.Key.{Key}
 use Rattle.rbc_records.specs.declared.record.Rec.{Rec}
 use Rattle.rbc_records.specs.contracts.record.KeyPartialEq.TheImpl.{eq-value}
-use Rattle.rbc_records.specs.Columns.{Kept, told_of}
+use Rattle.rbc_records.specs.Columns.{Kept}
 use Rattle.rbc_records.specs.Notes.{record_in, same_key}
-use Rattle.rbc_records.proofs.Beside.{put_over}
+use Rattle.rbc_records.proofs.Beside.{put_over, bits_as_long}
 use Rattle.rbc_records.proofs.Keys.{lookup_is}
 use Rattle.rbc_records.proofs.Replacing.{exchanged_is_put, record_in_exchanged, stands_within, stands_first, stands_at}
 use Rattle.rbc_records.proofs.record_table.Table.replace.Goals as goal
@@ -24,9 +22,8 @@ invariant_of-self c =
     let index = c.in-Some.index in
     let at : position (eq-value.it c.args.key) (keys_of entries) ≡ Some index = sym c.in-Some.ensures.index in
     let put = ap (λ (rec : Rec). set_value_at entries index rec) c.swap.ensures.x_after ∙ exchanged_is_put c.args.key c.args.rec.now entries index at in
-    let within : index < length c.self.inside.tolds.items =
-    omega (arith, stands_within c.args.key entries index at, ap length c.self.invariant.tolds_are, length-map entries (λ (entry : Key × Rec). told_of entry.1)) in
-    put_over entries _ _ _ c.self.invariant c.args.key c.args.rec.now put index (stands_first c.args.key entries index at) _ c.told_of.ensures _ c.extent_of.ensures within
+    let within : index < length c.self.inside.bits.items = omega (arith, stands_within c.args.key entries index at, bits_as_long entries _ _ c.self.invariant) in
+    put_over entries _ _ _ c.self.invariant c.args.key c.args.rec.now put index (stands_first c.args.key entries index at) _ c.told_bits_of.ensures _ c.extent_of.ensures within
 
 pub returns-clause-held : goal.returns-clause-held
 returns-clause-held c =

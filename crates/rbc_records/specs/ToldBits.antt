@@ -6,7 +6,7 @@ use Rattle.rbc_settle.specs.Table.{Slots}
 use Rattle.rbc_settle.specs.Slot.{Slot}
 use Rattle.rbc_settle.specs.Slot.TheVariants.{Used, Revoking}
 use Rattle.rbc_settle.specs.declared.train.TrainRec.{TrainRec}
-use Rattle.rbc_records.specs.declared.bounds.Told.{Told}
+use Rattle.rbc_records.specs.declared.told_bits.ToldBits.{ToldBits}
 
 -- the bit of a number is set; there are 64 bits
 abbrev pub has_bit : ℕ → ℕ → Bool
@@ -30,5 +30,5 @@ abbrev pub bits_of_few : Slots → ℕ
 bits_of_few slots = if nat_lt 16 (length slots) then 2 ^ 64 - 1 else bits_of_slots slots
 
 -- the bits of the stops and of the restrictions that a train was told, the stops that it rejected among them
-abbrev pub told_of_train : TrainRec → Told
-told_of_train train = record { stops = fold with_bit (bits_of_slots train.stops) train.forced; limits = bits_of_few train.limits }
+abbrev pub told_bits_of_train : TrainRec → ToldBits
+told_bits_of_train train = record { stops = fold with_bit (bits_of_slots train.stops) train.forced; limits = bits_of_few train.limits }

@@ -1,5 +1,8 @@
 -- Notes that grow at their end, and what is looked up in them.
-use Rattle.std.proofs.Common.{◌≡◌, refl, sym, ap, ◌∙◌, List, [], ◌∷◌, ◌++◌, Option, Some, None, is_some, Bool, true, false, ◌||◌, cond}
+use Rattle.std.proofs.Common.{◌≡◌, refl, sym, ap, ◌∙◌, List, [], ◌∷◌, ◌++◌, Option, Some, is_some, Bool, true, false, ◌||◌, cond}
+use Rattle.std.proofs.Math.Bool.{or_comm}
+use Rattle.std.proofs.lemmas.Bool.{or_parts}
+use Rattle.std.proofs.lemmas.List.Folds.{list_any-append}
 use Rattle.std.specs.Map.{lookup}
 use Rattle.rbc_records.proofs.Keys.{eq_is, same_key_sym, same_key_own}
 use Rattle.rbc_records.specs.declared.record.Key.{Key}
@@ -7,21 +10,15 @@ use Rattle.rbc_records.specs.declared.record.Rec.{Rec}
 use Rattle.rbc_records.specs.contracts.record.KeyPartialEq.TheImpl.{eq-value}
 use Rattle.rbc_records.specs.Notes.{Part, Learns, IsNotedOnce, note_in, is_noted, same_key}
 
+-- a key is noted with one note more where it was, or where that note has it
+noted_with : (notes : List (Key × Option Rec)) (more : Key × Option Rec) (k : Key) → is_noted (notes ++ more ∷ []) k ≡ (is_noted notes k || (same_key k more.0 || false))
+noted_with notes more k = list_any-append (λ (note : Key × Option Rec). same_key k note.0) notes (more ∷ [])
+
 noted_more : (notes : List (Key × Option Rec)) (more : Key × Option Rec) (k : Key) → is_noted notes k ≡ true → is_noted (notes ++ more ∷ []) k ≡ true
-noted_more [] more k h = cc
-noted_more (note ∷ notes) more k h = by (same_key k note.0) (is_noted notes k) h (noted_more notes more k)
-  where
-    by : (b c : Bool) → (b || c) ≡ true → (c ≡ true → is_noted (notes ++ more ∷ []) k ≡ true) → (b || is_noted (notes ++ more ∷ []) k) ≡ true
-    by true c h rest = refl
-    by false c h rest = rest h
+noted_more notes more k h = noted_with notes more k ∙ ap (λ b. b || (same_key k more.0 || false)) h
 
 noted_last : (notes : List (Key × Option Rec)) (k : Key) (rec : Option Rec) → is_noted (notes ++ (k, rec) ∷ []) k ≡ true
-noted_last [] k rec = ap (λ b. b || false) (same_key_own k)
-noted_last (note ∷ notes) k rec = by (same_key k note.0) (noted_last notes k rec)
-  where
-    by : (b : Bool) → is_noted (notes ++ (k, rec) ∷ []) k ≡ true → (b || is_noted (notes ++ (k, rec) ∷ []) k) ≡ true
-    by true h = refl
-    by false h = h
+noted_last notes k rec = noted_with notes (k, rec) k ∙ ap (λ b. is_noted notes k || (b || false)) (same_key_own k) ∙ or_comm (is_noted notes k) true
 
 note_stays : (notes : List (Key × Option Rec)) (more : Key × Option Rec) (k : Key) → is_noted notes k ≡ true → note_in (notes ++ more ∷ []) k ≡ note_in notes k
 note_stays [] more k h = cc
@@ -59,27 +56,10 @@ found_is_note (note ∷ notes) k rec h = by (same_key k note.0) (ap (λ (b : Boo
     by true h rest = cc
     by false h rest = rest h
 
-nothing : {X : Type 0} (found : Option X) → is_some found ≡ false → found ≡ None
-nothing None h = refl
-nothing (Some x) h = cc
-
-pub not_found : (notes : List (Key × Option Rec)) (k : Key) → is_noted notes k ≡ false → lookup (eq-value.it k) notes ≡ None
-not_found notes k h = nothing (lookup (eq-value.it k) notes) (found_is_noted notes k ∙ h)
-
--- a key that is not noted is another one than that of each note
-neither : (b c : Bool) → (b || c) ≡ false → (b ≡ false) × (c ≡ false)
-neither true c h = cc
-neither false c h = (refl, h)
-
-not_noted_more : (notes : List (Key × Option Rec)) (k other : Key) (rec : Option Rec) → is_noted notes k ≡ false → same_key k other ≡ false → is_noted (notes ++ (other, rec) ∷ []) k ≡ false
-not_noted_more [] k other rec absent differ = ap (λ b. b || false) differ
-not_noted_more (note ∷ notes) k other rec absent differ =
-    let parts = neither (same_key k note.0) (is_noted notes k) absent in
-    ap (λ b. b || is_noted (notes ++ (other, rec) ∷ []) k) parts.0 ∙ not_noted_more notes k other rec parts.1 differ
-
 -- with a new key at their end each key of the notes stands once still
 pub once_more : (notes : List (Key × Option Rec)) (k : Key) (rec : Option Rec) → IsNotedOnce notes → is_noted notes k ≡ false → IsNotedOnce (notes ++ (k, rec) ∷ [])
 once_more [] k rec once absent = (refl, tt)
 once_more (note ∷ notes) k rec once absent =
-    let parts = neither (same_key k note.0) (is_noted notes k) absent in
-    (not_noted_more notes note.0 k rec once.0 (same_key_sym note.0 k ∙ parts.0), once_more notes k rec once.1 parts.1)
+    let parts = or_parts (same_key k note.0) (is_noted notes k) absent in
+    let differ = same_key_sym note.0 k ∙ parts.0 in
+    (noted_with notes (k, rec) note.0 ∙ (λ i. once.0 i || (differ i || false)), once_more notes k rec once.1 parts.1)
