@@ -1,5 +1,5 @@
 -- What follows of worked mails.
-use Rattle.std.proofs.Common.{◌≡◌, ◌⊎◌, ℕ, zero, suc, ◌+◌, List, [], ◌∷◌, take, Some, None, Ok, inl, inr, refl, sym, ap, ◌∙◌, subst, ⊎_elim, arith}
+use Rattle.std.proofs.Common.{◌≡◌, ◌⊎◌, ℕ, zero, suc, ◌+◌, List, [], ◌∷◌, ◌++◌, map, take, Some, None, Ok, inl, inr, refl, sym, ap, ◌∙◌, subst, ⊎_elim, arith}
 use Rattle.std.specs.Prelude.{Contains, slice_get}
 use Rattle.std.proofs.lemmas.List.Elements.{All-contains}
 use Rattle.std.proofs.lemmas.Option.{same_Some}
@@ -10,13 +10,14 @@ use Rattle.rbc_settle.specs.Actions.{Action, ChangesStop}
 use Rattle.rbc_settle.specs.declared.change.StopChange.TheVariants as stop_change
 use Rattle.rbc_settle.specs.declared.change.ToldStop.{ToldStop}
 use Rattle.rbc_settle.specs.declared.change.ToldStop.TheVariants.{Before}
-use Rattle.rbc_settle.specs.Settling.{Stops, actions_with_stamp}
+use Rattle.rbc_track.specs.Plan.{Plan}
+use Rattle.rbc_settle.specs.Settling.{Stops, Limits, actions_with_stamp}
 use Rattle.rbc_rule.specs.declared.input.Input.{Input}
 use Rattle.rbc_rule.specs.declared.input.Input.TheVariants as input
 use Rattle.rbc_rule.specs.World.{World}
 use Rattle.rbc_rule.specs.Effect.{effect}
 use Rattle.rbc_rule.specs.Saying.{RevokesStop}
-use Rattle.rbc_rule.specs.SaidFor.{SaysFor, as_told, IsSendable}
+use Rattle.rbc_rule.specs.SaidFor.{SaysFor, AllSay, after_sending, as_told, IsSendable}
 use Rattle.rbc_rule_laws.specs.Witnesses.{track_a, facing_up, on_line_0, train_7, stop_1, told_as_0, told_world, world_of, world_released, stop_before, revoke}
 use Rattle.rbc_zones.proofs.ToldStops.{told_rightly}
 use Rattle.rbc_track.specs.declared.group.Way.TheVariants.{Up}
@@ -24,7 +25,7 @@ use Rattle.rbc_rule_laws.proofs.WitnessSays.{differ, stop_before_sendable, revok
 use Rattle.rbc_rule_laws.proofs.WitnessWorlds.{only}
 use Rattle.rbc_desk.specs.declared.outbox.Mail.{Mail}
 use Rattle.rbc_desk.specs.Serial.{serial, mail}
-use Rattle.rbc_desk.specs.SaidMails.{IsSaidTo}
+use Rattle.rbc_desk.specs.SaidMails.{IsSaidTo, AreSaidInTurn}
 use Rattle.rbc_desk.specs.Witnesses.{desk_7, stop_and_release, stop_told, stop_revoked, IsSaidThere}
 use Rattle.rbc_desk.proofs.Spelled.{spells_itself}
 
@@ -76,15 +77,19 @@ module _ (train : TrainRec) (stops : Stops) (action : Action) (engine : ℕ) (me
   pub to_7 : engine ≡ 7
   to_7 = sym (ap (λ (one : ℕ × TrainRec). one.0) is_only)
 
-  pub says_for : SaysFor track_a stops none_numbered (as_told stops train) action message
+  -- it is the first and only one
+  first_alone : (before : ℕ) (one : Action) → slice_get (action ∷ []) before ≡ Some one → SaysFor track_a stops none_numbered (after_sending before (as_told stops train)) one message
+      → SaysFor track_a stops none_numbered (after_sending 0 (as_told stops train)) action message
+  first_alone zero one is says = subst (λ (a : Action). SaysFor track_a stops none_numbered (after_sending 0 (as_told stops train)) a message) (sym (same_Some action one is)) says
+  first_alone (suc before) one is says = absurd (let bad : None ≡ Some one = is in cc)
+
+  pub says_for : SaysFor track_a stops none_numbered (after_sending 0 (as_told stops train)) action message
   says_for =
       let its : train ≡ said.train = ap (λ (one : ℕ × TrainRec). one.1) is_only in
-      let done : Contains (action ∷ []) said.action =
-      subst (λ (actions : List Action). Contains actions said.action) acts (subst (λ (t : TrainRec). Contains (actions_with_stamp track_a stops none_numbered t) said.action) (sym its) said.is_action) in
-      let Q : Action → Type 0 = λ one. action ≡ one in
-      let same : action ≡ said.action = All-contains Q (action ∷ []) said.action (only Q action refl) done in
-      subst (λ (a : Action). SaysFor track_a stops none_numbered (as_told stops train) a message) (sym same)
-      (subst (λ (t : TrainRec). SaysFor track_a stops none_numbered (as_told stops t) said.action message) (sym its) said.says)
+      let there : slice_get (action ∷ []) said.before ≡ Some said.action =
+      subst (λ (actions : List Action). slice_get actions said.before ≡ Some said.action) acts
+      (subst (λ (t : TrainRec). slice_get (actions_with_stamp track_a stops none_numbered t) said.before ≡ Some said.action) (sym its) said.is_action) in
+      first_alone said.before said.action there (subst (λ (t : TrainRec). SaysFor track_a stops none_numbered (after_sending said.before (as_told stops t)) said.action message) (sym its) said.says)
 
 -- each mail under number 1 tells that stop, and each under number 2 revokes it
 module _ (engine : ℕ) (message : ToTrain) where
@@ -110,10 +115,6 @@ module _ (engine : ℕ) (message : ToTrain) where
 
 -- ---- the right ones
 
--- it is done to the train alone
-one_action : (action : Action) → Contains (action ∷ []) action
-one_action action = (0, omega arith, refl)
-
 one_train : (train : TrainRec) → Contains {X = ℕ × TrainRec} ((7, train) ∷ []) (7, train)
 one_train train = (0, omega arith, refl)
 
@@ -122,6 +123,16 @@ stop_sendable = stop_before_sendable 1 0 10000 (omega arith) (omega arith) (omeg
 
 revocation_sendable : IsSendable (revoke 0)
 revocation_sendable = revoke_sendable 0 (omega arith)
+
+-- each message says what it has to
+stop_said : SaysFor track_a with_stop.stops none_numbered waiting (ChangesStop (stop_change.Tell 0 1 told_stop)) (stop_before 1 0 10000)
+stop_said =
+    right_stop facing_up (on_line_0 20000 21000) 1 0 10000 told_stop 20000 (from_5 Up 20000 1) refl stop_sendable refl (counted_from_5 1 0 10000 Up 20000 1 refl refl refl)
+    (record { scale = 0; units = 10000; told = told_rightly 10000 (omega arith); on_line = refl; from_group = refl; faces = refl; in_units = refl; ahead = refl })
+
+revocation_said : SaysFor track_a world_released.stops none_numbered told_train (ChangesStop (stop_change.Revoke 0 None)) (revoke 0)
+revocation_said =
+    record { said = RevokesStop 0 ∷ []; says = refl; is_for = refl; next_stamp = refl; known_time = omega arith; by_its_kind = refl; by_its_group = refl; sendable = revocation_sendable }
 
 pub stop_is_told : IsSaidThere 7 stop_told
 stop_is_told = record {
@@ -134,10 +145,10 @@ stop_is_told = record {
   said = record {
     train = waiting;
     is_train = one_train waiting;
+    before = 0;
     action = ChangesStop (stop_change.Tell 0 1 told_stop);
-    is_action = one_action (ChangesStop (stop_change.Tell 0 1 told_stop));
-    says = right_stop facing_up (on_line_0 20000 21000) 1 0 10000 told_stop 20000 (from_5 Up 20000 1) refl stop_sendable refl (counted_from_5 1 0 10000 Up 20000 1 refl refl refl)
-        (record { scale = 0; units = 10000; told = told_rightly 10000 (omega arith); on_line = refl; from_group = refl; faces = refl; in_units = refl; ahead = refl });
+    is_action = refl;
+    says = stop_said;
   };
   fits = stop_sendable.fits;
   spelled = spells_itself (stop_before 1 0 10000) stop_sendable.fits stop_sendable.holds stop_sendable.reference;
@@ -154,10 +165,38 @@ stop_is_revoked = record {
   said = record {
     train = told_train;
     is_train = one_train told_train;
+    before = 0;
     action = ChangesStop (stop_change.Revoke 0 None);
-    is_action = one_action (ChangesStop (stop_change.Revoke 0 None));
-    says = record { said = RevokesStop 0 ∷ []; says = refl; is_for = refl; by_its_group = refl; sendable = revocation_sendable };
+    is_action = refl;
+    says = revocation_said;
   };
   fits = revocation_sendable.fits;
   spelled = spells_itself (revoke 0) revocation_sendable.fits revocation_sendable.holds revocation_sendable.reference;
 }
+
+-- ---- all mails of that run
+
+-- one message for one action
+one_for : (plan : Plan) (stops : Stops) (limits : Limits) (train : TrainRec) (action : Action) (messages : List ToTrain) → AllSay plan stops limits train (action ∷ []) messages → (one : ToTrain) × (messages ≡ one ∷ [])
+one_for plan stops limits train action [] say = absurd say
+one_for plan stops limits train action (one ∷ []) say = (one, refl)
+one_for plan stops limits train action (one ∷ other ∷ messages) say = absurd say.1
+
+-- they are a mail of the first input, and then one of the second
+pub two_mails : (mails : List Mail) → AreSaidInTurn track_a 7 desk_7 stop_and_release mails → (first : ToTrain) × (second : ToTrain) × (mails ≡ mail 1 first ∷ mail 2 second ∷ [])
+two_mails mails turn =
+    let later = turn.4 in
+    let first = one_for track_a with_stop.stops none_numbered (as_told with_stop.stops waiting) (ChangesStop (stop_change.Tell 0 1 told_stop)) turn.0 turn.3 in
+    let second = one_for track_a world_released.stops none_numbered (as_told world_released.stops told_train) (ChangesStop (stop_change.Revoke 0 None)) later.0 later.3 in
+    let none : later.1 ≡ [] = later.4 in
+    let behind : turn.1 ≡ mail 2 second.0 ∷ [] = later.2 ∙ ap (λ (ms : List ToTrain). map (mail 2) ms ++ later.1) second.1 ∙ ap (λ (ms : List Mail). mail 2 second.0 ∷ ms) none in
+    (first.0, second.0, turn.2 ∙ ap (λ (ms : List ToTrain). map (mail 1) ms ++ turn.1) first.1 ∙ ap (λ (ms : List Mail). mail 1 first.0 ∷ ms) behind)
+
+pub in_turn_here : AreSaidInTurn track_a 7 desk_7 stop_and_release (stop_told ∷ stop_revoked ∷ [])
+in_turn_here = (
+  stop_told.message ∷ [],
+  stop_revoked ∷ [],
+  refl,
+  (stop_said, tt),
+  (stop_revoked.message ∷ [], [], refl, (revocation_said, tt), refl),
+)

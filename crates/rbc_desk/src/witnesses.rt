@@ -1,7 +1,7 @@
 //! A worked case of the law on mails: right mails, of which its statement holds, and wrong ones, of which it does not.
 
-ghost use Rattle.std.specs.Prelude.{[], ◌∷◌};
-ghost use Rattle.rbc_rule_laws.specs.Witnesses.{stop_before, stop_now, revoke, naming};
+ghost use Rattle.std.specs.Prelude.{false, [], ◌∷◌};
+ghost use Rattle.rbc_rule_laws.specs.Witnesses.{stop_before, stop_now, revoke, naming, stamped, asking};
 ghost use Rattle.rbc_desk.specs.Serial.{mail};
 ghost use Rattle.rbc_desk.specs.Witnesses.{stop_told, stop_revoked, IsSaidThere, AreSaidThere};
 
@@ -11,8 +11,9 @@ ghost use Rattle.rbc_desk.specs.Witnesses.{stop_told, stop_revoked, IsSaidThere,
 ///
 /// Wrong: the stop is told by mail 2, or by mail 3; it is told to engine 8; the train is told to stop at once; the
 /// message names balise group 6; another identifier is revoked, among them 16, which the four bits of its variable
-/// would cut to 0; behind the two right mails is one that revokes another identifier; engine 8 has a mail; a mail of
-/// before is gone.
+/// would cut to 0; the stop is told with the stamp for an unknown time; its revocation asks for no answer; behind the
+/// two right mails is one that revokes another identifier; engine 8 has a mail; a mail of before is gone; the
+/// revocation is lost; the stop is told twice; and the revocation stands before what it revokes.
 pub fn mails_law_witnesses()
     ensures told { IsSaidThere 7 stop_told }
     ensures revoked { IsSaidThere 7 stop_revoked }
@@ -24,7 +25,12 @@ pub fn mails_law_witnesses()
     ensures other_group { IsSaidThere 7 (mail 1 (naming 6 (stop_before 1 0 10000))) → ⊥ }
     ensures other_identifier { IsSaidThere 7 (mail 2 (revoke 1)) → ⊥ }
     ensures cut_identifier { IsSaidThere 7 (mail 2 (revoke 16)) → ⊥ }
+    ensures other_stamp { IsSaidThere 7 (mail 1 (stamped 4294967295 (stop_before 1 0 10000))) → ⊥ }
+    ensures asks_not { IsSaidThere 7 (mail 2 (asking false (revoke 0))) → ⊥ }
     ensures one_too_many { AreSaidThere [] ((7, stop_told ∷ stop_revoked ∷ mail 2 (revoke 1) ∷ []) ∷ []) → ⊥ }
     ensures engine_8_told { AreSaidThere [] ((7, stop_told ∷ stop_revoked ∷ []) ∷ (8, stop_told ∷ []) ∷ []) → ⊥ }
     ensures one_before_gone { AreSaidThere ((8, stop_told ∷ []) ∷ []) ((7, stop_told ∷ stop_revoked ∷ []) ∷ []) → ⊥ }
+    ensures lost { AreSaidThere [] ((7, stop_told ∷ []) ∷ []) → ⊥ }
+    ensures doubled { AreSaidThere [] ((7, stop_told ∷ stop_told ∷ stop_revoked ∷ []) ∷ []) → ⊥ }
+    ensures other_order { AreSaidThere [] ((7, stop_revoked ∷ stop_told ∷ []) ∷ []) → ⊥ }
 {}

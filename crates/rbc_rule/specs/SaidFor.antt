@@ -1,6 +1,7 @@
 -- What a message has to say to a train: what the rules give that train (own rule).
-use Rattle.std.specs.Prelude.{◌≡◌, ℕ, fold, ◌+◌, ◌*◌, ◌^◌, List, [], ◌∷◌, map, Some, Result, Ok, Err}
+use Rattle.std.specs.Prelude.{◌≡◌, ℕ, fold, ◌+◌, ◌*◌, ◌^◌, ◌≤◌, Bool, true, false, List, [], ◌∷◌, map, Some, Result, Ok, Err}
 use Rattle.ertms_codec.specs.declared.to_train.ToTrain.{ToTrain}
+use Rattle.ertms_codec.specs.declared.to_train.ToTrain.TheVariants as message
 use Rattle.ertms_codec.specs.Layout.{HoldValues}
 use Rattle.ertms_codec.specs.ToTrain as codec
 use Rattle.rbc_track.specs.Plan.{Plan, IsPlan}
@@ -12,13 +13,13 @@ use Rattle.rbc_zones.specs.declared.segment.Segment.{Segment}
 use Rattle.rbc_zones.specs.declared.stop_meaning.Concern.{Concern}
 use Rattle.rbc_zones.specs.declared.stop_meaning.Concern.TheVariants as concern
 use Rattle.rbc_zones.specs.Concerns.{distance_to, IsToldFor}
-use Rattle.rbc_zones.specs.Limits.{Limit, told_part}
+use Rattle.rbc_zones.specs.Limits.{Limit, IsToldPart}
 use Rattle.rbc_settle.specs.declared.train.TrainRec.{TrainRec}
 use Rattle.rbc_settle.specs.Actions.{Action, ChangesStop, ChangesLimits}
 use Rattle.rbc_settle.specs.declared.change.StopChange.TheVariants as stop_change
 use Rattle.rbc_settle.specs.declared.change.LimitChange.{LimitChange}
 use Rattle.rbc_settle.specs.declared.change.LimitChange.TheVariants as limit_change
-use Rattle.rbc_settle.specs.Settling.{Stops, Limits, concern_to, escalated, actions_with_stamp, group_of}
+use Rattle.rbc_settle.specs.Settling.{Stops, Limits, last_stamp, concern_to, escalated, actions_with_stamp, group_of}
 use Rattle.rbc_settle.specs.Numbers.{and_number}
 use Rattle.rbc_rule.specs.declared.input.Input.{Input}
 use Rattle.rbc_rule.specs.Inputs.{Fits}
@@ -41,18 +42,20 @@ pub record IsSpotFor (p : Place) (edge : ℕ) (spot : Spot) : Type 0 where
   pub in_units : spot.unit ≡ 10 ^ scale
   pub ahead : IsAhead p.facing p.at (units * 10 ^ scale) spot.place
 
--- the stretch for a restriction: the part of it that is told, ahead of the balise group
-abbrev pub stretch_for : Limit → Place → Stretch
-stretch_for limit p =
-    let unit = 10 ^ (told_part limit p).0 in
-    record {
-      line = p.line;
-      origin = p.at;
-      way = p.facing;
-      begin = (told_part limit p).1 * unit;
-      end = ((told_part limit p).1 + (told_part limit p).2) * unit;
-      unit = unit;
-    }
+-- The stretch for a restriction, by places: it covers all of the restriction that is not behind the balise group, begins less than a unit
+-- before that and ends less than a unit behind it, the way the train faces, in the finest unit in which its beginning and its length have
+-- room in their fields.
+pub record IsStretchFor (limit : Limit) (p : Place) (stretch : Stretch) : Type 0 where
+  pub scale : ℕ
+  pub start : ℕ
+  pub length : ℕ
+  pub told : IsToldPart limit p scale start length
+  pub on_line : stretch.line ≡ p.line
+  pub from_group : stretch.origin ≡ p.at
+  pub faces : stretch.way ≡ p.facing
+  pub in_units : stretch.unit ≡ 10 ^ scale
+  pub begins : stretch.begin ≡ start * 10 ^ scale
+  pub ends : stretch.end ≡ (start + length) * 10 ^ scale
 
 -- to stop before an edge
 pub record IsEdgeSaid (train : TrainRec) (edge id : ℕ) (said : Said) : Type 0 where
@@ -79,7 +82,9 @@ pub record IsLimitSaid (limits : Limits) (train : TrainRec) (id number : ℕ) (s
   pub active : value_of limits.active number ≡ Some limit
   pub p : Place
   pub placed : train.place ≡ Some p
-  pub is_said : said ≡ Restricts id (stretch_for limit p) limit.front limit.speed
+  pub stretch : Stretch
+  pub is_for : IsStretchFor limit p stretch
+  pub is_said : said ≡ Restricts id stretch limit.front limit.speed
 
 -- A train as its actions see it: the stops that are escalated are told at once from now on.
 abbrev pub as_told : Stops → TrainRec → TrainRec
@@ -115,11 +120,27 @@ pub record IsSendable (message : ToTrain) : Type 0 where
   pub holds : HoldValues (codec.fields_of message)
   pub reference : codec.HoldsReference message
 
--- A message says what it has to say for an action, by the balise group of the train, and can be sent.
+-- M_ACK, by the kind of message: a stop (messages 15 and 16) is answered by its identifier, and messages 18 and 24 ask for an answer by
+-- their stamp
+abbrev pub asks_for_answer : ToTrain → Bool
+asks_for_answer (message.StopAt head id scale reference dir distance) = false
+asks_for_answer (message.Stop head id) = false
+asks_for_answer (message.Revoke head id) = true
+asks_for_answer (message.General head packets) = true
+
+-- a train to which so many messages more were sent, each with the next stamp
+abbrev pub after_sending : ℕ → TrainRec → TrainRec
+after_sending count train = record train { stamp = train.stamp + count }
+
+-- A message says what it has to say for an action, and can be sent. Its stamp is the train's next one, and not the one for an unknown time;
+-- M_ACK is that of its kind; and it names the balise group of the train.
 pub record SaysFor (plan : Plan) (stops : Stops) (limits : Limits) (train : TrainRec) (action : Action) (message : ToTrain) : Type 0 where
   pub said : List Said
   pub says : Says plan message said
   pub is_for : IsSaidFor stops limits train action said
+  pub next_stamp : (codec.head_of message).stamp ≡ train.stamp + 1
+  pub known_time : (codec.head_of message).stamp ≤ last_stamp
+  pub by_its_kind : (codec.head_of message).ack ≡ asks_for_answer message
   pub by_its_group : (codec.head_of message).lrbg ≡ group_of train
   pub sendable : IsSendable message
 
@@ -145,10 +166,11 @@ SayingIsByPlace =
     (plan : Plan) (stops : Stops) (limits : Limits) (train : TrainRec) (action : Action) (message : ToTrain)
     → SaysFor plan stops limits train action message → SaysByPlace plan stops limits train action message
 
--- one message for each action, in order
+-- one message for each action, in order, each with the stamp after that of the one before
 abbrev pub AllSay : Plan → Stops → Limits → TrainRec → List Action → List ToTrain → Type 0
 AllSay plan stops limits train [] [] = Unit
-AllSay plan stops limits train (action ∷ actions) (sent ∷ more) = SaysFor plan stops limits train action sent × AllSay plan stops limits train actions more
+AllSay plan stops limits train (action ∷ actions) (sent ∷ more) =
+    SaysFor plan stops limits train action sent × AllSay plan stops limits (after_sending 1 train) actions more
 AllSay plan stops limits train [] (sent ∷ more) = ⊥
 AllSay plan stops limits train (action ∷ actions) [] = ⊥
 

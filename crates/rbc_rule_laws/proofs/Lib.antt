@@ -1,10 +1,13 @@
+pub mod EachTrain
 pub mod Keeps
 pub mod KeepsPlaces
 pub mod KeepsSlots
 pub mod KeepsTrains
 pub mod KeepsWorlds
+pub mod Marks
 pub mod OneSaid
 pub mod Packets
+pub mod Revokes
 pub mod Says
 pub mod SaysPlaces
 pub mod SaysTold

@@ -45,7 +45,7 @@ use Rattle.rbc_settle.proofs.Escalating.{between, forced_then, wanted_next, forc
 use Rattle.rbc_settle.proofs.Concerned.{each_value, told_as, limit_as}
 use Rattle.rbc_rule.specs.WellFormed.{IsGoodStop, AreGoodStops, AreGoodLimits}
 use Rattle.rbc_rule.specs.Saying.{Said, StopsAtOnce, StopsBefore, Restricts, RevokesStop, RevokesLimit, Spot, Stretch, CountsFrom, PacketSays, PacketsSay, Says}
-use Rattle.rbc_rule.specs.SaidFor.{stretch_for, IsEdgeSaid, IsConcernSaid, IsLimitSaid, IsChangeSaid, AreChangesSaid, IsSendable, as_told, SaysFor, AllSay}
+use Rattle.rbc_rule.specs.SaidFor.{IsEdgeSaid, IsConcernSaid, IsLimitSaid, IsChangeSaid, AreChangesSaid, IsSendable, asks_for_answer, as_told, SaysFor, AllSay}
 use Rattle.rbc_rule_laws.proofs.Packets.{CanBePacked}
 use Rattle.rbc_rule_laws.proofs.Sendable.{revoked_below, free_stop_ids, free_limit_ids, group_within, direction_within, restriction, restriction_packed, revocation_packed, revoke_stop, stop_at_once, stop_before, general}
 use Rattle.rbc_rule_laws.proofs.SaysPlaces.{faced, unit_is, distance_within, lies_ahead, whole_fives, sound, good_area, good_limit}
@@ -176,7 +176,8 @@ module _ (plan : Plan) (track : IsPlan plan) (train : TrainRec) (stands_on : Has
       let parts = cond_some (concerns limit p plan.horizon) (told_limit limit p) told tells in
       let part = told_part limit p in
       let rightly = each_limit_is_told_rightly limit p plan.horizon kept (sound plan track p on) parts.0 in
-      let stretch : Stretch = stretch_for limit p in
+      let unit = 10 ^ part.0 in
+      let stretch : Stretch = record { line = p.line; origin = p.at; way = p.facing; begin = part.1 * unit; end = (part.1 + part.2) * unit; unit = unit } in
       subst (λ (one : Part). PacketSaysOne plan (group_by later) (restriction id one) (IsLimitSaid limits train id number)) parts.1 (record {
         said = Restricts id stretch limit.front limit.speed;
         says = (
@@ -186,7 +187,15 @@ module _ (plan : Plan) (track : IsPlan plan) (train : TrainRec) (stands_on : Has
             ap (λ (speed : ℕ). Restricts id stretch limit.front speed) (whole_fives limit.speed kept.in_fives),
           ),
         );
-        is = record { limit = limit; active = active; p = p; placed = placed; is_said = refl };
+        is = record {
+          limit = limit;
+          active = active;
+          p = p;
+          placed = placed;
+          stretch = stretch;
+          is_for = record { scale = part.0; start = part.1; length = part.2; told = rightly; on_line = refl; from_group = refl; faces = refl; in_units = refl; begins = refl; ends = refl };
+          is_said = refl;
+        };
         packed =
             let start = rightly.start_in_field in
             let length = rightly.length_in_field in
@@ -212,9 +221,13 @@ module _ (plan : Plan) (track : IsPlan plan) (stops : Stops) (limits : Limits) (
   abbrev pub seen : TrainRec
   seen = as_told stops train
 
+  -- the same, once the last message to it had a stamp
+  abbrev pub seen_at : ℕ → TrainRec
+  seen_at stamp = record seen { stamp = stamp }
+
   -- an action says what it has to, whatever was done to the train before, as long as it stands where it stood and has a stamp left
   abbrev pub IsSaid : Action → Type 0
-  IsSaid action = (later : TrainRec) → StandsAs train later → SaysFor plan stops limits seen action (message_of later action)
+  IsSaid action = (later : TrainRec) → StandsAs train later → SaysFor plan stops limits (seen_at later.stamp) action (message_of later action)
 
   -- the balise group that is named is the train's
   group_is : (later : TrainRec) → later.place ≡ train.place → group_by later ≡ group_by train
@@ -226,11 +239,30 @@ module _ (plan : Plan) (track : IsPlan plan) (stops : Stops) (limits : Limits) (
   names_group later (ChangesStop (stop_change.Tell id number (Before edge))) same = group_is later same
   names_group later (ChangesLimits changes) same = group_is later same
 
+  -- its stamp is the next one, and M_ACK that of its kind
+  has_next_stamp : (later : TrainRec) (action : Action) → (head_of (message_of later action)).stamp ≡ later.stamp + 1
+  has_next_stamp later (ChangesStop (stop_change.Revoke id number)) = refl
+  has_next_stamp later (ChangesStop (stop_change.Tell id number AtOnce)) = refl
+  has_next_stamp later (ChangesStop (stop_change.Tell id number (Before edge))) = refl
+  has_next_stamp later (ChangesLimits changes) = refl
+
+  has_known_time : (later : TrainRec) (action : Action) → later.stamp < last_stamp → (head_of (message_of later action)).stamp ≤ last_stamp
+  has_known_time later action left = let next = has_next_stamp later action in omega (arith, next, left)
+
+  has_its_kind : (later : TrainRec) (action : Action) → (head_of (message_of later action)).ack ≡ asks_for_answer (message_of later action)
+  has_its_kind later (ChangesStop (stop_change.Revoke id number)) = refl
+  has_its_kind later (ChangesStop (stop_change.Tell id number AtOnce)) = refl
+  has_its_kind later (ChangesStop (stop_change.Tell id number (Before edge))) = refl
+  has_its_kind later (ChangesLimits changes) = refl
+
   revoked_stop : (id : ℕ) (number : Option ℕ) → id < 15 → IsSaid (ChangesStop (stop_change.Revoke id number))
   revoked_stop id number below later stands = record {
     said = RevokesStop id ∷ [];
     says = refl;
     is_for = refl;
+    next_stamp = has_next_stamp later (ChangesStop (stop_change.Revoke id number));
+    known_time = has_known_time later (ChangesStop (stop_change.Revoke id number)) stands.left;
+    by_its_kind = has_its_kind later (ChangesStop (stop_change.Revoke id number));
     by_its_group = names_group later (ChangesStop (stop_change.Revoke id number)) stands.same;
     sendable = revoke_stop later stands.left (group_later plan track train on later stands.same) id number below;
   }
@@ -267,12 +299,15 @@ module _ (plan : Plan) (track : IsPlan plan) (stops : Stops) (limits : Limits) (
       each [] values good = tt
       each (stop ∷ some) values good = (
         λ told tells id below later stands.
-            let one = concern_said plan track seen on stop.1 (has_number seen.forced stop.0) (good_area plan track stop.1 (All-head (IsGoodStop plan) stop some good).good) id stop.0 below later
+            let one = concern_said plan track (seen_at later.stamp) on stop.1 (has_number seen.forced stop.0) (good_area plan track stop.1 (All-head (IsGoodStop plan) stop some good).good) id stop.0 below later
             (record { same = stands.same; left = stands.left }) seen.place refl on told (sym (told_as_seen stop) ∙ tells) in
             record {
               said = one.said ∷ [];
               says = one.says;
               is_for = record { one = one.said; is = record { area = stop.1; active = values.0; concern = one.is }; alone = refl };
+              next_stamp = has_next_stamp later (ChangesStop (stop_change.Tell id stop.0 told));
+              known_time = has_known_time later (ChangesStop (stop_change.Tell id stop.0 told)) stands.left;
+              by_its_kind = has_its_kind later (ChangesStop (stop_change.Tell id stop.0 told));
               by_its_group = names_group later (ChangesStop (stop_change.Tell id stop.0 told)) stands.same;
               sendable = one.sendable;
             },
@@ -281,7 +316,7 @@ module _ (plan : Plan) (track : IsPlan plan) (stops : Stops) (limits : Limits) (
 
   -- the packet of a change to the restrictions says what it has to, in any later message
   abbrev pub IsLimitChangeSaid : LimitChange → Type 0
-  IsLimitChangeSaid change = (later : TrainRec) → later.place ≡ train.place → PacketSaysOne plan (group_by later) (packet_of change) (IsChangeSaid limits seen change)
+  IsLimitChangeSaid change = (later : TrainRec) → later.place ≡ train.place → PacketSaysOne plan (group_by later) (packet_of change) (IsChangeSaid limits (seen_at later.stamp) change)
 
   revoked_limits : All IsLimitChangeSaid (limits_revoked limits train)
   revoked_limits =
@@ -303,7 +338,7 @@ module _ (plan : Plan) (track : IsPlan plan) (stops : Stops) (limits : Limits) (
       each [] values good = tt
       each (limit ∷ some) values good = (
         λ told tells id below later same.
-            limit_said plan track seen on limits limit.1 limit.0 values.0 (good_limit plan track limit.1 (All-head IsGood limit some good)) seen.place refl on told tells id below later same,
+            limit_said plan track (seen_at later.stamp) on limits limit.1 limit.0 values.0 (good_limit plan track limit.1 (All-head IsGood limit some good)) seen.place refl on told tells id below later same,
         each some values.1 (All-tail IsGood limit some good),
       )
 
@@ -311,7 +346,7 @@ module _ (plan : Plan) (track : IsPlan plan) (stops : Stops) (limits : Limits) (
   record AllSaid (later : TrainRec) (changes : List LimitChange) : Type 0 where
     said : List Said
     says : PacketsSay plan (group_by later) (map packet_of changes) said
-    is : AreChangesSaid limits seen changes said
+    is : AreChangesSaid limits (seen_at later.stamp) changes said
     packed : AllByRecursion CanBePacked (map packet_of changes)
 
   in_message : (later : TrainRec) → later.place ≡ train.place → (changes : List LimitChange) → AllByRecursion IsLimitChangeSaid changes → AllSaid later changes
@@ -329,6 +364,9 @@ module _ (plan : Plan) (track : IsPlan plan) (stops : Stops) (limits : Limits) (
         said = all.said;
         says = all.says;
         is_for = all.is;
+        next_stamp = has_next_stamp later (ChangesLimits changes);
+        known_time = has_known_time later (ChangesLimits changes) stands.left;
+        by_its_kind = has_its_kind later (ChangesLimits changes);
         by_its_group = names_group later (ChangesLimits changes) stands.same;
         sendable = general later stands.left (group_later plan track train on later stands.same) (map packet_of changes) (omega (arith, some, count)) (omega (arith, most, count)) all.packed;
       }
@@ -369,12 +407,14 @@ module _ (plan : Plan) (track : IsPlan plan) (stops : Stops) (limits : Limits) (
 
   -- so each message of actions one after another says what it has to
   each_says : (acts : List Action) → All IsSaid acts → (later : TrainRec) → later.place ≡ train.place → later.stamp + length acts ≤ last_stamp
-      → AllSay plan stops limits seen acts (scan carried_out message_of later acts)
+      → AllSay plan stops limits (seen_at later.stamp) acts (scan carried_out message_of later acts)
   each_says [] all later same left = tt
   each_says (action ∷ acts) all later same left =
-      let next = takes_stamp later action in (
+      let next = takes_stamp later action in
+      let next_train = carried_out later action in (
         All-head IsSaid action acts all later (record { same = same; left = omega (arith, left) }),
-        each_says acts (All-tail IsSaid action acts all) (carried_out later action) (moves later action same) (omega (arith, left, next)),
+        subst (λ (stamp : ℕ). AllSay plan stops limits (seen_at stamp) acts (scan carried_out message_of next_train acts)) next
+            (each_says acts (All-tail IsSaid action acts all) next_train (moves later action same) (omega (arith, left, next))),
       )
 
   pub all_say : train.stamp ≤ last_stamp → AllSay plan stops limits seen (actions_with_stamp plan stops limits train) (messages_of plan stops limits train)

@@ -9,7 +9,7 @@ use Rattle.rbc_track.specs.Plan.{Plan, group_of}
 use Rattle.rbc_track.specs.declared.group.Group.{Group}
 use Rattle.rbc_track.specs.declared.group.Way.{Way}
 use Rattle.rbc_track.specs.declared.group.Way.TheVariants.{Up, Down}
-use Rattle.rbc_place.specs.Placing.{Place}
+use Rattle.rbc_place.specs.Placing.{Place, IsSound}
 use Rattle.rbc_place.specs.Reach.{IsAhead}
 use Rattle.rbc_maps.specs.Maps.{value_of}
 use Rattle.rbc_maps.specs.Numbered.{none_numbered}
@@ -17,7 +17,8 @@ use Rattle.rbc_zones.specs.declared.segment.Segment.{Segment}
 use Rattle.rbc_zones.specs.declared.stop_meaning.Concern.{Concern}
 use Rattle.rbc_zones.specs.declared.stop_meaning.Concern.TheVariants as concern
 use Rattle.rbc_zones.specs.Concerns.{concern_of, distance_to, IsToldFor}
-use Rattle.rbc_zones.specs.Limits.{Limit}
+use Rattle.rbc_zones.specs.Limits.{Limit, concerns, told_part, IsOf, IsNearOne, HasNoRoom, IsToldPart, begins_at, ends_at}
+use Rattle.rbc_zones.proofs.ToldLimits.{each_limit_is_told_rightly}
 use Rattle.rbc_settle.specs.declared.train.TrainRec.{TrainRec}
 use Rattle.rbc_settle.specs.declared.change.StopChange.TheVariants as stop_change
 use Rattle.rbc_settle.specs.declared.change.LimitChange.{LimitChange}
@@ -27,7 +28,7 @@ use Rattle.rbc_settle.specs.declared.change.ToldStop.{ToldStop}
 use Rattle.rbc_settle.specs.Told.{Part}
 use Rattle.rbc_settle.specs.Settling.{Stops, Limits, concern_to}
 use Rattle.rbc_rule.specs.Saying.{Spot, Stretch, Said, StopsAtOnce, StopsBefore, Restricts, RevokesStop, RevokesLimit, both_ways, way_told, unit_told, IsSpotTold, PacketSays, PacketsSay, Says}
-use Rattle.rbc_rule.specs.SaidFor.{stretch_for, IsEdgeSaid, IsConcernSaid, IsStopSaid, IsLimitSaid, IsChangeSaid, AreChangesSaid, IsSpotFor, IsSendable, SaysFor}
+use Rattle.rbc_rule.specs.SaidFor.{IsStretchFor, IsEdgeSaid, IsConcernSaid, IsStopSaid, IsLimitSaid, IsChangeSaid, AreChangesSaid, IsSpotFor, IsSendable, SaysFor}
 use Rattle.rbc_rule_laws.specs.Witnesses.{track_a, facing_up, on_line_0, train_7, stop_1, limit_80, restriction_1, head_at, stop_before, stop_now, restrict_to, restrict_as, revoke, lift, spot_at}
 use Rattle.rbc_rule_laws.proofs.Packets.{restrict_packed}
 use Rattle.rbc_rule_laws.proofs.Sendable as sendable
@@ -45,12 +46,16 @@ pub record CountsRight (p : Place) (edge origin : ℕ) (way : Way) (unit distanc
   pub near : distance_to p.facing p.at edge < units * unit + unit
   pub faces : way ≡ p.facing
 
--- a part that packet 65 tells right: it is that of the restriction
-pub record IsPartSaid (limit : Limit) (p : Place) (origin : ℕ) (way : Way) (unit start length speed : ℕ) (front : Bool) : Type 0 where
-  pub unit_is : (stretch_for limit p).unit ≡ unit
-  pub way_is : (stretch_for limit p).way ≡ way
-  pub begins : (stretch_for limit p).begin ≡ start * unit
-  pub ends : (stretch_for limit p).end ≡ (start + length) * unit
+-- A part that packet 65 tells right: it covers the restriction, is less than a unit longer at each end, and its unit is the finest that has
+-- room.
+pub record IsPartSaid (limit : Limit) (p : Place) (way : Way) (unit start length speed : ℕ) (front : Bool) : Type 0 where
+  pub way_is : p.facing ≡ way
+  pub scale : ℕ
+  pub not_spare : scale ≤ 2
+  pub unit_is : unit ≡ 10 ^ scale
+  pub covers : (distance : ℕ) → IsOf limit p distance → (start * unit ≤ distance) × (distance ≤ (start + length) * unit)
+  pub no_longer : (distance : ℕ) → start * unit ≤ distance → distance ≤ (start + length) * unit → IsNearOne limit p unit distance
+  pub finest : (finer : ℕ) → finer < scale → HasNoRoom finer (begins_at p.facing limit.segment p.at) (ends_at p.facing limit.segment p.at)
   pub speed_is : limit.speed ≡ 5 * speed
   pub front_is : limit.front ≡ front
 
@@ -95,26 +100,38 @@ module _ (plan : Plan) (stops : Stops) (limits : Limits) (train : TrainRec) (p :
       }
 
   pub part_said : (id other number start length speed : ℕ) (front : Bool) (limit : Limit) → value_of limits.active number ≡ Some limit
-      → (one : Said) → PacketSays plan head.lrbg (packet.Restrict dir scale other start length front speed) one → IsLimitSaid limits train id number one → IsPartSaid limit p group.at way unit start length speed front
+      → (one : Said) → PacketSays plan head.lrbg (packet.Restrict dir scale other start length front speed) one → IsLimitSaid limits train id number one → IsPartSaid limit p way unit start length speed front
   part_said id other number start length speed front limit active one says is_for =
       let stretch = says.0 in
       let of = says.1.0 in
       let counts = of.counts in
       let same_limit : is_for.limit ≡ limit = same_Some is_for.limit limit (sym is_for.active ∙ active) in
       let same_place : is_for.p ≡ p = same_Some is_for.p p (sym is_for.placed ∙ placed) in
-      let same_said : Restricts other stretch front (5 * speed) ≡ Restricts id (stretch_for is_for.limit is_for.p) is_for.limit.front is_for.limit.speed = sym says.1.1 ∙ is_for.is_said in
-      let its_stretch : stretch ≡ stretch_for is_for.limit is_for.p = cc in
+      let same_said : Restricts other stretch front (5 * speed) ≡ Restricts id is_for.stretch is_for.limit.front is_for.limit.speed = sym says.1.1 ∙ is_for.is_said in
+      let its_stretch : stretch ≡ is_for.stretch = cc in
       let its_speed : 5 * speed ≡ is_for.limit.speed = cc in
       let its_front : front ≡ is_for.limit.front = cc in
-      let right : stretch_for limit p ≡ stretch = sym (its_stretch ∙ ap (λ (l : Limit). stretch_for l is_for.p) same_limit ∙ ap (λ (q : Place). stretch_for limit q) same_place) in
+      let of_place : IsStretchFor is_for.limit p is_for.stretch = subst (λ (q : Place). IsStretchFor is_for.limit q is_for.stretch) same_place is_for.is_for in
+      let of_limit : IsStretchFor limit p is_for.stretch = subst (λ (l : Limit). IsStretchFor l p is_for.stretch) same_limit of_place in
+      let right : IsStretchFor limit p stretch = subst (λ (s : Stretch). IsStretchFor limit p s) (sym its_stretch) of_limit in
       let same_group : counts.group ≡ group = same_Some counts.group group (sym counts.known ∙ known) in
       let way_is : stretch.way ≡ way = same_Some stretch.way way (sym counts.one_way ∙ ap (λ (g : Group). way_told g.nominal dir) same_group ∙ one_way) in
       let unit_is : stretch.unit ≡ unit = same_Some stretch.unit unit (sym counts.in_units ∙ in_units) in
+      let unit_for : 10 ^ right.scale ≡ unit = sym right.in_units ∙ unit_is in
+      let begins : right.start * 10 ^ right.scale ≡ start * unit = sym right.begins ∙ of.begins ∙ ap (λ (u : ℕ). start * u) unit_is in
+      let ends : (right.start + right.length) * 10 ^ right.scale ≡ (start + length) * unit = sym right.ends ∙ of.ends ∙ ap (λ (u : ℕ). (start + length) * u) unit_is in
       record {
-        unit_is = ap (λ (s : Stretch). s.unit) right ∙ unit_is;
-        way_is = ap (λ (s : Stretch). s.way) right ∙ way_is;
-        begins = ap (λ (s : Stretch). s.begin) right ∙ of.begins ∙ ap (λ (u : ℕ). start * u) unit_is;
-        ends = ap (λ (s : Stretch). s.end) right ∙ of.ends ∙ ap (λ (u : ℕ). (start + length) * u) unit_is;
+        way_is = sym right.faces ∙ way_is;
+        scale = right.scale;
+        not_spare = right.told.not_spare;
+        unit_is = sym unit_for;
+        covers = λ distance of_limit.
+            let told = right.told.covers distance of_limit in
+            (subst (λ (n : ℕ). n ≤ distance) begins told.begun, subst (λ (n : ℕ). distance ≤ n) ends told.not_ended);
+        no_longer = λ distance begun not_ended.
+            subst (λ (u : ℕ). IsNearOne limit p u distance) unit_for
+            (right.told.no_longer distance (record { begun = subst (λ (n : ℕ). n ≤ distance) (sym begins) begun; not_ended = subst (λ (n : ℕ). distance ≤ n) (sym ends) not_ended }));
+        finest = right.told.finest;
         speed_is = sym (its_speed ∙ ap (λ (l : Limit). l.speed) same_limit);
         front_is = sym (its_front ∙ ap (λ (l : Limit). l.front) same_limit);
       }
@@ -161,7 +178,7 @@ packet_lifts plan lrbg dir id other one says is = let same : RevokesLimit other 
 pub packet_restricts : (plan : Plan) (limits : Limits) (train : TrainRec) (lrbg id other number dir scale start length speed : ℕ) (front : Bool) (one : Said)
     → PacketSays plan lrbg (packet.Restrict dir scale other start length front speed) one → IsLimitSaid limits train id number one → other ≡ id
 packet_restricts plan limits train lrbg id other number dir scale start length speed front one says is =
-    let same : Restricts other says.0 front (5 * speed) ≡ Restricts id (stretch_for is.limit is.p) is.limit.front is.limit.speed = sym says.1.1 ∙ is.is_said in
+    let same : Restricts other says.0 front (5 * speed) ≡ Restricts id is.stretch is.limit.front is.limit.speed = sym says.1.1 ∙ is.is_said in
     cc
 
 -- and so is what a message does
@@ -247,6 +264,11 @@ no_reference plan stops limits train head id other number scale dir distance ref
 pub differ : (a b : ℕ) → eqb a b ≡ false → a ≡ b → ⊥
 differ a b apart is = let yes : eqb a b ≡ true = eq-eqb a b is in cc
 
+-- a unit of 1 m is not that of scale 0
+pub not_ones : (scale : ℕ) → 10 ≡ 10 ^ scale → 0 < scale
+not_ones zero is = absurd (omega arith)
+not_ones (suc n) is = omega arith
+
 -- the unit of 10 m is that of scale 2 alone
 pub tens : (scale : ℕ) → scale ≤ 2 → 100 ≡ 10 ^ scale → 1 < scale
 tens zero most is = absurd (omega arith)
@@ -302,6 +324,9 @@ module _ (p : Place) (segment : Segment) (dir scale distance : ℕ) (told : Told
       };
       alone = refl;
     };
+    next_stamp = refl;
+    known_time = omega arith;
+    by_its_kind = refl;
     by_its_group = sym at_5;
     sendable = can_be_sent;
   }
@@ -316,7 +341,7 @@ module _ (p : Place) (segment : Segment) (dir scale distance : ℕ) (told : Told
 -- the same of restriction 1 to 80 km/h
 pub limit_seen : (p : Place) (segment : Segment) (dir scale start length speed : ℕ) (told : Part) (way : Way) (unit : ℕ) → way_told Up dir ≡ Some way → unit_told scale ≡ Some unit
     → SaysFor track_a none_numbered (restriction_1 segment) (train_7 (Some p) 1000 []) (ChangesLimits (limit_change.Tell 0 1 told ∷ [])) (restrict_to dir scale start length speed)
-    → IsPartSaid (limit_80 segment) p 10000 way unit start length speed false
+    → IsPartSaid (limit_80 segment) p way unit start length speed false
 limit_seen p segment dir scale start length speed told way unit one_way in_units says =
     let first = first_says track_a (restriction_1 segment) (train_7 (Some p) 1000 []) 5 (packet.Restrict dir scale 0 start length false speed) [] (limit_change.Tell 0 1 told) [] says.said says.says says.is_for in
     part_said track_a none_numbered (restriction_1 segment) (train_7 (Some p) 1000 []) p refl (head_at 1001 true) group_5 refl way dir one_way unit scale in_units
@@ -338,34 +363,64 @@ counted_from_5 dir scale distance way place unit one_way in_units ahead = record
 pub before_20000 : Says track_a (stop_before 1 0 10000) (StopsBefore 0 (spot_at 20000) ∷ [])
 before_20000 = (refl, (spot_at 20000, (counted_from_5 1 0 10000 Up 20000 1 refl refl refl, refl)))
 
--- a right message 24 with packet 65 for a restriction of a stretch of line 0, whose part is told on such a stretch
-pub right_limit : (from to dir scale start length speed : ℕ) (stretch : Stretch) → stretch ≡ stretch_for (limit_80 (on_line_0 from to)) facing_up → stretch.line ≡ 0 → stretch.origin ≡ 10000
-    → way_told Up dir ≡ Some stretch.way → unit_told scale ≡ Some stretch.unit → stretch.begin ≡ start * stretch.unit → stretch.end ≡ (start + length) * stretch.unit → 80 ≡ 5 * speed
-    → IsSendable (restrict_to dir scale start length speed)
-    → (told : Part) → SaysFor track_a none_numbered (restriction_1 (on_line_0 from to)) (train_7 (Some facing_up) 1000 []) (ChangesLimits (limit_change.Tell 0 1 told ∷ [])) (restrict_to dir scale start length speed)
-right_limit from to dir scale start length speed stretch is on_line from_group one_way in_units begins ends speed_is can_be_sent told = record {
-  said = Restricts 0 stretch false 80 ∷ [];
-  says = (
-    (
-      stretch,
-      (
-        record {
-          counts = record { group = group_5; known = refl; on_line = on_line; from_group = from_group; one_way = one_way; in_units = in_units };
-          begins = begins;
-          ends = ends;
-        },
-        ap (λ (v : ℕ). Restricts 0 stretch false v) speed_is,
-      ),
-    ),
-    tt,
-  );
-  is_for = (
-    record { limit = limit_80 (on_line_0 from to); active = refl; p = facing_up; placed = refl; is_said = ap (λ (s : Stretch). Restricts 0 s false 80) is },
-    tt,
-  );
-  by_its_group = refl;
-  sendable = can_be_sent;
+-- a stretch ahead of balise group 5 in units of 10 cm, for a restriction to 80 km/h of a stretch of line 0
+abbrev pub stretch_from_5 : ℕ → ℕ → Stretch
+stretch_from_5 begin end = record { line = 0; origin = 10000; way = Up; begin = begin; end = end; unit = 1 }
+
+pub stretch_right : (from to start length : ℕ) → IsToldPart (limit_80 (on_line_0 from to)) facing_up 0 start length → IsStretchFor (limit_80 (on_line_0 from to)) facing_up (stretch_from_5 start (start + length))
+stretch_right from to start length told = record {
+  scale = 0;
+  start = start;
+  length = length;
+  told = told;
+  on_line = refl;
+  from_group = refl;
+  faces = refl;
+  in_units = refl;
+  begins = omega arith;
+  ends = omega arith;
 }
+
+-- such a restriction that concerns the train is told as the rules tell it
+facing_up_is_sound : IsSound facing_up
+facing_up_is_sound = record { group = omega arith; at = omega arith; ordered = omega arith; within = omega arith }
+
+pub told_as_part : (from to : ℕ) → from < to → to ≤ 3000000 → concerns (limit_80 (on_line_0 from to)) facing_up 100000 ≡ true
+    → IsToldPart (limit_80 (on_line_0 from to)) facing_up (told_part (limit_80 (on_line_0 from to)) facing_up).0 (told_part (limit_80 (on_line_0 from to)) facing_up).1 (told_part (limit_80 (on_line_0 from to)) facing_up).2
+told_as_part from to ordered within it_does =
+    each_limit_is_told_rightly (limit_80 (on_line_0 from to)) facing_up 100000 (record { ordered = ordered; within = within; speed = omega arith; in_fives = refl }) facing_up_is_sound it_does
+
+-- a right message 24 with packet 65 for such a restriction
+pub right_limit : (from to start length speed : ℕ) → IsToldPart (limit_80 (on_line_0 from to)) facing_up 0 start length → 80 ≡ 5 * speed → IsSendable (restrict_to 1 0 start length speed)
+    → (told : Part) → SaysFor track_a none_numbered (restriction_1 (on_line_0 from to)) (train_7 (Some facing_up) 1000 []) (ChangesLimits (limit_change.Tell 0 1 told ∷ [])) (restrict_to 1 0 start length speed)
+right_limit from to start length speed is_told speed_is can_be_sent told =
+    let stretch = stretch_from_5 start (start + length) in
+    record {
+      said = Restricts 0 stretch false 80 ∷ [];
+      says = (
+        (
+          stretch,
+          (
+            record {
+              counts = record { group = group_5; known = refl; on_line = refl; from_group = refl; one_way = refl; in_units = refl };
+              begins = omega arith;
+              ends = omega arith;
+            },
+            ap (λ (v : ℕ). Restricts 0 stretch false v) speed_is,
+          ),
+        ),
+        tt,
+      );
+      is_for = (
+        record { limit = limit_80 (on_line_0 from to); active = refl; p = facing_up; placed = refl; stretch = stretch; is_for = stretch_right from to start length is_told; is_said = refl },
+        tt,
+      );
+      next_stamp = refl;
+      known_time = omega arith;
+      by_its_kind = refl;
+      by_its_group = refl;
+      sendable = can_be_sent;
+    }
 
 -- what follows of any message for the restriction of 11050 to 12050 by Q_FRONT
 pub front_seen : (front : Bool) (told : Part) → SaysFor track_a none_numbered (restriction_1 (on_line_0 11050 12050)) (train_7 (Some facing_up) 1000 []) (ChangesLimits (limit_change.Tell 0 1 told ∷ [])) (restrict_as 0 front) → false ≡ front

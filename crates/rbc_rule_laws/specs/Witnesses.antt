@@ -1,5 +1,6 @@
 -- Worked cases of the laws, on one track, and of the records. Places and lengths are in units of 10 cm, speeds in km/h.
-use Rattle.std.specs.Prelude.{ℕ, ℤ, Bool, true, false, List, [], ◌∷◌, Option, Some, None, pos}
+use Rattle.std.specs.Prelude.{ℕ, ℤ, Bool, true, false, List, [], ◌∷◌, map, Option, Some, None, pos}
+use Rattle.std.specs.List.{range_with_len}
 use Rattle.ertms_codec.specs.declared.to_train.Head.{Head}
 use Rattle.ertms_codec.specs.declared.to_train.ToTrain.{ToTrain}
 use Rattle.ertms_codec.specs.declared.to_train.ToTrain.TheVariants as message
@@ -9,7 +10,9 @@ use Rattle.rbc_track.specs.Plan.{Plan}
 use Rattle.rbc_track.specs.declared.group.Way.TheVariants.{Up, Down}
 use Rattle.rbc_place.specs.Placing.{Place}
 use Rattle.rbc_maps.specs.Numbered.{none_numbered}
-use Rattle.rbc_ids.specs.declared.slot.Slot.TheVariants.{Used}
+use Rattle.rbc_ids.specs.declared.slot.Slot.{Slot}
+use Rattle.rbc_ids.specs.declared.slot.Slot.TheVariants.{Used, Revoking}
+use Rattle.rbc_ids.specs.declared.slot.Kind.{Kind}
 use Rattle.rbc_ids.specs.declared.slot.Kind.TheVariants.{Conditional, Restriction}
 use Rattle.rbc_ids.specs.Table.{Slots, told_now}
 use Rattle.rbc_zones.specs.declared.segment.Segment.{Segment}
@@ -23,7 +26,7 @@ use Rattle.rbc_settle.specs.Actions.{ChangesStop, ChangesLimits}
 use Rattle.rbc_settle.specs.declared.change.ToldStop.{ToldStop}
 use Rattle.rbc_settle.specs.declared.change.ToldStop.TheVariants.{AtOnce, Before}
 use Rattle.rbc_settle.specs.Told.{Part as ToldPart}
-use Rattle.rbc_settle.specs.Settling.{Stops, Limits}
+use Rattle.rbc_settle.specs.Settling.{Stops, Limits, last_stamp}
 use Rattle.rbc_records.specs.declared.record.Key.{Key}
 use Rattle.rbc_records.specs.declared.record.Key.TheVariants as key
 use Rattle.rbc_records.specs.declared.record.Rec.{Rec}
@@ -34,7 +37,8 @@ use Rattle.rbc_rule.specs.declared.input.Input.TheVariants.{Enrol, Stop, Restric
 use Rattle.rbc_rule.specs.World.{World}
 use Rattle.rbc_rule.specs.Effect.{effect}
 use Rattle.rbc_rule.specs.Saying.{Spot, both_ways}
-use Rattle.rbc_rule.specs.SaidFor.{IsSaidAfter, SaysByPlace, SaysFor, as_told}
+use Rattle.rbc_rule.specs.Told.{RevokesRightly, IsMarked}
+use Rattle.rbc_rule.specs.SaidFor.{IsSaidAfter, SaysByPlace, SaysFor, after_sending, as_told}
 
 -- ---- the track, and a train on it
 
@@ -124,6 +128,19 @@ naming lrbg (message.Stop head id) = message.Stop (record head { lrbg = lrbg }) 
 naming lrbg (message.Revoke head id) = message.Revoke (record head { lrbg = lrbg }) id
 naming lrbg (message.General head packets) = message.General (record head { lrbg = lrbg }) packets
 
+-- a message with another stamp, and with another M_ACK
+abbrev pub stamped : ℕ → ToTrain → ToTrain
+stamped stamp (message.StopAt head id scale reference dir distance) = message.StopAt (record head { stamp = stamp }) id scale reference dir distance
+stamped stamp (message.Stop head id) = message.Stop (record head { stamp = stamp }) id
+stamped stamp (message.Revoke head id) = message.Revoke (record head { stamp = stamp }) id
+stamped stamp (message.General head packets) = message.General (record head { stamp = stamp }) packets
+
+abbrev pub asking : Bool → ToTrain → ToTrain
+asking ack (message.StopAt head id scale reference dir distance) = message.StopAt (record head { ack = ack }) id scale reference dir distance
+asking ack (message.Stop head id) = message.Stop (record head { ack = ack }) id
+asking ack (message.Revoke head id) = message.Revoke (record head { ack = ack }) id
+asking ack (message.General head packets) = message.General (record head { ack = ack }) packets
+
 -- ---- what is said
 
 -- what the law says of the messages of a step
@@ -145,6 +162,14 @@ IsSaidOfLimit place from to sent = IsSaidIn (only_train_7 place) (Restrict 1 (on
 -- how stop 1 of 50005 to 60000 is told, and what the law says of a message for it by the place alone
 abbrev pub edge_from_5 : ToldStop
 edge_from_5 = Before (record { dir = 1; scale = 1; distance = 4000 })
+
+-- how stop 1 of 20000 to 21000 is told, and what the law says of a message for it to a train whose last stamp is the last that there is
+abbrev pub edge_at_20000 : ToldStop
+edge_at_20000 = Before (record { dir = 1; scale = 0; distance = 10000 })
+
+abbrev pub IsSaidAtTheEnd : ToTrain → Type 0
+IsSaidAtTheEnd sent =
+    SaysFor track_a (stop_1 (on_line_0 20000 21000)) none_numbered (train_7 (Some facing_up) last_stamp []) (ChangesStop (stop_change.Tell 0 1 edge_at_20000)) sent
 
 abbrev pub SaysByPlaceOf : ToTrain → Type 0
 SaysByPlaceOf sent = SaysByPlace track_a (stop_1 (on_line_0 50005 60000)) none_numbered (train_7 (Some facing_up) 1000 []) (ChangesStop (stop_change.Tell 0 1 edge_from_5)) sent
@@ -175,11 +200,11 @@ world_told place stamp slots = world_of (train_7 place stamp slots) (stop_1 (on_
 abbrev pub told_world : World
 told_world = world_told (Some facing_up) 1001 (told_as_0 1)
 
--- train 7 as its actions see it, once it has reported so often that it was told the stop under identifier 0 and has not answered
+-- train 7 as its second action sees it, once it has reported so often that it was told the stop under identifier 0 and has not answered
 abbrev pub unanswered : ℕ → TrainRec
 unanswered reports =
     let told = Used (record { number = 1; stamp = 1001; kind = Conditional; acked = false; count = reports }) in
-    as_told (stop_1 (on_line_0 20000 21000)) (train_7 (Some facing_up) 1001 ((0, told) ∷ []))
+    after_sending 1 (as_told (stop_1 (on_line_0 20000 21000)) (train_7 (Some facing_up) 1001 ((0, told) ∷ [])))
 
 -- what the law says of message 16 for the stop under identifier 1 then
 abbrev pub IsSaidAgain : ℕ → Type 0
@@ -275,3 +300,36 @@ of_packets packets = message.General (head_at 1001 true) packets
 
 abbrev pub IsSaidOfTwo : ToTrain → Type 0
 IsSaidOfTwo sent = SaysFor track_a none_numbered (restriction_1 (on_line_0 11050 12050)) (train_7 (Some facing_up) 1000 []) (ChangesLimits two_changes) sent
+
+-- ---- what may be revoked, and what slots keep
+
+-- the slot of a number that was told by the message with stamp 1001 in such a way, and counts so many reports
+abbrev pub slot_of : Kind → Bool → ℕ → Slot
+slot_of kind acked reports = Used (record { number = 1; stamp = 1001; kind = kind; acked = acked; count = reports })
+
+-- the stop identifiers from a number on, so many, being revoked
+abbrev pub revoking : ℕ → ℕ → Slots
+revoking from count = map (λ id. (id, Revoking 1000)) (range_with_len from count)
+
+-- stop 1 of 20000 to 21000 is active, or was, and the train has such stop slots: what the law says of message 18 for identifier 0
+abbrev pub MayRevokeActive : Slots → Type 0
+MayRevokeActive slots = RevokesRightly (stop_1 (on_line_0 20000 21000)) none_numbered (train_7 (Some facing_up) 1001 slots) (revoke 0)
+
+abbrev pub MayRevokeReleased : Slots → Type 0
+MayRevokeReleased slots = RevokesRightly (record { last = 1; active = [] }) none_numbered (train_7 (Some facing_up) 1001 slots) (revoke 0)
+
+-- restriction 1 of a stretch of line 0 is active, and was told under identifier 0: what the law says of packet 66 for it
+abbrev pub MayLiftActive : ℕ → ℕ → Type 0
+MayLiftActive from to =
+    RevokesRightly none_numbered (restriction_1 (on_line_0 from to)) (record (train_7 (Some facing_up) 1001 []) { limits = (0, slot_of Restriction true 0) ∷ [] }) (lift both_ways 0)
+
+-- the train has such stop slots after the step in which stop 1 is told under identifier 0, or identifier 0 is revoked
+abbrev pub KeepsTold : Slots → Type 0
+KeepsTold slots = IsMarked (train_7 (Some facing_up) 1001 slots) (ChangesStop (stop_change.Tell 0 1 edge_at_20000)) (stop_before 1 0 10000)
+
+abbrev pub KeepsRevoked : Slots → Type 0
+KeepsRevoked slots = IsMarked (train_7 (Some facing_up) 1002 slots) (ChangesStop (stop_change.Revoke 0 None)) (revoke 0)
+
+-- and such restriction slots after that in which identifier 0 is revoked and restriction 1 told under identifier 1
+abbrev pub KeepsBoth : Slots → Type 0
+KeepsBoth slots = IsMarked (record (train_7 (Some facing_up) 1001 []) { limits = slots }) (ChangesLimits two_changes) (of_packets (lift_0 ∷ restrict_1 ∷ []))

@@ -13,7 +13,7 @@ ghost use Rattle.rbc_rule_laws.specs.Witnesses.{stop_now, restrict_to, restrict_
 ghost use Rattle.rbc_rule_laws.specs.Witnesses.{world_limited, IsSaidIn, IsSaidOfStop, IsSaidOfLimit};
 ghost use Rattle.rbc_rule_laws.specs.Witnesses.{IsSaidAtEnrolment};
 ghost use Rattle.rbc_rule_laws.specs.Witnesses.{SaysByPlaceOf, IsSaidAgain, IsSaidBeforeAgain, lift_0, restrict_1};
-ghost use Rattle.rbc_rule_laws.specs.Witnesses.{of_packets, IsSaidOfTwo};
+ghost use Rattle.rbc_rule_laws.specs.Witnesses.{of_packets, IsSaidOfTwo, stamped, asking, IsSaidAtTheEnd};
 
 /// Messages 15 and 16: stop 1 becomes active on 20000 to 21000, on 12100 to 13000, which meets the train, or for a
 /// train that stands short of its balise group on 10000 to 11000.
@@ -41,18 +41,40 @@ pub fn stop_witnesses()
     ensures at_once_for_before { IsSaidOfStop facing_up 20000 21000 (stop_at_once ∷ []) → ⊥ }
 {}
 
+/// T_TRAIN and M_ACK of each message. The last stamp of train 7 is 1000, or 0 where it is enrolled, or 1001 where it
+/// was told stop 1 or restriction 1.
+///
+/// Wrong: the stamp for an unknown time, also where it is the next one; the stamp of the message before; a stamp left
+/// out; two messages of one stamp, and in the other order; and an answer by the stamp asked for by messages 15 and 16,
+/// or not by messages 18 and 24.
+pub fn head_witnesses()
+    ensures unknown_time { IsSaidOfStop facing_up 20000 21000 (stamped 4294967295 (stop_before 1 0 10000) ∷ []) → ⊥ }
+    ensures no_time_left { IsSaidAtTheEnd (stamped 4294967295 (stop_before 1 0 10000)) → ⊥ }
+    ensures stamp_again { IsSaidOfStop facing_up 20000 21000 (stamped 1000 (stop_before 1 0 10000) ∷ []) → ⊥ }
+    ensures stamp_left_out { IsSaidOfStop facing_up 20000 21000 (stamped 1002 (stop_before 1 0 10000) ∷ []) → ⊥ }
+    ensures one_stamp_for_two { IsSaidAtEnrolment (stop_now 1 0 ∷ stop_now 1 1 ∷ []) → ⊥ }
+    ensures descending { IsSaidAtEnrolment (stop_now 2 0 ∷ stop_now 1 1 ∷ []) → ⊥ }
+    ensures edge_asks { IsSaidOfStop facing_up 20000 21000 (asking true (stop_before 1 0 10000) ∷ []) → ⊥ }
+    ensures at_once_asks { IsSaidOfStop facing_up 12100 13000 (asking true stop_at_once ∷ []) → ⊥ }
+    ensures revocation_asks_not { IsSaidIn told_world (input.Release 1) ((7, asking false (revoke 0) ∷ []) ∷ []) → ⊥ }
+    ensures packets_ask_not { IsSaidIn world_limited (input.Lift 1) ((7, asking false (lift 2 0) ∷ []) ∷ []) → ⊥ }
+{}
+
 /// Message 24 with packet 65: a restriction of 11050 to 12050 to 80 km/h becomes active.
 ///
 /// Right: it begins 1050 units ahead, is 1000 units long, and the train's length delays its end.
 ///
-/// Wrong: one unit less and more, where it begins, how long it is and how fast the train may go; another identifier;
-/// the train's length does not delay its end; another balise group.
+/// Wrong: one unit less and more, where it begins, how long it is and how fast the train may go; units of 1 m where
+/// those of 10 cm have room; the length rounded down, of a restriction of 11055 to 51055; another identifier; the
+/// train's length does not delay its end; another balise group.
 pub fn restriction_witnesses()
     ensures told { IsSaidOfLimit facing_up 11050 12050 (restrict_to 1 0 1050 1000 16 ∷ []) }
     ensures begins_before { IsSaidOfLimit facing_up 11050 12050 (restrict_to 1 0 1049 1000 16 ∷ []) → ⊥ }
     ensures begins_behind { IsSaidOfLimit facing_up 11050 12050 (restrict_to 1 0 1051 1000 16 ∷ []) → ⊥ }
     ensures too_short { IsSaidOfLimit facing_up 11050 12050 (restrict_to 1 0 1050 999 16 ∷ []) → ⊥ }
     ensures too_long { IsSaidOfLimit facing_up 11050 12050 (restrict_to 1 0 1050 1001 16 ∷ []) → ⊥ }
+    ensures too_coarse { IsSaidOfLimit facing_up 11050 12050 (restrict_to 1 1 105 100 16 ∷ []) → ⊥ }
+    ensures rounded_down { IsSaidOfLimit facing_up 11055 51055 (restrict_to 1 1 105 4000 16 ∷ []) → ⊥ }
     ensures too_slow { IsSaidOfLimit facing_up 11050 12050 (restrict_to 1 0 1050 1000 15 ∷ []) → ⊥ }
     ensures too_fast { IsSaidOfLimit facing_up 11050 12050 (restrict_to 1 0 1050 1000 17 ∷ []) → ⊥ }
     ensures other_identifier { IsSaidOfLimit facing_up 11050 12050 (restrict_as 1 false ∷ []) → ⊥ }

@@ -13,6 +13,9 @@ returns-clause-told_again c = record {
   said = StopsAtOnce 1 ∷ [];
   says = refl;
   is_for = record { one = StopsAtOnce 1; is = record { area = on_line_0 20000 21000 ∷ []; active = refl; concern = refl }; alone = refl };
+  next_stamp = refl;
+  known_time = omega arith;
+  by_its_kind = refl;
   by_its_group = refl;
   sendable = sendable.stop_at_once (at_5 1002) (omega arith) (omega arith) 1 1 (omega arith);
 }

@@ -1,17 +1,16 @@
 use Rattle.std.proofs.Common.{◌≡◌, false, [], ◌∷◌, Some, refl, sym, ◌∙◌, arith}
 use Rattle.std.specs.List.{AllByRecursion}
 use Rattle.rbc_settle.specs.declared.change.LimitChange.TheVariants as limit_change
-use Rattle.rbc_track.specs.declared.group.Way.TheVariants.{Up}
 use Rattle.rbc_rule.specs.Saying.{Stretch, Restricts, RevokesLimit, IsStretchTold}
 use Rattle.rbc_rule_laws.specs.Witnesses.{track_a, facing_up, on_line_0, train_7, limit_80, restriction_1, told_1, two_changes, lift_0, restrict_1}
 use Rattle.rbc_rule_laws.proofs.Packets.{CanBePacked, restrict_packed, lift_packed}
 use Rattle.rbc_rule_laws.proofs.Sendable as sendable
-use Rattle.rbc_rule_laws.proofs.WitnessSays.{group_5, at_5, first_says, as_many, differ}
+use Rattle.rbc_rule_laws.proofs.WitnessSays.{group_5, at_5, first_says, as_many, stretch_from_5, stretch_right, told_as_part, differ}
 use Rattle.rbc_rule_laws.proofs.said_witnesses.packets_witnesses.Goals as goal
 
 pub returns-clause-both : goal.returns-clause-both
 returns-clause-both c =
-    let stretch : Stretch = record { line = 0; origin = 10000; way = Up; begin = 1050; end = 2050; unit = 1 } in
+    let stretch : Stretch = stretch_from_5 1050 2050 in
     let counted : IsStretchTold track_a 5 1 0 1050 1000 stretch = record {
       counts = record { group = group_5; known = refl; on_line = refl; from_group = refl; one_way = refl; in_units = refl };
       begins = refl;
@@ -21,7 +20,24 @@ returns-clause-both c =
     record {
       said = RevokesLimit 0 ∷ Restricts 1 stretch false 80 ∷ [];
       says = ((refl, refl), ((stretch, (counted, refl)), tt));
-      is_for = (refl, (record { limit = limit_80 (on_line_0 11050 12050); active = refl; p = facing_up; placed = refl; is_said = refl }, tt));
+      is_for = (
+        refl,
+        (
+          record {
+            limit = limit_80 (on_line_0 11050 12050);
+            active = refl;
+            p = facing_up;
+            placed = refl;
+            stretch = stretch;
+            is_for = stretch_right 11050 12050 1050 1000 (told_as_part 11050 12050 (omega arith) (omega arith) refl);
+            is_said = refl;
+          },
+          tt,
+        ),
+      );
+      next_stamp = refl;
+      known_time = omega arith;
+      by_its_kind = refl;
       by_its_group = refl;
       sendable = sendable.general (at_5 1000) (omega arith) (omega arith) (lift_0 ∷ restrict_1 ∷ []) (omega arith) (omega arith) packed;
     }

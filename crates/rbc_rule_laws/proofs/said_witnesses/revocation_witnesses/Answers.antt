@@ -4,7 +4,7 @@ use Rattle.rbc_rule_laws.proofs.WitnessSays.{lift_sendable, lifts_right, lifts_b
 use Rattle.rbc_rule_laws.proofs.said_witnesses.revocation_witnesses.Goals as goal
 
 pub returns-clause-lifted : goal.returns-clause-lifted
-returns-clause-lifted c = (refl, ((record { said = RevokesLimit 0 ∷ []; says = ((refl, refl), tt); is_for = (refl, tt); by_its_group = refl; sendable = lift_sendable 0 (omega arith) }, tt), tt))
+returns-clause-lifted c = (refl, ((record { said = RevokesLimit 0 ∷ []; says = ((refl, refl), tt); is_for = (refl, tt); next_stamp = refl; known_time = omega arith; by_its_kind = refl; by_its_group = refl; sendable = lift_sendable 0 (omega arith) }, tt), tt))
 
 pub returns-clause-one_way : goal.returns-clause-one_way
 returns-clause-one_way c h = differ 1 2 refl (lifts_both_ways _ _ _ _ _ _ _ _ h.1.0.0)

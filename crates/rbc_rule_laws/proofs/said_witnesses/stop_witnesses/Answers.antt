@@ -16,6 +16,9 @@ returns-clause-at_once c = (
         said = StopsAtOnce 0 ∷ [];
         says = refl;
         is_for = record { one = StopsAtOnce 0; is = record { area = on_line_0 12100 13000 ∷ []; active = refl; concern = refl }; alone = refl };
+        next_stamp = refl;
+        known_time = omega arith;
+        by_its_kind = refl;
         by_its_group = refl;
         sendable = sendable.stop_at_once (at_5 1000) (omega arith) (omega arith) 0 1 (omega arith);
       },

@@ -1,10 +1,11 @@
 use Rattle.std.proofs.Common.{◌≡◌, ◌+◌, ◌*◌, ◌/◌, ◌^◌, ◌<◌, ◌≤◌, [], ◌∷◌, refl, ap, arith}
 use Rattle.rbc_track.specs.declared.group.Way.TheVariants.{Up, Down}
+use Rattle.rbc_zones.specs.Limits.{IsNearOne}
 use Rattle.rbc_zones.proofs.ToldStops.{told_rightly}
 use Rattle.rbc_rule.specs.Saying.{Spot, StopsAtOnce, StopsBefore, RevokesStop}
-use Rattle.rbc_rule_laws.specs.Witnesses.{track_a, facing_up, facing_down, on_line_0, stop_before, spot_at}
+use Rattle.rbc_rule_laws.specs.Witnesses.{track_a, facing_up, facing_down, on_line_0, limit_80, stop_before, spot_at}
 use Rattle.rbc_rule_laws.proofs.OneSaid.{says_one_thing}
-use Rattle.rbc_rule_laws.proofs.WitnessSays.{stop_before_sendable, stop_now_sendable, revoke_sendable, restrict_sendable, right_stop, right_limit, stop_seen, limit_seen, not_spare, has_way, revokes_right, differ, tens, from_5, counted_from_5, before_20000}
+use Rattle.rbc_rule_laws.proofs.WitnessSays.{stop_before_sendable, stop_now_sendable, revoke_sendable, restrict_sendable, told_as_part, right_stop, right_limit, stop_seen, limit_seen, not_spare, has_way, revokes_right, differ, tens, from_5, counted_from_5, before_20000}
 use Rattle.rbc_rule_laws.proofs.witnesses.says_law_witnesses.Goals as goal
 
 pub returns-clause-edge_at_20000 : goal.returns-clause-edge_at_20000
@@ -31,7 +32,7 @@ returns-clause-edge_at_3000 c =
 pub returns-clause-part_ahead : goal.returns-clause-part_ahead
 returns-clause-part_ahead c =
     let can_be_sent = restrict_sendable 1 0 0 1000 16 (omega arith) (omega arith) (omega arith) (omega arith) (omega arith) in
-    let one = right_limit 9000 11000 1 0 0 1000 16 (record { line = 0; origin = 10000; way = Up; begin = 0; end = 1000; unit = 1 }) refl refl refl refl refl refl refl refl can_be_sent _ in
+    let one = right_limit 9000 11000 0 1000 16 (told_as_part 9000 11000 (omega arith) (omega arith) refl) refl can_be_sent _ in
     (refl, ((one, tt), tt))
 
 pub returns-clause-both_told : goal.returns-clause-both_told
@@ -43,6 +44,9 @@ returns-clause-both_told c = (
         said = StopsAtOnce 0 ∷ [];
         says = refl;
         is_for = record { one = StopsAtOnce 0; is = record { area = on_line_0 20000 21000 ∷ []; active = refl; concern = refl }; alone = refl };
+        next_stamp = refl;
+        known_time = omega arith;
+        by_its_kind = refl;
         by_its_group = refl;
         sendable = stop_now_sendable 0 0 (omega arith) (omega arith);
       },
@@ -51,6 +55,9 @@ returns-clause-both_told c = (
           said = StopsAtOnce 1 ∷ [];
           says = refl;
           is_for = record { one = StopsAtOnce 1; is = record { area = on_line_0 40000 41000 ∷ []; active = refl; concern = refl }; alone = refl };
+          next_stamp = refl;
+          known_time = omega arith;
+          by_its_kind = refl;
           by_its_group = refl;
           sendable = stop_now_sendable 1 1 (omega arith) (omega arith);
         },
@@ -62,7 +69,7 @@ returns-clause-both_told c = (
 )
 
 pub returns-clause-revoked : goal.returns-clause-revoked
-returns-clause-revoked c = (refl, ((record { said = RevokesStop 0 ∷ []; says = refl; is_for = refl; by_its_group = refl; sendable = revoke_sendable 0 (omega arith) }, tt), tt))
+returns-clause-revoked c = (refl, ((record { said = RevokesStop 0 ∷ []; says = refl; is_for = refl; next_stamp = refl; known_time = omega arith; by_its_kind = refl; by_its_group = refl; sendable = revoke_sendable 0 (omega arith) }, tt), tt))
 
 pub returns-clause-refused : goal.returns-clause-refused
 returns-clause-refused c = refl
@@ -84,7 +91,10 @@ returns-clause-too_short c h =
 pub returns-clause-whole_hundreds : goal.returns-clause-whole_hundreds
 returns-clause-whole_hundreds c h =
     let one = limit_seen facing_up (on_line_0 11050 12050) 1 0 1000 1100 16 _ Up 1 refl refl h.1.0.0 in
-    let begins : 1050 ≡ 1000 * 1 = one.begins in
+    let near : IsNearOne (limit_80 (on_line_0 11050 12050)) facing_up 1 1000 = one.no_longer 1000 (omega arith) (omega arith) in
+    let ahead : near.of.place ≡ 10000 + near.other = near.of.ahead in
+    let from : 11050 ≤ near.of.place = near.of.from in
+    let not_below : near.other < 1000 + 1 = near.near.not_below in
     absurd (omega arith)
 
 pub returns-clause-speed_in_ones : goal.returns-clause-speed_in_ones
