@@ -1,5 +1,9 @@
 //! The book in which attempts at the inputs of a desk are committed in the order of the inputs, and what holds after
 //! all of its events.
+//!
+//! Stands on rbc_desk and rbc_versions. The workers of rbc_engine share one [`Book`] under a lock, and rest on this:
+//! each call is one event, and the desk is always the serial run of the inputs that are committed (`Happens` of
+//! specs/Events.antt; kept by the book's type). Begin with attempt.rt and book.rt; the laws are in law.rt.
 #![tactic(auto)]
 
 mod attempt;

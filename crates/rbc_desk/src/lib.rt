@@ -1,4 +1,9 @@
 //! The desk: the records, the results and the outboxes, and what its mails say.
+//!
+//! Stands on rbc_rule and rbc_rule_laws. rbc_core, rbc_window and rbc_engine run inputs on a [`Desk`] and rest on this:
+//! [`Desk::take_in`] leaves the desk that the rules give after the input, or changes nothing (`serial` of
+//! specs/Serial.antt). rbc_text writes its output. Begin with desk.rt; `mails_law` says that each mail says what the
+//! rules give its train.
 #![tactic(auto)]
 
 mod answer;

@@ -1,5 +1,10 @@
 //! Workers that attempt many inputs of a run at once. What they leave is as if one had done the inputs one after
 //! another.
+//!
+//! Stands on rbc_core and rbc_window. rbc_batch calls [`run`], in which workers attempt, commit in input order and
+//! compute again what went stale, and [`run_by_train`], without attempts. It rests on one contract of both: the desk is
+//! that of the rules applied to all inputs in order (`IsRun` of specs/Answers.antt). Begin with workers.rt, then
+//! job.rt.
 #![tactic(auto)]
 
 mod by_train;

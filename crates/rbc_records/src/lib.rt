@@ -1,5 +1,9 @@
-//! The single records in which everything known is kept: how they are read, stored and written, and how a
-//! search finds the trains that a command seeks.
+//! The single records in which everything known is kept: how they are read, stored and written, and how a search finds
+//! the trains that a command seeks.
+//!
+//! Stands on rbc_settle for what a record holds. rbc_rule reads through a [`Reader`] and rests on this: what is known
+//! never changes, and a search misses no train that the command seeks (specs/Notes.antt, specs/Seeking.antt). rbc_desk
+//! keeps a [`PlainStore`]. Begin with record.rt and reader.rt.
 #![tactic(auto)]
 
 mod extent;

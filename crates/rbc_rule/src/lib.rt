@@ -1,5 +1,10 @@
-//! One input: what a step of the rules is, by definitions over whole states, and `decide`, which does that step by
+//! One input: what a step of the rules is, by definitions over whole states, and [`decide`], which does that step by
 //! reading single records.
+//!
+//! Stands on rbc_records and rbc_settle. rbc_desk, rbc_core, rbc_engine and rbc_live decide each input so. They rest on
+//! one contract: the outcome of `decide` is the step of each valid state that has the records that were read (`IsRight`
+//! of specs/Right.antt; the step is `step` of specs/Step.antt). Begin with input.rt and rule.rt; then commands.rt for
+//! the signaller, and receive.rt for trains.
 #![tactic(auto)]
 
 mod active_lists;

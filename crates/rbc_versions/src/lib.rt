@@ -1,5 +1,9 @@
 //! Records that are published once under numbers: a number means one record for good, so numbers are compared in place
 //! of records.
+//!
+//! Stands on rbc_records, and on `boxcar` of the kit for a log that threads share without a lock. rbc_core and
+//! rbc_engine rest on this: two tickets of one log and one number show one record ([`VersionLog::agree`]). Begin with
+//! log.rt, then published.rt and present.rt.
 #![tactic(auto)]
 
 mod log;
