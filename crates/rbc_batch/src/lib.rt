@@ -1,4 +1,11 @@
-//! A whole batch: its lines are read, each is taken as an input, and the results and the messages sent are written.
+//! A whole batch, from a reader to a writer: its lines are read as inputs, all of them are run on a new desk, and the
+//! results and the messages are written.
+//!
+//! It stands on rbc_text, which reads a line and renders a desk, and on rbc_engine, which runs inputs by several
+//! workers. The program `dispatch` calls it; rbc_account takes its way to read a batch.
+//!
+//! The storey above rests on the contract of `process` (batch.rt), whose clause `answers` (specs/Process.antt) says
+//! what is out at `Ok`, the output text of the serial run and nothing else, and at each fault. Begin there.
 #![tactic(auto)]
 
 mod batch;

@@ -1,9 +1,10 @@
-//! A worked caller: a dispatcher that keeps a state of its own, and takes one input after another.
+//! A worked caller: a dispatcher that keeps a state of its own (office.rt), and takes one input after another.
 //!
 //! It reads a batch from standard input and takes the first half of it, sends what comes of each input at once, and
 //! then loses everything but its log. It replays the log without sending anything a second time, and goes on with the
 //! other half. Each input is answered by its result, as `dispatch run` writes it, and its messages, in the order in
-//! which they are sent.
+//! which they are sent. It stands on rbc_text and rbc_rule alone, and rests on the contract of `decide`; nobody calls
+//! it. Begin with office.rt.
 #![tactic(auto)]
 
 ghost use Rattle.std.specs.Prelude.{IfOk};

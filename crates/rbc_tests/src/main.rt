@@ -1,15 +1,12 @@
 //! Runs golden batches by 1, 2, 3, 4 and 16 workers: on a locked book, of which each takes part, and in windows of 7
-//! and of 256 messages, or of as many as its line in cases.txt says. An independent model of the rules has given their
-//! outputs. It says of each batch whether every output is right, how many windows there were, and, if memory was refused to
-//! some windows, how many messages these had.
+//! and of 256 messages, or of as many as its line in cases.txt says. It says of each batch whether every output is that
+//! of an independent model, how many windows there were, and how many messages windows lacked the memory for.
 //!
-//! `rbc_tests RUNS WORKERS MOST` runs each batch so many times, once if no number is given; by so many workers, by all
-//! of those if no number is given; and in windows of so many messages at the most, or on the book alone if MOST is 0.
-//! If there are more runs than one, it says on standard error how many inputs of a batch were recomputed.
-//!
-//! Its tests show what a batch cannot: a book, with inputs attempted out of turn; runs by several workers, with gates
-//! that hold a worker until another one has come by; whole batches over readers and writers that fail; and trains
-//! whose stamps end. Their values are from outside.
+//! `rbc_tests RUNS WORKERS MOST` runs each batch so many times, by so many workers, and in windows of so many messages at
+//! the most, or on the book alone if MOST is 0. If there are more runs than one, it says on standard error how many inputs
+//! of a batch were recomputed. Its tests (tests.rt) show what a batch cannot: a book, with inputs attempted out of turn;
+//! runs by several workers, with gates that hold a worker until another one has come by; whole batches over readers
+//! and writers that fail; and trains whose stamps end. Their values are from outside.
 #![tactic(auto)]
 
 #[cfg(test)]
