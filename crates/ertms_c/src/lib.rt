@@ -1,5 +1,12 @@
 //! The codec for callers in C: one message at a time, in structs of fixed layout. `ertms.h` is the header. It takes
 //! memory only while it reads a message of several packets.
+//!
+//! It stands on ertms_codec, and no crate stands on it: it is built as a static library. A caller in C rests on the
+//! contract of the call: `ertms_3_read_to_train` and `ertms_read_from_train` give the fields of the message that the
+//! bytes spell, or the number of the first step that fails, and `ertms_3_write_to_train` the bytes of the message that
+//! has these fields, or 0 where none has.
+//!
+//! Begin with `fields_of` in specs/ToTrainFields.antt, which says what fields a message has.
 #![tactic(auto)]
 
 ghost use Rattle.std.specs.Prelude.{◌≡◌, ◌<◌, ◌⊎◌, drop};
@@ -16,11 +23,12 @@ mod from_train;
 mod to_train;
 
 use ertms_codec::{
-    DecodeError, Part, ReadError, read_from_train, read_to_train, write_general, write_to_train,
+    DecodeError, MOST_PACKETS, Part, ReadError, read_from_train, read_to_train, write_general,
+    write_to_train,
 };
 use from_train::FromTrainFields;
 use std::alloc::Global;
-use to_train::{MOST_PACKETS, ToTrainFields};
+use to_train::ToTrainFields;
 
 /// The code of a refusal.
 fn code_of(fault: DecodeError) -> u32

@@ -9,10 +9,7 @@ ghost use Rattle.ertms_codec.specs.ToTrain.{Fits};
 ghost use Rattle.ertms_c.specs.ToTrainFields.{begun, fields_of, head_in, named_by, packet_fields, packets_fields};
 ghost use Rattle.ertms_c.specs.ToTrainFields.{packet_named_by, no_packet, AreFieldsOf, IsFrame, AreOfNone};
 
-use ertms_codec::{Head, Packets, Part, ToTrain};
-
-/// How many packets a message has room for.
-pub const MOST_PACKETS: usize = 100;
+use ertms_codec::{Head, MOST_PACKETS, Packets, Part, ToTrain};
 
 /// The fields of no packet.
 const NO_PACKET: PacketFields = PacketFields {
@@ -190,30 +187,19 @@ fn named_by(fields: &ToTrainFields) -> Option<ToTrain>
     ensures { result ≡ named_by fields.now }
 {
     let head = head_in(fields);
-    let ToTrainFields {
-        kind,
-        id,
-        scale,
-        dir,
-        reference,
-        distance,
-        ..
-    } = *fields;
-    if kind == 15 {
-        Some(ToTrain::StopAt {
+    let id = fields.id;
+    match fields.kind {
+        15 => Some(ToTrain::StopAt {
             head,
             id,
-            scale,
-            reference,
-            dir,
-            distance,
-        })
-    } else if kind == 16 {
-        Some(ToTrain::Stop { head, id })
-    } else if kind == 18 {
-        Some(ToTrain::Revoke { head, id })
-    } else {
-        None
+            scale: fields.scale,
+            reference: fields.reference,
+            dir: fields.dir,
+            distance: fields.distance,
+        }),
+        16 => Some(ToTrain::Stop { head, id }),
+        18 => Some(ToTrain::Revoke { head, id }),
+        _ => None,
     }
 }
 
@@ -241,30 +227,21 @@ pub fn message_of(fields: &ToTrainFields) -> Option<ToTrain>
 fn packet_named_by(fields: &PacketFields) -> Option<Part>
     ensures { result ≡ packet_named_by fields.now }
 {
-    let PacketFields {
-        kind,
-        id,
-        scale,
-        dir,
-        front,
-        speed,
-        start,
-        length,
-    } = *fields;
-    if kind == 65 {
-        Some(Part::Restrict {
-            dir,
-            scale,
-            id,
-            start,
-            length,
-            front: front == 1,
-            speed,
-        })
-    } else if kind == 66 {
-        Some(Part::Lift { dir, id })
-    } else {
-        None
+    match fields.kind {
+        65 => Some(Part::Restrict {
+            dir: fields.dir,
+            scale: fields.scale,
+            id: fields.id,
+            start: fields.start,
+            length: fields.length,
+            front: fields.front == 1,
+            speed: fields.speed,
+        }),
+        66 => Some(Part::Lift {
+            dir: fields.dir,
+            id: fields.id,
+        }),
+        _ => None,
     }
 }
 
@@ -305,18 +282,13 @@ pub fn packets_of(fields: &[PacketFields], packets: &mut [Part]) -> bool
     true
 }
 
-/// Whether fields are those of no packet.
-fn is_none(packet: &PacketFields) -> bool
-    ensures { IsTrue result ↔ (packet.now ≡ no_packet) }
-{
-    are_same_packets(packet, &NO_PACKET)
-}
-
 /// Whether all are the fields of no packet.
 fn are_none(packets: &[PacketFields]) -> bool
     ensures { IsTrue result ↔ All (λ packet. packet ≡ no_packet) packets.now }
 {
-    packets.iter().all(|packet| is_none(packet))
+    packets
+        .iter()
+        .all(|packet| are_same_packets(packet, &NO_PACKET))
 }
 
 /// Whether all fields but those of its packets are those of a message 24 that fits.
