@@ -3,7 +3,7 @@ use Rattle.std.proofs.Common.{◌≡◌, ℕ, true, false, List, [], ◌∷◌, 
 use Rattle.std.specs.Option.{unwrap_or}
 use denote.Ref.{Bor}
 use Rattle.rbc_rule.specs.declared.input.Input.TheVariants.{Bad}
-use Rattle.rbc_text.specs.BatchText.{is_space, words_of, number_of, withdrawal_of, restriction_of, message_of, is_hex_word, IsInput, Spelled}
+use Rattle.rbc_text.specs.BatchText.{is_space, words_of, number_of, withdrawal_from, withdrawal_of, restriction_of, message_of, is_hex_word, IsInput, Spelled}
 use Rattle.rbc_text.specs.Pieces.{pieces_behind}
 use Rattle.rbc_text.proofs.Cuts.{split_is_cons}
 
@@ -20,8 +20,11 @@ one_more text first behind more words pieces e rest = pieces ∙ ap (λ (words :
 pub no_number : (words : List (List ℕ)) (first second : List ℕ) (rest : List (List ℕ)) → words ≡ first ∷ second ∷ rest → None ≡ number_of words
 no_number words first second rest e = sym (ap number_of e)
 
-pub no_withdrawal : (words : List (List ℕ)) (first second : List ℕ) (rest : List (List ℕ)) → words ≡ first ∷ second ∷ rest → None ≡ withdrawal_of words
-no_withdrawal words first second rest e = sym (ap withdrawal_of e)
+-- a withdrawal is of a number by itself
+pub withdrawal_is : (words : List (List ℕ)) → withdrawal_of words ≡ withdrawal_from (number_of words)
+withdrawal_is [] = refl
+withdrawal_is (word ∷ []) = refl
+withdrawal_is (first ∷ second ∷ words) = refl
 
 -- six words are no restriction
 pub no_restriction : (words : List (List ℕ)) (a b c d e f : List ℕ) (rest : List (List ℕ)) → words ≡ a ∷ b ∷ c ∷ d ∷ e ∷ f ∷ rest → None ≡ restriction_of words

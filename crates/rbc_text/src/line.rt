@@ -2,15 +2,14 @@
 
 ghost use Rattle.std.specs.Prelude.{◌≡◌, IfOk};
 ghost use Rattle.rbc_rule.specs.declared.input.Input.TheVariants.{Bad};
-ghost use Rattle.rbc_text.specs.BatchText.{enrolment_from, enrolment_of, stop_from, stop_of, withdrawal_from};
-ghost use Rattle.rbc_text.specs.BatchText.{withdrawal_of, restriction_from, restriction_of, command_of, words_of};
+ghost use Rattle.rbc_text.specs.BatchText.{enrolment_from, enrolment_of, stop_from, stop_of, withdrawal_of};
+ghost use Rattle.rbc_text.specs.BatchText.{restriction_of, command_of, words_of};
 ghost use Rattle.rbc_text.specs.BatchText.{line_of, IsInput};
 ghost use Rattle.rbc_rule.specs.Inputs.{Fits};
 
 use crate::messages::message;
 use crate::words::{cut, decimal, dirs, front, number, segment, segments};
 use rbc_rule::{Input, MAX_ENGINE, MAX_LENGTH, Refusal, Segments};
-use rbc_zones::{Dirs, Segment};
 use std::alloc::{AllocError, Global};
 
 /// The input of a line that spells none.
@@ -72,52 +71,18 @@ fn stop(alloc: Global, arguments: &[u8]) -> Result<Option<Input>, AllocError>
     }
 }
 
-/// The withdrawal of an engine, if its number is in its range.
-fn withdrawal_from(engine: Option<u32>) -> Option<Input>
-    ensures { result ≡ withdrawal_from engine }
+/// The input of the words behind `withdraw`.
+#[tactic(auto, using(crate::proofs::LineWords::withdrawal_is))]
+fn withdrawal(arguments: &[u8]) -> Option<Input>
+    ensures { result ≡ withdrawal_of (words_of arguments.now) }
 {
-    match engine {
+    match number(arguments) {
         Some(engine) if engine <= MAX_ENGINE => Some(Input::Withdraw { engine }),
         _ => None,
     }
 }
 
-/// The input of the words behind `withdraw`.
-fn withdrawal(arguments: &[u8]) -> Option<Input>
-    ensures { result ≡ withdrawal_of (words_of arguments.now) }
-{
-    let (word, behind) = cut(arguments, b' ');
-    match behind {
-        None => withdrawal_from(decimal(word)),
-        Some(_) => None,
-    }
-}
-
-/// The temporary speed restriction of these values, if all are there. The speed is in km/h.
-fn restriction_from(
-    number: Option<u32>,
-    segment: Option<Segment>,
-    dirs: Option<Dirs>,
-    speed: Option<u32>,
-    front: Option<bool>,
-) -> Option<Input>
-    ensures { result ≡ restriction_from number segment dirs speed front }
-{
-    match (number, segment, dirs, speed, front) {
-        (Some(number), Some(segment), Some(dirs), Some(speed), Some(front)) => {
-            Some(Input::Restrict {
-                number,
-                segment,
-                dirs,
-                speed,
-                front,
-            })
-        }
-        _ => None,
-    }
-}
-
-/// The input of the words behind `restrict`.
+/// The input of the words behind `restrict`. The speed is in km/h.
 fn restriction(arguments: &[u8]) -> Option<Input>
     ensures { result ≡ restriction_of (words_of arguments.now) }
 {
@@ -127,13 +92,13 @@ fn restriction(arguments: &[u8]) -> Option<Input>
     let (speed, behind) = cut(behind?, b' ');
     let (end, more) = cut(behind?, b' ');
     match more {
-        None => restriction_from(
-            decimal(number),
-            segment(place),
-            dirs(way),
-            decimal(speed),
-            front(end),
-        ),
+        None => Some(Input::Restrict {
+            number: decimal(number)?,
+            segment: segment(place)?,
+            dirs: dirs(way)?,
+            speed: decimal(speed)?,
+            front: front(end)?,
+        }),
         Some(_) => None,
     }
 }
