@@ -159,6 +159,10 @@ IsSaidOfStop place from to sent = IsSaidIn (only_train_7 place) (Stop 1 (on_line
 abbrev pub IsSaidOfLimit : Place → ℕ → ℕ → List ToTrain → Type 0
 IsSaidOfLimit place from to sent = IsSaidIn (only_train_7 place) (Restrict 1 (on_line_0 from to) dirs.Both 80 false) ((7, sent) ∷ [])
 
+-- what the law says of message 18 for identifier 16, which has no room in its variable, where that is to be revoked
+abbrev pub IsSaidOfIdentifier16 : Type 0
+IsSaidOfIdentifier16 = SaysFor track_a none_numbered none_numbered (train_7 (Some facing_up) 1001 []) (ChangesStop (stop_change.Revoke 16 None)) (revoke 16)
+
 -- how stop 1 of 50005 to 60000 is told, and what the law says of a message for it by the place alone
 abbrev pub edge_from_5 : ToldStop
 edge_from_5 = Before (record { dir = 1; scale = 1; distance = 4000 })
@@ -306,6 +310,10 @@ IsSaidOfTwo sent = SaysFor track_a none_numbered (restriction_1 (on_line_0 11050
 -- the slot of a number that was told by the message with stamp 1001 in such a way, and counts so many reports
 abbrev pub slot_of : Kind → Bool → ℕ → Slot
 slot_of kind acked reports = Used (record { number = 1; stamp = 1001; kind = kind; acked = acked; count = reports })
+
+-- it was told the stop conditionally, and left it unanswered in three reports
+abbrev pub world_due : World
+world_due = world_told (Some facing_up) 1001 ((0, slot_of Conditional false 3) ∷ [])
 
 -- the stop identifiers from a number on, so many, being revoked
 abbrev pub revoking : ℕ → ℕ → Slots

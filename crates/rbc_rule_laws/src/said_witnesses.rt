@@ -13,7 +13,7 @@ ghost use Rattle.rbc_rule_laws.specs.Witnesses.{stop_now, restrict_to, restrict_
 ghost use Rattle.rbc_rule_laws.specs.Witnesses.{world_limited, IsSaidIn, IsSaidOfStop, IsSaidOfLimit};
 ghost use Rattle.rbc_rule_laws.specs.Witnesses.{IsSaidAtEnrolment};
 ghost use Rattle.rbc_rule_laws.specs.Witnesses.{SaysByPlaceOf, IsSaidAgain, IsSaidBeforeAgain, lift_0, restrict_1};
-ghost use Rattle.rbc_rule_laws.specs.Witnesses.{of_packets, IsSaidOfTwo, stamped, asking, IsSaidAtTheEnd};
+ghost use Rattle.rbc_rule_laws.specs.Witnesses.{of_packets, IsSaidOfTwo, stamped, asking, IsSaidAtTheEnd, IsSaidOfIdentifier16};
 
 /// Messages 15 and 16: stop 1 becomes active on 20000 to 21000, on 12100 to 13000, which meets the train, or for a
 /// train that stands short of its balise group on 10000 to 11000.
@@ -87,7 +87,8 @@ pub fn restriction_witnesses()
 /// Right: as the restriction is lifted, its identifier is revoked both ways.
 ///
 /// Wrong: one way; the stop identifier 0 in its place; another identifier; another balise group in 18 and in 24; the
-/// restriction identifier 0 in place of the stop's; and the revocation of a stop that is active.
+/// restriction identifier 0 in place of the stop's; the revocation of a stop that is active; and an identifier for which
+/// the variable has no room.
 pub fn revocation_witnesses()
     ensures lifted { IsSaidIn world_limited (input.Lift 1) ((7, lift 2 0 ∷ []) ∷ []) }
     ensures one_way { IsSaidIn world_limited (input.Lift 1) ((7, lift 1 0 ∷ []) ∷ []) → ⊥ }
@@ -98,6 +99,7 @@ pub fn revocation_witnesses()
     ensures as_a_restriction { IsSaidIn told_world (input.Release 1) ((7, lift 2 0 ∷ []) ∷ []) → ⊥ }
     ensures while_active { IsSaidIn told_world (input.Restrict 1 (on_line_0 0 10) dirs.Both 80 false)
         ((7, revoke 0 ∷ []) ∷ []) → ⊥ }
+    ensures no_room { IsSaidOfIdentifier16 → ⊥ }
 {}
 
 /// Message 16, for a stop that train 7 was told conditionally and has not answered.

@@ -13,7 +13,7 @@ ghost use Rattle.rbc_rule.specs.Records.{Agrees};
 ghost use Rattle.rbc_rule_laws.specs.Witnesses.{track_a, facing_up, facing_down, stop_before, stop_now, restrict_to};
 ghost use Rattle.rbc_rule_laws.specs.Witnesses.{revoke};
 ghost use Rattle.rbc_rule_laws.specs.Witnesses.{two_stops, told_as_0, world_told, told_world, told_twice};
-ghost use Rattle.rbc_rule_laws.specs.Witnesses.{world_released};
+ghost use Rattle.rbc_rule_laws.specs.Witnesses.{world_released, world_due};
 ghost use Rattle.rbc_rule_laws.specs.Witnesses.{world_restricted, world_off_line, world_numbered_high, spot_at};
 ghost use Rattle.rbc_rule_laws.specs.Witnesses.{only_train_7, on_line_0, IsSaidIn, IsSaidOfStop, IsSaidOfLimit};
 ghost use Rattle.rbc_rule_laws.specs.Witnesses.{IsSaidAtEnrolment, three_trains, engines_there, all_lists_read};
@@ -65,7 +65,8 @@ pub fn says_law_witnesses()
 /// Right: the stop is told to the train; it is not, and the train's stamps are used up.
 ///
 /// Wrong: the stop is not told; nor is it to a train without a place; a stop is told that is not active any more; a
-/// restriction that concerns the train is not told.
+/// restriction that concerns the train is not told; the stop is told conditionally, was left unanswered in three
+/// reports, and identifiers are free under which it could be told again.
 pub fn told_law_witnesses()
     ensures told { EachTrainIsUpToDate track_a told_world }
     ensures stamps_ended { EachTrainIsUpToDate track_a (world_told (Some facing_up) last_stamp []) }
@@ -73,6 +74,7 @@ pub fn told_law_witnesses()
     ensures not_told_without_place { EachTrainIsUpToDate track_a (world_told None 1000 []) → ⊥ }
     ensures not_revoked { EachTrainIsUpToDate track_a world_released → ⊥ }
     ensures restriction_not_told { EachTrainIsUpToDate track_a world_restricted → ⊥ }
+    ensures left_unanswered { EachTrainIsUpToDate track_a world_due → ⊥ }
 {}
 
 /// Train 7 stands 200 m beyond balise group 5, facing up, and stop 1 of 20000 to 21000 becomes active.

@@ -1,4 +1,4 @@
-use Rattle.std.proofs.Common.{[], ◌∷◌, refl, arith}
+use Rattle.std.proofs.Common.{◌≤◌, [], ◌∷◌, refl, arith}
 use Rattle.rbc_rule.specs.Saying.{RevokesLimit}
 use Rattle.rbc_rule_laws.proofs.WitnessSays.{lift_sendable, lifts_right, lifts_both_ways, no_limit_revoked, no_stop_revoked, differ}
 use Rattle.rbc_rule_laws.proofs.said_witnesses.revocation_witnesses.Goals as goal
@@ -26,3 +26,6 @@ returns-clause-as_a_restriction c h = no_limit_revoked _ _ _ _ _ _ _ _ h.1.0.0
 
 pub returns-clause-while_active : goal.returns-clause-while_active
 returns-clause-while_active c h = h.1.0
+
+pub returns-clause-no_room : goal.returns-clause-no_room
+returns-clause-no_room c h = let most : 16 ≤ 15 = h.sendable.fits.body in absurd (omega (arith, most))

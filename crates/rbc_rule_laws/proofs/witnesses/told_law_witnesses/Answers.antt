@@ -9,7 +9,7 @@ use Rattle.rbc_settle.specs.declared.train.TrainRec.{TrainRec}
 use Rattle.rbc_settle.specs.Settling.{Stops, Limits, last_stamp, is_stop_gone, is_limit_gone, is_used_by, due_number}
 use Rattle.rbc_settle.specs.Told.{Part}
 use Rattle.rbc_settle.specs.UpToDate.{IsToldIfItCan, IsLimitToldIfItCan, IsUpToDate, IsUpToDateOrAtTheEnd}
-use Rattle.rbc_rule_laws.specs.Witnesses.{track_a, facing_up, on_line_0, train_7, stop_1, limit_80, restriction_1, told_as_0}
+use Rattle.rbc_rule_laws.specs.Witnesses.{track_a, facing_up, on_line_0, train_7, stop_1, limit_80, restriction_1, told_as_0, slot_of}
 use Rattle.rbc_rule_laws.proofs.WitnessSays.{differ}
 use Rattle.rbc_rule_laws.proofs.WitnessWorlds.{only, now_up_to_date}
 use Rattle.rbc_rule_laws.proofs.witnesses.told_law_witnesses.Goals as goal
@@ -80,3 +80,14 @@ returns-clause-restriction_not_told c h =
     let limits = restriction_1 (on_line_0 11050 12050) in
     let now = now_up_to_date train none_numbered limits (omega arith) h in
     neither _ _ _ _ (not_some _) (differ 0 255 refl) (All-head (IsLimitToldIfItCan 100000 train) (1, limit_80 (on_line_0 11050 12050)) [] now.limits_told)
+
+pub returns-clause-left_unanswered : goal.returns-clause-left_unanswered
+returns-clause-left_unanswered c h =
+    let slots = (0, slot_of Conditional false 3) ∷ [] in
+    let train = train_7 (Some facing_up) 1001 slots in
+    let stops = stop_1 (on_line_0 20000 21000) in
+    let now = now_up_to_date train stops none_numbered (omega arith) h in
+    elim now.none_due [
+      | inl none ↦ absurd (let bad : Some 1 ≡ None = All-head (λ (held : ℕ × Slot). due_number stops held.1 ≡ None) (0, slot_of Conditional false 3) [] none in cc)
+      | inr full ↦ differ 1 15 refl full
+    ]
