@@ -1,6 +1,6 @@
 -- Texts in lines: none of them has a line feed in it.
-use Rattle.std.proofs.Common.{◌≡◌, ℕ, suc, zero, ◌+◌, ◌/◌, ◌%◌, ◌<◌, Bool, true, false, cond, ◌||◌, ◌&&◌, ◌==◌, nat_lt, List, [], ◌∷◌, ◌++◌, length, slice_index, Option, Some, None, codes, flat_map, filter_map, bytes_eq, take, drop, decimal, refl, sym, ap, ◌∙◌, subst, append_assoc, arith}
-use Rattle.std.specs.List.{list_any, slice_split, onto_first, cons_option, AllByRecursion}
+use Rattle.std.proofs.Common.{◌≡◌, ℕ, suc, zero, ◌+◌, ◌/◌, ◌%◌, ◌<◌, Bool, true, false, cond, ◌||◌, ◌&&◌, ◌==◌, nat_lt, List, [], ◌∷◌, ◌++◌, length, slice_index, Option, Some, None, codes, flat_map, bytes_eq, take, drop, decimal, refl, sym, ap, ◌∙◌, subst, append_assoc, arith}
+use Rattle.std.specs.List.{list_any, slice_split, onto_first, AllByRecursion}
 use Rattle.std.specs.Fmt.{digits_onto, digit_glyph, digits}
 use Rattle.std.proofs.lemmas.Bool.{ne_eqb}
 use Rattle.std.proofs.lemmas.Bool.Decides.{nat_tests}
@@ -106,6 +106,12 @@ lines_behind line text is = ap without_empty_end (split_behind line text is) ∙
 pub lines_of_ended : (line text : List ℕ) → IsLine line → lines_of (ended line ++ text) ≡ line ∷ lines_of text
 lines_of_ended line text is = ap lines_of (append_assoc line (codes "\n") text) ∙ lines_behind line text is
 
+-- lines make a text of which they are the lines
+pub lines_of_all : (lines : List (List ℕ)) → AllByRecursion IsLine lines → lines_of (flat_map ended lines) ≡ lines
+lines_of_all [] each = refl
+lines_of_all (line ∷ lines) each =
+    lines_of_ended line (flat_map ended lines) each.0 ∙ ap (λ (ls : List (List ℕ)). line ∷ ls) (lines_of_all lines each.1)
+
 -- the pieces of a text before its last line feed are its lines
 ended_onto_first : (x : ℕ) (pieces : List (List ℕ)) → FirstPiece pieces → flat_map ended (onto_first x pieces) ≡ x ∷ flat_map ended pieces
 ended_onto_first x pieces some =
@@ -127,18 +133,6 @@ ended_pieces (x ∷ text) =
 -- a line without a first `=` has no mark
 pub no_mark : (x : ℕ) (line : List ℕ) → (x == 61) ≡ false → unmarked (x ∷ line) ≡ None
 no_mark x line is = ap (λ (b : Bool). cond (b && bytes_eq (take 1 line) (32 ∷ [])) (Some (drop 1 line)) None) is
-
-no_mark_in : (line : List ℕ) → list_any (λ byte. byte == 61) line ≡ false → unmarked line ≡ None
-no_mark_in [] none = refl
-no_mark_in (x ∷ line) none = no_mark x line (both_false (x == 61) (list_any (λ byte. byte == 61) line) none).0
-
-none_marked : (pieces : List (List ℕ)) → AllByRecursion (λ piece. list_any (λ byte. byte == 61) piece ≡ false) pieces → filter_map unmarked pieces ≡ []
-none_marked [] none = refl
-none_marked (piece ∷ pieces) none = ap (λ (found : Option (List ℕ)). cons_option found (filter_map unmarked pieces)) (no_mark_in piece none.0) ∙ none_marked pieces none.1
-
--- no line of a text without `=` is marked
-pub none_marked_in : (text : List ℕ) → list_any (λ byte. byte == 61) text ≡ false → filter_map unmarked (slice_split is_line_feed text) ≡ []
-none_marked_in text none = none_marked (slice_split is_line_feed text) (none_in_pieces (λ byte. byte == 61) text none)
 
 -- what is at no place of a text is not in it
 pub none_at_all : (p : ℕ → Bool) (text : List ℕ) → ((k : ℕ) → k < length text → ¬ (p (slice_index text k) ≡ true)) → list_any p text ≡ false

@@ -10,6 +10,7 @@ use Rattle.ertms_codec.specs.declared.to_train.Head.{Head}
 use Rattle.ertms_codec.specs.declared.to_train.ToTrain.{ToTrain}
 use Rattle.ertms_codec.specs.declared.to_train.ToTrain.TheVariants.{General}
 use Rattle.rbc_track.specs.Plan.{Plan}
+use Rattle.rbc_place.specs.Placing.{Place}
 use Rattle.rbc_settle.specs.declared.sent.Sent.{Sent}
 use Rattle.rbc_rule.specs.declared.outcome.Reply.{Reply}
 use Rattle.rbc_rule.specs.Saying.{Said, Says, PacketSays}
@@ -21,8 +22,9 @@ use Rattle.rbc_account.specs.declared.told.ToldRestriction.{ToldRestriction}
 use Rattle.rbc_explain.specs.declared.said.Spoken.{Spoken}
 use Rattle.rbc_explain.specs.Sentences.{stop_sentence, restriction_sentence, packet_sentence}
 use Rattle.rbc_explain.specs.Said.{IsOnStop, IsRevokedAs, IsSpokenBy, IsSpokenByPacket, IsStopSentence, IsRestrictionSentence, IsPacketSentence}
-use Rattle.rbc_explain.specs.Marked.{ended, unmarked, AreAdded, IsToldOn}
-use Rattle.rbc_explain.specs.Telling.{HasSentence, TellsStop, TellsPacket, TellsEach, TellsPackets, TellsRestrictions, TellsAll, Tells, IsSaidOn, IsBlockOn}
+use Rattle.rbc_explain.specs.Marked.{ended, shown, unmarked, AreAdded, IsToldOn}
+use Rattle.rbc_explain.specs.Reasons.{packet_text, single_text, several_text}
+use Rattle.rbc_explain.specs.Telling.{HasSentence, HasText, TellsStop, TellsStopWhy, TellsPacket, TellsPacketWhy, TellsEach, TellsPackets, TellsRestrictions, TellsAll, Tells, IsSaidOn, IsBlockOn}
 use Rattle.rbc_explain.proofs.Lines.{lines_of_ended}
 use Rattle.rbc_explain.proofs.Marking.{added_none, added_one, added_then, told_then, told_marked}
 use Rattle.rbc_explain.proofs.Sentenced.{IsOneLine, stop_is_one_line, restriction_is_one_line, packet_is_one_line, line_of_reply, result_is_line, line_of_sent, sent_is_line}
@@ -93,26 +95,35 @@ has_still : (Is : List ℕ → Type 0) (lines more : List (List ℕ)) → HasSen
 has_still Is lines more has =
     (has.0, has.1 ++ more, has.2, ap (λ (ls : List (List ℕ)). ls ++ more) has.3 ∙ append_assoc has.0 (has.2 ∷ has.1) more, has.4)
 
-pub stop_then_words : (T E : Type 0) (r : Result T E) (plan : Plan) (sent : Sent) (number : ℕ) (unanswered : Bool) (first second third : List ℕ) → IsSaidOn (TellsStop plan sent number unanswered) first second
-    → OnOk r (IsToldOn [] second third) → OnOk r (IsSaidOn (TellsStop plan sent number unanswered) first third)
-stop_then_words T E (Ok done) plan sent number unanswered first second third said words =
-    said_then (TellsStop plan sent number unanswered) (λ more. Unit) (TellsStop plan sent number unanswered) first second third
-    (λ lines more tells done one on says. has_still (IsStopSentence plan sent.engine number unanswered sent.message) lines more (tells one on says))
-    said (words.0, words.1, words.2, tt)
-stop_then_words T E (Err fault) plan sent number unanswered first second third said words = tt
+-- the lines of a text stand there behind others too
+text_behind : (text : List ℕ) (front lines : List (List ℕ)) → HasText text lines → HasText text (front ++ lines)
+text_behind text front lines has =
+    (front ++ has.0, has.1, ap (λ (ls : List (List ℕ)). front ++ ls) has.2 ∙ sym (append_assoc front has.0 (map shown (lines_of text) ++ has.1)))
 
-pub packet_then_words : (T E : Type 0) (r : Result T E) (plan : Plan) (lrbg : ℕ) (packet : Part) (Is : List ℕ → Type 0) (first second third : List ℕ)
-    → IsSaidOn (TellsPacket plan lrbg packet Is) first second → OnOk r (IsToldOn [] second third) → OnOk r (IsSaidOn (TellsPacket plan lrbg packet Is) first third)
-packet_then_words T E (Ok done) plan lrbg packet Is first second third said words =
-    said_then (TellsPacket plan lrbg packet Is) (λ more. Unit) (TellsPacket plan lrbg packet Is) first second third
-    (λ lines more tells done one says. has_still Is lines more (tells one says))
-    said (words.0, words.1, words.2, tt)
-packet_then_words T E (Err fault) plan lrbg packet Is first second third said words = tt
+pub stop_then_why : (T E : Type 0) (r : Result T E) (plan : Plan) (sent : Sent) (number : ℕ) (unanswered : Bool) (why text first second third : List ℕ) → text ≡ why
+    → IsSaidOn (TellsStop plan sent number unanswered) first second → OnOk r (IsSaidOn (HasText text) second third) → OnOk r (IsSaidOn (TellsStopWhy plan sent number unanswered why) first third)
+stop_then_why T E (Ok done) plan sent number unanswered why text first second third is said words =
+    said_then (TellsStop plan sent number unanswered) (HasText text) (TellsStopWhy plan sent number unanswered why) first second third
+    (λ lines more tells has. (
+      (λ one on says. has_still (IsStopSentence plan sent.engine number unanswered sent.message) lines more (tells one on says)),
+      text_behind why lines more (subst (λ (t : List ℕ). HasText t more) is has),
+    )) said words
+stop_then_why T E (Err fault) plan sent number unanswered why text first second third is said words = tt
+
+pub packet_then_why : (T E : Type 0) (r : Result T E) (plan : Plan) (lrbg : ℕ) (packet : Part) (Is : List ℕ → Type 0) (why text first second third : List ℕ) → text ≡ why
+    → IsSaidOn (TellsPacket plan lrbg packet Is) first second → OnOk r (IsSaidOn (HasText text) second third) → OnOk r (IsSaidOn (TellsPacketWhy plan lrbg packet Is why) first third)
+packet_then_why T E (Ok done) plan lrbg packet Is why text first second third is said words =
+    said_then (TellsPacket plan lrbg packet Is) (HasText text) (TellsPacketWhy plan lrbg packet Is why) first second third
+    (λ lines more tells has. (
+      (λ one says. has_still Is lines more (tells one says)),
+      text_behind why lines more (subst (λ (t : List ℕ). HasText t more) is has),
+    )) said words
+packet_then_why T E (Err fault) plan lrbg packet Is why text first second third is said words = tt
 
 -- what is told is this
-pub told_as : (T E : Type 0) (r : Result T E) (plan : Plan) (sent : Sent) (told other : ToldWhat) (old new : List ℕ) → told ≡ other
-    → OnOk r (IsSaidOn (Tells plan sent other) old new) → OnOk r (IsSaidOn (Tells plan sent told) old new)
-told_as T E r plan sent told other old new is said = subst (λ (what : ToldWhat). OnOk r (IsSaidOn (Tells plan sent what) old new)) (sym is) said
+pub told_as : (T E : Type 0) (r : Result T E) (plan : Plan) (sent : Sent) (place : Option Place) (told other : ToldWhat) (old new : List ℕ) → told ≡ other
+    → OnOk r (IsSaidOn (Tells plan sent place other) old new) → OnOk r (IsSaidOn (Tells plan sent place told) old new)
+told_as T E r plan sent place told other old new is said = subst (λ (what : ToldWhat). OnOk r (IsSaidOn (Tells plan sent place what) old new)) (sym is) said
 
 -- ---- the packets of a message
 
@@ -120,116 +131,101 @@ drop_next : {X : Type 0} (xs : List X) (at : ℕ) (x : X) → slice_get xs at �
 drop_next {X} xs at x there =
     drop_more xs at x (slice_get_within xs at x there) ∙ ap (λ (y : X). y ∷ drop (at + 1) xs) (get_or_from_slice_get xs at x x there)
 
--- the packets before one are told
-pub record IsEachTold (plan : Plan) (lrbg : ℕ) (packets : List Part) (all : List ToldRestriction) (at : ℕ) (old now : List ℕ) : Type 0 where
-  pub added : List (List ℕ)
-  pub lines : AreAdded added old now
-  pub others : filter_map unmarked added ≡ []
-  pub goes_on : (more : List (List ℕ)) → TellsEach plan lrbg (drop at packets) (drop at all) more → TellsEach plan lrbg packets all (added ++ more)
+module _ (plan : Plan) (lrbg : ℕ) (place : Option Place) (packets : List Part) (all : List ToldRestriction) where
+  -- the packets before one are told
+  pub record IsEachTold (at : ℕ) (old now : List ℕ) : Type 0 where
+    pub added : List (List ℕ)
+    pub lines : AreAdded added old now
+    pub others : filter_map unmarked added ≡ []
+    pub goes_on : (more : List (List ℕ)) → TellsEach plan lrbg place (drop at packets) (drop at all) more → TellsEach plan lrbg place packets all (added ++ more)
 
-pub each_begins : (plan : Plan) (lrbg : ℕ) (packets : List Part) (all : List ToldRestriction) (log : List ℕ) → IsEachTold plan lrbg packets all 0 log log
-each_begins plan lrbg packets all log = record { added = []; lines = added_none log; others = refl; goes_on = λ more tells. tells }
+  pub each_begins : (log : List ℕ) → IsEachTold 0 log log
+  each_begins log = record { added = []; lines = added_none log; others = refl; goes_on = λ more tells. tells }
 
-pub each_next : (plan : Plan) (lrbg : ℕ) (packets : List Part) (all : List ToldRestriction) (at : ℕ) (packet : Part) (one : ToldRestriction) (old now new : List ℕ)
-    → slice_get packets at ≡ Some packet → slice_get all at ≡ Some one → IsEachTold plan lrbg packets all at old now
-    → IsSaidOn (TellsPacket plan lrbg packet (IsPacketSentence plan lrbg one.number packet)) now new → IsEachTold plan lrbg packets all (at + 1) old new
-each_next plan lrbg packets all at packet one old now new is_packet is_one so_far said = record {
-  added = so_far.added ++ said.0;
-  lines = added_then so_far.added said.0 old now new so_far.lines said.1;
-  others = filter_map-append unmarked so_far.added said.0 ∙ (λ i. so_far.others i ++ said.2 i);
-  goes_on = λ more tells.
-      subst (TellsEach plan lrbg packets all) (sym (append_assoc so_far.added said.0 more))
-      (so_far.goes_on (said.0 ++ more)
-      (subst (λ (ps : List Part). TellsEach plan lrbg ps (drop at all) (said.0 ++ more)) (sym (drop_next packets at packet is_packet))
-      (subst (λ (os : List ToldRestriction). TellsEach plan lrbg (packet ∷ drop (at + 1) packets) os (said.0 ++ more)) (sym (drop_next all at one is_one))
-      (said.0, more, refl, said.3, tells))));
-}
+  pub each_next : (at : ℕ) (packet : Part) (one : ToldRestriction) (old now new : List ℕ) → slice_get packets at ≡ Some packet → slice_get all at ≡ Some one → IsEachTold at old now
+      → IsSaidOn (TellsPacketWhy plan lrbg packet (IsPacketSentence plan lrbg one.number packet) (packet_text packet place one)) now new → IsEachTold (at + 1) old new
+  each_next at packet one old now new is_packet is_one so_far said = record {
+    added = so_far.added ++ said.0;
+    lines = added_then so_far.added said.0 old now new so_far.lines said.1;
+    others = filter_map-append unmarked so_far.added said.0 ∙ (λ i. so_far.others i ++ said.2 i);
+    goes_on = λ more tells.
+        subst (TellsEach plan lrbg place packets all) (sym (append_assoc so_far.added said.0 more))
+        (so_far.goes_on (said.0 ++ more)
+        (subst (λ (ps : List Part). TellsEach plan lrbg place ps (drop at all) (said.0 ++ more)) (sym (drop_next packets at packet is_packet))
+        (subst (λ (os : List ToldRestriction). TellsEach plan lrbg place (packet ∷ drop (at + 1) packets) os (said.0 ++ more)) (sym (drop_next all at one is_one))
+        (said.0, more, refl, said.3, tells))));
+  }
 
-none_left : (plan : Plan) (lrbg : ℕ) (packets : List Part) (lines : List (List ℕ)) → TellsEach plan lrbg packets [] lines
-none_left plan lrbg [] lines = tt
-none_left plan lrbg (packet ∷ packets) lines = tt
+  each_all : (at : ℕ) (old now : List ℕ) → IsEachTold at old now → TellsEach plan lrbg place (drop at packets) (drop at all) [] → IsSaidOn (TellsEach plan lrbg place packets all) old now
+  each_all at old now so_far none =
+      (so_far.added, so_far.lines, so_far.others, subst (TellsEach plan lrbg place packets all) (append-nil so_far.added) (so_far.goes_on [] none))
 
-each_all : (plan : Plan) (lrbg : ℕ) (packets : List Part) (all : List ToldRestriction) (at : ℕ) (old now : List ℕ) → IsEachTold plan lrbg packets all at old now
-    → TellsEach plan lrbg (drop at packets) (drop at all) [] → IsSaidOn (TellsEach plan lrbg packets all) old now
-each_all plan lrbg packets all at old now so_far none =
-    (so_far.added, so_far.lines, so_far.others, subst (TellsEach plan lrbg packets all) (append-nil so_far.added) (so_far.goes_on [] none))
+  -- no packet is left
+  pub each_packet : (at : ℕ) (old now : List ℕ) → IsEachTold at old now → length packets ≤ at → IsSaidOn (TellsEach plan lrbg place packets all) old now
+  each_packet at old now so_far past =
+      each_all at old now so_far (subst (λ (ps : List Part). TellsEach plan lrbg place ps (drop at all) []) (sym (drop_all at packets past)) tt)
 
--- no packet is left
-pub each_packet : (plan : Plan) (lrbg : ℕ) (packets : List Part) (all : List ToldRestriction) (at : ℕ) (old now : List ℕ) → IsEachTold plan lrbg packets all at old now
-    → length packets ≤ at → IsSaidOn (TellsEach plan lrbg packets all) old now
-each_packet plan lrbg packets all at old now so_far past =
-    each_all plan lrbg packets all at old now so_far
-    (subst (λ (ps : List Part). TellsEach plan lrbg ps (drop at all) []) (sym (drop_all at packets past)) tt)
+  -- nothing is left that is told
+  pub each_told : (at : ℕ) (old now : List ℕ) → IsEachTold at old now → length all ≤ at → IsSaidOn (TellsEach plan lrbg place packets all) old now
+  each_told at old now so_far past =
+      each_all at old now so_far
+      (subst (λ (os : List ToldRestriction). TellsEach plan lrbg place (drop at packets) os []) (sym (drop_all at all past)) (none_left (drop at packets))) where
+        none_left : (packets : List Part) → TellsEach plan lrbg place packets [] []
+        none_left [] = tt
+        none_left (packet ∷ packets) = tt
 
--- nothing is left that is told
-pub each_told : (plan : Plan) (lrbg : ℕ) (packets : List Part) (all : List ToldRestriction) (at : ℕ) (old now : List ℕ) → IsEachTold plan lrbg packets all at old now
-    → length all ≤ at → IsSaidOn (TellsEach plan lrbg packets all) old now
-each_told plan lrbg packets all at old now so_far past =
-    each_all plan lrbg packets all at old now so_far
-    (subst (λ (os : List ToldRestriction). TellsEach plan lrbg (drop at packets) os []) (sym (drop_all at all past)) (none_left plan lrbg (drop at packets) []))
+module _ (plan : Plan) (engine : ℕ) (head : Head) (place : Option Place) where
+  -- a message 24 tells what its packets say
+  pub told_of_packets : (T E : Type 0) (r : Result T E) (message : ToTrain) (packets : List Part) (all : List ToldRestriction) (old new : List ℕ)
+      → message ≡ General head packets → OnOk r (IsSaidOn (TellsPackets plan engine head place packets all) old new)
+      → OnOk r (IsSaidOn (TellsRestrictions plan engine message place all) old new)
+  told_of_packets T E r message packets all old new is said =
+      subst (λ (m : ToTrain). OnOk r (IsSaidOn (TellsRestrictions plan engine m place all) old new)) (sym is) said
 
--- words, and then each of several packets
-each_behind : (plan : Plan) (lrbg : ℕ) (packets : List Part) (all : List ToldRestriction) (front lines : List (List ℕ)) → TellsEach plan lrbg packets all lines
-    → TellsEach plan lrbg packets all (front ++ lines)
-each_behind plan lrbg [] all front lines tells = tt
-each_behind plan lrbg (packet ∷ packets) [] front lines tells = tt
-each_behind plan lrbg (packet ∷ packets) (one ∷ all) front lines tells = (
-  front ++ tells.0,
-  tells.1,
-  ap (λ (ls : List (List ℕ)). front ++ ls) tells.2 ∙ sym (append_assoc front tells.0 tells.1),
-  (λ said says. let has = tells.3 said says in
-      (front ++ has.0, has.1, has.2, ap (λ (ls : List (List ℕ)). front ++ ls) has.3 ∙ sym (append_assoc front has.0 (has.2 ∷ has.1)), has.4)),
-  tells.4,
-)
+  -- that there are several packets, and then each of them
+  several : (packets : List Part) (all : List ToldRestriction) (text : List ℕ) (count : ℕ) (lines more : List (List ℕ)) → 1 < length packets → count ≡ length packets
+      → text ≡ several_text engine head count place → HasText text lines → TellsEach plan head.lrbg place packets all more → TellsPackets plan engine head place packets all (lines ++ more)
+  several [] all text count lines more many counts is has tells = tt
+  several (packet ∷ []) all text count lines more many counts is has tells = absurd (omega (arith, many))
+  several (packet ∷ next ∷ packets) all text count lines more many counts is has tells =
+      (lines, more, refl, subst (λ (t : List ℕ). HasText t lines) (is ∙ ap (λ (n : ℕ). several_text engine head n place) counts) has, tells)
 
--- a message 24 tells what its packets say
-pub told_of_packets : (T E : Type 0) (r : Result T E) (plan : Plan) (engine : ℕ) (message : ToTrain) (head : Head) (packets : List Part) (all : List ToldRestriction) (old new : List ℕ)
-    → message ≡ General head packets → OnOk r (IsSaidOn (TellsPackets plan engine head.lrbg packets all) old new)
-    → OnOk r (IsSaidOn (TellsRestrictions plan engine message all) old new)
-told_of_packets T E r plan engine message head packets all old new is said =
-    subst (λ (m : ToTrain). OnOk r (IsSaidOn (TellsRestrictions plan engine m all) old new)) (sym is) said
+  pub several_said : (T E : Type 0) (r : Result T E) (packets : List Part) (all : List ToldRestriction) (text : List ℕ) (count : ℕ) (first second third : List ℕ) → 1 < length packets
+      → count ≡ length packets → text ≡ several_text engine head count place → IsSaidOn (HasText text) first second
+      → OnOk r (IsSaidOn (TellsEach plan head.lrbg place packets all) second third) → OnOk r (IsSaidOn (TellsPackets plan engine head place packets all) first third)
+  several_said T E (Ok done) packets all text count first second third many counts is words said =
+      said_then (HasText text) (TellsEach plan head.lrbg place packets all) (TellsPackets plan engine head place packets all) first second third
+      (λ lines more has tells. several packets all text count lines more many counts is has tells) words said
+  several_said T E (Err fault) packets all text count first second third many counts is words said = tt
 
-several : (plan : Plan) (engine lrbg : ℕ) (packets : List Part) (all : List ToldRestriction) (lines : List (List ℕ)) → 1 < length packets → TellsEach plan lrbg packets all lines
-    → TellsPackets plan engine lrbg packets all lines
-several plan engine lrbg [] all lines more tells = tt
-several plan engine lrbg (packet ∷ []) all lines more tells = absurd (omega (arith, more))
-several plan engine lrbg (packet ∷ next ∷ packets) all lines more tells = tells
+  -- the one packet of a message
+  abbrev pub TellsOne : Part → ToldRestriction → List (List ℕ) → Type 0
+  TellsOne packet one = TellsPacketWhy plan head.lrbg packet (IsRestrictionSentence plan head.lrbg engine one.number packet) (single_text head packet place one)
 
-pub several_said : (T E : Type 0) (r : Result T E) (plan : Plan) (engine lrbg : ℕ) (packets : List Part) (all : List ToldRestriction) (first second third : List ℕ) → 1 < length packets
-    → IsToldOn [] first second → OnOk r (IsSaidOn (TellsEach plan lrbg packets all) second third) → OnOk r (IsSaidOn (TellsPackets plan engine lrbg packets all) first third)
-several_said T E (Ok done) plan engine lrbg packets all first second third many words said =
-    said_then (λ front. Unit) (TellsEach plan lrbg packets all) (TellsPackets plan engine lrbg packets all) first second third
-    (λ front lines none tells. several plan engine lrbg packets all (front ++ lines) many (each_behind plan lrbg packets all front lines tells))
-    (words.0, words.1, words.2, tt) said
-several_said T E (Err fault) plan engine lrbg packets all first second third many words said = tt
+  single : (packets : List Part) (all : List ToldRestriction) (packet : Part) (one : ToldRestriction) (lines : List (List ℕ)) → length packets ≤ 1
+      → slice_get packets 0 ≡ Some packet → slice_get all 0 ≡ Some one → TellsOne packet one lines → TellsPackets plan engine head place packets all lines
+  single [] all packet one lines few is_packet is_one tells = tt
+  single (first ∷ next ∷ packets) all packet one lines few is_packet is_one tells = absurd (omega (arith, few))
+  single (first ∷ []) [] packet one lines few is_packet is_one tells = tt
+  single (first ∷ []) (other ∷ all) packet one lines few is_packet is_one tells =
+      subst (λ (p : Part). TellsOne p other lines) (sym (get_or_from_slice_get (first ∷ []) 0 packet packet is_packet))
+      (subst (λ (o : ToldRestriction). TellsOne packet o lines) (sym (get_or_from_slice_get (other ∷ all) 0 one one is_one)) tells)
 
-single : (plan : Plan) (engine lrbg : ℕ) (packets : List Part) (all : List ToldRestriction) (packet : Part) (one : ToldRestriction) (lines : List (List ℕ)) → length packets ≤ 1
-    → slice_get packets 0 ≡ Some packet → slice_get all 0 ≡ Some one
-    → TellsPacket plan lrbg packet (IsRestrictionSentence plan lrbg engine one.number packet) lines → TellsPackets plan engine lrbg packets all lines
-single plan engine lrbg [] all packet one lines few is_packet is_one tells = tt
-single plan engine lrbg (first ∷ next ∷ packets) all packet one lines few is_packet is_one tells = absurd (omega (arith, few))
-single plan engine lrbg (first ∷ []) [] packet one lines few is_packet is_one tells = tt
-single plan engine lrbg (first ∷ []) (other ∷ all) packet one lines few is_packet is_one tells =
-    subst (λ (p : Part). TellsPacket plan lrbg p (IsRestrictionSentence plan lrbg engine other.number p) lines) (sym (get_or_from_slice_get (first ∷ []) 0 packet packet is_packet))
-    (subst (λ (o : ToldRestriction). TellsPacket plan lrbg packet (IsRestrictionSentence plan lrbg engine o.number packet) lines)
-    (sym (get_or_from_slice_get (other ∷ all) 0 one one is_one)) tells)
+  pub single_said : (T E : Type 0) (r : Result T E) (packets : List Part) (all : List ToldRestriction) (packet : Part) (one : ToldRestriction) (old new : List ℕ)
+      → length packets ≤ 1 → slice_get packets 0 ≡ Some packet → slice_get all 0 ≡ Some one → OnOk r (IsSaidOn (TellsOne packet one) old new)
+      → OnOk r (IsSaidOn (TellsPackets plan engine head place packets all) old new)
+  single_said T E (Ok done) packets all packet one old new few is_packet is_one said =
+      (said.0, said.1, said.2, single packets all packet one said.0 few is_packet is_one said.3)
+  single_said T E (Err fault) packets all packet one old new few is_packet is_one said = tt
 
-pub single_said : (T E : Type 0) (r : Result T E) (plan : Plan) (engine lrbg : ℕ) (packets : List Part) (all : List ToldRestriction) (packet : Part) (one : ToldRestriction) (old new : List ℕ)
-    → length packets ≤ 1 → slice_get packets 0 ≡ Some packet → slice_get all 0 ≡ Some one
-    → OnOk r (IsSaidOn (TellsPacket plan lrbg packet (IsRestrictionSentence plan lrbg engine one.number packet)) old new)
-    → OnOk r (IsSaidOn (TellsPackets plan engine lrbg packets all) old new)
-single_said T E (Ok done) plan engine lrbg packets all packet one old new few is_packet is_one said =
-    (said.0, said.1, said.2, single plan engine lrbg packets all packet one said.0 few is_packet is_one said.3)
-single_said T E (Err fault) plan engine lrbg packets all packet one old new few is_packet is_one said = tt
-
-pub nothing_said : (plan : Plan) (engine lrbg : ℕ) (packets : List Part) (all : List ToldRestriction) (log : List ℕ) → length packets ≤ 1 → slice_get all 0 ≡ None
-    → IsSaidOn (TellsPackets plan engine lrbg packets all) log log
-nothing_said plan engine lrbg packets all log few none = ([], added_none log, refl, nothing packets all few none) where
-  nothing : (packets : List Part) (all : List ToldRestriction) → length packets ≤ 1 → slice_get all 0 ≡ None → TellsPackets plan engine lrbg packets all []
-  nothing [] all few none = tt
-  nothing (first ∷ next ∷ packets) all few none = absurd (omega (arith, few))
-  nothing (first ∷ []) [] few none = tt
-  nothing (first ∷ []) (other ∷ all) few none = let bad : Some other ≡ None = none in absurd cc
+  pub nothing_said : (packets : List Part) (all : List ToldRestriction) (log : List ℕ) → length packets ≤ 1 → slice_get all 0 ≡ None
+      → IsSaidOn (TellsPackets plan engine head place packets all) log log
+  nothing_said packets all log few none = ([], added_none log, refl, nothing packets all few none) where
+    nothing : (packets : List Part) (all : List ToldRestriction) → length packets ≤ 1 → slice_get all 0 ≡ None → TellsPackets plan engine head place packets all []
+    nothing [] all few none = tt
+    nothing (first ∷ next ∷ packets) all few none = absurd (omega (arith, few))
+    nothing (first ∷ []) [] few none = tt
+    nothing (first ∷ []) (other ∷ all) few none = let bad : Some other ≡ None = none in absurd cc
 
 -- ---- the messages of an input
 
@@ -294,7 +290,7 @@ module _ (plan : Plan) (number : ℕ) where
 
   pub all_next : (reply : Reply) (messages : List Sent) (told : List Told) (at : ℕ) (sent : Sent) (one : Told) (rest line behind old now mid new : List ℕ)
       → slice_get messages at ≡ Some sent → slice_get told at ≡ Some one → IsAllTold reply messages told at rest old now
-      → IsSaidOn (Tells plan sent one.what) now mid → lines_of rest ≡ line ∷ lines_of behind → AreAdded ((codes "= " ++ line) ∷ []) mid new
+      → IsSaidOn (Tells plan sent one.place one.what) now mid → lines_of rest ≡ line ∷ lines_of behind → AreAdded ((codes "= " ++ line) ∷ []) mid new
       → IsAllTold reply messages told (at + 1) behind old new
   all_next reply messages told at sent one rest line behind old now mid new is_sent is_one so_far said first added =
       let next = drop_next messages at sent is_sent in
@@ -344,9 +340,9 @@ module _ (plan : Plan) (number : ℕ) where
       )
 
   -- words before a block, and behind it
-  pub words_around : (T E : Type 0) (r : Result T E) (reply : Reply) (messages : List Sent) (told : List Told) (first second third fourth : List ℕ) → IsToldOn [] first second
-      → IsBlockOn plan number reply messages told second third → OnOk r (IsToldOn [] third fourth) → OnOk r (IsBlockOn plan number reply messages told first fourth)
-  words_around T E (Ok done) reply messages told first second third fourth before block after =
+  pub words_around : (T E : Type 0) (r : Result T E) (reply : Reply) (messages : List Sent) (told : List Told) (after_text first second third fourth : List ℕ) → IsToldOn [] first second
+      → IsBlockOn plan number reply messages told second third → OnOk r (IsSaidOn (HasText after_text) third fourth) → OnOk r (IsBlockOn plan number reply messages told first fourth)
+  words_around T E (Ok done) reply messages told after_text first second third fourth before block after =
       let answer = lines_of (answer_of number reply messages) in
       let begun = added_then before.0 block.0 first second third before.1 block.1 in (
         (before.0 ++ block.0) ++ after.0,
@@ -369,4 +365,4 @@ module _ (plan : Plan) (number : ℕ) where
           tells.6,
           all_still messages told tells.2 more tells.7,
         )
-  words_around T E (Err fault) reply messages told first second third fourth before block after = tt
+  words_around T E (Err fault) reply messages told after_text first second third fourth before block after = tt

@@ -1,5 +1,6 @@
 pub mod Log
 pub mod Marked
+pub mod Reasons
 pub mod Said
 pub mod Sentences
 pub mod Telling

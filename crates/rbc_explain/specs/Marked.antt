@@ -1,5 +1,5 @@
 -- The lines of a log, and which of them are lines of the output of a run: each of these stands in it as it is, with "= " before it (own rule).
-use Rattle.std.specs.Prelude.{◌≡◌, ◌==◌, ℕ, false, if◌then◌else◌, List, ◌++◌, take, drop, flat_map, filter_map, Option, Some, None, codes}
+use Rattle.std.specs.Prelude.{◌≡◌, ◌==◌, ℕ, false, if◌then◌else◌, List, [], ◌∷◌, ◌++◌, take, drop, flat_map, filter_map, Option, Some, None, codes}
 use Rattle.std.specs.List.{list_any, AllByRecursion}
 use Rattle.std.specs.Str.{bytes_eq}
 use Rattle.rbc_text.specs.BatchText.{is_line_feed}
@@ -15,6 +15,14 @@ IsLine line = list_any is_line_feed line ≡ false
 -- a text ends with a line feed and has no `=`
 abbrev pub IsPlain : List ℕ → Type 0
 IsPlain text = (body : List ℕ) × (text ≡ body ++ codes "\n") × (list_any (λ byte. byte == 61) text ≡ false)
+
+-- a line of words as it stands in a log: one that begins with `=` is indented, so that it has no mark
+abbrev pub indent_of : List ℕ → List ℕ
+indent_of [] = []
+indent_of (first ∷ line) = if first == 61 then codes " " else []
+
+abbrev pub shown : List ℕ → List ℕ
+shown line = indent_of line ++ line
 
 -- what stands behind the mark "= " of a line that begins with it
 abbrev pub unmarked : List ℕ → Option (List ℕ)

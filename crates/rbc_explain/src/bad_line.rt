@@ -2,40 +2,40 @@
 
 use rbc_text::cut;
 
-const RETURN: &str = "It has a carriage return: lines end with a line feed alone.";
-
-const EMPTY: &str = "It is empty.";
-
-const SPACES: &str = "Words stand between single spaces, with none at the ends.";
-
-const ENROL: &str =
-    "The form is `enrol ENGINE LENGTH`: ENGINE 0 to 16777215, LENGTH 1 to 40000 (units of 10 cm).";
-
-const WITHDRAW: &str = "The form is `withdraw ENGINE`: ENGINE 0 to 16777215.";
-
-const STOP: &str =
-    "The form is `stop NUMBER LINE:FROM-TO ..`: one LINE:FROM-TO or more, places in units of 10 cm.";
-
-const RELEASE: &str = "The form is `release NUMBER`.";
-
-const RESTRICT: &str =
-    "The form is `restrict NUMBER LINE:FROM-TO WAYS SPEED FRONT`: WAYS up, down or both; FRONT 0 or 1.";
-
-const LIFT: &str = "The form is `lift NUMBER`.";
-
-const RECV: &str = "The form is `recv HEX`: one word of hexadecimal digits.";
-
-const OTHER: &str =
-    "Its first word is none of enrol, withdraw, stop, release, restrict, lift and recv.";
+/// The form of each input, by its first word.
+const FORMS: &[(&str, &str)] = &[
+    (
+        "enrol",
+        "The form is `enrol ENGINE LENGTH`: ENGINE 0 to 16777215, LENGTH 1 to 40000 (units of 10 cm).",
+    ),
+    (
+        "withdraw",
+        "The form is `withdraw ENGINE`: ENGINE 0 to 16777215.",
+    ),
+    (
+        "stop",
+        "The form is `stop NUMBER LINE:FROM-TO ..`: one LINE:FROM-TO or more, places in units of 10 cm.",
+    ),
+    ("release", "The form is `release NUMBER`."),
+    (
+        "restrict",
+        "The form is `restrict NUMBER LINE:FROM-TO WAYS SPEED FRONT`: WAYS up, down or both; FRONT 0 or 1.",
+    ),
+    ("lift", "The form is `lift NUMBER`."),
+    (
+        "recv",
+        "The form is `recv HEX`: one word of hexadecimal digits.",
+    ),
+];
 
 /// What is wrong with a line that is refused as a bad one: the first that applies.
 pub(crate) fn fault_of_line(line: &[u8]) -> &'static str {
     if line.contains(&b'\r') {
-        RETURN
+        "It has a carriage return: lines end with a line feed alone."
     } else if line.is_empty() {
-        EMPTY
+        "It is empty."
     } else if has_empty_word(line) {
-        SPACES
+        "Words stand between single spaces, with none at the ends."
     } else {
         form_of(cut(line, b' ').0)
     }
@@ -56,28 +56,10 @@ fn has_empty_word(line: &[u8]) -> bool {
 
 /// The form of the input that begins with a word.
 fn form_of(word: &[u8]) -> &'static str {
-    if word == b"enrol".as_slice() {
-        ENROL
-    } else if word == b"withdraw".as_slice() {
-        WITHDRAW
-    } else if word == b"stop".as_slice() {
-        STOP
-    } else if word == b"release".as_slice() {
-        RELEASE
-    } else {
-        form_of_other(word)
+    for (name, form) in FORMS {
+        if word == name.as_bytes() {
+            return form;
+        }
     }
-}
-
-/// The form of the input that begins with any other word.
-fn form_of_other(word: &[u8]) -> &'static str {
-    if word == b"restrict".as_slice() {
-        RESTRICT
-    } else if word == b"lift".as_slice() {
-        LIFT
-    } else if word == b"recv".as_slice() {
-        RECV
-    } else {
-        OTHER
-    }
+    "Its first word is none of enrol, withdraw, stop, release, restrict, lift and recv."
 }

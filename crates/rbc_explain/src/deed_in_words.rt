@@ -1,45 +1,71 @@
 //! What an accepted input did, in words.
 
-use crate::figures::{push_place, push_segments, push_stamp, push_stretch, ways_words};
+use crate::figures::{GroupOf, Stamp, Stretch, Whereabouts, push_segments, ways_words};
 use rbc_account::{Acked, Deed, NoPlace, Placing};
-use rbc_track_report::Sheet;
-use rbc_zones::{Dirs, Segment};
+use rbc_words::{Km, Metres};
+use std::alloc::AllocError;
+use std::fmt::Write;
 
 /// The answer with which a train rejects a stop (Q_EMERGENCYSTOP, own values).
 const REJECTED: u8 = 3;
 
 /// Adds what an accepted input did. Of one that is refused this adds nothing.
-pub(crate) fn push_deed(sheet: &mut Sheet, deed: &Deed) {
+pub(crate) fn push_deed(text: &mut String, deed: &Deed) -> Result<(), AllocError> {
     match deed {
-        Deed::Enrolled { engine, length } => push_enrolled(sheet, *engine, *length),
-        Deed::Withdrawn { engine } => push_withdrawn(sheet, *engine),
-        Deed::Stopped { number, segments } => push_stop(sheet, *number, segments),
-        Deed::Released { number } => push_ended(sheet, "Stop ", *number, " is released.\n"),
-        Deed::Restricted {
-            number,
-            segment,
-            dirs,
-            speed,
-            front,
-        } => {
-            push_restriction(sheet, *number, segment);
-            push_speed(sheet, *dirs, *speed, *front);
+        Deed::Enrolled { engine, length } => {
+            let metres = Metres(*length);
+            write!(
+                text,
+                "  Train {engine} is enrolled, {metres} m long. It has no place until it reports.\n"
+            )
         }
-        Deed::Lifted { number } => push_ended(sheet, "Restriction ", *number, " is lifted.\n"),
-        _ => push_heard(sheet, deed),
+        Deed::Withdrawn { engine } => write!(text, "  Train {engine} is withdrawn.\n"),
+        Deed::Stopped { number, segments } => {
+            write!(text, "  Stop {number} is active on ")?;
+            push_segments(text, "on ", segments)
+        }
+        Deed::Released { number } => write!(text, "  Stop {number} is released.\n"),
+        Deed::Restricted { .. } => push_restriction(text, deed),
+        Deed::Lifted { number } => write!(text, "  Restriction {number} is lifted.\n"),
+        _ => push_heard(text, deed),
     }
 }
 
+/// Adds that a restriction is active: its speed, which trains it is for and with which end of a train it ends.
+fn push_restriction(text: &mut String, deed: &Deed) -> Result<(), AllocError> {
+    let Deed::Restricted {
+        number,
+        segment,
+        dirs,
+        speed,
+        front,
+    } = deed
+    else {
+        return Ok(());
+    };
+    let (line, stretch) = (segment.line, Stretch(*segment));
+    let (ways, end) = (ways_words(*dirs), if *front { "front" } else { "rear" });
+    write!(
+        text,
+        "  Restriction {number} is active on line {line}, {stretch}.\n"
+    )?;
+    write!(
+        text,
+        "  {speed} km/h for trains facing {ways}; it ends with the {end} of the train.\n"
+    )
+}
+
 /// Adds what a message from a train did.
-fn push_heard(sheet: &mut Sheet, deed: &Deed) {
+fn push_heard(text: &mut String, deed: &Deed) -> Result<(), AllocError> {
     match deed {
         Deed::Reported {
             engine,
             stamp,
             placing,
         } => {
-            push_report(sheet, *engine, *stamp);
-            push_placing(sheet, placing);
+            let stamp = Stamp(*stamp);
+            write!(text, "  Train {engine} reports (message 136, {stamp}).\n")?;
+            push_placing(text, placing)
         }
         Deed::Answered {
             engine,
@@ -49,9 +75,18 @@ fn push_heard(sheet: &mut Sheet, deed: &Deed) {
             answer,
             placing,
         } => {
-            push_answered(sheet, *engine, *number, *id);
-            push_answer(sheet, *answer, *stamp);
-            push_placing(sheet, placing);
+            let (stamp, meaning) = (Stamp(*stamp), answer_words(*answer));
+            write!(
+                text,
+                "  Train {engine} answers stop {number}, identifier {id}: {meaning}.\n"
+            )?;
+            write!(text, "  Message 147, {stamp}.\n")?;
+            if *answer == REJECTED {
+                text.push_str(
+                    "  The identifier is free again, and the train is to stop at once.\n",
+                )?;
+            }
+            push_placing(text, placing)
         }
         Deed::Acknowledged {
             engine,
@@ -59,150 +94,14 @@ fn push_heard(sheet: &mut Sheet, deed: &Deed) {
             acked,
             all,
         } => {
-            push_acknowledged(sheet, *engine, *stamp, *acked);
-            push_all_acked(sheet, all);
+            let stamp = Stamp(*stamp);
+            write!(
+                text,
+                "  Train {engine} acknowledges its message of stamp {acked} (message 146, {stamp}).\n"
+            )?;
+            push_acked(text, all)
         }
-        _ => {}
-    }
-}
-
-fn push_enrolled(sheet: &mut Sheet, engine: u32, length: u32) {
-    sheet
-        .words("  Train ")
-        .number(engine as usize)
-        .words(" is enrolled, ")
-        .metres(length)
-        .words(" m long. It has no place until it reports.\n");
-}
-
-fn push_withdrawn(sheet: &mut Sheet, engine: u32) {
-    sheet
-        .words("  Train ")
-        .number(engine as usize)
-        .words(" is withdrawn.\n");
-}
-
-fn push_ended(sheet: &mut Sheet, noun: &str, number: u32, words: &str) {
-    sheet
-        .words("  ")
-        .words(noun)
-        .number(number as usize)
-        .words(words);
-}
-
-fn push_stop(sheet: &mut Sheet, number: u32, segments: &[Segment]) {
-    sheet
-        .words("  Stop ")
-        .number(number as usize)
-        .words(" is active on ");
-    push_segments(sheet, "on ", segments);
-}
-
-fn push_restriction(sheet: &mut Sheet, number: u32, segment: &Segment) {
-    sheet
-        .words("  Restriction ")
-        .number(number as usize)
-        .words(" is active on line ")
-        .number(segment.line as usize)
-        .words(", ");
-    push_stretch(sheet, segment.from, segment.to);
-    sheet.words(".\n");
-}
-
-/// Adds the speed of a restriction, which trains it is for and with which end of a train it ends.
-fn push_speed(sheet: &mut Sheet, dirs: Dirs, speed: u32, front: bool) {
-    let end = if front { "front" } else { "rear" };
-    sheet
-        .words("  ")
-        .number(speed as usize)
-        .words(" km/h for trains facing ")
-        .words(ways_words(dirs))
-        .words("; it ends with the ")
-        .words(end)
-        .words(" of the train.\n");
-}
-
-fn push_report(sheet: &mut Sheet, engine: u32, stamp: u32) {
-    sheet
-        .words("  Train ")
-        .number(engine as usize)
-        .words(" reports (message 136, ");
-    push_stamp(sheet, stamp);
-    sheet.words(").\n");
-}
-
-/// Adds where a report places a train, or why it does not.
-fn push_placing(sheet: &mut Sheet, placing: &Placing) {
-    match placing {
-        Placing::At { place, front } => {
-            sheet.words("  It may be at ");
-            push_place(sheet, place);
-            push_front(sheet, *front, place.lrbg(), place.at());
-        }
-        Placing::Nowhere(why) => {
-            sheet.words("  It has no place: ");
-            push_no_place(sheet, why);
-            sheet.words(".\n");
-        }
-    }
-}
-
-fn push_front(sheet: &mut Sheet, front: u32, nid: u32, at: u32) {
-    sheet
-        .words(".\n  Its front is at about km ")
-        .length(front)
-        .words(", by balise group ")
-        .number(nid as usize)
-        .words(" at km ")
-        .length(at)
-        .words(".\n");
-}
-
-fn push_no_place(sheet: &mut Sheet, why: &NoPlace) {
-    match why {
-        NoPlace::TwoGroups => {
-            sheet.words("the report is by two balise groups (packet 1)");
-        }
-        NoPlace::Direction => {
-            sheet.words("its direction, or the side of the balise group it is on, is unknown");
-        }
-        NoPlace::Distance => {
-            sheet.words("its distance from the balise group, or a doubt of it, is unknown");
-        }
-        NoPlace::UnknownGroup(nid) => {
-            sheet
-                .words("balise group ")
-                .number(*nid as usize)
-                .words(" is not in the track");
-        }
-        NoPlace::OffLine(line) => {
-            sheet
-                .words("its front would lie off line ")
-                .number(*line as usize);
-        }
-    }
-}
-
-fn push_answered(sheet: &mut Sheet, engine: u32, number: u32, id: u8) {
-    sheet
-        .words("  Train ")
-        .number(engine as usize)
-        .words(" answers stop ")
-        .number(number as usize)
-        .words(", identifier ")
-        .number(id as usize);
-}
-
-/// Adds the answer to a stop, and the stamp of the message.
-fn push_answer(sheet: &mut Sheet, answer: u8, stamp: u32) {
-    sheet
-        .words(": ")
-        .words(answer_words(answer))
-        .words(".\n  Message 147, ");
-    push_stamp(sheet, stamp);
-    sheet.words(".\n");
-    if answer == REJECTED {
-        sheet.words("  The identifier is free again, and the train is to stop at once.\n");
+        _ => Ok(()),
     }
 }
 
@@ -216,42 +115,52 @@ fn answer_words(answer: u8) -> &'static str {
     }
 }
 
-fn push_acknowledged(sheet: &mut Sheet, engine: u32, stamp: u32, acked: u32) {
-    sheet
-        .words("  Train ")
-        .number(engine as usize)
-        .words(" acknowledges its message of stamp ")
-        .number(acked as usize)
-        .words(" (message 146, ");
-    push_stamp(sheet, stamp);
-    sheet.words(").\n");
-}
-
-/// Adds what an acknowledgement did to each identifier.
-fn push_all_acked(sheet: &mut Sheet, all: &[Acked]) {
-    for acked in all {
-        match acked {
-            Acked::StopFreed { id } => push_free(sheet, "Stop", *id),
-            Acked::RestrictionFreed { id } => push_free(sheet, "Restriction", *id),
-            Acked::Restriction { id, number } => push_acked_restriction(sheet, *id, *number),
+/// Adds where a report places a train, or why it does not.
+fn push_placing(text: &mut String, placing: &Placing) -> Result<(), AllocError> {
+    match placing {
+        Placing::At { place, front } => {
+            let (there, front) = (Whereabouts(*place), Km(*front));
+            let group = GroupOf(*place);
+            write!(text, "  It may be at {there}.\n")?;
+            write!(text, "  Its front is at about km {front}, by {group}.\n")
+        }
+        Placing::Nowhere(why) => {
+            text.push_str("  It has no place: ")?;
+            push_no_place(text, why)?;
+            text.push_str(".\n")
         }
     }
 }
 
-fn push_free(sheet: &mut Sheet, noun: &str, id: u8) {
-    sheet
-        .words("  ")
-        .words(noun)
-        .words(" identifier ")
-        .number(id as usize)
-        .words(" is free again.\n");
+fn push_no_place(text: &mut String, why: &NoPlace) -> Result<(), AllocError> {
+    match why {
+        NoPlace::TwoGroups => text.push_str("the report is by two balise groups (packet 1)"),
+        NoPlace::Direction => {
+            text.push_str("its direction, or the side of the balise group it is on, is unknown")
+        }
+        NoPlace::Distance => {
+            text.push_str("its distance from the balise group, or a doubt of it, is unknown")
+        }
+        NoPlace::UnknownGroup(nid) => write!(text, "balise group {nid} is not in the track"),
+        NoPlace::OffLine(line) => write!(text, "its front would lie off line {line}"),
+    }
 }
 
-fn push_acked_restriction(sheet: &mut Sheet, id: u8, number: u32) {
-    sheet
-        .words("  Restriction ")
-        .number(number as usize)
-        .words(", identifier ")
-        .number(id as usize)
-        .words(", is acknowledged.\n");
+/// Adds what an acknowledgement did to each identifier.
+fn push_acked(text: &mut String, all: &[Acked]) -> Result<(), AllocError> {
+    for acked in all {
+        match acked {
+            Acked::StopFreed { id } => write!(text, "  Stop identifier {id} is free again.\n")?,
+            Acked::RestrictionFreed { id } => {
+                write!(text, "  Restriction identifier {id} is free again.\n")?
+            }
+            Acked::Restriction { id, number } => {
+                write!(
+                    text,
+                    "  Restriction {number}, identifier {id}, is acknowledged.\n"
+                )?
+            }
+        }
+    }
+    Ok(())
 }

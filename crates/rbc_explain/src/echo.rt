@@ -1,6 +1,5 @@
 //! A line of the batch as the log shows it.
 
-use rbc_track_report::Sheet;
 use std::alloc::{AllocError, Global};
 use std::fmt::Write;
 
@@ -38,25 +37,18 @@ fn as_plain(line: &[u8]) -> Option<&str> {
 
 /// Adds a line of a batch: all of its columns where they are at most 80, and else the first 60 and the number of its
 /// bytes. Fails only for lack of memory.
-pub(crate) fn push_echo(alloc: Global, sheet: &mut Sheet, line: &[u8]) -> Result<(), AllocError> {
+pub(crate) fn push_echo(alloc: Global, text: &mut String, line: &[u8]) -> Result<(), AllocError> {
     if let Some(plain) = as_plain(line) {
-        sheet.words(plain);
-        return Ok(());
+        return text.push_str(plain);
     }
     let shown = &line[..line.len().min(MOST_COLUMNS + 1)];
     let columns = columns_of(alloc, shown)?;
     if columns.len() <= MOST_COLUMNS {
-        sheet.words(columns.as_str());
-        return Ok(());
+        return text.push_str(columns.as_str());
     }
-    let mut first = String::new(alloc);
     for column in columns.chars().take(FIRST_COLUMNS) {
-        first.push(column)?;
+        text.push(column)?;
     }
-    sheet
-        .words(first.as_str())
-        .words(" .. (")
-        .number(line.len())
-        .words(" bytes)");
-    Ok(())
+    let bytes = line.len();
+    write!(text, " .. ({bytes} bytes)")
 }

@@ -8,15 +8,16 @@ ghost use Rattle.rbc_explain.specs.Telling.{IsBlockOn};
 use crate::deed_in_words::push_deed;
 use crate::echo::push_echo;
 use crate::log::{push_line, push_words};
-use crate::message::{USUAL_BYTES, push_message};
+use crate::message::push_message;
 use crate::refused::{RefusedInput, push_refused};
 use crate::waiting_in_words::push_waiting_at;
 use rbc_account::{Block, Counts, Deed, Told};
 use rbc_rule::{Input, Reply};
 use rbc_text::{first_line, render_answer};
 use rbc_track::Track;
-use rbc_track_report::Sheet;
+use rbc_words::Count;
 use std::alloc::{AllocError, Global};
+use std::fmt::Write;
 
 /// The track of a run.
 #[derive(Clone, Copy)]
@@ -41,9 +42,9 @@ pub(crate) fn push_block(
         block.now.told.items log.old.items log.new.items) }
 {
     let answer = render_answer(alloc, block.number, block.reply, &block.messages)?;
-    push_words(log, heading(alloc, line, block)?)?;
+    push_words(log, heading(alloc, line, block)?.as_bytes())?;
     push_answer(alloc, log, of, line, block, &answer)?;
-    push_words(log, afterwards(alloc, block))
+    push_words(log, afterwards(alloc, block)?.as_bytes())
 }
 
 /// Adds each line of the answer to an input: after the first one what came of the input, and before each other one what
@@ -63,7 +64,7 @@ fn push_answer(
 {
     let (reply, behind) = first_line(answer);
     push_line(log, reply)?;
-    push_words(log, outcome(alloc, of, line, block))?;
+    push_words(log, outcome(alloc, of, line, block)?.as_bytes())?;
     let mut rest = behind;
     for index in 0..block.messages.len() {
         let told = told_of(&block.told, index);
@@ -84,30 +85,26 @@ fn told_of(told: &[Told], index: usize) -> &Told
 }
 
 /// The line of an input with its number, after an empty line. Fails only for lack of memory.
-fn heading(alloc: Global, line: &[u8], block: &Block) -> Result<Sheet, AllocError> {
-    let mut sheet = Sheet::with_room(alloc, USUAL_BYTES);
-    sheet
-        .words("\nINPUT ")
-        .number(block.number as usize)
-        .words(": ");
-    push_echo(alloc, &mut sheet, line)?;
-    sheet.words("\n");
-    Ok(sheet)
+fn heading(alloc: Global, line: &[u8], block: &Block) -> Result<String, AllocError> {
+    let number = block.number;
+    let mut text = format!(in alloc; "\nINPUT {number}: ")?;
+    push_echo(alloc, &mut text, line)?;
+    text.push_str("\n")?;
+    Ok(text)
 }
 
-/// Whether the input was accepted, and what it did, or why it was refused.
-fn outcome(alloc: Global, of: TrackOfRun<'_>, line: &[u8], block: &Block) -> Sheet {
-    let mut sheet = Sheet::with_room(alloc, USUAL_BYTES);
-    push_outcome(&mut sheet, of, line, block);
-    sheet
-}
-
-/// Adds whether the input was accepted, and what it did, or why it was refused.
-fn push_outcome(sheet: &mut Sheet, of: TrackOfRun<'_>, line: &[u8], block: &Block) {
+/// Whether the input was accepted, and what it did, or why it was refused. Fails only for lack of memory.
+fn outcome(
+    alloc: Global,
+    of: TrackOfRun<'_>,
+    line: &[u8],
+    block: &Block,
+) -> Result<String, AllocError> {
+    let mut text = String::new(alloc);
     match (block.reply, &block.deed) {
         (Reply::Done(sent), deed) => {
-            push_accepted(sheet, sent);
-            push_deed(sheet, deed);
+            push_accepted(&mut text, sent)?;
+            push_deed(&mut text, deed)?;
         }
         (Reply::Refused(code), Deed::Refused(detail)) => {
             let refused = RefusedInput {
@@ -115,35 +112,31 @@ fn push_outcome(sheet: &mut Sheet, of: TrackOfRun<'_>, line: &[u8], block: &Bloc
                 input: &block.input,
                 track_lines: of.lines,
             };
-            push_refused(sheet, refused, code, detail);
+            push_refused(&mut text, refused, code, detail)?;
         }
         (Reply::Refused(_), _) => {}
     }
+    Ok(text)
 }
 
-fn push_accepted(sheet: &mut Sheet, sent: u32) {
-    if sent == 0 {
-        sheet.words("  Accepted; nothing is sent.\n");
-    } else if sent == 1 {
-        sheet.words("  Accepted; 1 message is sent.\n");
-    } else {
-        sheet
-            .words("  Accepted; ")
-            .number(sent as usize)
-            .words(" messages are sent.\n");
+fn push_accepted(text: &mut String, sent: u32) -> Result<(), AllocError> {
+    match sent {
+        0 => text.push_str("  Accepted; nothing is sent.\n"),
+        1 => text.push_str("  Accepted; 1 message is sent.\n"),
+        _ => write!(text, "  Accepted; {sent} messages are sent.\n"),
     }
 }
 
-/// What a stop or a restriction that began is to the trains, and what has come to wait.
-fn afterwards(alloc: Global, block: &Block) -> Sheet {
-    let mut sheet = Sheet::new(alloc);
+/// What a stop or a restriction that began is to the trains, and what has come to wait. Fails only for lack of memory.
+fn afterwards(alloc: Global, block: &Block) -> Result<String, AllocError> {
+    let mut text = String::new(alloc);
     if let Some(counts) = block.counts {
-        push_counts(&mut sheet, &counts, is_restriction(&block.input));
+        push_counts(&mut text, &counts, is_restriction(&block.input))?;
     }
     for (engine, waiting) in &block.waiting {
-        push_waiting_at(&mut sheet, *engine, waiting);
+        push_waiting_at(&mut text, *engine, waiting)?;
     }
-    sheet
+    Ok(text)
 }
 
 fn is_restriction(input: &Input) -> bool {
@@ -151,17 +144,24 @@ fn is_restriction(input: &Input) -> bool {
 }
 
 /// Adds how many trains were told. Only a restriction takes no notice of trains without a place.
-fn push_counts(sheet: &mut Sheet, counts: &Counts, is_restriction: bool) {
-    sheet
-        .words("  Of ")
-        .count(counts.trains, "train")
-        .words(": ")
-        .number(counts.told)
-        .words(" told, ")
-        .number(counts.untold)
-        .words(" not told though concerned, ");
+fn push_counts(text: &mut String, counts: &Counts, is_restriction: bool) -> Result<(), AllocError> {
+    let trains = Count {
+        number: counts.trains,
+        noun: "train",
+    };
+    let Counts {
+        told,
+        untold,
+        unplaced,
+        unconcerned,
+        ..
+    } = *counts;
+    write!(
+        text,
+        "  Of {trains}: {told} told, {untold} not told though concerned, "
+    )?;
     if is_restriction {
-        sheet.number(counts.unplaced).words(" without a place, ");
+        write!(text, "{unplaced} without a place, ")?;
     }
-    sheet.number(counts.unconcerned).words(" not concerned.\n");
+    write!(text, "{unconcerned} not concerned.\n")
 }

@@ -1,5 +1,9 @@
-//! A run told in words, as a log: each input with what came of it, each message with its reason, and what stands at the
-//! end. Each line of the output of a run stands in it, with `= ` before it.
+//! A run told in words, as a log: each input with what came of it, each message with what it says and why it was sent,
+//! and what stands at the end. Each line of the output of a run stands in it, with `= ` before it.
+//!
+//! It stands on rbc_account, which tells the run as values; rbc_dispatch calls `explain`. What that call rests on is
+//! `IsLogOfRun` (specs/Log.antt), with `Tells` (specs/Telling.antt) of each message. Begin with telling.rt; then
+//! input_block.rt has one input, and message.rt one message.
 #![tactic(auto)]
 
 mod bad_line;
@@ -11,10 +15,12 @@ mod log;
 mod log_end;
 mod log_head;
 mod message;
+mod packet_reason;
 mod refused;
 mod restriction;
 mod said;
 mod sentence;
+mod stop_reason;
 mod telling;
 mod waiting_in_words;
 

@@ -1,30 +1,22 @@
 //! The text of a log while it is written: words, and lines of the output of a run, in whole lines.
 
 ghost use Rattle.std.specs.Prelude.{◌≡◌, ◌++◌, [], ◌∷◌, ℕ, List, true, None, codes, OnOk};
-ghost use Rattle.rbc_explain.specs.Marked.{AreAdded, IsLine, IsPlain, IsToldOn, ended, unmarked};
+ghost use Rattle.rbc_explain.specs.Marked.{AreAdded, IsLine, IsPlain, ended, indent_of, shown};
+ghost use Rattle.rbc_explain.specs.Telling.{HasText, IsSaidOn};
 
 use memchr::memchr;
 use rbc_text::first_line;
-use rbc_track_report::Sheet;
 use std::alloc::AllocError;
 
-/// Adds words, in whole lines without a mark: a line of them that begins with `=` is indented. Fails only for lack of
-/// memory, here or while the words were written.
-pub(crate) fn push_words(log: &mut Vec<u8>, words: Sheet) -> Result<(), AllocError>
-    ensures { OnOk result (IsToldOn [] log.old.items log.new.items) }
+/// Adds words, in whole lines without a mark: a line of them that begins with `=` is indented. Nearly every text can be
+/// added as it is. Fails only for lack of memory.
+pub(crate) fn push_words(log: &mut Vec<u8>, words: &[u8]) -> Result<(), AllocError>
+    ensures { OnOk result (IsSaidOn (HasText words.now) log.old.items log.new.items) }
 {
-    let words = words.ended()?;
-    push_text(log, words.as_bytes())
-}
-
-/// Adds a text in whole lines without a mark. Nearly every text can be added as it is.
-fn push_text(log: &mut Vec<u8>, text: &[u8]) -> Result<(), AllocError>
-    ensures { OnOk result (IsToldOn [] log.old.items log.new.items) }
-{
-    if is_plain(text) {
-        return log.extend_from_slice(text);
+    if is_plain(words) {
+        return log.extend_from_slice(words);
     }
-    push_each_line(log, text)
+    push_each_line(log, words)
 }
 
 /// Whether a text ends with a line feed and has no `=`.
@@ -39,7 +31,7 @@ fn is_plain(text: &[u8]) -> bool
 
 /// Adds each line of a text without a mark.
 fn push_each_line(log: &mut Vec<u8>, text: &[u8]) -> Result<(), AllocError>
-    ensures { OnOk result (IsToldOn [] log.old.items log.new.items) }
+    ensures { OnOk result (IsSaidOn (HasText text.now) log.old.items log.new.items) }
 {
     let mut rest = text;
     while !rest.is_empty() {
@@ -52,7 +44,7 @@ fn push_each_line(log: &mut Vec<u8>, text: &[u8]) -> Result<(), AllocError>
 
 /// Adds a line, without its line feed, so that it has no mark.
 fn push_other(log: &mut Vec<u8>, line: &[u8]) -> Result<(), AllocError>
-    ensures { IsLine line.now → OnOk result (IsToldOn [] log.old.items log.new.items) }
+    ensures { OnOk result (log.new.items ≡ log.old.items ++ ended (shown line.now)) }
 {
     log.extend_from_slice(indent_of(line))?;
     log.extend_from_slice(line)?;
@@ -61,8 +53,7 @@ fn push_other(log: &mut Vec<u8>, line: &[u8]) -> Result<(), AllocError>
 
 /// What stands before a line so that it has no mark.
 fn indent_of(line: &[u8]) -> &'static [u8]
-    ensures other { unmarked (result.now ++ line.now) ≡ None }
-    ensures line { IsLine line.now → IsLine (result.now ++ line.now) }
+    ensures { result.now ≡ indent_of line.now }
 {
     match line.first() {
         Some(b'=') => b" ",

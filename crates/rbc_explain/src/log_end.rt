@@ -1,91 +1,94 @@
 //! The end of a log: the state after the last input.
 
-use crate::figures::{push_place, push_segment, push_segments};
+use crate::figures::{Stretch, Whereabouts, push_segments};
 use crate::waiting_in_words::push_waiting;
 use rbc_account::{Account, Sharing, Standing, TrainStanding};
 use rbc_ids::{Kind, Slot, UsedSlot};
 use rbc_settle::TrainRec;
-use rbc_track_report::Sheet;
-use rbc_zones::{Area, Dirs, Limit};
+use rbc_words::{Count, Km, Metres};
+use rbc_zones::{Dirs, Limit};
+use std::alloc::{AllocError, Global};
+use std::fmt::Write;
 
 /// How many reports without an answer are counted.
 const MOST_REPORTS: u8 = 3;
 
-/// Adds what stands at the end.
-pub(crate) fn push_end(sheet: &mut Sheet, account: &Account, standing: &Standing) {
-    push_sums(sheet, account);
-    push_stops(sheet, account, &standing.stops);
-    push_limits(sheet, account, &standing.limits);
-    sheet
-        .words("Trains: ")
-        .number(standing.trains.len())
-        .words(" enrolled.\n");
+/// What stands at the end. Fails only for lack of memory.
+pub(crate) fn end(
+    alloc: Global,
+    account: &Account,
+    standing: &Standing,
+) -> Result<String, AllocError> {
+    let mut text = String::new(alloc);
+    push_sums(&mut text, account)?;
+    push_stops(&mut text, account, &standing.stops)?;
+    push_limits(&mut text, account, &standing.limits)?;
+    let trains = standing.trains.len();
+    write!(text, "Trains: {trains} enrolled.\n")?;
     for train in &standing.trains {
-        push_train(sheet, account, train);
+        push_train(&mut text, account, train)?;
     }
-    push_owing(sheet, standing);
+    push_owing(&mut text, standing)?;
+    Ok(text)
 }
 
 /// Adds how many inputs there were, and what came of them.
-fn push_sums(sheet: &mut Sheet, account: &Account) {
-    sheet
-        .words("\nAT THE END, after ")
-        .count(account.inputs() as usize, "input")
-        .words(": ")
-        .number(account.sums.accepted as usize)
-        .words(" accepted, ")
-        .number(account.sums.refused as usize)
-        .words(" refused, ")
-        .count(account.sums.messages as usize, "message")
-        .words(" sent.\n");
+fn push_sums(text: &mut String, account: &Account) -> Result<(), AllocError> {
+    let (accepted, refused) = (account.sums.accepted, account.sums.refused);
+    let inputs = Count {
+        number: account.inputs() as usize,
+        noun: "input",
+    };
+    let messages = Count {
+        number: account.sums.messages as usize,
+        noun: "message",
+    };
+    write!(
+        text,
+        "\nAT THE END, after {inputs}: {accepted} accepted, {refused} refused, {messages} sent.\n"
+    )
 }
 
-/// Adds how many there are, and which number was the last.
-fn push_active(sheet: &mut Sheet, noun: &str, count: usize, last: u32) {
-    sheet
-        .words(noun)
-        .words(": ")
-        .number(count)
-        .words(" active; the last number given is ")
-        .number(last as usize)
-        .words(".\n");
-}
-
-fn push_stops(sheet: &mut Sheet, account: &Account, sharing: &[Sharing]) {
-    let stops = account.stops();
-    push_active(sheet, "Stops", stops.len(), account.last_stop());
-    for (stop, shared) in stops.iter().zip(sharing) {
-        push_stop(sheet, stop.0, &stop.1);
-        push_sharing(sheet, shared, ", answered by ");
+fn push_stops(text: &mut String, account: &Account, sharing: &[Sharing]) -> Result<(), AllocError> {
+    let (count, last) = (account.stops().len(), account.last_stop());
+    write!(
+        text,
+        "Stops: {count} active; the last number given is {last}.\n"
+    )?;
+    for (stop, shared) in account.stops().iter().zip(sharing) {
+        let number = stop.0;
+        write!(text, "  Stop {number}: ")?;
+        push_segments(text, "", stop.1.segments())?;
+        push_sharing(text, shared, "answered")?;
     }
+    Ok(())
 }
 
-fn push_stop(sheet: &mut Sheet, number: u32, area: &Area) {
-    sheet.words("  Stop ").number(number as usize).words(": ");
-    push_segments(sheet, "", area.segments());
-}
-
-fn push_limits(sheet: &mut Sheet, account: &Account, sharing: &[Sharing]) {
-    let limits = account.limits();
-    push_active(sheet, "Restrictions", limits.len(), account.last_limit());
-    for (limit, shared) in limits.iter().zip(sharing) {
-        push_limit(sheet, limit.0, &limit.1);
-        push_sharing(sheet, shared, ", acknowledged by ");
+fn push_limits(
+    text: &mut String,
+    account: &Account,
+    sharing: &[Sharing],
+) -> Result<(), AllocError> {
+    let (count, last) = (account.limits().len(), account.last_limit());
+    write!(
+        text,
+        "Restrictions: {count} active; the last number given is {last}.\n"
+    )?;
+    for (limit, shared) in account.limits().iter().zip(sharing) {
+        push_limit(text, limit.0, &limit.1)?;
+        push_sharing(text, shared, "acknowledged")?;
     }
+    Ok(())
 }
 
-fn push_limit(sheet: &mut Sheet, number: u32, limit: &Limit) {
-    sheet
-        .words("  Restriction ")
-        .number(number as usize)
-        .words(": ");
-    push_segment(sheet, &limit.segment());
-    sheet
-        .words(", ")
-        .words(facing_words(limit.dirs()))
-        .words(", ")
-        .number(limit.speed() as usize)
-        .words(" km/h.\n");
+fn push_limit(text: &mut String, number: u32, limit: &Limit) -> Result<(), AllocError> {
+    let segment = limit.segment();
+    let (line, stretch, speed) = (segment.line, Stretch(segment), limit.speed());
+    let facing = facing_words(limit.dirs());
+    write!(
+        text,
+        "  Restriction {number}: line {line}, {stretch}, {facing}, {speed} km/h.\n"
+    )
 }
 
 fn facing_words(dirs: Dirs) -> &'static str {
@@ -96,157 +99,162 @@ fn facing_words(dirs: Dirs) -> &'static str {
     }
 }
 
-/// Adds to how many trains a stop or a restriction is told.
-fn push_sharing(sheet: &mut Sheet, shared: &Sharing, answered: &str) {
-    sheet
-        .words("    Told to ")
-        .count(shared.told, "train")
-        .words(answered)
-        .number(shared.answered);
+/// Adds to how many trains a stop or a restriction is told, and how many have answered it as it is to be.
+fn push_sharing(text: &mut String, shared: &Sharing, done: &str) -> Result<(), AllocError> {
+    let (told, answered) = (
+        Count {
+            number: shared.told,
+            noun: "train",
+        },
+        shared.answered,
+    );
+    write!(text, "    Told to {told}, {done} by {answered}")?;
     if shared.untold != 0 {
-        sheet.words(", NOT told to ").number(shared.untold);
+        let untold = shared.untold;
+        write!(text, ", NOT told to {untold}")?;
     }
-    sheet.words(".\n");
+    text.push_str(".\n")
 }
 
 /// Adds a train: where it may be, what its identifiers are held for, and what waits.
-fn push_train(sheet: &mut Sheet, account: &Account, standing: &TrainStanding) {
+fn push_train(
+    text: &mut String,
+    account: &Account,
+    standing: &TrainStanding,
+) -> Result<(), AllocError> {
     if let Some(train) = account.train(standing.engine) {
-        push_whereabouts(sheet, train);
+        push_whereabouts(text, train)?;
         for (id, slot) in train.stops.slots() {
-            push_stop_identifier(sheet, account, train.engine, *id, slot);
+            push_stop_identifier(text, account, train.engine, *id, slot)?;
         }
         for (id, slot) in train.limits.slots() {
-            push_limit_identifier(sheet, *id, slot);
+            push_limit_identifier(text, *id, slot)?;
         }
     }
     for waiting in &standing.waiting {
-        push_waiting(sheet, waiting);
+        push_waiting(text, waiting)?;
     }
+    Ok(())
 }
 
-fn push_whereabouts(sheet: &mut Sheet, train: &TrainRec) {
-    sheet
-        .words("  Train ")
-        .number(train.engine as usize)
-        .words(", ")
-        .metres(train.length);
+fn push_whereabouts(text: &mut String, train: &TrainRec) -> Result<(), AllocError> {
+    let (engine, length) = (train.engine, Metres(train.length));
     match &train.place {
         Some(place) => {
-            sheet.words(" m long, may be at ");
-            push_place(sheet, place);
-            sheet.words(".\n");
+            let there = Whereabouts(*place);
+            write!(
+                text,
+                "  Train {engine}, {length} m long, may be at {there}.\n"
+            )
         }
-        None => {
-            sheet.words(" m long, has no place.\n");
-        }
+        None => write!(text, "  Train {engine}, {length} m long, has no place.\n"),
     }
 }
 
-fn push_stop_identifier(sheet: &mut Sheet, account: &Account, engine: u32, id: u8, slot: &Slot) {
-    sheet
-        .words("    Stop identifier ")
-        .number(id as usize)
-        .words(": ");
+fn push_stop_identifier(
+    text: &mut String,
+    account: &Account,
+    engine: u32,
+    id: u8,
+    slot: &Slot,
+) -> Result<(), AllocError> {
+    write!(text, "    Stop identifier {id}: ")?;
     match slot {
         Slot::Used(used) => {
-            push_told_stop(sheet, account, engine, id, used);
-            push_answered(sheet, used);
+            push_told_stop(text, account, engine, id, used)?;
+            push_answered(text, used)
         }
-        Slot::Revoking { stamp } => push_revoking(sheet, *stamp),
+        Slot::Revoking { stamp } => push_revoking(text, *stamp),
     }
 }
 
 /// Adds how a stop was told, and by the message of which stamp.
-fn push_told_stop(sheet: &mut Sheet, account: &Account, engine: u32, id: u8, used: &UsedSlot) {
-    sheet.words("stop ").number(used.number as usize);
+fn push_told_stop(
+    text: &mut String,
+    account: &Account,
+    engine: u32,
+    id: u8,
+    used: &UsedSlot,
+) -> Result<(), AllocError> {
+    let (number, stamp) = (used.number, used.stamp);
     if used.kind == Kind::Conditional
-        && let Some(told) = account.told_place(engine, id, used.stamp)
+        && let Some(told) = account.told_place(engine, id, stamp)
     {
-        sheet.words(", before km ").length(told.at);
-    } else {
-        sheet.words(", at once");
+        let before = Km(told.at);
+        return write!(text, "stop {number}, before km {before}, stamp {stamp}");
     }
-    sheet.words(", stamp ").number(used.stamp as usize);
+    write!(text, "stop {number}, at once, stamp {stamp}")
 }
 
 /// Adds whether a stop is answered, or in how many reports since it is not.
-fn push_answered(sheet: &mut Sheet, used: &UsedSlot) {
+fn push_answered(text: &mut String, used: &UsedSlot) -> Result<(), AllocError> {
     if used.acked {
-        sheet.words(", answered.\n");
+        text.push_str(", answered.\n")
     } else if used.count == 0 {
-        sheet.words(", not answered.\n");
+        text.push_str(", not answered.\n")
     } else {
-        sheet
-            .words(",\n      not answered in ")
-            .count(used.count as usize, "report");
-        if used.count == MOST_REPORTS {
-            sheet.words(" or more");
-        }
-        sheet.words(".\n");
+        let reports = Count {
+            number: used.count as usize,
+            noun: "report",
+        };
+        let more = if used.count == MOST_REPORTS {
+            " or more"
+        } else {
+            ""
+        };
+        write!(text, ",\n      not answered in {reports}{more}.\n")
     }
 }
 
-fn push_limit_identifier(sheet: &mut Sheet, id: u8, slot: &Slot) {
-    sheet
-        .words("    Restriction identifier ")
-        .number(id as usize)
-        .words(": ");
+fn push_limit_identifier(text: &mut String, id: u8, slot: &Slot) -> Result<(), AllocError> {
+    write!(text, "    Restriction identifier {id}: ")?;
     match slot {
-        Slot::Used(used) => push_told_limit(sheet, used),
-        Slot::Revoking { stamp } => push_revoking(sheet, *stamp),
+        Slot::Used(used) => {
+            let (number, stamp) = (used.number, used.stamp);
+            let acked = if used.acked {
+                "acknowledged"
+            } else {
+                "not acknowledged"
+            };
+            write!(text, "restriction {number}, stamp {stamp}, {acked}.\n")
+        }
+        Slot::Revoking { stamp } => push_revoking(text, *stamp),
     }
 }
 
-fn push_told_limit(sheet: &mut Sheet, used: &UsedSlot) {
-    let is_acked = if used.acked {
-        ", acknowledged.\n"
-    } else {
-        ", not acknowledged.\n"
-    };
-    sheet
-        .words("restriction ")
-        .number(used.number as usize)
-        .words(", stamp ")
-        .number(used.stamp as usize)
-        .words(is_acked);
-}
-
-fn push_revoking(sheet: &mut Sheet, stamp: u32) {
-    sheet
-        .words("being revoked, stamp ")
-        .number(stamp as usize)
-        .words(", not acknowledged.\n");
+fn push_revoking(text: &mut String, stamp: u32) -> Result<(), AllocError> {
+    write!(text, "being revoked, stamp {stamp}, not acknowledged.\n")
 }
 
 /// Adds how many acknowledgements are outstanding, and how much is not told.
-fn push_owing(sheet: &mut Sheet, standing: &Standing) {
+fn push_owing(text: &mut String, standing: &Standing) -> Result<(), AllocError> {
     if standing.acknowledgements == 0 {
-        sheet.words("Outstanding: no acknowledgement.\n");
+        text.push_str("Outstanding: no acknowledgement.\n")?;
     } else {
-        sheet
-            .words("Outstanding: ")
-            .count(standing.acknowledgements, "acknowledgement")
-            .words(" from ")
-            .count(standing.owing, "train")
-            .words(".\n");
+        let all = Count {
+            number: standing.acknowledgements,
+            noun: "acknowledgement",
+        };
+        let trains = Count {
+            number: standing.owing,
+            noun: "train",
+        };
+        write!(text, "Outstanding: {all} from {trains}.\n")?;
     }
-    push_untold(sheet, standing.untold);
+    match standing.untold {
+        0 => {}
+        1 => text.push_str("NOT TOLD: 1 stop or restriction, as above.\n")?,
+        untold => write!(
+            text,
+            "NOT TOLD: {untold} stops and restrictions, as above.\n"
+        )?,
+    }
     if standing.untold_again != 0 {
-        sheet
-            .words("NOT TOLD AGAIN: ")
-            .count(standing.untold_again, "stop")
-            .words(", as above.\n");
+        let stops = Count {
+            number: standing.untold_again,
+            noun: "stop",
+        };
+        write!(text, "NOT TOLD AGAIN: {stops}, as above.\n")?;
     }
-}
-
-fn push_untold(sheet: &mut Sheet, untold: usize) {
-    if untold == 1 {
-        sheet.words("NOT TOLD: 1 stop or restriction, as above.\n");
-    } else if untold > 1 {
-        sheet
-            .words("NOT TOLD: ")
-            .number(untold)
-            .words(" stops and restrictions, as above.\n");
-    }
+    Ok(())
 }

@@ -1,75 +1,80 @@
 //! The head of a log: what it is, and the track.
 
-use rbc_track_report::{NamedLine, NamedTrack, Sheet};
+use rbc_track_report::{NamedLine, NamedTrack};
+use rbc_words::{Count, Km};
+use std::alloc::{AllocError, Global};
+use std::fmt::Write;
 
 /// The number of the operating rules. It rises whenever a batch can get another output.
 const RULES: usize = 3;
 
-const TITLE: &str = "DISPATCH LOG, rules ";
-
-const LEGEND: &str = ". Places are in km from the beginning of a line; up is towards rising km.
-A line after \"= \" is as `dispatch run` writes it.
-";
-
-/// Adds the head of a log that begins at an input.
-pub(crate) fn push_head(sheet: &mut Sheet, track: &NamedTrack, from: u32) {
-    sheet.words(TITLE).number(RULES).words(LEGEND);
-    push_track(sheet, track);
+/// The head of a log that begins at an input. Fails only for lack of memory.
+pub(crate) fn head(alloc: Global, track: &NamedTrack, from: u32) -> Result<String, AllocError> {
+    let mut text = String::new(alloc);
+    write!(
+        text,
+        "DISPATCH LOG, rules {RULES}. Places are in km from the beginning of a line; up is towards rising km.\n"
+    )?;
+    text.push_str("A line after \"= \" is as `dispatch run` writes it.\n")?;
+    push_track(&mut text, track)?;
     for (index, line) in track.lines.iter().enumerate() {
-        push_track_line(sheet, index, line);
+        push_track_line(&mut text, index, line)?;
     }
     if track.warnings != 0 {
-        sheet
-            .words("  ")
-            .count(track.warnings, "warning")
-            .words(": see `dispatch check`.\n");
+        let warnings = Count {
+            number: track.warnings,
+            noun: "warning",
+        };
+        write!(text, "  {warnings}: see `dispatch check`.\n")?;
     }
-    push_skipped(sheet, from);
+    push_skipped(&mut text, from)?;
+    Ok(text)
 }
 
 /// Adds what the track is as a whole.
-fn push_track(sheet: &mut Sheet, track: &NamedTrack) {
-    sheet
-        .words("Track")
-        .name(text_of(&track.name))
-        .words(": ")
-        .count(track.lines.len(), "line")
-        .words(", ")
-        .count(track.groups.len(), "balise group")
-        .words(", horizon ")
-        .length(track.horizon)
-        .words(" km.\n");
+fn push_track(text: &mut String, track: &NamedTrack) -> Result<(), AllocError> {
+    let lines = Count {
+        number: track.lines.len(),
+        noun: "line",
+    };
+    let groups = Count {
+        number: track.groups.len(),
+        noun: "balise group",
+    };
+    let horizon = Km(track.horizon);
+    text.push_str("Track")?;
+    push_name(text, &track.name)?;
+    write!(text, ": {lines}, {groups}, horizon {horizon} km.\n")
 }
 
 /// Adds a line of the track.
-fn push_track_line(sheet: &mut Sheet, index: usize, line: &NamedLine) {
-    sheet
-        .words("  line ")
-        .number(index)
-        .name(text_of(&line.name))
-        .words(": km 0.000 to km ")
-        .length(line.length)
-        .words(", ")
-        .count(line.groups, "balise group")
-        .words("\n");
+fn push_track_line(text: &mut String, index: usize, line: &NamedLine) -> Result<(), AllocError> {
+    let (length, groups) = (
+        Km(line.length),
+        Count {
+            number: line.groups,
+            noun: "balise group",
+        },
+    );
+    write!(text, "  line {index}")?;
+    push_name(text, &line.name)?;
+    write!(text, ": km 0.000 to km {length}, {groups}\n")
 }
 
-/// The text of a name.
-fn text_of(name: &Option<String>) -> Option<&str> {
+/// Adds a name between quotation marks, or nothing.
+fn push_name(text: &mut String, name: &Option<String>) -> Result<(), AllocError> {
     match name {
-        Some(name) => Some(name.as_str()),
-        None => None,
+        Some(name) => write!(text, " \"{name}\""),
+        None => Ok(()),
     }
 }
 
 /// Adds which inputs were run before the first one that is told.
-fn push_skipped(sheet: &mut Sheet, from: u32) {
-    if from == 2 {
-        sheet.words("\nRun before this: input 1.\n");
-    } else if from > 2 {
-        sheet
-            .words("\nRun before this: inputs 1 to ")
-            .number(from as usize - 1)
-            .words(".\n");
+fn push_skipped(text: &mut String, from: u32) -> Result<(), AllocError> {
+    let last = from.saturating_sub(1);
+    match last {
+        0 => Ok(()),
+        1 => text.push_str("\nRun before this: input 1.\n"),
+        _ => write!(text, "\nRun before this: inputs 1 to {last}.\n"),
     }
 }

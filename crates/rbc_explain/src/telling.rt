@@ -10,10 +10,10 @@ ghost use Rattle.rbc_explain.specs.Log.{IsLogOf, IsLogOfRun, IsUnderWay};
 
 use crate::input_block::{TrackOfRun, push_block};
 use crate::log::push_words;
-use crate::log_end::push_end;
-use crate::log_head::push_head;
+use crate::log_end::end;
+use crate::log_head::head;
 use rbc_account::{Account, TellError, account_law, lines_of_batch, read_batch};
-use rbc_track_report::{NamedTrack, Sheet, named_track};
+use rbc_track_report::{NamedTrack, named_track};
 use std::alloc::{AllocError, Global};
 use std::io::Read;
 
@@ -68,7 +68,7 @@ fn log_of(
     let named = names_of(alloc, text)?;
     let mut account = account;
     let mut log = Vec::new(alloc);
-    push_words(&mut log, head(alloc, &named, from))?;
+    push_words(&mut log, head(alloc, &named, from)?.as_bytes())?;
     push_inputs(
         alloc,
         &mut log,
@@ -77,7 +77,8 @@ fn log_of(
         lines,
         from,
     )?;
-    push_words(&mut log, end(alloc, &account)?)?;
+    let standing = account.standing(alloc)?;
+    push_words(&mut log, end(alloc, &account, &standing)?.as_bytes())?;
     Ok(log)
 }
 
@@ -131,19 +132,4 @@ fn push_input(
         lines: track_lines,
     };
     push_block(alloc, log, of, line, &block)
-}
-
-/// The head of a log.
-fn head(alloc: Global, named: &NamedTrack, from: u32) -> Sheet {
-    let mut sheet = Sheet::new(alloc);
-    push_head(&mut sheet, named, from);
-    sheet
-}
-
-/// The end of a log. Fails only for lack of memory.
-fn end(alloc: Global, account: &Account) -> Result<Sheet, AllocError> {
-    let standing = account.standing(alloc)?;
-    let mut sheet = Sheet::new(alloc);
-    push_end(&mut sheet, account, &standing);
-    Ok(sheet)
 }

@@ -1,23 +1,25 @@
 //! What waits at a train, in words.
 
 use rbc_account::{Cause, Waiting, Waits};
-use rbc_track_report::Sheet;
+use std::alloc::AllocError;
+use std::fmt::Write;
 
 /// Adds that something has come to wait at a train.
-pub(crate) fn push_waiting_at(sheet: &mut Sheet, engine: u32, waiting: &Waiting) {
-    sheet
-        .words("  ")
-        .words(heading(waiting.what))
-        .words(": train ")
-        .number(engine as usize)
-        .words(", ");
-    push_what(sheet, waiting);
+pub(crate) fn push_waiting_at(
+    text: &mut String,
+    engine: u32,
+    waiting: &Waiting,
+) -> Result<(), AllocError> {
+    let heading = heading(waiting.what);
+    write!(text, "  {heading}: train {engine}, ")?;
+    push_what(text, waiting)
 }
 
 /// Adds that something waits at the train of which the lines before speak.
-pub(crate) fn push_waiting(sheet: &mut Sheet, waiting: &Waiting) {
-    sheet.words("    ").words(heading(waiting.what)).words(": ");
-    push_what(sheet, waiting);
+pub(crate) fn push_waiting(text: &mut String, waiting: &Waiting) -> Result<(), AllocError> {
+    let heading = heading(waiting.what);
+    write!(text, "    {heading}: ")?;
+    push_what(text, waiting)
 }
 
 fn heading(what: Waits) -> &'static str {
@@ -28,19 +30,15 @@ fn heading(what: Waits) -> &'static str {
 }
 
 /// Adds what waits, and why.
-fn push_what(sheet: &mut Sheet, waiting: &Waiting) {
+fn push_what(text: &mut String, waiting: &Waiting) -> Result<(), AllocError> {
+    let cause = cause_words(waiting);
     match waiting.what {
-        Waits::Stop(number) | Waits::Again(number) => {
-            sheet.words("stop ").number(number as usize);
-        }
-        Waits::Restriction(number) => {
-            sheet.words("restriction ").number(number as usize);
-        }
+        Waits::Stop(number) | Waits::Again(number) => write!(
+            text,
+            "stop {number}, since {cause}.\n"
+        ),
+        Waits::Restriction(number) => write!(text, "restriction {number}, since {cause}.\n"),
     }
-    sheet
-        .words(", since ")
-        .words(cause_words(waiting))
-        .words(".\n");
 }
 
 /// The words for the cause.

@@ -12,8 +12,9 @@ loop-index-init c =
     let b = c.args.block.now in
     let line = c.first_line.result.0.now in
     let behind = c.first_line.result.1.now in
+    let words = c.in_ok-push_words.ensures in
     all_begins c.args.of.track.now b.number b.reply b.messages b.told.items c.args.answer.now line behind c.args.log.now.items c.push_line.new.log.items c.push_words.new.log.items c.requires.answer
-    c.first_line.ensures.line (c.in_ok-push_line.ensures (first_is_line c.args.answer.now line (lines_of behind) c.first_line.ensures.line)) c.in_ok-push_words.ensures
+    c.first_line.ensures.line (c.in_ok-push_line.ensures (first_is_line c.args.answer.now line (lines_of behind) c.first_line.ensures.line)) (words.0, words.1, words.2)
 
 -- a line is left for the message
 pub first_line-requires-in-loop-index : goal.first_line-requires-in-loop-index

@@ -1,8 +1,13 @@
+use Rattle.std.proofs.Common.{◌∙◌}
+use Rattle.rbc_explain.specs.Reasons.{packet_text}
 use Rattle.rbc_explain.specs.Said.{IsPacketSentence}
-use Rattle.rbc_explain.proofs.Told.{packet_then_words}
+use Rattle.rbc_explain.proofs.Told.{packet_then_why}
 use Rattle.rbc_explain.proofs.restriction.push_packet.Goals as goal
 
 pub returns : goal.returns
 returns c =
-    packet_then_words _ _ c.push_words.result c.args.track.now c.args.lrbg c.args.packet.now (IsPacketSentence c.args.track.now c.args.lrbg c.args.one.now.number c.args.packet.now)
-    c.args.log.now.items c.push_packet_sentence.new.log.items c.push_words.new.log.items c.in_ok-push_packet_sentence.ensures c.push_words.ensures
+    let packet = c.args.packet.now in
+    let one = c.args.one.now in
+    packet_then_why _ _ c.push_words.result c.args.track.now c.args.lrbg packet (IsPacketSentence c.args.track.now c.args.lrbg one.number packet) (packet_text packet c.args.place.now one)
+    c.as_bytes.result.now c.args.log.now.items c.push_packet_sentence.new.log.items c.push_words.new.log.items (c.as_bytes.ensures.value ∙ c.in_ok-reason.ensures)
+    c.in_ok-push_packet_sentence.ensures c.push_words.ensures
