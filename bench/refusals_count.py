@@ -32,6 +32,9 @@ DESCRIBED = {
 # how several workers run a batch of the program: on the book, and by train
 WAYS_OF_PROGRAM = {"on the book": (), "by train": ("--by-train",)}
 
+# batches of golden/alarms to which memory is refused
+ALARMED = ("sixteenth-stop", "answered-late", "from-restart")
+
 # golden batches to which memory is refused, and those to which threads are, with their tracks. Behind the latter stand the numbers of workers
 # that do windows of them: each window starts its threads anew, and each thread takes two runs.
 SMALL = ("example-unanswered main_line.toml", "example-several main_line.toml")
@@ -82,6 +85,19 @@ def end_of_program(ended, expected):
     if OF_PROGRAM.fullmatch(ended.errors):
         return "refused"
     return "beside" if ended.errors == OF_TRACK else None
+
+
+def end_of_live(ended, expected):
+    """The same of `live`, which has written whole answers with their alarms before a fault: what it has not written begins with a result, or
+    with the alarms that stand before the first answer."""
+    if ended.status == 0:
+        return "answered" if ended.output == expected and not ended.errors else None
+    if ended.status != 1 or not expected.startswith(ended.output):
+        return None
+    if ended.errors == OF_TRACK:
+        return "beside" if not ended.output else None
+    begins = re.match(rb"\d+ (ok|refused) ", expected[len(ended.output) :]) or not ended.output
+    return "refused" if begins and ended.errors == b"out of memory\n" else None
 
 
 def end_of_golden(ended, right):
@@ -152,6 +168,20 @@ def at_program(root, refuse):
             words = [program, task, "--track", f"{root}/examples/main_line.toml"]
             shown = subprocess.run(words, input=text, capture_output=True, check=True).stdout
             wrong += count(f"{name}, `{task}`", words, text, refuse, lambda ended, shown=shown: end_of_program(ended, shown))
+    return wrong
+
+
+def at_alarms(root, refuse):
+    """Refuses memory to `run --alarms` and `live --alarms` on batches whose alarms are known."""
+    program, wrong = program_of(root), 0
+    for row in read(f"{root}/golden/alarms/cases.tsv").decode().splitlines()[1:]:
+        file, words, batch = row.split("\t")
+        name, task = file.rsplit(".", 1)
+        if name in ALARMED:
+            text, end_of = read(f"{root}/{batch}"), end_of_live if task == "live" else end_of_program
+            words = [program, *words.split()]
+            expected = subprocess.run(words, input=text, capture_output=True, check=True, cwd=root).stdout
+            wrong += count(f"`{task} --alarms` on {name}", words, text, refuse, lambda ended, e=end_of, x=expected: e(ended, x), root)
     return wrong
 
 
@@ -226,7 +256,7 @@ def read(file):
 def main():
     root, refuse = sys.argv[1:]
     print("| call | tried | refused | refused beside it | answered |\n|---|---|---|---|---|")
-    wrong = at_program(root, refuse)
+    wrong = at_program(root, refuse) + at_alarms(root, refuse)
     with tempfile.TemporaryDirectory() as folder:
         shutil.copytree(f"{root}/crates/rbc_tests/data", f"{folder}/golden")
         wrong += at_golden(root, refuse, f"{folder}/golden")

@@ -1,6 +1,8 @@
 """Batches that are too long for files, with what the program has to tell and draw of them, worked out from the rules;
 and messages, laid out field by field."""
 
+from itertools import product
+
 CROWD = 2_000  # the most trains that may be enrolled
 
 
@@ -85,6 +87,58 @@ stop 1: line 0, km 0.000 to km 30.000
   stop 1
 {trains}
 """
+
+
+class Watched:
+    """Trains, each with its line or without a place, and stops with the lines that they close: all that these alarms hang on. Each train holds
+    15 stop identifiers before the first stop here is given."""
+
+    def __init__(self):
+        self.lines, self.stops, self.inputs, self.alarms = {}, {}, [], []
+
+    def standing(self):
+        """The alarms that stand: each with its engine, and in the order of alarms."""
+        untold = [
+            (engine, 1, number, f"stop {number}")
+            for (engine, line), (number, closed) in product(self.lines.items(), self.stops.items())
+            if line is None or line in closed
+        ]
+        return {*untold, *((engine, 0, 0, "place") for engine, line in self.lines.items() if line is None)}
+
+    def takes(self, text, change=lambda: None):
+        """An input, and what it changes. It raises and clears the alarms that only one of the two states has."""
+        before = self.standing()
+        change()
+        self.inputs.append(text)
+        after, number = self.standing(), len(self.inputs)
+        changed = sorted((alarm, "cleared" if alarm in before else "raised") for alarm in before ^ after)
+        self.alarms.append([f"{number} {way} {engine} {name}" for (engine, _, _, name), way in changed])
+
+
+def watched_crowd():
+    """A batch in which 2,000 trains hold 15 stop identifiers each, and more stops come; and the lines of alarms of each input. Of three trains one has no
+    place, one is on line 0 and one on line 1 of track A."""
+    crowd = Watched()
+    for engine in range(1, CROWD + 1):
+        crowd.inputs.append(f"enrol {engine} 2000")
+        crowd.alarms.append([f"{engine} raised {engine} place"])
+        crowd.lines[engine] = None
+    for engine in range(1, CROWD + 1):
+        if engine % 3:
+            crowd.inputs.append(report(engine, 1000, 5 if engine % 3 == 1 else 7, 20))
+            crowd.alarms.append([f"{len(crowd.inputs)} cleared {engine} place"])
+            crowd.lines[engine] = engine % 3 - 1
+    for number in range(1, 16):
+        crowd.takes(f"stop {number} 0:0-300000 1:0-3000000")
+    crowd.takes("stop 16 1:0-3000000", lambda: crowd.stops.update({16: {1}}))
+    crowd.takes("stop 17 0:0-10", lambda: crowd.stops.update({17: set()}))
+    for engine in range(3, 60, 3):
+        crowd.takes(report(engine, 2000, 5, 20), lambda engine=engine: crowd.lines.update({engine: 0}))
+    crowd.takes("stop 18 0:0-300000", lambda: crowd.stops.update({18: {0}}))
+    crowd.takes("withdraw 3")
+    crowd.takes("release 16", lambda: crowd.stops.pop(16))
+    crowd.takes("release 16")
+    return crowd.inputs, crowd.alarms
 
 
 def restricted():

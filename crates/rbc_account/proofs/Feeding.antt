@@ -7,6 +7,8 @@ use Rattle.rbc_records.specs.declared.record.Key.{Key}
 use Rattle.rbc_records.specs.declared.record.Rec.{Rec}
 use Rattle.rbc_rule.specs.declared.outcome.Reply.{Reply}
 use Rattle.rbc_rule.specs.Inputs.{Fits}
+use Rattle.rbc_batch.specs.BatchText.{line_of, IsInput}
+use Rattle.rbc_live.specs.declared.desk.Answer.{Answer}
 use Rattle.rbc_live.specs.Serial.{IsSerial}
 use Rattle.rbc_live.specs.History.{IsFed, IsStepOf}
 use Rattle.rbc_settle.specs.declared.train.TrainRec.{TrainRec}
@@ -21,6 +23,13 @@ use Rattle.rbc_account.specs.Subjects.{ArePaired}
 use Rattle.rbc_account.specs.Found.{IsFound, IsKnown, is_unknown, has_unknown}
 use Rattle.rbc_account.proofs.StepFound.{fails_after_step}
 use Rattle.rbc_account.proofs.NeverUnknown.{none_unknown}
+
+-- the step of the input of a line is one of the line
+pub fed_by_line : {E : Type 0} (r : Result Answer E) (plan : Plan) (line : List ℕ) (input : Input) (old new : List (Key × Rec))
+    → IsInput (line_of line) input → IfOk r (λ answer. IsStepOf plan input old new answer.reply answer.messages)
+    → IfOk r (λ answer. IsFed plan line old new answer.reply answer.messages)
+fed_by_line (Ok answer) plan line input old new is steps = (input, is, steps)
+fed_by_line (Err fault) plan line input old new is steps = tt
 
 pub fed_as : {E : Type 0} (plan : Plan) (line : List ℕ) (old new : List (Key × Rec)) (reply : Reply) (messages : List Sent) (r : Result Block E)
     → IfOk r (λ block. block.reply ≡ reply) → IfOk r (λ block. block.messages ≡ messages) → IsFed plan line old new reply messages

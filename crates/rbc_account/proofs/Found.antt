@@ -25,12 +25,12 @@ use Rattle.rbc_rule.specs.World.{World}
 use Rattle.rbc_rule.specs.Step.{settle_all, sent_to_all}
 use Rattle.rbc_rule.specs.Right.{messages_to}
 use Rattle.rbc_live.specs.Held.{AreRecordsOf}
-use Rattle.rbc_account.specs.Known.{train_of, stops_of, limits_of, train_in, active_stops, active_limits}
+use Rattle.rbc_live.specs.Known.{train_of, stops_of, limits_of, train_in, active_stops, active_limits}
 use Rattle.rbc_account.specs.Found.{PacketHasSubject, HasSubject, IsRevokedBy, IsLiftedBy, IsFound}
 use Rattle.rbc_account.proofs.Elements.{each-weaker}
 use Rattle.rbc_account.proofs.Meant.{IsGoneUnder, place_still}
 use Rattle.rbc_account.proofs.Subject.{each_has_subject}
-use Rattle.rbc_account.proofs.NothingWaits.{stops_there, limits_there, train_there}
+use Rattle.rbc_live.proofs.NothingWaits.{stops_there, limits_there, train_there}
 
 -- ---- maps and lists of messages
 

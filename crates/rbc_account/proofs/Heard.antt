@@ -20,7 +20,7 @@ use Rattle.rbc_rule.specs.Codes.{code_of}
 use Rattle.rbc_rule.specs.declared.refuse.Refusal.TheVariants.{StampTooHigh, NothingToAcknowledge}
 use Rattle.rbc_rule.specs.Effect.{unknown_stamp, is_too_high, raised, placed, limits_acked, acknowledged, stop_acked, answered, told_by, stamp_of, heard}
 use Rattle.rbc_rule.proofs.WorldMaps.{value_of-with_value, value_of-without}
-use Rattle.rbc_account.specs.Known.{number_under}
+use Rattle.rbc_live.specs.Known.{number_under}
 
 -- what is told under an identifier was told under it
 abbrev pub WasUnder : Slots → Slots → Type 0

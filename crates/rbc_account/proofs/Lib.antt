@@ -6,9 +6,7 @@ pub mod Shares
 pub mod Owing
 pub mod Totals
 pub mod Feeding
-pub mod Causing
 pub mod Listing
-pub mod NothingWaits
 pub mod NoneUntold
 pub mod Keeping
 pub mod Elements

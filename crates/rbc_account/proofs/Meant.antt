@@ -25,7 +25,7 @@ use Rattle.rbc_settle.proofs.Concerned.{told_as, limit_as, each_value}
 use Rattle.rbc_settle.proofs.Wanted.{wanted_of}
 use Rattle.rbc_settle.proofs.Escalating.{between, wanted_next}
 use Rattle.rbc_settle.proofs.Parts.{forced_then, revoked_first, told_then, limits_last, three_parts, slots_revoked, after_first, to_first}
-use Rattle.rbc_account.specs.Known.{number_under}
+use Rattle.rbc_live.specs.Known.{number_under}
 use Rattle.rbc_account.proofs.Elements.{each-append, each-take, each-filter, each-map, each-groups, each-passes, each-weaker, each-always, each-both}
 
 -- ---- what is meant

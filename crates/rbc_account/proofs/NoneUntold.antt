@@ -16,15 +16,15 @@ use Rattle.rbc_rule.specs.declared.input.Input.{Input}
 use Rattle.rbc_rule.specs.declared.input.Input.TheVariants as input
 use Rattle.rbc_rule.specs.declared.outcome.Reply.{Reply}
 use Rattle.rbc_rule.specs.declared.outcome.Reply.TheVariants.{Done, Refused}
-use Rattle.rbc_account.specs.declared.waiting.Waiting.{Waiting}
+use Rattle.rbc_live.specs.declared.waiting.Waiting.{Waiting}
 use Rattle.rbc_account.specs.declared.counts.Counts.{Counts}
 use Rattle.rbc_account.specs.declared.counts.Share.{Share}
 use Rattle.rbc_account.specs.declared.counts.Share.TheVariants.{Told, Untold, Unplaced, Unconcerned}
-use Rattle.rbc_account.specs.Known.{train_in, engines_in, active_stops, active_limits}
-use Rattle.rbc_account.specs.Waits.{stop_waits, limit_waits, waiting_stop, waiting_limit}
+use Rattle.rbc_live.specs.Known.{train_in, engines_in, active_stops, active_limits}
+use Rattle.rbc_live.specs.Waits.{stop_waits, limit_waits, waiting_stop, waiting_limit}
 use Rattle.rbc_account.specs.Coming.{come_to_wait, stop_come, limit_come, stop_come_at, limit_come_at, stop_at, limit_at}
 use Rattle.rbc_account.specs.Counting.{is_share, how_many, stop_share, limit_share, counts_of, counts_after, stop_shares, limit_shares, stop_counts, limit_counts}
-use Rattle.rbc_account.proofs.Causing.{none_waits, no_limit_to_tell}
+use Rattle.rbc_live.proofs.Causing.{none_waits, no_limit_to_tell}
 
 -- ---- at one train
 

@@ -28,7 +28,7 @@ use Rattle.rbc_rule.specs.declared.input.Input.{Input}
 use Rattle.rbc_rule.specs.declared.input.Input.TheVariants as input
 use Rattle.rbc_rule.specs.Effect.{with_next, with_less, forget}
 use Rattle.rbc_rule.proofs.WorldMaps.{value_of-with_value, value_of-without}
-use Rattle.rbc_account.specs.Known.{number_under}
+use Rattle.rbc_live.specs.Known.{number_under}
 use Rattle.rbc_account.proofs.Meant.{IsGoneUnder}
 use Rattle.rbc_account.proofs.Found.{AreRevokedBy}
 

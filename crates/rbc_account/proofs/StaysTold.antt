@@ -24,7 +24,7 @@ use Rattle.rbc_settle.specs.UpToDate.{HasTables}
 use Rattle.rbc_settle.proofs.Concerned.{each_has}
 use Rattle.rbc_settle.proofs.Follows.{can_follow, can_follow-take}
 use Rattle.rbc_rule.proofs.WorldMaps.{value_of-with_value}
-use Rattle.rbc_account.specs.Known.{number_under}
+use Rattle.rbc_live.specs.Known.{number_under}
 use Rattle.rbc_account.proofs.Elements.{each-append, each-take, each-filter, each-map, each-groups, each-passes, each-zip, each-weaker, each-always}
 
 -- ---- which identifiers are changed

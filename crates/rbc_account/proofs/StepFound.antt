@@ -37,13 +37,13 @@ use Rattle.rbc_live.specs.Held.{AreRecordsOf}
 use Rattle.rbc_live.specs.DeskSerial.{serial, new_desk}
 use Rattle.rbc_live.specs.Serial.{IsSerial}
 use Rattle.rbc_live.specs.History.{IsStepOf}
-use Rattle.rbc_account.specs.Known.{train_of, number_under}
+use Rattle.rbc_live.specs.Known.{train_of, number_under}
 use Rattle.rbc_account.specs.Coming.{sender_in}
 use Rattle.rbc_account.specs.Found.{IsFound}
 use Rattle.rbc_account.proofs.Found.{value_of-each, each_by_engine, AreRevokedBy, all_found}
 use Rattle.rbc_account.proofs.Revoked.{at_others, at_lift, at_release, at_restrict, at_stop}
 use Rattle.rbc_account.proofs.Heard.{WasToldIfOk, heard_told}
-use Rattle.rbc_account.proofs.NothingWaits.{train_there}
+use Rattle.rbc_live.proofs.NothingWaits.{train_there}
 
 -- what holds of the world after an input, unless that is refused
 abbrev pub ForOk : (World → Type 0) → Result World ℕ → Type 0

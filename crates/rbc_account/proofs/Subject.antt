@@ -20,7 +20,7 @@ use Rattle.rbc_settle.specs.Numbers.{has_number}
 use Rattle.rbc_settle.specs.Actions.{Action, ChangesStop, ChangesLimits}
 use Rattle.rbc_settle.specs.Settling.{Stops, Limits, last_stamp, carried_out, message_of, packet_of, told_stop, told_at, told_limit, limit_told_to, is_limit_gone, escalated, is_stop_revoked, actions, settled, messages_of}
 use Rattle.rbc_settle.specs.UpToDate.{HasTables}
-use Rattle.rbc_account.specs.Known.{number_under}
+use Rattle.rbc_live.specs.Known.{number_under}
 use Rattle.rbc_account.specs.Found.{MeansNow, MeansBefore, IsNotClear, PacketHasSubject, HasSubject}
 use Rattle.rbc_account.proofs.Elements.{each-map, each-weaker, each-both}
 use Rattle.rbc_account.proofs.StaysTold.{IsChangeUnder, IsUnder, told_is_found}

@@ -8,14 +8,14 @@ use Rattle.rbc_settle.specs.declared.train.TrainRec.{TrainRec}
 use Rattle.rbc_records.specs.declared.record.Key.{Key}
 use Rattle.rbc_records.specs.declared.record.Rec.{Rec}
 use Rattle.rbc_account.specs.declared.state.TrainStanding.{TrainStanding}
-use Rattle.rbc_account.specs.declared.waiting.Waiting.{Waiting}
-use Rattle.rbc_account.specs.Coming.{waiting_at}
-use Rattle.rbc_account.specs.Known.{train_in, engines_in, active_stops, active_limits}
+use Rattle.rbc_live.specs.declared.waiting.Waiting.{Waiting}
+use Rattle.rbc_live.specs.Waits.{waiting_at}
+use Rattle.rbc_live.specs.Known.{train_in, engines_in, active_stops, active_limits}
 use Rattle.rbc_account.specs.Owed.{messages_owed, is_owing}
 use Rattle.rbc_account.specs.Standings.{AreOwed, AreStandings, waiting_told}
 use Rattle.rbc_account.specs.Sums.{added}
 use Rattle.rbc_account.specs.Totals.{total, untold_at, again_at, owed_total, owing_total, untold_total, again_total, is_again, again_in, untold_in, owed_told, is_owing_told, untold_told, again_told}
-use Rattle.rbc_account.specs.Waits.{stop_waits, limit_waits, is_due, stops_waiting, limits_waiting, stops_due, waiting_stop, waiting_limit, waiting_again}
+use Rattle.rbc_live.specs.Waits.{stop_waits, limit_waits, is_due, stops_waiting, limits_waiting, stops_due, waiting_stop, waiting_limit, waiting_again}
 
 -- ---- sums, one element after another
 

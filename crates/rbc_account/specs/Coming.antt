@@ -13,9 +13,9 @@ use Rattle.rbc_rule.specs.declared.input.Input.{Input}
 use Rattle.rbc_rule.specs.declared.input.Input.TheVariants as input
 use Rattle.rbc_rule.specs.declared.outcome.Reply.{Reply}
 use Rattle.rbc_rule.specs.declared.outcome.Reply.TheVariants.{Done, Refused}
-use Rattle.rbc_account.specs.declared.waiting.Waiting.{Waiting}
-use Rattle.rbc_account.specs.Known.{train_in, engines_in, active_stops, active_limits}
-use Rattle.rbc_account.specs.Waits.{stop_waits, limit_waits, waiting_stop, waiting_limit, all_waiting, waits_in}
+use Rattle.rbc_live.specs.declared.waiting.Waiting.{Waiting}
+use Rattle.rbc_live.specs.Known.{train_in, engines_in, active_stops, active_limits}
+use Rattle.rbc_live.specs.Waits.{stop_waits, limit_waits, waiting_stop, waiting_limit, waiting_at, waits_in}
 
 -- the train that sent an input, if a train did
 abbrev pub sender_in : List (Key × Rec) → Input → Option TrainRec
@@ -27,10 +27,6 @@ sender_in records (input.Release number) = None
 sender_in records (input.Restrict number segment dirs speed front) = None
 sender_in records (input.Lift number) = None
 sender_in records (input.Bad code) = None
-
--- what waits at a train, by the active stops and restrictions
-abbrev pub waiting_at : ℕ → List (Key × Rec) → TrainRec → List Waiting
-waiting_at horizon records train = all_waiting horizon (active_stops records) (active_limits records) train
 
 -- what waits at a train after an input and did not wait at it before
 abbrev pub newly : ℕ → List (Key × Rec) → Option TrainRec → TrainRec → List Waiting

@@ -12,8 +12,8 @@ use Rattle.rbc_rule.specs.declared.input.Input.{Input}
 use Rattle.rbc_rule.specs.declared.input.Input.TheVariants as input
 use Rattle.rbc_rule.specs.declared.outcome.Reply.{Reply}
 use Rattle.rbc_rule.specs.declared.outcome.Reply.TheVariants.{Done, Refused}
-use Rattle.rbc_account.specs.Known.{train_in, engines_in, active_stops, active_limits}
-use Rattle.rbc_account.specs.Waits.{stop_waits, limit_waits}
+use Rattle.rbc_live.specs.Known.{train_in, engines_in, active_stops, active_limits}
+use Rattle.rbc_live.specs.Waits.{stop_waits, limit_waits}
 use Rattle.rbc_account.specs.declared.counts.Counts.{Counts}
 use Rattle.rbc_account.specs.declared.counts.Share.{Share}
 use Rattle.rbc_account.specs.declared.counts.Share.TheVariants.{Told, Untold, Unplaced, Unconcerned}

@@ -14,7 +14,7 @@ use Rattle.rbc_account.specs.declared.deed.Deed.TheVariants as deed
 use Rattle.rbc_account.specs.declared.deed.Acked.{Acked}
 use Rattle.rbc_account.specs.declared.deed.Acked.TheVariants as acked
 use Rattle.rbc_account.specs.declared.placing.Placing.{Placing}
-use Rattle.rbc_account.specs.Known.{number_under}
+use Rattle.rbc_live.specs.Known.{number_under}
 use Rattle.rbc_account.specs.Placed.{IsPlacing}
 
 -- what the acknowledgement of the message with a stamp does to a stop identifier

@@ -28,7 +28,7 @@ use Rattle.rbc_account.specs.declared.told.RestrictionTold.{RestrictionTold}
 use Rattle.rbc_account.specs.declared.told.RestrictionTold.TheVariants as told
 use Rattle.rbc_account.specs.declared.reason.StopReason.{StopReason}
 use Rattle.rbc_account.specs.Reasons.{concern_by}
-use Rattle.rbc_account.specs.Known.{train_in, active_stops, active_limits, number_under}
+use Rattle.rbc_live.specs.Known.{train_in, active_stops, active_limits, number_under}
 use Rattle.rbc_account.specs.Subjects.{revoked_stop, revoked_limit}
 
 -- A stop is told under an identifier of a train, is active, and means this to the train.

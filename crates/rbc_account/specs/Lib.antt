@@ -1,13 +1,10 @@
-pub mod Known
 pub mod Placed
 pub mod Deeds
 pub mod Reasons
 pub mod Whys
 pub mod Places
 pub mod Subjects
-pub mod Waits
 pub mod Coming
-pub mod Causes
 pub mod Counting
 pub mod Owed
 pub mod Totals

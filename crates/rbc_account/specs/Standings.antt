@@ -9,15 +9,15 @@ use Rattle.rbc_ids.specs.Table.{Slots, identifier_of}
 use Rattle.rbc_settle.specs.declared.train.TrainRec.{TrainRec}
 use Rattle.rbc_records.specs.declared.record.Key.{Key}
 use Rattle.rbc_records.specs.declared.record.Rec.{Rec}
-use Rattle.rbc_account.specs.declared.waiting.Waiting.{Waiting}
-use Rattle.rbc_account.specs.declared.waiting.Waits.{Waits}
-use Rattle.rbc_account.specs.declared.waiting.Waits.TheVariants.{Stop, Restriction, Again}
+use Rattle.rbc_live.specs.declared.waiting.Waiting.{Waiting}
+use Rattle.rbc_live.specs.declared.waiting.Waits.{Waits}
+use Rattle.rbc_live.specs.declared.waiting.Waits.TheVariants.{Stop, Restriction, Again}
 use Rattle.rbc_account.specs.declared.state.Sharing.{Sharing}
 use Rattle.rbc_account.specs.declared.state.Standing.{Standing}
 use Rattle.rbc_account.specs.declared.state.TrainStanding.{TrainStanding}
-use Rattle.rbc_account.specs.Known.{train_in, engines_in, active_stops, active_limits}
-use Rattle.rbc_account.specs.Waits.{waits_in, kind_and_number}
-use Rattle.rbc_account.specs.Coming.{waiting_at}
+use Rattle.rbc_live.specs.Known.{train_in, engines_in, active_stops, active_limits}
+use Rattle.rbc_live.specs.Waits.{waits_in, kind_and_number}
+use Rattle.rbc_live.specs.Waits.{waiting_at}
 use Rattle.rbc_account.specs.Owed.{messages_owed}
 use Rattle.rbc_account.specs.Totals.{owed_told, owed_total, owing_total, untold_total, again_total}
 

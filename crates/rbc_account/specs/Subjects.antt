@@ -17,7 +17,7 @@ use Rattle.rbc_account.specs.declared.told.ToldWhat.TheVariants as what
 use Rattle.rbc_account.specs.declared.told.ToldRestriction.{ToldRestriction}
 use Rattle.rbc_account.specs.declared.told.RestrictionTold.{RestrictionTold}
 use Rattle.rbc_account.specs.declared.told.RestrictionTold.TheVariants as packet
-use Rattle.rbc_account.specs.Known.{train_in, number_under}
+use Rattle.rbc_live.specs.Known.{train_in, number_under}
 use Rattle.rbc_account.specs.Places.{TellsPlace, TellsAtOnce, TellsRevocation, TellsPart}
 use Rattle.rbc_account.specs.Whys.{IsTold}
 

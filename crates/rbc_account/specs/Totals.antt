@@ -4,14 +4,14 @@ use Rattle.std.specs.List.{filter, filter_map}
 use Rattle.rbc_settle.specs.declared.train.TrainRec.{TrainRec}
 use Rattle.rbc_records.specs.declared.record.Key.{Key}
 use Rattle.rbc_records.specs.declared.record.Rec.{Rec}
-use Rattle.rbc_account.specs.declared.waiting.Waiting.{Waiting}
-use Rattle.rbc_account.specs.declared.waiting.Waits.{Waits}
-use Rattle.rbc_account.specs.declared.waiting.Waits.TheVariants.{Stop, Restriction, Again}
+use Rattle.rbc_live.specs.declared.waiting.Waiting.{Waiting}
+use Rattle.rbc_live.specs.declared.waiting.Waits.{Waits}
+use Rattle.rbc_live.specs.declared.waiting.Waits.TheVariants.{Stop, Restriction, Again}
 use Rattle.rbc_account.specs.declared.state.TrainStanding.{TrainStanding}
-use Rattle.rbc_account.specs.Known.{train_in, engines_in, active_stops, active_limits}
+use Rattle.rbc_live.specs.Known.{train_in, engines_in, active_stops, active_limits}
 use Rattle.rbc_account.specs.Owed.{messages_owed, is_owing}
 use Rattle.rbc_account.specs.Sums.{added}
-use Rattle.rbc_account.specs.Waits.{stop_waits, limit_waits, is_due}
+use Rattle.rbc_live.specs.Waits.{stop_waits, limit_waits, is_due}
 
 -- what a count gives of each of a list, added up; as each sum, it ends at 2 ^ 64 - 1
 abbrev pub total : {A : Type 0} → (A → ℕ) → List A → ℕ

@@ -28,7 +28,7 @@ use Rattle.rbc_account.specs.declared.told.WhyTold.{WhyTold}
 use Rattle.rbc_account.specs.declared.told.WhyTold.TheVariants as why_told
 use Rattle.rbc_account.specs.declared.told.WhyRevoked.{WhyRevoked}
 use Rattle.rbc_account.specs.declared.told.WhyRevoked.TheVariants as why_revoked
-use Rattle.rbc_account.specs.Known.{train_in, active_stops, active_limits}
+use Rattle.rbc_live.specs.Known.{train_in, active_stops, active_limits}
 use Rattle.rbc_account.specs.Reasons.{IsStopReason, IsLimitReason}
 
 -- an active stop is this to a train

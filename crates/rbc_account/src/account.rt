@@ -13,10 +13,10 @@ ghost use Rattle.rbc_account.specs.Found.{has_unknown};
 ghost use Rattle.rbc_account.specs.Standings.{IsStanding};
 ghost use Rattle.rbc_account.specs.Sums.{no_sums, counted, input_count};
 ghost use Rattle.rbc_account.specs.ToldPlaces.{kept_at, kept_after, number_of, of_stamp};
-ghost use Rattle.rbc_account.specs.Known.{train_in, active_stops, active_limits, last_stop, last_limit, engines_in};
+ghost use Rattle.rbc_live.specs.Known.{train_in, active_stops, active_limits, last_stop, last_limit, engines_in};
 
 use crate::block::{Block, block_of};
-use crate::record_lookup;
+use crate::record_lookup::engine_of;
 use crate::state::{Standing, standing_on};
 use crate::told_place::{ToldPlace, ToldPlaces};
 use rbc_batch::parse_line;
@@ -177,7 +177,7 @@ impl Account {
         let Input::Received(message) = input else {
             return Ok(None);
         };
-        match self.train(record_lookup::engine_of(message)) {
+        match self.train(engine_of(message)) {
             Some(train) => Ok(Some(train.copy(alloc)?)),
             None => Ok(None),
         }
@@ -201,42 +201,42 @@ impl Account {
     pub fn engines(&self) -> &[u32]
         ensures { result.now ≡ engines_in self.now.desk.records }
     {
-        record_lookup::engines_in(&self.desk.records)
+        rbc_live::engines_in(&self.desk.records)
     }
 
     /// The train with this engine number, if it is enrolled.
     pub fn train(&self, engine: u32) -> Option<&TrainRec>
         ensures { option_copied result ≡ train_in self.now.desk.records engine }
     {
-        record_lookup::train_in(&self.desk.records, engine)
+        rbc_live::train_in(&self.desk.records, engine)
     }
 
     /// The active stops with their numbers, ascending.
     pub fn stops(&self) -> &[(u32, Area)]
         ensures { result.now ≡ active_stops self.now.desk.records }
     {
-        record_lookup::active_stops(&self.desk.records)
+        rbc_live::active_stops(&self.desk.records)
     }
 
     /// The active restrictions with their numbers, ascending.
     pub fn limits(&self) -> &[(u32, Limit)]
         ensures { result.now ≡ active_limits self.now.desk.records }
     {
-        record_lookup::active_limits(&self.desk.records)
+        rbc_live::active_limits(&self.desk.records)
     }
 
     /// The last number that was given to a stop, or 0 where none was.
     pub fn last_stop(&self) -> u32
         ensures { result ≡ last_stop self.now.desk.records }
     {
-        record_lookup::last_stop(&self.desk.records)
+        rbc_live::last_stop(&self.desk.records)
     }
 
     /// The last number that was given to a restriction, or 0 where none was.
     pub fn last_limit(&self) -> u32
         ensures { result ≡ last_limit self.now.desk.records }
     {
-        record_lookup::last_limit(&self.desk.records)
+        rbc_live::last_limit(&self.desk.records)
     }
 
     /// The place before which a train was told to stop under a stop identifier, by the message 15 with this stamp.

@@ -3,19 +3,16 @@
 ghost use Rattle.std.specs.Prelude.{◌≡◌, [], map, not, Some, IfOk, option_copied};
 ghost use Rattle.std.specs.List.{filter, filter_map};
 ghost use Rattle.std.specs.Option.{option_map_or};
-ghost use Rattle.rbc_account.specs.Known.{engines_in, train_in};
-ghost use Rattle.rbc_account.specs.Waits.{waits_in};
-ghost use Rattle.rbc_account.specs.Coming.{come_to_wait, come_at, waiting_at, stop_come, stop_come_at, limit_come};
+ghost use Rattle.rbc_live.specs.Known.{engines_in, train_in};
+ghost use Rattle.rbc_live.specs.Waits.{waiting_at, waits_in};
+ghost use Rattle.rbc_account.specs.Coming.{come_to_wait, come_at, stop_come, stop_come_at, limit_come};
 ghost use Rattle.rbc_account.specs.Coming.{limit_come_at};
 
-use crate::record_lookup::{
-    active_limit, active_limits, active_stop, active_stops, engine_of, engines_in, train_in,
+use crate::record_lookup::engine_of;
+use rbc_live::{
+    LiveDesk, Waiting, Waits, active_limit, active_limits, active_stop, active_stops, all_waiting,
+    engines_in, lacks_something, limit_waits, stop_waits, train_in, waiting_limit, waiting_stop,
 };
-use crate::waiting::{
-    Waiting, Waits, all_waiting, lacks_something, limit_waits, stop_waits, waiting_limit,
-    waiting_stop,
-};
-use rbc_live::LiveDesk;
 use rbc_records::PlainStore;
 use rbc_rule::{Input, Reply};
 use rbc_settle::TrainRec;

@@ -5,9 +5,9 @@ ghost use Rattle.rbc_account.specs.Counting.{stop_share, stop_share_at, stop_sha
 ghost use Rattle.rbc_account.specs.Counting.{limit_shares, how_many, is_share, place_of};
 ghost use Rattle.rbc_account.specs.Counting.{counts_of, AddUp, stop_counts, limit_counts, counts_after};
 
-use crate::record_lookup::{active_limit, active_stop, engines_in, train_in};
-use crate::waiting::{limit_waits, stop_waits};
-use rbc_live::LiveDesk;
+use rbc_live::{
+    LiveDesk, active_limit, active_stop, engines_in, limit_waits, stop_waits, train_in,
+};
 use rbc_records::PlainStore;
 use rbc_rule::{Input, Reply};
 use rbc_settle::TrainRec;

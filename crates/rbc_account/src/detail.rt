@@ -4,12 +4,10 @@ ghost use Rattle.std.specs.Prelude.{◌≡◌, IfOk};
 ghost use Rattle.rbc_maps.specs.Maps.{keys};
 ghost use Rattle.rbc_settle.specs.WellFormed.{number_in};
 
-use crate::record_lookup::{
-    active_limits, active_stops, engine_of, last_limit, last_stop, train_in,
-};
+use crate::record_lookup::engine_of;
 use ertms_codec::FromTrain;
 use rbc_ids::{Kind, Slot};
-use rbc_live::LiveDesk;
+use rbc_live::{LiveDesk, active_limits, active_stops, last_limit, last_stop, train_in};
 use rbc_records::PlainStore;
 use rbc_rule::{Input, Refusal};
 use rbc_settle::TrainRec;

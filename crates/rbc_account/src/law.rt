@@ -1,6 +1,5 @@
 //! What holds over all lines.
 
-ghost use Rattle.rbc_account.specs.Causes.{EachCauseIsTrue};
 ghost use Rattle.rbc_account.specs.Runs.{EachAccountIsTrue};
 
 /// The lines that an account took, from its opening on, each passed or told: the replies are the results of the serial
@@ -8,11 +7,4 @@ ghost use Rattle.rbc_account.specs.Runs.{EachAccountIsTrue};
 /// the inputs that were accepted and those that were refused add up to the lines. So it is whichever lines are told.
 pub fn account_law()
     ensures { EachAccountIsTrue }
-{}
-
-/// Where a stop or a restriction that concerns a train waits, no identifier of its kind is free, or the train has no
-/// stamp left; and the same where a stop that is due is not told again. So nothing waits for another reason than the
-/// one that is told.
-pub fn waiting_law()
-    ensures { EachCauseIsTrue }
 {}

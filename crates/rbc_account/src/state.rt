@@ -11,10 +11,8 @@ ghost use Rattle.rbc_account.specs.Standings.{stop_sharings, limit_sharings, sha
 ghost use Rattle.rbc_account.specs.Standings.{waits_at, answer_at, answer_of, answer_in, acked_under};
 
 use crate::coming::{has, waiting_now};
-use crate::record_lookup::{active_limits, active_stops, engines_in, train_in};
-use crate::waiting::{Waiting, Waits};
 use rbc_ids::{IdTable, Slot};
-use rbc_live::LiveDesk;
+use rbc_live::{LiveDesk, Waiting, Waits, active_limits, active_stops, engines_in, train_in};
 use rbc_records::PlainStore;
 use rbc_settle::TrainRec;
 use std::alloc::{AllocError, Global};

@@ -1,6 +1,7 @@
 -- A run from a new desk, and what is written of it.
-use Rattle.std.proofs.Common.{◌≡◌, ℕ, ◌≤◌, List, [], length, take, Option, Some, None, Result, Ok, Err, refl, sym, ap, ◌∙◌, subst, arith}
+use Rattle.std.proofs.Common.{◌≡◌, ℕ, ◌≤◌, List, [], ◌++◌, length, take, Option, Some, None, Result, Ok, Err, refl, sym, ap, ◌∙◌, subst, arith}
 use Rattle.std.specs.Prelude.{IsErrAnd}
+use Rattle.std.specs.List.{flat_map}
 use Rattle.std.specs.Io.KnownBytes.{Appends, Keeps}
 use Rattle.std.proofs.lemmas.List.{take_all}
 use Rattle.rbc_track.specs.Plan.{Plan}
@@ -13,12 +14,12 @@ use Rattle.rbc_engine.specs.SaidMails.{AreSaidMails}
 use Rattle.rbc_engine.specs.Stats.{Stats}
 use Rattle.rbc_engine.specs.declared.workers.RunError.{RunError}
 use Rattle.rbc_engine.specs.declared.workers.RunError.TheVariants.{Workers, TooManyInputs, OutOfMemory}
-use Rattle.rbc_engine.specs.Answers.{IsRun}
+use Rattle.rbc_engine.specs.Answers.{IsRun, MayWork}
 use Rattle.rbc_batch.specs.declared.batch.ProcessError.TheVariants as fault
 use Rattle.rbc_text.specs.BatchText.{lines_of}
-use Rattle.rbc_text.specs.OutputText.{output_of}
+use Rattle.rbc_text.specs.OutputText.{output_of, outbox_lines}
 use Rattle.rbc_batch.specs.declared.batch.ProcessError.{ProcessError}
-use Rattle.rbc_batch.specs.Process.{AreRead, Answers, IsBeforeRun, IsRunOf, text_of}
+use Rattle.rbc_batch.specs.Process.{AreFew, AreRead, Answers, AnswersBy, AnswersWithAlarms, IsBeforeRun, IsCounted, IsRunOf, IsWatchedRun, text_of, watched_results, watched_text_of}
 use Rattle.rbc_batch.proofs.Existing.{have_inputs}
 
 -- it came to its end
@@ -59,21 +60,21 @@ wrote_all plan workers read_old read_new old new inputs held stats text read ran
     (inputs, read, ran.0, ran.1, subst (λ (t : List ℕ). Appends old new t) same out, ran.3, ran.4)
 
 -- a batch that is refused before its lines are read has inputs all the same
-pub before_run : (plan : Plan) (workers : ℕ) (read_old read_new old new : Option (List ℕ)) (error : ProcessError) → IsBeforeRun workers read_old read_new error → Keeps old new
-    → Answers plan workers read_old read_new old new (Err error)
-before_run plan workers read_old read_new old new (fault.Run Workers) (batch, all, short, refused) keeps =
+before_run : {E : Type 0} (text : List Input → List ℕ) (Counted : List Input → E → Type 0) (plan : Plan) (workers : ℕ) (read_old read_new old new : Option (List ℕ)) (error : ProcessError)
+    → IsBeforeRun workers read_old read_new error → Keeps old new → AnswersBy text Counted plan workers read_old read_new old new (Err error)
+before_run text Counted plan workers read_old read_new old new (fault.Run Workers) (batch, all, short, refused) keeps =
     let have = have_inputs (lines_of batch) in
     (have.inputs, record { batch = batch; all = all; short = short; lines = have.are }, refused, keeps)
-before_run plan workers read_old read_new old new (fault.Run TooManyInputs) (batch, all, short, refused) keeps =
+before_run text Counted plan workers read_old read_new old new (fault.Run TooManyInputs) (batch, all, short, refused) keeps =
     let have = have_inputs (lines_of batch) in
     let many = refused.1 in
     let as_many = have.as_many in
     (have.inputs, record { batch = batch; all = all; short = short; lines = have.are }, refused.0, (λ few. absurd (omega (arith, few, as_many, many))), keeps)
-before_run plan workers read_old read_new old new (fault.Run (OutOfMemory committed)) (batch, all, short, refused) keeps = absurd refused
-before_run plan workers read_old read_new old new (fault.Write sent) h keeps = absurd h
-before_run plan workers read_old read_new old new fault.Read h keeps = keeps
-before_run plan workers read_old read_new old new fault.TooLong h keeps = keeps
-before_run plan workers read_old read_new old new fault.Memory h keeps = keeps
+before_run text Counted plan workers read_old read_new old new (fault.Run (OutOfMemory committed)) (batch, all, short, refused) keeps = absurd refused
+before_run text Counted plan workers read_old read_new old new (fault.Write sent) h keeps = absurd h
+before_run text Counted plan workers read_old read_new old new fault.Read h keeps = keeps
+before_run text Counted plan workers read_old read_new old new fault.TooLong h keeps = keeps
+before_run text Counted plan workers read_old read_new old new fault.Memory h keeps = keeps
 
 -- what stays is kept
 stays : (bytes : Option (List ℕ)) → Keeps bytes bytes
@@ -81,8 +82,27 @@ stays None = tt
 stays (Some bytes) = refl
 
 -- it is handed on, and nothing is written
+pub handed_on_as : {E : Type 0} (text : List Input → List ℕ) (Counted : List Input → E → Type 0) (plan : Plan) (workers : ℕ) (read_old read_new old : Option (List ℕ)) (result : Result E ProcessError) (error : ProcessError)
+    → IsErrAnd result (λ other. other ≡ error) → IsBeforeRun workers read_old read_new error → AnswersBy text Counted plan workers read_old read_new old old result
+handed_on_as text Counted plan workers read_old read_new old (Ok counts) error is h = absurd is
+handed_on_as text Counted plan workers read_old read_new old (Err other) error is h =
+    subst (λ (e : ProcessError). AnswersBy text Counted plan workers read_old read_new old old (Err e)) (sym is) (before_run text Counted plan workers read_old read_new old old error h (stays old))
+
 pub handed_on : (plan : Plan) (workers : ℕ) (read_old read_new old : Option (List ℕ)) (result : Result Stats ProcessError) (error : ProcessError) → IsErrAnd result (λ other. other ≡ error)
     → IsBeforeRun workers read_old read_new error → Answers plan workers read_old read_new old old result
-handed_on plan workers read_old read_new old (Ok stats) error is h = absurd is
-handed_on plan workers read_old read_new old (Err other) error is h =
-    subst (λ (e : ProcessError). Answers plan workers read_old read_new old old (Err e)) (sym is) (before_run plan workers read_old read_new old old error h (stays old))
+handed_on plan workers read_old read_new old result error is h = handed_on_as (text_of plan) IsCounted plan workers read_old read_new old result error is h
+
+-- ---- with alarms
+
+module _ (plan : Plan) (workers : ℕ) (read_old read_new old new : Option (List ℕ)) (inputs : List Input) (held : Held) (results text : List ℕ)
+    (read : AreRead read_old read_new inputs) (may : MayWork workers) (few : AreFew inputs) (ran : IsWatchedRun plan inputs held results) (is : text ≡ results ++ flat_map outbox_lines held.outboxes) where
+  same_watched : text ≡ watched_text_of plan inputs
+  same_watched = is ∙ ap (λ (front : List ℕ). front ++ flat_map outbox_lines held.outboxes) ran.spelled
+      ∙ ap (λ (boxes : List (ℕ × List Mail)). watched_results plan new_desk inputs ++ flat_map outbox_lines boxes) ran.holds.outboxes
+
+  pub wrote_watched_part : (sent : ℕ) → sent ≤ length text → Appends old new (take sent text) → AnswersWithAlarms plan workers read_old read_new old new (Err (fault.Write sent))
+  wrote_watched_part sent short out =
+      (inputs, read, may, few, subst (λ (t : List ℕ). sent ≤ length t) same_watched short, subst (λ (t : List ℕ). Appends old new (take sent t)) same_watched out, ran.said)
+
+  pub wrote_watched : (done : Unit {0}) → Appends old new text → AnswersWithAlarms plan workers read_old read_new old new (Ok done)
+  wrote_watched done out = (inputs, read, may, few, subst (λ (t : List ℕ). Appends old new t) same_watched out, ran.said, tt)

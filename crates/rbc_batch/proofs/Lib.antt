@@ -5,3 +5,4 @@ mod TooManyLines
 mod Texts
 mod Answering
 mod Joined
+pub mod Watched

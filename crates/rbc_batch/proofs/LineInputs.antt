@@ -48,7 +48,7 @@ pub all_fit : (lines : List (Bor (List ℕ))) (reads : List (Result Input AllocE
 all_fit lines reads (Ok inputs) each all = rw all.2 (each_fits lines all.0 (rw all.1 at each))
 all_fit lines reads (Err fault) each all = tt
 
-as_many : (lines : List (Bor (List ℕ))) (inputs : List Input) → AreInputs (texts_of lines) inputs → length inputs ≡ length lines
+pub as_many : (lines : List (Bor (List ℕ))) (inputs : List Input) → AreInputs (texts_of lines) inputs → length inputs ≡ length lines
 as_many [] [] are = refl
 as_many [] (input ∷ inputs) are = absurd are
 as_many (line ∷ lines) [] are = absurd are

@@ -1,6 +1,7 @@
 -- What is out after a batch.
-use Rattle.std.specs.Prelude.{◌≡◌, ◌<◌, ◌≤◌, ℕ, List, [], Option, Result, Ok, Err, ◌++◌, codes, take, length, ⊤}
+use Rattle.std.specs.Prelude.{◌≡◌, ◌<◌, ◌≤◌, ◌+◌, ℕ, List, [], ◌∷◌, Option, Result, Ok, Err, ◌++◌, codes, take, length, ⊤}
 use Rattle.std.specs.Fmt.{decimal}
+use Rattle.std.specs.List.{flat_map}
 use Rattle.std.specs.Io.KnownBytes.{Appends, Keeps}
 use Rattle.rbc_track.specs.Plan.{Plan}
 use Rattle.rbc_batch.specs.declared.batch.ProcessError.{ProcessError}
@@ -8,13 +9,15 @@ use Rattle.rbc_batch.specs.declared.batch.ProcessError.TheVariants as fault
 use Rattle.rbc_rule.specs.declared.input.Input.{Input}
 use Rattle.rbc_text.specs.BatchText.{lines_of, AreInputsOf}
 use Rattle.rbc_engine.specs.Stats.{Stats}
-use Rattle.rbc_engine.specs.Serial.{serial, new_desk}
+use Rattle.rbc_engine.specs.Serial.{Desk, step, serial, new_desk}
+use Rattle.rbc_rule.specs.Step as rule
 use Rattle.rbc_engine.specs.Held.{Held, Holds, standing}
 use Rattle.rbc_engine.specs.SaidMails.{AreSaidMails}
 use Rattle.rbc_engine.specs.declared.workers.RunError.{RunError}
 use Rattle.rbc_engine.specs.declared.workers.RunError.TheVariants.{Workers, TooManyInputs, OutOfMemory}
 use Rattle.rbc_engine.specs.Answers.{MayWork, max_inputs, fault_text as run_fault_text}
-use Rattle.rbc_text.specs.OutputText.{output_of}
+use Rattle.rbc_text.specs.OutputText.{output_of, outbox_lines, result_line}
+use Rattle.rbc_live.specs.Alarms.{alarm_lines}
 pub use Rattle.rbc_text.specs.Streams.{IsAllRead}
 
 -- a batch has at most so many bytes
@@ -51,20 +54,57 @@ IsRunOf plan inputs workers (Err Workers) = ¬ (MayWork workers)
 IsRunOf plan inputs workers (Err TooManyInputs) = MayWork workers × ¬ (AreFew inputs)
 IsRunOf plan inputs workers (Err (OutOfMemory committed)) = MayWork workers × AreFew inputs × (committed ≤ length inputs)
 
--- At Ok the output text of all that was read has been written, and nothing else; at a write fault exactly its first bytes; at any other
--- fault nothing. A run is refused for the number of workers first, and then for the number of inputs.
-abbrev pub Answers : Plan → ℕ → Option (List ℕ) → Option (List ℕ) → Option (List ℕ) → Option (List ℕ) → Result Stats ProcessError → Type 0
-Answers plan workers read_old read_new old new (Ok stats) =
-    (inputs : List Input) × AreRead read_old read_new inputs × MayWork workers × AreFew inputs × Appends old new (text_of plan inputs) × AreSaid plan inputs × IsCounted inputs stats
-Answers plan workers read_old read_new old new (Err (fault.Write sent)) =
-    (inputs : List Input) × AreRead read_old read_new inputs × MayWork workers × AreFew inputs × (sent ≤ length (text_of plan inputs)) × Appends old new (take sent (text_of plan inputs)) × AreSaid plan inputs
-Answers plan workers read_old read_new old new (Err (fault.Run Workers)) = (inputs : List Input) × AreRead read_old read_new inputs × ¬ (MayWork workers) × Keeps old new
-Answers plan workers read_old read_new old new (Err (fault.Run TooManyInputs)) = (inputs : List Input) × AreRead read_old read_new inputs × MayWork workers × ¬ (AreFew inputs) × Keeps old new
-Answers plan workers read_old read_new old new (Err (fault.Run (OutOfMemory committed))) =
+-- What is out where a text of the inputs is written. At Ok the text of all that was read has been written, and nothing else; at a write
+-- fault exactly its first bytes; at any other fault nothing. A run is refused for the number of workers first, and then for the number of
+-- inputs.
+abbrev pub AnswersBy : {E : Type 0} → (List Input → List ℕ) → (List Input → E → Type 0) → Plan → ℕ → Option (List ℕ) → Option (List ℕ) → Option (List ℕ) → Option (List ℕ) → Result E ProcessError → Type 0
+AnswersBy text Counted plan workers read_old read_new old new (Ok counts) =
+    (inputs : List Input) × AreRead read_old read_new inputs × MayWork workers × AreFew inputs × Appends old new (text inputs) × AreSaid plan inputs × Counted inputs counts
+AnswersBy text Counted plan workers read_old read_new old new (Err (fault.Write sent)) =
+    (inputs : List Input) × AreRead read_old read_new inputs × MayWork workers × AreFew inputs × (sent ≤ length (text inputs)) × Appends old new (take sent (text inputs)) × AreSaid plan inputs
+AnswersBy text Counted plan workers read_old read_new old new (Err (fault.Run Workers)) = (inputs : List Input) × AreRead read_old read_new inputs × ¬ (MayWork workers) × Keeps old new
+AnswersBy text Counted plan workers read_old read_new old new (Err (fault.Run TooManyInputs)) =
+    (inputs : List Input) × AreRead read_old read_new inputs × MayWork workers × ¬ (AreFew inputs) × Keeps old new
+AnswersBy text Counted plan workers read_old read_new old new (Err (fault.Run (OutOfMemory committed))) =
     (inputs : List Input) × AreRead read_old read_new inputs × MayWork workers × AreFew inputs × (committed ≤ length inputs) × Keeps old new
-Answers plan workers read_old read_new old new (Err fault.Read) = Keeps old new
-Answers plan workers read_old read_new old new (Err fault.TooLong) = Keeps old new
-Answers plan workers read_old read_new old new (Err fault.Memory) = Keeps old new
+AnswersBy text Counted plan workers read_old read_new old new (Err fault.Read) = Keeps old new
+AnswersBy text Counted plan workers read_old read_new old new (Err fault.TooLong) = Keeps old new
+AnswersBy text Counted plan workers read_old read_new old new (Err fault.Memory) = Keeps old new
+
+-- the output text is out
+abbrev pub Answers : Plan → ℕ → Option (List ℕ) → Option (List ℕ) → Option (List ℕ) → Option (List ℕ) → Result Stats ProcessError → Type 0
+Answers plan workers read_old read_new old new result = AnswersBy (text_of plan) IsCounted plan workers read_old read_new old new result
+
+-- ---- with alarms
+
+-- what is written of an input that a desk takes: its result, and then the alarms that change
+abbrev pub watched_result : Plan → Desk → Input → List ℕ
+watched_result plan desk input =
+    let number = length desk.results + 1 in
+    result_line (number, (rule.step plan desk.world input).reply) ++ alarm_lines plan number desk.world (step plan desk input).world
+
+-- the same of inputs, which a desk takes one after another
+abbrev pub watched_results : Plan → Desk → List Input → List ℕ
+watched_results plan desk [] = []
+watched_results plan desk (input ∷ inputs) = watched_result plan desk input ++ watched_results plan (step plan desk input) inputs
+
+-- the output text of the serial run of inputs with its alarms: the results, each with the alarms that change, and then the messages
+abbrev pub watched_text_of : Plan → List Input → List ℕ
+watched_text_of plan inputs = watched_results plan new_desk inputs ++ flat_map outbox_lines (serial plan new_desk inputs).outboxes
+
+-- nothing is counted
+abbrev pub IsUncounted : List Input → Unit {0} → Type 0
+IsUncounted inputs none = ⊤
+
+-- the output text with its alarms is out
+abbrev pub AnswersWithAlarms : Plan → ℕ → Option (List ℕ) → Option (List ℕ) → Option (List ℕ) → Option (List ℕ) → Result (Unit {0}) ProcessError → Type 0
+AnswersWithAlarms plan workers read_old read_new old new result = AnswersBy (watched_text_of plan) IsUncounted plan workers read_old read_new old new result
+
+-- a desk, and the lines of its results with their alarms, are those after inputs that a new desk took
+pub record IsWatchedRun (plan : Plan) (inputs : List Input) (held : Held) (results : List ℕ) : Type 0 where
+  pub holds : Holds plan (standing held) (serial plan new_desk inputs)
+  pub said : AreSaid plan inputs
+  pub spelled : results ≡ watched_results plan new_desk inputs
 
 -- where nothing is written the writer is as it was
 abbrev pub IsUntouched : {E W : Type 0} → Result E ProcessError → W → W → Type 0

@@ -2,7 +2,7 @@
 
 ghost use Rattle.std.specs.Prelude.{◌≡◌, ◌<◌, ◌≤◌, length, IfOk, IfErr, IfSome, IsErrOf};
 ghost use Rattle.std.specs.List.{All};
-ghost use Rattle.rbc_engine.specs.Answers.{max_inputs};
+ghost use Rattle.rbc_engine.specs.Answers.{MayWork, max_inputs};
 ghost use Rattle.rbc_rule.specs.Inputs.{Fits};
 ghost use Rattle.rbc_text.specs.BatchText.{lines_of};
 ghost use Rattle.rbc_text.specs.Pieces.{texts_of};
@@ -85,6 +85,7 @@ impl From<RunError> for ProcessError {
 fn admit(alloc: Global, batch: &[u8], workers: u8) -> Result<Vec<&[u8]>, ProcessError>
     ensures lines { IfOk result (λ lines. texts_of lines.items ≡ lines_of batch.now) }
     ensures few { IfOk result (λ lines. length lines.items ≤ max_inputs) }
+    ensures may_work { IfOk result (λ lines. MayWork workers) }
     ensures refused { IfErr result (IsRefused workers batch.now) }
 {
     if workers == 0 || workers > MAX_WORKERS {
@@ -112,13 +113,15 @@ pub fn lines_of_batch(alloc: Global, batch: &[u8]) -> Result<Vec<&[u8]>, Process
 
 /// Reads a batch to its end, and returns the inputs of its lines, if so many workers can run them: what is refused is
 /// not parsed. The bytes of the batch are freed.
-fn read_inputs<R: Read>(
+pub(crate) fn read_inputs<R: Read>(
     rt: &(impl AllocGlobal + Threads + Sync),
     reader: &mut R,
     workers: u8,
 ) -> Result<Vec<Input>, ProcessError>
     ensures read { IfOk result (λ inputs. AreRead (R.remaining reader.old) (R.remaining reader.new) inputs.items) }
     ensures fit { IfOk result (λ inputs. All Fits inputs.items) }
+    ensures few { IfOk result (λ inputs. length inputs.items ≤ max_inputs) }
+    ensures may_work { IfOk result (λ inputs. MayWork workers) }
     ensures too_long { IsErrOf result ProcessError.TooLong
         → IfSome (R.remaining reader.old) (λ batch. max_batch < length batch) }
     ensures before { IfErr result (λ e. IsBeforeRun workers (R.remaining reader.old) (R.remaining reader.new) e) }

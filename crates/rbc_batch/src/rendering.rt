@@ -117,7 +117,7 @@ fn start_of(outboxes: usize, parts: usize, part: usize) -> usize
 }
 
 /// Fails where no number says how many bytes some texts have in all: no memory holds such texts.
-fn check_length(texts: &[Vec<u8>]) -> Result<(), AllocError>
+pub(crate) fn check_length(texts: &[Vec<u8>]) -> Result<(), AllocError>
     ensures { OnOk result (length (joined texts.now) < 2 ^ 64) }
 {
     let mut length = 0usize;

@@ -3,3 +3,4 @@ pub mod Messages
 pub mod Feeds
 pub mod Closes
 pub mod Versions
+pub mod Alarms

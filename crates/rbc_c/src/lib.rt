@@ -4,14 +4,17 @@
 ghost use Rattle.std.specs.Prelude.{◌≡◌, None, IfOk, IfErr};
 ghost use Rattle.rbc_c.specs.Opens.{Opens, IsNew, IsWhyNot};
 ghost use Rattle.rbc_c.specs.Feeds.{Feeds};
+ghost use Rattle.rbc_c.specs.Alarms.{GivesAlarms};
 ghost use Rattle.rbc_c.specs.Closes.{Closes};
 ghost use Rattle.rbc_c.specs.Versions.{this_version, Versioned};
 
+mod alarms;
 mod faults;
 mod feed;
 mod handle;
 mod message;
 
+use alarms::{Alarm, alarms_of_desk};
 use faults::{DONE, MEMORY, NOT_NOW, NOT_UTF8, OTHER_VERSION, code_of};
 use feed::{Answer, feed_desk};
 use handle::Handle;
@@ -107,6 +110,40 @@ fn feed_handle(
         return NOT_NOW;
     };
     let code = feed_desk(&mut desk, alloc, line, out, answer);
+    *handle = Handle::of(desk);
+    code
+}
+
+/// Writes the alarms that stand on the desk of a handle to the front of `out`, as many as there is room for: engines
+/// ascending, and those of one train by kind and number. Answers 0, and `count` says how many there are. At the code of
+/// a fault `out` and `count` are as they were. A handle with no desk is refused, and so is that of a caller that was
+/// compiled with another rbc.h.
+#[unsafe(no_mangle)]
+pub extern "C" fn rbc_alarms(
+    handle: &mut Handle,
+    alloc: Global,
+    out: &mut [Alarm],
+    count: &mut usize,
+) -> u32
+    ensures { Versioned handle.old.version handle.new.version result
+        (GivesAlarms handle.old.memory.live out.old count.old result handle.new.memory.live out.new count.new)
+        ((handle.new ≡ handle.old) × (out.new ≡ out.old) × (count.new ≡ count.old)) }
+{
+    if !handle.is_of_this_version() {
+        return OTHER_VERSION;
+    }
+    alarms_of_handle(handle, alloc, out, count)
+}
+
+/// Writes alarms, as `rbc_alarms` does for a caller of this version.
+fn alarms_of_handle(handle: &mut Handle, alloc: Global, out: &mut [Alarm], count: &mut usize) -> u32
+    ensures tells { GivesAlarms handle.old.memory.live out.old count.old result handle.new.memory.live out.new count.new }
+    ensures version { handle.new.version ≡ this_version }
+{
+    let Some(desk) = handle.take(alloc) else {
+        return NOT_NOW;
+    };
+    let code = alarms_of_desk(&desk, alloc, out, count);
     *handle = Handle::of(desk);
     code
 }

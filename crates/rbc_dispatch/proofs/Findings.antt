@@ -1,5 +1,5 @@
 -- What was found for the arguments of a subcommand, and how it is read.
-use Rattle.std.proofs.Common.{ap, ◌≡◌, ◌&&◌, ℕ, Bool, List, Option, Some, None, Result, Ok, Err, true, false, refl, option_and_then, option_map, unwrap_or, [], ◌∷◌, length, nat_lt, lt-ltb, ltb-true}
+use Rattle.std.proofs.Common.{ap, sym, codes, ◌≡◌, ◌&&◌, ℕ, Bool, List, Option, Some, None, Result, Ok, Err, true, false, refl, option_and_then, option_map, unwrap_or, [], ◌∷◌, length, nat_lt, lt-ltb, ltb-true}
 use Rattle.std.specs.Prelude.{Box}
 use Rattle.std.specs.Box.{box_value}
 use Rattle.std.specs.Option.{option_map_or}
@@ -7,7 +7,7 @@ use Rattle.std.specs.Str.{bytes_eq}
 use Rattle.std.specs.List.{list_all}
 use Rattle.std.specs.Result.{result_ok, result_unwrap_or}
 use Rattle.std.specs.Char.{digit_value}
-use Rattle.std.specs.Str.Parse.{AllDigits, ParsesUnsigned, digits_value, without_leading_plus}
+use Rattle.std.specs.Str.Parse.{AllDigits, ParsesBool, ParsesUnsigned, digits_value, without_leading_plus}
 use Rattle.std.proofs.lemmas.Slice.Eq.{bytes_eq-Decides}
 use Rattle.clap.specs.Matches.{ReadsOne}
 use Rattle.clap.specs.Simple.{subcommand_rows}
@@ -15,7 +15,7 @@ use Rattle.clap.specs.Walk.{Row, Text, byte_or_zero}
 use Rattle.clap.specs.declared.parser.matches.SubCommand.{SubCommand}
 use Rattle.clap.specs.declared.parser.matches.ArgMatches.TheViews.{out-SubCommand}
 use Rattle.clap.proofs.WalkLemmas.{both, byte_read}
-use Rattle.rbc_dispatch.specs.Words.{count_or_one, found_after, number_in}
+use Rattle.rbc_dispatch.specs.Words.{count_or_one, found_after, is_set, number_in}
 
 -- the rows of a subcommand that has this name
 pub rows_named : {Z : Type 0} (sub : Option (Box SubCommand Z)) (name : Text) (rows : List Row)
@@ -107,3 +107,26 @@ number_found {E = E} G (Some t) read none value only = reads read (value t refl)
     reads : (r : Option ℕ) → ReadsOne G t r → r ≡ number_in t
     reads (Some v) h = number_read {E = E} t (Ok v) (only t (Ok v) h)
     reads None h = number_read {E = E} t (Err h.0) (only t (Err h.0) h.1)
+
+-- ---- a flag
+
+-- a flag that was read of a text
+flag_read : {E : Type 0} (text : Text) (r : Result Bool E) → ParsesBool text r → result_unwrap_or r false ≡ is_set (Some text)
+flag_read text (Ok true) h = sym ((bytes_eq-Decides text (codes "true")).1 h)
+flag_read text (Ok false) h = rw h refl
+flag_read text (Err e) h = go (bytes_eq text (codes "true")) refl
+  where
+    go : (b : Bool) → bytes_eq text (codes "true") ≡ b → false ≡ b
+    go false t = refl
+    go true t = absurd (h.0 ((bytes_eq-Decides text (codes "true")).0 t))
+
+-- a flag that was read of the text that was found, or no flag where none was
+pub flag_found : {E : Type 0} (G : List ℕ → Result Bool E → Type 0) (found : Option Text) (read : Option Bool)
+    → (found ≡ None → read ≡ None) → ((t : Text) → found ≡ Some t → ReadsOne G t read)
+    → ((t : Text) (r : Result Bool E) → G t r → ParsesBool t r) → unwrap_or read false ≡ is_set found
+flag_found G None read none value only = rw (none refl) refl
+flag_found {E = E} G (Some t) read none value only = reads read (value t refl)
+  where
+    reads : (r : Option Bool) → ReadsOne G t r → unwrap_or r false ≡ is_set (Some t)
+    reads (Some v) h = flag_read {E = E} t (Ok v) (only t (Ok v) h)
+    reads None h = flag_read {E = E} t (Err h.0) (only t (Err h.0) h.1)

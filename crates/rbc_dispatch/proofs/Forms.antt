@@ -1,4 +1,4 @@
--- What clap finds in each form of `run`, and in those of `live`, `explain` and `picture` without a number.
+-- What clap finds in each form of `run`, in those of `live`, `explain` and `picture` without a number, and in those with `--alarms`.
 use Rattle.std.proofs.Common.{refl, sym, ap, arith, ◌∙◌, ◌≡◌, ◌≢◌, ℕ, [], ◌∷◌, ◌++◌, List, Some, None, true, false, Ok, ◌==◌, codes, option_and_then}
 use Rattle.std.specs.Prelude.{find, pos, unwrap_or}
 use Rattle.std.specs.Option.{option_map_or}
@@ -12,15 +12,15 @@ use Rattle.clap.specs.Lexer.{without_minus}
 use Rattle.clap.specs.Simple.{App, Shape, built, filled, label_of, new_app, on_top, subcommand_of, with_rule, with_subcommand}
 use Rattle.clap.specs.Values.{IsSignedIn, read_as, reading_of}
 use Rattle.clap.specs.ValueTests.{accepts}
-use Rattle.clap.specs.Walk.{Rule, Text, Walk, answers_to, byte_or_zero, finished, idle, nothing_held, one_of, settled, used, walk, walk_from}
+use Rattle.clap.specs.Walk.{Row, Rule, Text, Walk, answers_to, byte_or_zero, finished, first_of, idle, nothing_held, one_of, settled, used, walk, walk_from}
 use Rattle.clap.specs.Words.{fault_of}
 use Rattle.clap.specs.declared.builder.value_parser.ValueParser.{ValueParser}
 use Rattle.clap.specs.declared.builder.value_parser.ValueParser.TheVariants as vp
 use Rattle.clap.proofs.OnLiterals.{clap_on_literals}
 use Rattle.clap.proofs.ValueTestLemmas.{Accepts-accepts}
 use Rattle.clap.proofs.WalkLemmas.{byte_read}
-use Rattle.rbc_dispatch.specs.Forms.{AfterAllByDefault, AsManyAsNamed, BeginAtOneByDefault, FromOneByDefault, NoFiguresByDefault, NotByTrainByDefault, OneByDefault, WritesByte}
-use Rattle.rbc_dispatch.specs.Words.{AsksToDraw, AsksToExplain, AsksToLive, AsksToRun, by_train_rule, check_shape, codes_shape, command_line, decode_shape, explain_shape, finding_in, flag_after, found_after, live_shape, picture_shape, stats_rule, track_rule, word_after, workers_rule}
+use Rattle.rbc_dispatch.specs.Forms.{AfterAllByDefault, AlarmsOfLive, AlarmsOfRun, AsManyAsNamed, BeginAtOneByDefault, FromOneByDefault, NoFiguresByDefault, NotByTrainByDefault, OneByDefault, WritesByte}
+use Rattle.rbc_dispatch.specs.Words.{AsksToDraw, AsksToExplain, AsksToLive, AsksToRun, alarms_rule, by_train_rule, check_shape, codes_shape, command_line, count_or_one, decode_shape, explain_shape, finding_in, flag_after, found_after, is_set, live_shape, picture_shape, stats_rule, track_rule, word_after, workers_rule}
 
 no_hyphen : (c : ℕ) → c ≢ 45 → (c == 45) ≡ false
 no_hyphen c plain = ne_eqb c 45 plain
@@ -28,15 +28,16 @@ no_hyphen c plain = ne_eqb c 45 plain
 -- the command line, with any parser of the number of workers
 abbrev line_with : ValueParser → App
 line_with q =
-    let run = (with_rule (with_rule (with_rule (with_rule (new_app (codes "run")) track_rule) (record workers_rule { parser = Some q })) by_train_rule) stats_rule).top in
+    let run = (with_rule (with_rule (with_rule (with_rule (with_rule (new_app (codes "run")) track_rule) (record workers_rule { parser = Some q })) by_train_rule) stats_rule) alarms_rule).top in
     let without_name = on_top (λ top. record top { no_binary_name = true; subcommand_required = true; has_version = true }) in
     let inputs = with_subcommand (with_subcommand (with_subcommand (with_subcommand (without_name (new_app (codes "dispatch"))) run) live_shape) explain_shape) picture_shape in
     with_subcommand (with_subcommand (with_subcommand inputs check_shape) decode_shape) codes_shape
 
--- words without a fault name the file, and this word as the number of workers
+-- words without a fault name the file, this word as the number of workers, and no alarms
 abbrev Finds : ValueParser → Text → Text → List Text → Type 0
 Finds q file word words = (fault_of (line_with q) words ≡ []) × (word_after (codes "run") (codes "track") (subcommand_of (line_with q) words) ≡ Some file)
     × (option_and_then (one_of (codes "workers")) (found_after (codes "run") (subcommand_of (line_with q) words)) ≡ Some (read_as (reading_of q) word))
+    × (is_set (flag_after (codes "run") (codes "alarms") (subcommand_of (line_with q) words)) ≡ false)
 
 -- ---- the walk is taken apart from what follows it
 
@@ -59,6 +60,23 @@ Takes line name words = walk_fault (part_of line name) [] (walk_from nothing_hel
     → (end : Walk) → walk_over (part_of line name) words ≡ end → rest_fault (part_of line name) end ≡ []
     → fault_of line (name ∷ words) ≡ []
 
+-- the rows that it finds there are those that the walk leaves, with the defaults
+abbrev Leaves : App → Text → List Text → Type 0
+Leaves line name words = (end : Walk) → walk_over (part_of line name) words ≡ end
+    → found_after name (subcommand_of line (name ∷ words)) ≡ Some (finished (part_of line name).rules end.held)
+
+run_leaves_three : (q : ValueParser) (a b c : Text) → Leaves (line_with q) (codes "run") (a ∷ b ∷ c ∷ [])
+unfolding clap_on_literals
+run_leaves_three q a b c end is = rw is refl
+
+run_leaves_four : (q : ValueParser) (a b c d : Text) → Leaves (line_with q) (codes "run") (a ∷ b ∷ c ∷ d ∷ [])
+unfolding clap_on_literals
+run_leaves_four q a b c d end is = rw is refl
+
+live_leaves_three : (a b c : Text) → Leaves command_line (codes "live") (a ∷ b ∷ c ∷ [])
+unfolding clap_on_literals
+live_leaves_three a b c end is = rw is refl
+
 run_takes_two : (q : ValueParser) (a b : Text) → Takes (line_with q) (codes "run") (a ∷ b ∷ [])
 unfolding clap_on_literals
 run_takes_two q a b walks end is rests = rw (walks, is, rests) refl
@@ -70,6 +88,10 @@ run_takes_three q a b c walks end is rests = rw (walks, is, rests) refl
 run_takes_four : (q : ValueParser) (a b c d : Text) → Takes (line_with q) (codes "run") (a ∷ b ∷ c ∷ d ∷ [])
 unfolding clap_on_literals
 run_takes_four q a b c d walks end is rests = rw (walks, is, rests) refl
+
+live_takes_three : (a b c : Text) → Takes command_line (codes "live") (a ∷ b ∷ c ∷ [])
+unfolding clap_on_literals
+live_takes_three a b c walks end is rests = rw (walks, is, rests) refl
 
 live_takes : (a b : Text) → Takes command_line (codes "live") (a ∷ b ∷ [])
 unfolding clap_on_literals
@@ -93,9 +115,10 @@ module _ (c : ℕ) (rest : Text) (plain : (c == 45) ≡ false) where
   abbrev track_pending : Walk
   track_pending = walk_from (record { rows = []; pending = Some (codes "track", (c ∷ rest) ∷ []); skip = 0 })
 
-  run_alone : AsksToRun (c ∷ rest) 1 (codes "run" ∷ track_alone)
+  run_alone : AsksToRun (c ∷ rest) 1 false (codes "run" ∷ track_alone)
   unfolding clap_on_literals
-  run_alone = (run_takes_two (vp.Signed (pos 0) (pos 255)) (codes "--track") (c ∷ rest) (simp plain) track_pending (simp plain) refl, simp plain, simp plain)
+  run_alone =
+      (run_takes_two (vp.Signed (pos 0) (pos 255)) (codes "--track") (c ∷ rest) (simp plain) track_pending (simp plain) refl, simp plain, simp plain, simp plain)
 
   unasked_alone : flag_after (codes "run") (codes "stats") (finding_in (codes "run" ∷ track_alone)) ≡ Some (codes "false")
   unfolding clap_on_literals
@@ -105,9 +128,9 @@ module _ (c : ℕ) (rest : Text) (plain : (c == 45) ≡ false) where
   unfolding clap_on_literals
   unshared_alone = simp plain
 
-  live_alone : AsksToLive (c ∷ rest) 1 (codes "live" ∷ track_alone)
+  live_alone : AsksToLive (c ∷ rest) (record { from = 1; alarms = false }) (codes "live" ∷ track_alone)
   unfolding clap_on_literals
-  live_alone = (live_takes (codes "--track") (c ∷ rest) (simp plain) track_pending (simp plain) refl, simp plain, simp plain)
+  live_alone = (live_takes (codes "--track") (c ∷ rest) (simp plain) track_pending (simp plain) refl, simp plain, simp plain, simp plain)
 
   explain_alone : AsksToExplain (c ∷ rest) 1 (codes "explain" ∷ track_alone)
   unfolding clap_on_literals
@@ -116,6 +139,85 @@ module _ (c : ℕ) (rest : Text) (plain : (c == 45) ≡ false) where
   picture_alone : AsksToDraw (c ∷ rest) None (codes "picture" ∷ track_alone)
   unfolding clap_on_literals
   picture_alone = (picture_takes (codes "--track") (c ∷ rest) (simp plain) track_pending (simp plain) refl, simp plain, simp plain)
+
+-- ---- with `--alarms`
+
+module _ (c : ℕ) (rest : Text) (plain : (c == 45) ≡ false) where
+  -- the walk with the flag behind the track
+  abbrev flag_last : Walk
+  flag_last = walk_from (record { rows = used (filled alarms_rule) [] (used (filled track_rule) ((c ∷ rest) ∷ []) []); pending = None; skip = 0 })
+
+  -- the walk with the flag before the track, whose value is still pending
+  abbrev flag_first : Walk
+  flag_first = record (walk_from (record { rows = used (filled alarms_rule) [] []; pending = Some (codes "track", (c ∷ rest) ∷ []); skip = 0 })) { waiting = idle }
+
+  run_flag_last_ends : walk_over (part_of command_line (codes "run")) (codes "--track" ∷ (c ∷ rest) ∷ codes "--alarms" ∷ []) ≡ flag_last
+  unfolding clap_on_literals
+  run_flag_last_ends = simp plain
+
+  run_flag_first_ends : walk_over (part_of command_line (codes "run")) (codes "--alarms" ∷ codes "--track" ∷ (c ∷ rest) ∷ []) ≡ flag_first
+  unfolding clap_on_literals
+  run_flag_first_ends = simp plain
+
+  live_flag_last_ends : walk_over (part_of command_line (codes "live")) (codes "--track" ∷ (c ∷ rest) ∷ codes "--alarms" ∷ []) ≡ flag_last
+  unfolding clap_on_literals
+  live_flag_last_ends = simp plain
+
+  live_flag_first_ends : walk_over (part_of command_line (codes "live")) (codes "--alarms" ∷ codes "--track" ∷ (c ∷ rest) ∷ []) ≡ flag_first
+  unfolding clap_on_literals
+  live_flag_first_ends = simp plain
+
+  run_with_flag_last : AsksToRun (c ∷ rest) 1 true (codes "run" ∷ codes "--track" ∷ (c ∷ rest) ∷ codes "--alarms" ∷ [])
+  unfolding clap_on_literals
+  run_with_flag_last =
+      let found = run_leaves_three (vp.Signed (pos 0) (pos 255)) (codes "--track") (c ∷ rest) (codes "--alarms") flag_last run_flag_last_ends in (
+        run_takes_three (vp.Signed (pos 0) (pos 255)) (codes "--track") (c ∷ rest) (codes "--alarms") (simp plain) flag_last run_flag_last_ends refl,
+        ap (option_and_then (first_of (codes "track"))) found,
+        ap (λ rows. option_map_or byte_or_zero (option_and_then (one_of (codes "workers")) rows) 0) found,
+        ap (λ rows. is_set (option_and_then (one_of (codes "alarms")) rows)) found,
+      )
+
+  run_with_flag_first : AsksToRun (c ∷ rest) 1 true (codes "run" ∷ codes "--alarms" ∷ codes "--track" ∷ (c ∷ rest) ∷ [])
+  unfolding clap_on_literals
+  run_with_flag_first =
+      let found = run_leaves_three (vp.Signed (pos 0) (pos 255)) (codes "--alarms") (codes "--track") (c ∷ rest) flag_first run_flag_first_ends in (
+        run_takes_three (vp.Signed (pos 0) (pos 255)) (codes "--alarms") (codes "--track") (c ∷ rest) (simp plain) flag_first run_flag_first_ends refl,
+        ap (option_and_then (first_of (codes "track"))) found,
+        ap (λ rows. option_map_or byte_or_zero (option_and_then (one_of (codes "workers")) rows) 0) found,
+        ap (λ rows. is_set (option_and_then (one_of (codes "alarms")) rows)) found,
+      )
+
+  live_with_flag_last : AsksToLive (c ∷ rest) (record { from = 1; alarms = true }) (codes "live" ∷ codes "--track" ∷ (c ∷ rest) ∷ codes "--alarms" ∷ [])
+  unfolding clap_on_literals
+  live_with_flag_last =
+      let found = live_leaves_three (codes "--track") (c ∷ rest) (codes "--alarms") flag_last live_flag_last_ends in (
+        live_takes_three (codes "--track") (c ∷ rest) (codes "--alarms") (simp plain) flag_last live_flag_last_ends refl,
+        ap (option_and_then (first_of (codes "track"))) found,
+        ap (λ rows. option_map_or count_or_one (option_and_then (one_of (codes "from")) rows) 1) found,
+        ap (λ rows. is_set (option_and_then (one_of (codes "alarms")) rows)) found,
+      )
+
+  live_with_flag_first : AsksToLive (c ∷ rest) (record { from = 1; alarms = true }) (codes "live" ∷ codes "--alarms" ∷ codes "--track" ∷ (c ∷ rest) ∷ [])
+  unfolding clap_on_literals
+  live_with_flag_first =
+      let found = live_leaves_three (codes "--alarms") (codes "--track") (c ∷ rest) flag_first live_flag_first_ends in (
+        live_takes_three (codes "--alarms") (codes "--track") (c ∷ rest) (simp plain) flag_first live_flag_first_ends refl,
+        ap (option_and_then (first_of (codes "track"))) found,
+        ap (λ rows. option_map_or count_or_one (option_and_then (one_of (codes "from")) rows) 1) found,
+        ap (λ rows. is_set (option_and_then (one_of (codes "alarms")) rows)) found,
+      )
+
+pub alarms_of_run : AlarmsOfRun
+alarms_of_run [] plain = absurd plain
+alarms_of_run (c ∷ rest) plain =
+    let hyphen = no_hyphen c plain in
+    (run_with_flag_last c rest hyphen, (run_with_flag_first c rest hyphen, tt))
+
+pub alarms_of_live : AlarmsOfLive
+alarms_of_live [] plain = absurd plain
+alarms_of_live (c ∷ rest) plain =
+    let hyphen = no_hyphen c plain in
+    (live_with_flag_last c rest hyphen, (live_with_flag_first c rest hyphen, tt))
 
 pub one_by_default : OneByDefault
 one_by_default [] plain = absurd plain
@@ -145,27 +247,46 @@ after_all_by_default (c ∷ rest) plain = picture_alone c rest (no_hyphen c plai
 abbrev ends_at : Rule → Text → Text → Text → Walk
 ends_at first value id last = record (walk_from (record { rows = used (filled first) (value ∷ []) []; pending = Some (id, last ∷ []); skip = 0 })) { waiting = idle }
 
+-- what is found where the words are taken, by the rows that are left
+finds : (q : ValueParser) (file word : Text) (words : List Text) (rows : List Row) → fault_of (line_with q) words ≡ []
+    → found_after (codes "run") (subcommand_of (line_with q) words) ≡ Some rows → first_of (codes "track") rows ≡ Some file
+    → one_of (codes "workers") rows ≡ Some (read_as (reading_of q) word) → is_set (one_of (codes "alarms") rows) ≡ false → Finds q file word words
+finds q file word words rows taken found track workers alarms = (
+  taken,
+  ap (option_and_then (first_of (codes "track"))) found ∙ track,
+  ap (option_and_then (one_of (codes "workers"))) found ∙ workers,
+  ap (λ o. is_set (option_and_then (one_of (codes "alarms")) o)) found ∙ alarms,
+)
+
 -- ---- the number is in the option's own word
 
 module _ (q : ValueParser) (c : ℕ) (rest word : Text) (plain : (c == 45) ≡ false) (passes : accepts false q word ≡ true) where
+  abbrev last_end : Walk
+  last_end =
+      walk_from (record { rows = used (record (filled workers_rule) { parser = Some q }) (word ∷ []) (used (filled track_rule) ((c ∷ rest) ∷ []) []); pending = None; skip = 0 })
+
+  last_one_ends : walk_over (part_of (line_with q) (codes "run")) (codes "--track" ∷ (c ∷ rest) ∷ (codes "--workers=" ++ word) ∷ []) ≡ last_end
+  unfolding clap_on_literals
+  last_one_ends = simp plain
+
   last_in_one : Finds q (c ∷ rest) word (codes "run" ∷ codes "--track" ∷ (c ∷ rest) ∷ (codes "--workers=" ++ word) ∷ [])
   unfolding clap_on_literals
-  last_in_one =
-      let rows = used (record (filled workers_rule) { parser = Some q }) (word ∷ []) (used (filled track_rule) ((c ∷ rest) ∷ []) []) in (
-        run_takes_three q (codes "--track") (c ∷ rest) (codes "--workers=" ++ word) (simp (plain, passes))
-            (walk_from (record { rows = rows; pending = None; skip = 0 })) (simp plain) refl,
-        simp plain,
-        simp plain,
-      )
+  last_in_one = finds q (c ∷ rest) word (codes "run" ∷ codes "--track" ∷ (c ∷ rest) ∷ (codes "--workers=" ++ word) ∷ []) _
+      (run_takes_three q (codes "--track") (c ∷ rest) (codes "--workers=" ++ word) (simp (plain, passes)) last_end last_one_ends refl)
+      (run_leaves_three q (codes "--track") (c ∷ rest) (codes "--workers=" ++ word) last_end last_one_ends) refl refl refl
+
+  abbrev first_one_end : Walk
+  first_one_end = ends_at (record workers_rule { parser = Some q }) word (codes "track") (c ∷ rest)
+
+  first_one_ends : walk_over (part_of (line_with q) (codes "run")) ((codes "--workers=" ++ word) ∷ codes "--track" ∷ (c ∷ rest) ∷ []) ≡ first_one_end
+  unfolding clap_on_literals
+  first_one_ends = simp plain
 
   first_in_one : Finds q (c ∷ rest) word (codes "run" ∷ (codes "--workers=" ++ word) ∷ codes "--track" ∷ (c ∷ rest) ∷ [])
   unfolding clap_on_literals
-  first_in_one = (
-    run_takes_three q (codes "--workers=" ++ word) (codes "--track") (c ∷ rest) (simp (plain, passes))
-        (ends_at (record workers_rule { parser = Some q }) word (codes "track") (c ∷ rest)) (simp plain) refl,
-    simp plain,
-    simp plain,
-  )
+  first_in_one = finds q (c ∷ rest) word (codes "run" ∷ (codes "--workers=" ++ word) ∷ codes "--track" ∷ (c ∷ rest) ∷ []) _
+      (run_takes_three q (codes "--workers=" ++ word) (codes "--track") (c ∷ rest) (simp (plain, passes)) first_one_end first_one_ends refl)
+      (run_leaves_three q (codes "--workers=" ++ word) (codes "--track") (c ∷ rest) first_one_end first_one_ends) refl refl refl
 
 -- ---- the number is in the next word
 
@@ -187,8 +308,9 @@ module _ (q : ValueParser) (c d : ℕ) (rest more : Text) (plain : (c == 45) ≡
 
   last_in_two : accepts false q (d ∷ more) ≡ true → Finds q (c ∷ rest) (d ∷ more) (codes "run" ∷ workers_last)
   unfolding clap_on_literals
-  last_in_two passes =
-      (run_takes_four q (codes "--track") (c ∷ rest) (codes "--workers") (d ∷ more) last_walks _ last_ends (last_rests passes), simp (plain, digit), simp (plain, digit))
+  last_in_two passes = finds q (c ∷ rest) (d ∷ more) (codes "run" ∷ workers_last) _
+      (run_takes_four q (codes "--track") (c ∷ rest) (codes "--workers") (d ∷ more) last_walks _ last_ends (last_rests passes))
+      (run_leaves_four q (codes "--track") (c ∷ rest) (codes "--workers") (d ∷ more) _ last_ends) refl refl refl
 
   abbrev workers_first : List Text
   workers_first = codes "--workers" ∷ (d ∷ more) ∷ codes "--track" ∷ (c ∷ rest) ∷ []
@@ -210,8 +332,9 @@ module _ (q : ValueParser) (c d : ℕ) (rest more : Text) (plain : (c == 45) ≡
 
   first_in_two : accepts false q (d ∷ more) ≡ true → Finds q (c ∷ rest) (d ∷ more) (codes "run" ∷ workers_first)
   unfolding clap_on_literals
-  first_in_two passes =
-      (run_takes_four q (codes "--workers") (d ∷ more) (codes "--track") (c ∷ rest) (first_walks passes) _ first_ends first_rests, simp (plain, digit), simp (plain, digit))
+  first_in_two passes = finds q (c ∷ rest) (d ∷ more) (codes "run" ∷ workers_first) _
+      (run_takes_four q (codes "--workers") (d ∷ more) (codes "--track") (c ∷ rest) (first_walks passes) _ first_ends first_rests)
+      (run_leaves_four q (codes "--workers") (d ∷ more) (codes "--track") (c ∷ rest) _ first_ends) refl refl refl
 
 -- ---- a number in decimal digits
 
@@ -233,11 +356,15 @@ byte_value word number same writes =
 
 -- what is found is what the words ask for
 asks : (file : Text) (d : ℕ) (more : Text) (number : ℕ) (words : List Text) → WritesByte (d ∷ more) number
-    → Finds (vp.Signed (pos 0) (pos 255)) file (d ∷ more) words → AsksToRun file number words
+    → Finds (vp.Signed (pos 0) (pos 255)) file (d ∷ more) words → AsksToRun file number false words
 asks file d more number words writes finds =
     let sign = no_sign d more writes.0 in
-    let bare : without_minus (d ∷ more) ≡ d ∷ more = rw sign.0 refl in
-    (finds.0, finds.1, ap (λ o. option_map_or byte_or_zero o 0) finds.2 ∙ ap byte_or_zero bare ∙ byte_value (d ∷ more) number (no_plus d more sign.1) writes)
+    let bare : without_minus (d ∷ more) ≡ d ∷ more = rw sign.0 refl in (
+      finds.0,
+      finds.1,
+      ap (λ o. option_map_or byte_or_zero o 0) finds.2 ∙ ap byte_or_zero bare ∙ byte_value (d ∷ more) number (no_plus d more sign.1) writes,
+      finds.3,
+    )
 
 pub as_many_as_named : AsManyAsNamed
 as_many_as_named [] word number plain writes = absurd plain

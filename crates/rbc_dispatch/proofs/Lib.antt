@@ -5,3 +5,4 @@ mod WitnessWords
 mod Ends
 mod Quiet
 mod Untold
+mod Wants

@@ -1,26 +1,26 @@
 -- What clap finds in the words of the worked cases.
-use Rattle.std.proofs.Common.{refl, ◌≡◌, ℕ, [], ◌∷◌, Some, codes}
+use Rattle.std.proofs.Common.{refl, ◌≡◌, ℕ, Bool, true, false, [], ◌∷◌, Some, codes}
 use Rattle.clap.specs.Kinds.{Kinds}
 use Rattle.clap.specs.declared.error.kind.ErrorKind.{ErrorKind}
 use Rattle.clap.specs.declared.error.kind.ErrorKind.TheVariants as kind
 use Rattle.clap.proofs.OnLiterals.{clap_on_literals}
-use Rattle.rbc_dispatch.specs.Witnesses.{AskByFlag, AskByTrain, AskFor, AskForNone, AskFrom, AskFromNone, AskToDraw, AskToDrawNone, AskToExplain, AskToExplainNone}
+use Rattle.rbc_dispatch.specs.Witnesses.{AskByFlag, AskByTrain, AskFor, AskForAlarms, AskForNone, AskFrom, AskFromNone, AskFromWithAlarms, AskToDraw, AskToDrawNone, AskToExplain, AskToExplainNone}
 
 pub one : AskFor 1 []
 unfolding clap_on_literals
-one = (refl, refl, refl)
+one = (refl, refl, refl, refl)
 
 pub sixteen : AskFor 16 (codes "--workers" ∷ codes "16" ∷ [])
 unfolding clap_on_literals
-sixteen = (refl, refl, refl)
+sixteen = (refl, refl, refl, refl)
 
 pub leading_zeros : AskFor 7 (codes "--workers=007" ∷ [])
 unfolding clap_on_literals
-leading_zeros = (refl, refl, refl)
+leading_zeros = (refl, refl, refl, refl)
 
 pub zero : AskFor 0 (codes "--workers" ∷ codes "0" ∷ [])
 unfolding clap_on_literals
-zero = (refl, refl, refl)
+zero = (refl, refl, refl, refl)
 
 -- one number is not another
 other : (a b found : ℕ) → found ≡ a → (a ≡ b → ⊥) → found ≡ b → ⊥
@@ -41,19 +41,19 @@ faulty (k ∷ more) fault is none = cc
 
 pub too_great : AskForNone (codes "--workers" ∷ codes "256" ∷ [])
 unfolding clap_on_literals
-too_great workers asked = faulty _ kind.ValueValidation refl asked.0
+too_great workers alarms asked = faulty _ kind.ValueValidation refl asked.0
 
 pub below_zero : AskForNone (codes "--workers" ∷ codes "-1" ∷ [])
 unfolding clap_on_literals
-below_zero workers asked = faulty _ kind.UnknownArgument refl asked.0
+below_zero workers alarms asked = faulty _ kind.UnknownArgument refl asked.0
 
 pub no_number : AskForNone (codes "--workers" ∷ codes "x" ∷ [])
 unfolding clap_on_literals
-no_number workers asked = faulty _ kind.ValueValidation refl asked.0
+no_number workers alarms asked = faulty _ kind.ValueValidation refl asked.0
 
 pub twice : AskForNone (codes "--workers" ∷ codes "1" ∷ codes "--workers" ∷ codes "1" ∷ [])
 unfolding clap_on_literals
-twice workers asked = faulty _ kind.ArgumentConflict refl asked.0
+twice workers alarms asked = faulty _ kind.ArgumentConflict refl asked.0
 
 pub no_figures : AskByFlag (codes "false") []
 unfolding clap_on_literals
@@ -65,11 +65,11 @@ figures = (refl, refl)
 
 pub figures_of_four : AskFor 4 (codes "--stats" ∷ codes "--workers" ∷ codes "4" ∷ [])
 unfolding clap_on_literals
-figures_of_four = (refl, refl, refl)
+figures_of_four = (refl, refl, refl, refl)
 
 pub figures_twice : AskForNone (codes "--stats" ∷ codes "--stats" ∷ [])
 unfolding clap_on_literals
-figures_twice workers asked = faulty _ kind.ArgumentConflict refl asked.0
+figures_twice workers alarms asked = faulty _ kind.ArgumentConflict refl asked.0
 
 pub by_train : AskByTrain (codes "true") (codes "--by-train" ∷ [])
 unfolding clap_on_literals
@@ -77,19 +77,56 @@ by_train = (refl, refl)
 
 pub by_train_of_four : AskFor 4 (codes "--workers" ∷ codes "4" ∷ codes "--by-train" ∷ [])
 unfolding clap_on_literals
-by_train_of_four = (refl, refl, refl)
+by_train_of_four = (refl, refl, refl, refl)
 
 pub by_train_twice : AskForNone (codes "--by-train" ∷ codes "--by-train" ∷ [])
 unfolding clap_on_literals
-by_train_twice workers asked = faulty _ kind.ArgumentConflict refl asked.0
+by_train_twice workers alarms asked = faulty _ kind.ArgumentConflict refl asked.0
+
+pub alarms : AskForAlarms 1 (codes "--alarms" ∷ [])
+unfolding clap_on_literals
+alarms = (refl, refl, refl, refl)
+
+pub alarms_of_four : AskForAlarms 4 (codes "--alarms" ∷ codes "--workers" ∷ codes "4" ∷ [])
+unfolding clap_on_literals
+alarms_of_four = (refl, refl, refl, refl)
+
+-- a flag that is not set is not set
+unset : (found : Bool) → found ≡ false → found ≡ true → ⊥
+unset true is same = cc
+unset false is same = cc
+
+pub alarms_unasked : AskForAlarms 1 [] → ⊥
+unfolding clap_on_literals
+alarms_unasked asked = unset _ refl asked.3
+
+pub alarms_twice : AskForNone (codes "--alarms" ∷ codes "--alarms" ∷ [])
+unfolding clap_on_literals
+alarms_twice workers are_asked asked = faulty _ kind.ArgumentConflict refl asked.0
 
 pub from_seven : AskFrom 7 (codes "--from" ∷ codes "7" ∷ [])
 unfolding clap_on_literals
-from_seven = (refl, refl, refl)
+from_seven = (refl, refl, refl, refl)
 
 pub from_zero : AskFromNone (codes "--from" ∷ codes "0" ∷ [])
 unfolding clap_on_literals
-from_zero from asked = faulty _ kind.ValueValidation refl asked.0
+from_zero wanted asked = faulty _ kind.ValueValidation refl asked.0
+
+pub alarms_from_seven : AskFromWithAlarms 7 (codes "--alarms" ∷ codes "--from" ∷ codes "7" ∷ [])
+unfolding clap_on_literals
+alarms_from_seven = (refl, refl, refl, refl)
+
+pub from_seven_alarms : AskFromWithAlarms 7 (codes "--from" ∷ codes "7" ∷ codes "--alarms" ∷ [])
+unfolding clap_on_literals
+from_seven_alarms = (refl, refl, refl, refl)
+
+pub live_alarms_unasked : AskFromWithAlarms 1 [] → ⊥
+unfolding clap_on_literals
+live_alarms_unasked asked = unset _ refl asked.3
+
+pub live_alarms_twice : AskFromNone (codes "--alarms" ∷ codes "--alarms" ∷ [])
+unfolding clap_on_literals
+live_alarms_twice wanted asked = faulty _ kind.ArgumentConflict refl asked.0
 
 pub log_from_last : AskToExplain 4294967295 (codes "--from" ∷ codes "4294967295" ∷ [])
 unfolding clap_on_literals

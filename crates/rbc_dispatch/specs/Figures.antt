@@ -1,5 +1,5 @@
 -- What `run` reports of its workers.
-use Rattle.std.specs.Prelude.{◌≡◌, ⊤, ℕ, List, ◌++◌, codes, false}
+use Rattle.std.specs.Prelude.{◌≡◌, ◌⊎◌, ⊤, ℕ, List, ◌++◌, codes, false, true}
 use Rattle.std.specs.Fmt.{decimal}
 use Rattle.rbc_dispatch.specs.declared.words.Task.{Task}
 use Rattle.rbc_dispatch.specs.declared.words.Task.TheVariants.{Run, Live, Explain, Picture, Check, Decode, Codes}
@@ -18,8 +18,8 @@ report_of figures =
 
 -- the task is none that reports on standard error
 abbrev pub IsQuiet : Task → Type 0
-IsQuiet (Run track workers by_train stats) = stats ≡ false
-IsQuiet (Live track from) = ⊤
+IsQuiet (Run track workers by_train stats alarms) = (stats ≡ false) ⊎ (alarms ≡ true)
+IsQuiet (Live track from alarms) = ⊤
 IsQuiet (Explain track from) = ⊤
 IsQuiet (Picture track after) = ⊤
 IsQuiet (Check track other) = ⊤

@@ -1,5 +1,5 @@
 -- The forms of `run`, `live`, `explain` and `picture`, and what they ask for.
-use Rattle.std.specs.Prelude.{◌≡◌, ◌≢◌, ◌<◌, ℕ, List, [], ◌∷◌, ◌++◌, None, Some, codes}
+use Rattle.std.specs.Prelude.{◌≡◌, ◌≢◌, ◌<◌, ℕ, true, false, List, [], ◌∷◌, ◌++◌, None, Some, codes}
 use Rattle.std.specs.List.{AllByRecursion}
 use Rattle.std.specs.Str.Parse.{IsNumeral, digits_value}
 use Rattle.clap.specs.Walk.{Text}
@@ -22,9 +22,9 @@ forms_of file word =
     ∷ (codes "run" ∷ codes "--workers" ∷ word ∷ codes "--track" ∷ file ∷ [])
     ∷ (codes "run" ∷ (codes "--workers=" ++ word) ∷ codes "--track" ∷ file ∷ []) ∷ []
 
--- without a number there is one worker
+-- without a number there is one worker, and without `--alarms` no alarms are asked for
 abbrev pub OneByDefault : Type 0
-OneByDefault = (file : Text) → IsPlain file → AsksToRun file 1 (codes "run" ∷ codes "--track" ∷ file ∷ [])
+OneByDefault = (file : Text) → IsPlain file → AsksToRun file 1 false (codes "run" ∷ codes "--track" ∷ file ∷ [])
 
 -- without `--stats` no figures are asked for
 abbrev pub NoFiguresByDefault : Type 0
@@ -34,9 +34,9 @@ NoFiguresByDefault = (file : Text) → IsPlain file → flag_after (codes "run")
 abbrev pub NotByTrainByDefault : Type 0
 NotByTrainByDefault = (file : Text) → IsPlain file → flag_after (codes "run") (codes "by-train") (finding_in (codes "run" ∷ codes "--track" ∷ file ∷ [])) ≡ Some (codes "false")
 
--- without a number answers are written from the first one on
+-- without a number answers are written from the first one on, and without `--alarms` no alarms are
 abbrev pub FromOneByDefault : Type 0
-FromOneByDefault = (file : Text) → IsPlain file → AsksToLive file 1 (codes "live" ∷ codes "--track" ∷ file ∷ [])
+FromOneByDefault = (file : Text) → IsPlain file → AsksToLive file (record { from = 1; alarms = false }) (codes "live" ∷ codes "--track" ∷ file ∷ [])
 
 -- without a number the log begins at the first input
 abbrev pub BeginAtOneByDefault : Type 0
@@ -46,6 +46,20 @@ BeginAtOneByDefault = (file : Text) → IsPlain file → AsksToExplain file 1 (c
 abbrev pub AfterAllByDefault : Type 0
 AfterAllByDefault = (file : Text) → IsPlain file → AsksToDraw file None (codes "picture" ∷ codes "--track" ∷ file ∷ [])
 
--- with a number there are so many workers
+-- with a number there are so many workers, and without `--alarms` no alarms are asked for
 abbrev pub AsManyAsNamed : Type 0
-AsManyAsNamed = (file word : Text) (number : ℕ) → IsPlain file → WritesByte word number → AllByRecursion (AsksToRun file number) (forms_of file word)
+AsManyAsNamed = (file word : Text) (number : ℕ) → IsPlain file → WritesByte word number → AllByRecursion (AsksToRun file number false) (forms_of file word)
+
+-- a command with a track and `--alarms`: before the track or behind it
+abbrev pub alarmed_forms_of : Text → Text → List (List Text)
+alarmed_forms_of command file =
+    (command ∷ codes "--track" ∷ file ∷ codes "--alarms" ∷ [])
+    ∷ (command ∷ codes "--alarms" ∷ codes "--track" ∷ file ∷ []) ∷ []
+
+-- `run` with `--alarms` asks for the batch with its alarms
+abbrev pub AlarmsOfRun : Type 0
+AlarmsOfRun = (file : Text) → IsPlain file → AllByRecursion (AsksToRun file 1 true) (alarmed_forms_of (codes "run") file)
+
+-- `live` with `--alarms` asks for the answers with their alarms
+abbrev pub AlarmsOfLive : Type 0
+AlarmsOfLive = (file : Text) → IsPlain file → AllByRecursion (AsksToLive file (record { from = 1; alarms = true })) (alarmed_forms_of (codes "live") file)

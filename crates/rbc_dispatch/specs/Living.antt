@@ -2,31 +2,31 @@
 use Rattle.std.specs.Prelude.{◌⊎◌, ℕ, List, Option, Result, Ok, Err}
 use Rattle.rbc_live.specs.Answers.{Answers}
 use Rattle.rbc_live.specs.declared.prompt.PromptError.{PromptError}
+use Rattle.rbc_live.specs.declared.wanted.Wanted.{Wanted}
 use Rattle.rbc_track.specs.Plan.{Plan}
 use Rattle.rbc_track.specs.Reading.{IsTrackOf}
 use Rattle.rbc_dispatch.specs.Running.{IsErrUnread, IsNoTrack}
 use Rattle.rbc_dispatch.specs.declared.fault.Fault.{Fault}
 use Rattle.rbc_dispatch.specs.declared.fault.Fault.TheVariants.{Batch, OnlyInputs, Live, BadHex, Decode, Write, OutOfMemory, Track, TrackUnreadable, TrackWarnings}
 
--- the lines are answered from this number on, on the track that the text is
-abbrev pub AnswersOn : {E : Type 0} → List ℕ → ℕ → Option (List ℕ) → Option (List ℕ) → Option (List ℕ) → Option (List ℕ) → Result E PromptError → Type 0
-AnswersOn {E = E} text from read_old read_new old new r = (plan : Plan) × IsTrackOf text plan × Answers {E = E} plan from read_old read_new old new r
+-- what is wanted of the answers to the lines is out, on the track that the text is
+abbrev pub AnswersOn : {E : Type 0} → List ℕ → Wanted → Option (List ℕ) → Option (List ℕ) → Option (List ℕ) → Option (List ℕ) → Result E PromptError → Type 0
+AnswersOn {E = E} text wanted read_old read_new old new r = (plan : Plan) × IsTrackOf text plan × Answers {E = E} plan wanted read_old read_new old new r
 
--- What comes of lines, from this number on, on the track that a text is to be. A text that is no track is all that keeps the lines from
--- being answered.
-abbrev pub LivesOn : {E : Type 0} → List ℕ → ℕ → Option (List ℕ) → Option (List ℕ) → Option (List ℕ) → Option (List ℕ) → Result E Fault → Type 0
-LivesOn {E = E} text from read_old read_new old new (Ok done) = AnswersOn {E = E} text from read_old read_new old new (Ok done)
-LivesOn {E = E} text from read_old read_new old new (Err (Live error)) = AnswersOn {E = E} text from read_old read_new old new (Err error)
-LivesOn text from read_old read_new old new (Err (Track error)) = IsNoTrack text error
-LivesOn text from read_old read_new old new (Err (Batch error)) = ⊥
-LivesOn text from read_old read_new old new (Err (OnlyInputs count)) = ⊥
-LivesOn text from read_old read_new old new (Err TrackUnreadable) = ⊥
-LivesOn text from read_old read_new old new (Err (TrackWarnings count)) = ⊥
-LivesOn text from read_old read_new old new (Err OutOfMemory) = ⊥
-LivesOn text from read_old read_new old new (Err BadHex) = ⊥
-LivesOn text from read_old read_new old new (Err (Decode e)) = ⊥
-LivesOn text from read_old read_new old new (Err (Write sent)) = ⊥
+-- What comes of lines, on the track that a text is to be. A text that is no track is all that keeps the lines from being answered.
+abbrev pub LivesOn : {E : Type 0} → List ℕ → Wanted → Option (List ℕ) → Option (List ℕ) → Option (List ℕ) → Option (List ℕ) → Result E Fault → Type 0
+LivesOn {E = E} text wanted read_old read_new old new (Ok done) = AnswersOn {E = E} text wanted read_old read_new old new (Ok done)
+LivesOn {E = E} text wanted read_old read_new old new (Err (Live error)) = AnswersOn {E = E} text wanted read_old read_new old new (Err error)
+LivesOn text wanted read_old read_new old new (Err (Track error)) = IsNoTrack text error
+LivesOn text wanted read_old read_new old new (Err (Batch error)) = ⊥
+LivesOn text wanted read_old read_new old new (Err (OnlyInputs count)) = ⊥
+LivesOn text wanted read_old read_new old new (Err TrackUnreadable) = ⊥
+LivesOn text wanted read_old read_new old new (Err (TrackWarnings count)) = ⊥
+LivesOn text wanted read_old read_new old new (Err OutOfMemory) = ⊥
+LivesOn text wanted read_old read_new old new (Err BadHex) = ⊥
+LivesOn text wanted read_old read_new old new (Err (Decode e)) = ⊥
+LivesOn text wanted read_old read_new old new (Err (Write sent)) = ⊥
 
--- what comes of lines, from this number on, on the track in a file: the file holds some text, or it is not read
-abbrev pub Lives : {E : Type 0} → ℕ → Option (List ℕ) → Option (List ℕ) → Option (List ℕ) → Option (List ℕ) → Result E Fault → Type 0
-Lives {E = E} from read_old read_new old new r = ((text : List ℕ) × LivesOn {E = E} text from read_old read_new old new r) ⊎ IsErrUnread r
+-- what comes of lines, on the track in a file: the file holds some text, or it is not read
+abbrev pub Lives : {E : Type 0} → Wanted → Option (List ℕ) → Option (List ℕ) → Option (List ℕ) → Option (List ℕ) → Result E Fault → Type 0
+Lives {E = E} wanted read_old read_new old new r = ((text : List ℕ) × LivesOn {E = E} text wanted read_old read_new old new r) ⊎ IsErrUnread r

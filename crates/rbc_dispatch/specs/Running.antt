@@ -1,6 +1,6 @@
 -- What `run` does with a batch, and what it, `live`, `explain` and `picture` leave as it was.
-use Rattle.std.specs.Prelude.{◌≡◌, ◌⊎◌, ⊤, ℕ, List, Option, Result, Ok, Err}
-use Rattle.rbc_batch.specs.Process.{Answers, IsUntouched as IsUnwritten}
+use Rattle.std.specs.Prelude.{◌≡◌, ◌⊎◌, ⊤, ℕ, Bool, true, false, List, Option, Result, Ok, Err}
+use Rattle.rbc_batch.specs.Process.{Answers, AnswersWithAlarms, IsUntouched as IsUnwritten}
 use Rattle.rbc_batch.specs.declared.batch.ProcessError.{ProcessError}
 use Rattle.rbc_batch.specs.Stats.{Stats}
 use Rattle.rbc_track.specs.Plan.{Plan}
@@ -10,28 +10,34 @@ use Rattle.rbc_track.specs.declared.error.TrackError.TheVariants as track
 use Rattle.rbc_dispatch.specs.declared.fault.Fault.{Fault}
 use Rattle.rbc_dispatch.specs.declared.fault.Fault.TheVariants.{Batch, OnlyInputs, Live, BadHex, Decode, Write, OutOfMemory, Track, TrackUnreadable, TrackWarnings}
 
--- the batch is answered by so many workers, on the track that the text is
-abbrev pub AnswersOn : List ℕ → ℕ → Option (List ℕ) → Option (List ℕ) → Option (List ℕ) → Option (List ℕ) → Result Stats ProcessError → Type 0
-AnswersOn text workers read_old read_new old new r = (plan : Plan) × IsTrackOf text plan × Answers plan workers read_old read_new old new r
+-- the batch is answered by so many workers, with its alarms or without; nothing is told of the counts of a run
+abbrev pub AnswersBatch : Plan → ℕ → Bool → Option (List ℕ) → Option (List ℕ) → Option (List ℕ) → Option (List ℕ) → Result (Unit {0}) ProcessError → Type 0
+AnswersBatch plan workers true read_old read_new old new r = AnswersWithAlarms plan workers read_old read_new old new r
+AnswersBatch plan workers false read_old read_new old new (Ok done) = (stats : Stats) × Answers plan workers read_old read_new old new (Ok stats)
+AnswersBatch plan workers false read_old read_new old new (Err error) = Answers plan workers read_old read_new old new (Err error)
+
+-- the same, on the track that the text is
+abbrev pub AnswersOn : List ℕ → ℕ → Bool → Option (List ℕ) → Option (List ℕ) → Option (List ℕ) → Option (List ℕ) → Result (Unit {0}) ProcessError → Type 0
+AnswersOn text workers alarms read_old read_new old new r = (plan : Plan) × IsTrackOf text plan × AnswersBatch plan workers alarms read_old read_new old new r
 
 -- the text is refused with this error, or memory ran out
 abbrev pub IsNoTrack : List ℕ → TrackError → Type 0
 IsNoTrack text error = (error ≡ track.OutOfMemory) ⊎ RefusesTrack text error
 
--- What comes of a batch, by so many workers, on the track that a text is to be. A text that is no track is all that keeps
--- the batch from being answered. Nothing is told of the counts of a run.
-abbrev pub RunsOn : {E : Type 0} → List ℕ → ℕ → Option (List ℕ) → Option (List ℕ) → Option (List ℕ) → Option (List ℕ) → Result E Fault → Type 0
-RunsOn text workers read_old read_new old new (Ok done) = (stats : Stats) × AnswersOn text workers read_old read_new old new (Ok stats)
-RunsOn text workers read_old read_new old new (Err (Batch error)) = AnswersOn text workers read_old read_new old new (Err error)
-RunsOn text workers read_old read_new old new (Err (Track error)) = IsNoTrack text error
-RunsOn text workers read_old read_new old new (Err (OnlyInputs count)) = ⊥
-RunsOn text workers read_old read_new old new (Err (Live error)) = ⊥
-RunsOn text workers read_old read_new old new (Err TrackUnreadable) = ⊥
-RunsOn text workers read_old read_new old new (Err (TrackWarnings count)) = ⊥
-RunsOn text workers read_old read_new old new (Err OutOfMemory) = ⊥
-RunsOn text workers read_old read_new old new (Err BadHex) = ⊥
-RunsOn text workers read_old read_new old new (Err (Decode e)) = ⊥
-RunsOn text workers read_old read_new old new (Err (Write sent)) = ⊥
+-- What comes of a batch, by so many workers and with its alarms or without, on the track that a text is to be. A text that is no track is all
+-- that keeps the batch from being answered.
+abbrev pub RunsOn : {E : Type 0} → List ℕ → ℕ → Bool → Option (List ℕ) → Option (List ℕ) → Option (List ℕ) → Option (List ℕ) → Result E Fault → Type 0
+RunsOn text workers alarms read_old read_new old new (Ok done) = AnswersOn text workers alarms read_old read_new old new (Ok tt)
+RunsOn text workers alarms read_old read_new old new (Err (Batch error)) = AnswersOn text workers alarms read_old read_new old new (Err error)
+RunsOn text workers alarms read_old read_new old new (Err (Track error)) = IsNoTrack text error
+RunsOn text workers alarms read_old read_new old new (Err (OnlyInputs count)) = ⊥
+RunsOn text workers alarms read_old read_new old new (Err (Live error)) = ⊥
+RunsOn text workers alarms read_old read_new old new (Err TrackUnreadable) = ⊥
+RunsOn text workers alarms read_old read_new old new (Err (TrackWarnings count)) = ⊥
+RunsOn text workers alarms read_old read_new old new (Err OutOfMemory) = ⊥
+RunsOn text workers alarms read_old read_new old new (Err BadHex) = ⊥
+RunsOn text workers alarms read_old read_new old new (Err (Decode e)) = ⊥
+RunsOn text workers alarms read_old read_new old new (Err (Write sent)) = ⊥
 
 -- the file could not be read, or memory ran out over it
 abbrev pub IsUnread : Fault → Type 0
@@ -41,9 +47,9 @@ abbrev pub IsErrUnread : {E : Type 0} → Result E Fault → Type 0
 IsErrUnread (Ok done) = ⊥
 IsErrUnread (Err fault) = IsUnread fault
 
--- what comes of a batch, by so many workers, on the track in a file: the file holds some text, or it is not read
-abbrev pub Runs : {E : Type 0} → ℕ → Option (List ℕ) → Option (List ℕ) → Option (List ℕ) → Option (List ℕ) → Result E Fault → Type 0
-Runs {E = E} workers read_old read_new old new r = ((text : List ℕ) × RunsOn {E = E} text workers read_old read_new old new r) ⊎ IsErrUnread r
+-- what comes of a batch, by so many workers and with its alarms or without, on the track in a file: the file holds some text, or it is not read
+abbrev pub Runs : {E : Type 0} → ℕ → Bool → Option (List ℕ) → Option (List ℕ) → Option (List ℕ) → Option (List ℕ) → Result E Fault → Type 0
+Runs {E = E} workers alarms read_old read_new old new r = ((text : List ℕ) × RunsOn {E = E} text workers alarms read_old read_new old new r) ⊎ IsErrUnread r
 
 -- Before the track is known nothing is read, and before there is something to write nothing is written.
 abbrev pub Keeps : {E I O : Type 0} → Result E Fault → I → I → O → O → Type 0

@@ -1,20 +1,25 @@
 -- Worked cases of what words ask for: `run`, `live`, `explain` and `picture`, on the track in the file `t`.
-use Rattle.std.specs.Prelude.{◌≡◌, ℕ, List, [], Option, Some, ◌∷◌, codes}
+use Rattle.std.specs.Prelude.{◌≡◌, ℕ, Bool, true, false, List, [], Option, Some, ◌∷◌, codes}
 use Rattle.clap.specs.Walk.{Text}
 use Rattle.clap.specs.Words.{fault_of}
+use Rattle.rbc_live.specs.declared.wanted.Wanted.{Wanted}
 use Rattle.rbc_dispatch.specs.Words.{AsksToDraw, AsksToExplain, AsksToLive, AsksToRun, command_line, finding_in, flag_after}
 
 -- the words that name the track, and more words
 abbrev pub run_with : List Text → List Text
 run_with more = codes "run" ∷ codes "--track" ∷ codes "t" ∷ more
 
--- they ask for so many workers
+-- they ask for so many workers, and for no alarms
 abbrev pub AskFor : ℕ → List Text → Type 0
-AskFor workers more = AsksToRun (codes "t") workers (run_with more)
+AskFor workers more = AsksToRun (codes "t") workers false (run_with more)
 
--- they ask for no run, by any number of workers
+-- they ask for so many workers, and for alarms
+abbrev pub AskForAlarms : ℕ → List Text → Type 0
+AskForAlarms workers more = AsksToRun (codes "t") workers true (run_with more)
+
+-- they ask for no run, by any number of workers, with alarms or without
 abbrev pub AskForNone : List Text → Type 0
-AskForNone more = (workers : ℕ) → AskFor workers more → ⊥
+AskForNone more = (workers : ℕ) (alarms : Bool) → AsksToRun (codes "t") workers alarms (run_with more) → ⊥
 
 -- they have no fault, and the text of the flag that asks for figures is this one
 abbrev pub AskByFlag : Text → List Text → Type 0
@@ -24,13 +29,21 @@ AskByFlag text more = (fault_of command_line (run_with more) ≡ []) × (flag_af
 abbrev pub AskByTrain : Text → List Text → Type 0
 AskByTrain text more = (fault_of command_line (run_with more) ≡ []) × (flag_after (codes "run") (codes "by-train") (finding_in (run_with more)) ≡ Some text)
 
--- the same behind `live`: they ask for the answers from this number on
-abbrev pub AskFrom : ℕ → List Text → Type 0
-AskFrom from more = AsksToLive (codes "t") from (codes "live" ∷ codes "--track" ∷ codes "t" ∷ more)
+-- the same behind `live`: what is wanted of the answers
+abbrev pub AskLive : Wanted → List Text → Type 0
+AskLive wanted more = AsksToLive (codes "t") wanted (codes "live" ∷ codes "--track" ∷ codes "t" ∷ more)
 
--- they ask for no answers, from any number on
+-- they ask for the answers from this number on, without alarms
+abbrev pub AskFrom : ℕ → List Text → Type 0
+AskFrom from more = AskLive (record { from = from; alarms = false }) more
+
+-- they ask for the answers from this number on, with alarms
+abbrev pub AskFromWithAlarms : ℕ → List Text → Type 0
+AskFromWithAlarms from more = AskLive (record { from = from; alarms = true }) more
+
+-- they ask for no answers, whatever is wanted
 abbrev pub AskFromNone : List Text → Type 0
-AskFromNone more = (from : ℕ) → AskFrom from more → ⊥
+AskFromNone more = (wanted : Wanted) → AskLive wanted more → ⊥
 
 -- the same behind `explain`: they ask for the log from this input on
 abbrev pub AskToExplain : ℕ → List Text → Type 0

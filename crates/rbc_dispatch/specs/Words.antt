@@ -10,6 +10,7 @@ use Rattle.clap.specs.Walk.{Row, Rule, Text, byte_or_zero, first_of, one_of}
 use Rattle.clap.specs.Words.{fault_of}
 use Rattle.clap.specs.declared.builder.action.ArgAction.TheVariants.{SetTrue}
 use Rattle.clap.specs.declared.builder.value_parser.ValueParser.TheVariants as vp
+use Rattle.rbc_live.specs.declared.wanted.Wanted.{Wanted}
 use Rattle.rbc_dispatch.specs.declared.no_task.NoTask.{NoTask}
 use Rattle.rbc_dispatch.specs.declared.no_task.NoTask.TheVariants.{OutOfMemory}
 use Rattle.rbc_dispatch.specs.declared.words.Task.{Task}
@@ -36,9 +37,13 @@ by_train_rule = record (new_rule (codes "by-train")) { long = Some (codes "by-tr
 abbrev pub stats_rule : Rule
 stats_rule = record (new_rule (codes "stats")) { long = Some (codes "stats"); action = Some SetTrue }
 
--- `run`, with its four options
+-- the flag that writes alarms
+abbrev pub alarms_rule : Rule
+alarms_rule = record (new_rule (codes "alarms")) { long = Some (codes "alarms"); action = Some SetTrue }
+
+-- `run`, with its five options
 abbrev pub run_shape : Shape
-run_shape = (with_rule (with_rule (with_rule (with_rule (new_app (codes "run")) track_rule) workers_rule) by_train_rule) stats_rule).top
+run_shape = (with_rule (with_rule (with_rule (with_rule (with_rule (new_app (codes "run")) track_rule) workers_rule) by_train_rule) stats_rule) alarms_rule).top
 
 -- the option that says from which number on answers are written: a number from 1 on, which is 1 by default
 abbrev pub from_rule : Rule
@@ -49,9 +54,9 @@ from_rule = record (new_rule (codes "from")) {
   defaults = codes "1" ∷ [];
 }
 
--- `live`, with both options
+-- `live`, with its three options
 abbrev pub live_shape : Shape
-live_shape = (with_rule (with_rule (new_app (codes "live")) track_rule) from_rule).top
+live_shape = (with_rule (with_rule (with_rule (new_app (codes "live")) track_rule) from_rule) alarms_rule).top
 
 -- the option that says at which input the log begins: a number of 32 bits, from 1 on
 abbrev pub begin_rule : Rule
@@ -160,25 +165,34 @@ input_after name id found = option_and_then number_in (option_and_then (one_of i
 abbrev pub flag_after : Text → Text → Finding → Option Text
 flag_after name id found = option_and_then (one_of id) (found_after name found)
 
+-- the text of a flag is "true"
+abbrev pub is_set : Option Text → Bool
+is_set text = option_map_or (λ word. bytes_eq word (codes "true")) text false
+
 -- the flag is as its text says
 abbrev pub IsFlag : Option Text → Bool → Type 0
 IsFlag text flag = (text ≡ Some (codes "true") → flag ≡ true) × (text ≡ Some (codes "false") → flag ≡ false)
 
--- the words name no run, or not the flag that asks for figures
+-- the words name no run, or not the flag that asks for figures, or that for alarms
 abbrev pub AsksForNoFigures : List Text → Type 0
-AsksForNoFigures words = (word_after (codes "run") (codes "track") (finding_in words) ≡ None) ⊎ (flag_after (codes "run") (codes "stats") (finding_in words) ≡ Some (codes "false"))
+AsksForNoFigures words =
+    ((word_after (codes "run") (codes "track") (finding_in words) ≡ None) ⊎ (flag_after (codes "run") (codes "stats") (finding_in words) ≡ Some (codes "false")))
+    ⊎ (is_set (flag_after (codes "run") (codes "alarms") (finding_in words)) ≡ true)
 
--- words without a fault that ask for the batch, on the track in the file of this name, with so many workers
-abbrev pub AsksToRun : Text → ℕ → List Text → Type 0
-AsksToRun file workers words = (fault_of command_line words ≡ [])
+-- words without a fault that ask for the batch, on the track in the file of this name, with so many workers, and with its alarms or without
+abbrev pub AsksToRun : Text → ℕ → Bool → List Text → Type 0
+AsksToRun file workers alarms words = (fault_of command_line words ≡ [])
     × (word_after (codes "run") (codes "track") (finding_in words) ≡ Some file)
     × (number_after (codes "run") (codes "workers") (finding_in words) ≡ workers)
+    × (is_set (flag_after (codes "run") (codes "alarms") (finding_in words)) ≡ alarms)
 
--- words without a fault that ask for lines to be answered as they come, on the track in the file of this name, from this number on
-abbrev pub AsksToLive : Text → ℕ → List Text → Type 0
-AsksToLive file from words = (fault_of command_line words ≡ [])
+-- words without a fault that ask for lines to be answered as they come, on the track in the file of this name: from which number on, and with
+-- alarms or without
+abbrev pub AsksToLive : Text → Wanted → List Text → Type 0
+AsksToLive file wanted words = (fault_of command_line words ≡ [])
     × (word_after (codes "live") (codes "track") (finding_in words) ≡ Some file)
-    × (count_after (codes "live") (codes "from") (finding_in words) ≡ from)
+    × (count_after (codes "live") (codes "from") (finding_in words) ≡ wanted.from)
+    × (is_set (flag_after (codes "live") (codes "alarms") (finding_in words)) ≡ wanted.alarms)
 
 -- words without a fault that ask for the log of the batch, on the track in the file of this name, from this input on
 abbrev pub AsksToExplain : Text → ℕ → List Text → Type 0
@@ -210,12 +224,14 @@ IsNeither found = (word_after (codes "run") (codes "track") found ≡ None)
 
 -- the task is what was found
 abbrev pub IsFound : Finding → Task → Type 0
-IsFound found (Run track workers by_train stats) = (word_after (codes "run") (codes "track") found ≡ Some track.now)
+IsFound found (Run track workers by_train stats alarms) = (word_after (codes "run") (codes "track") found ≡ Some track.now)
     × (number_after (codes "run") (codes "workers") found ≡ workers)
     × IsFlag (flag_after (codes "run") (codes "by-train") found) by_train
     × IsFlag (flag_after (codes "run") (codes "stats") found) stats
-IsFound found (Live track from) = (word_after (codes "live") (codes "track") found ≡ Some track.now)
+    × (is_set (flag_after (codes "run") (codes "alarms") found) ≡ alarms)
+IsFound found (Live track from alarms) = (word_after (codes "live") (codes "track") found ≡ Some track.now)
     × (count_after (codes "live") (codes "from") found ≡ from)
+    × (is_set (flag_after (codes "live") (codes "alarms") found) ≡ alarms)
 IsFound found (Explain track from) = (word_after (codes "explain") (codes "track") found ≡ Some track.now)
     × (unwrap_or (input_after (codes "explain") (codes "from") found) 1 ≡ from)
 IsFound found (Picture track after) = (word_after (codes "picture") (codes "track") found ≡ Some track.now)
@@ -229,31 +245,31 @@ IsFound found (Decode hex) = word_after (codes "decode") (codes "HEX") found ≡
 abbrev pub IsNoTask : Finding → Type 0
 IsNoTask found = IsNeither found × (word_after (codes "check") (codes "track") found ≡ None)
 
--- the task is the batch, on the track in the file of this name, with so many workers
-abbrev pub IsRunOn : Text → ℕ → Task → Type 0
-IsRunOn file workers (Run track number by_train stats) = (track.now ≡ file) × (number ≡ workers)
-IsRunOn file workers (Live track from) = ⊥
-IsRunOn file workers (Check track other) = ⊥
-IsRunOn file workers (Decode hex) = ⊥
-IsRunOn file workers (Explain track first) = ⊥
-IsRunOn file workers (Picture track after) = ⊥
-IsRunOn file workers Codes = ⊥
+-- the task is the batch, on the track in the file of this name, with so many workers, and with its alarms or without
+abbrev pub IsRunOn : Text → ℕ → Bool → Task → Type 0
+IsRunOn file workers alarms (Run track number by_train stats are_asked) = (track.now ≡ file) × (number ≡ workers) × (are_asked ≡ alarms)
+IsRunOn file workers alarms (Live track from are_asked) = ⊥
+IsRunOn file workers alarms (Check track other) = ⊥
+IsRunOn file workers alarms (Decode hex) = ⊥
+IsRunOn file workers alarms (Explain track first) = ⊥
+IsRunOn file workers alarms (Picture track after) = ⊥
+IsRunOn file workers alarms Codes = ⊥
 
--- the task is lines as they come, on the track in the file of this name, from this number on
-abbrev pub IsLiveOn : Text → ℕ → Task → Type 0
-IsLiveOn file from (Live track first) = (track.now ≡ file) × (first ≡ from)
-IsLiveOn file from (Run track number by_train stats) = ⊥
-IsLiveOn file from (Check track other) = ⊥
-IsLiveOn file from (Decode hex) = ⊥
-IsLiveOn file from (Explain track first) = ⊥
-IsLiveOn file from (Picture track after) = ⊥
-IsLiveOn file from Codes = ⊥
+-- the task is lines as they come, on the track in the file of this name: from which number on, and with alarms or without
+abbrev pub IsLiveOn : Text → Wanted → Task → Type 0
+IsLiveOn file wanted (Live track first are_asked) = (track.now ≡ file) × (first ≡ wanted.from) × (are_asked ≡ wanted.alarms)
+IsLiveOn file wanted (Run track number by_train stats alarms) = ⊥
+IsLiveOn file wanted (Check track other) = ⊥
+IsLiveOn file wanted (Decode hex) = ⊥
+IsLiveOn file wanted (Explain track first) = ⊥
+IsLiveOn file wanted (Picture track after) = ⊥
+IsLiveOn file wanted Codes = ⊥
 
 -- the task is the log of the batch, on the track in the file of this name, from this input on
 abbrev pub IsExplainOn : Text → ℕ → Task → Type 0
 IsExplainOn file from (Explain track first) = (track.now ≡ file) × (first ≡ from)
-IsExplainOn file from (Run track number by_train stats) = ⊥
-IsExplainOn file from (Live track first) = ⊥
+IsExplainOn file from (Run track number by_train stats alarms) = ⊥
+IsExplainOn file from (Live track first alarms) = ⊥
 IsExplainOn file from (Picture track after) = ⊥
 IsExplainOn file from (Check track other) = ⊥
 IsExplainOn file from (Decode hex) = ⊥
@@ -262,8 +278,8 @@ IsExplainOn file from Codes = ⊥
 -- the task is the picture of the track in the file of this name, after so many inputs of the batch, or after all
 abbrev pub IsPictureOn : Text → Option ℕ → Task → Type 0
 IsPictureOn file after (Picture track count) = (track.now ≡ file) × (count ≡ after)
-IsPictureOn file after (Run track number by_train stats) = ⊥
-IsPictureOn file after (Live track from) = ⊥
+IsPictureOn file after (Run track number by_train stats alarms) = ⊥
+IsPictureOn file after (Live track from alarms) = ⊥
 IsPictureOn file after (Explain track from) = ⊥
 IsPictureOn file after (Check track other) = ⊥
 IsPictureOn file after (Decode hex) = ⊥
@@ -271,8 +287,8 @@ IsPictureOn file after Codes = ⊥
 
 -- the task is the text of the message that this word stands for
 abbrev pub IsDecode : Text → Task → Type 0
-IsDecode word (Run track number by_train stats) = ⊥
-IsDecode word (Live track from) = ⊥
+IsDecode word (Run track number by_train stats alarms) = ⊥
+IsDecode word (Live track from alarms) = ⊥
 IsDecode word (Check track other) = ⊥
 IsDecode word (Explain track first) = ⊥
 IsDecode word (Picture track after) = ⊥
@@ -282,8 +298,8 @@ IsDecode word (Decode hex) = hex.now ≡ word
 -- the task is the report on the track in the file of this name
 abbrev pub IsCheckOf : Text → Task → Type 0
 IsCheckOf file (Check track other) = track.now ≡ file
-IsCheckOf file (Run track number by_train stats) = ⊥
-IsCheckOf file (Live track from) = ⊥
+IsCheckOf file (Run track number by_train stats alarms) = ⊥
+IsCheckOf file (Live track from alarms) = ⊥
 IsCheckOf file (Decode hex) = ⊥
 IsCheckOf file (Explain track first) = ⊥
 IsCheckOf file (Picture track after) = ⊥

@@ -1,12 +1,14 @@
 //! What the forms of `run`, `live`, `explain` and `picture` ask for.
 
-ghost use Rattle.rbc_dispatch.specs.Forms.{AfterAllByDefault, AsManyAsNamed, BeginAtOneByDefault};
+ghost use Rattle.rbc_dispatch.specs.Forms.{AfterAllByDefault, AlarmsOfLive, AlarmsOfRun, AsManyAsNamed};
+ghost use Rattle.rbc_dispatch.specs.Forms.{BeginAtOneByDefault};
 ghost use Rattle.rbc_dispatch.specs.Forms.{FromOneByDefault, NoFiguresByDefault, NotByTrainByDefault};
 ghost use Rattle.rbc_dispatch.specs.Forms.{OneByDefault};
 
-/// `run` with a track asks for one worker, without sharing by train and without figures; with a number of workers, it
-/// asks for that many. `live` with a track is taken for the answers from the first one on, `explain` for the log from
-/// the first input on, and `picture` for what stands after all inputs.
+/// `run` with a track asks for one worker, without sharing by train, without figures and without alarms; with a number
+/// of workers, it asks for that many. `live` with a track is taken for the answers from the first one on, without
+/// alarms, `explain` for the log from the first input on, and `picture` for what stands after all inputs. `run` and
+/// `live` with `--alarms` ask for alarms.
 pub fn forms_law()
     ensures one { OneByDefault }
     ensures named { AsManyAsNamed }
@@ -15,4 +17,6 @@ pub fn forms_law()
     ensures first { FromOneByDefault }
     ensures log { BeginAtOneByDefault }
     ensures drawn { AfterAllByDefault }
+    ensures run_alarms { AlarmsOfRun }
+    ensures live_alarms { AlarmsOfLive }
 {}

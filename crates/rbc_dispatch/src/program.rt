@@ -1,8 +1,10 @@
 //! The program, over any streams.
-ghost use Rattle.std.specs.Prelude.{◌≡◌, ◌≢◌, ◌≤◌, ℕ, List, Option, [], IfErr, OnOk, false, map, string_bytes};
+ghost use Rattle.std.specs.Prelude.{◌≡◌, ◌≢◌, ◌≤◌, ℕ, Bool, List, Option, [], IfErr, OnOk, false, map};
+ghost use Rattle.std.specs.Prelude.{string_bytes, true};
 ghost use Rattle.std.specs.Process.{exit_status};
 ghost use Rattle.clap.specs.Words.{fault_of};
 ghost use Rattle.rbc_explain.specs.AccountTelling.{TooFewFor, TooLate};
+ghost use Rattle.rbc_live.specs.declared.wanted.Wanted.{Wanted as WantedAnswers};
 ghost use Rattle.rbc_dispatch.specs.Checking.{Checks, IsUnreported};
 ghost use Rattle.rbc_dispatch.specs.Decoding.{Decodes, IsUntouched};
 ghost use Rattle.rbc_dispatch.specs.Ending.{AtTask, status_of};
@@ -25,7 +27,8 @@ use crate::figures::Figures;
 use crate::live::live_text;
 use crate::picture::picture_text;
 use crate::words::Task;
-use rbc_batch::{OpenGate, PACE, Windows, process, process_by_train};
+use rbc_batch::{OpenGate, PACE, Windows, process, process_by_train, process_with_alarms};
+use rbc_live::Wanted;
 use rbc_track::track_from_toml;
 use std::env::Env;
 use std::fs;
@@ -84,15 +87,17 @@ where
     I: Read,
     O: Write,
     E: Write,
-    ensures run { (file : List ℕ) (workers : ℕ) → AsksToRun file workers (map string_bytes words.now)
-        → AtTask (Runs workers (I.remaining input.old) (I.remaining input.new)
+    ensures run { (file : List ℕ) (workers : ℕ) (alarms : Bool)
+        → AsksToRun file workers alarms (map string_bytes words.now)
+        → AtTask (Runs workers alarms (I.remaining input.old) (I.remaining input.new)
         (O.contents output.old) (O.contents output.new)) result }
-    ensures keeps { (file : List ℕ) (workers : ℕ) → AsksToRun file workers (map string_bytes words.now)
+    ensures keeps { (file : List ℕ) (workers : ℕ) (alarms : Bool)
+        → AsksToRun file workers alarms (map string_bytes words.now)
         → AtTask (λ r. Keeps r input.old input.new output.old output.new) result }
-    ensures live { (file : List ℕ) (from : ℕ) → AsksToLive file from (map string_bytes words.now)
-        → AtTask (Lives from (I.remaining input.old) (I.remaining input.new)
+    ensures live { (file : List ℕ) (wanted : WantedAnswers) → AsksToLive file wanted (map string_bytes words.now)
+        → AtTask (Lives wanted (I.remaining input.old) (I.remaining input.new)
         (O.contents output.old) (O.contents output.new)) result }
-    ensures not_begun { (file : List ℕ) (from : ℕ) → AsksToLive file from (map string_bytes words.now)
+    ensures not_begun { (file : List ℕ) (wanted : WantedAnswers) → AsksToLive file wanted (map string_bytes words.now)
         → AtTask (λ r. Keeps r input.old input.new output.old output.new) result }
     ensures explain { (file : List ℕ) (from : ℕ) → AsksToExplain file from (map string_bytes words.now)
         → AtTask (Shows (TooLate from) (IsLogFrom from) (I.remaining input.old) (I.remaining input.new)
@@ -132,15 +137,15 @@ where
     I: Read,
     O: Write,
     E: Write,
-    ensures run { (file : List ℕ) (workers : ℕ) → IsRunOn file workers task.entry
-        → Runs workers (I.remaining input.old) (I.remaining input.new)
+    ensures run { (file : List ℕ) (workers : ℕ) (alarms : Bool) → IsRunOn file workers alarms task.entry
+        → Runs workers alarms (I.remaining input.old) (I.remaining input.new)
         (O.contents output.old) (O.contents output.new) result }
-    ensures keeps { (file : List ℕ) (workers : ℕ) → IsRunOn file workers task.entry
+    ensures keeps { (file : List ℕ) (workers : ℕ) (alarms : Bool) → IsRunOn file workers alarms task.entry
         → Keeps result input.old input.new output.old output.new }
-    ensures live { (file : List ℕ) (from : ℕ) → IsLiveOn file from task.entry
-        → Lives from (I.remaining input.old) (I.remaining input.new)
+    ensures live { (file : List ℕ) (wanted : WantedAnswers) → IsLiveOn file wanted task.entry
+        → Lives wanted (I.remaining input.old) (I.remaining input.new)
         (O.contents output.old) (O.contents output.new) result }
-    ensures not_begun { (file : List ℕ) (from : ℕ) → IsLiveOn file from task.entry
+    ensures not_begun { (file : List ℕ) (wanted : WantedAnswers) → IsLiveOn file wanted task.entry
         → Keeps result input.old input.new output.old output.new }
     ensures explain { (file : List ℕ) (from : ℕ) → IsExplainOn file from task.entry
         → Shows (TooLate from) (IsLogFrom from) (I.remaining input.old) (I.remaining input.new)
@@ -165,8 +170,19 @@ where
             workers,
             by_train,
             stats,
-        } => run_file(rt, track, workers, by_train, stats, input, output, errors),
-        Task::Live { track, from } => live_file(rt, track, from, input, output),
+            alarms,
+        } => {
+            if alarms {
+                run_file_with_alarms(rt, track, workers, input, output)
+            } else {
+                run_file(rt, track, workers, by_train, stats, input, output, errors)
+            }
+        }
+        Task::Live {
+            track,
+            from,
+            alarms,
+        } => live_file(rt, track, Wanted { from, alarms }, input, output),
         Task::Explain { track, from } => explain_file(rt, track, from, input, output),
         Task::Picture { track, after } => picture_file(rt, track, after, input, output),
         Task::Check { track, other_keys } => check_file(rt, track, other_keys, output),
@@ -187,7 +203,28 @@ where
     check_text(rt.alloc(), text.as_str(), other_keys, output)
 }
 
-/// Runs a batch on the track in a file, as the arguments say. The track is known before anything of the batch is read.
+/// Runs a batch on the track in a file, and writes its alarms too. The track is known before anything of the batch is
+/// read.
+fn run_file_with_alarms<R, I, O>(
+    rt: &R,
+    file: &str,
+    workers: u8,
+    input: &mut I,
+    output: &mut O,
+) -> Result<(), Fault>
+where
+    R: AllocGlobal + Files + Threads + Sync,
+    I: Read,
+    O: Write,
+    ensures runs { Runs workers true (I.remaining input.old) (I.remaining input.new)
+        (O.contents output.old) (O.contents output.new) result }
+    ensures keeps { Keeps result input.old input.new output.old output.new }
+{
+    let text = track_text(rt, file)?;
+    run_with_alarms_on(rt, text.as_str(), workers, input, output)
+}
+
+/// Runs a batch on the track in a file, without alarms. The track is known before anything of the batch is read.
 fn run_file<R, I, O, E>(
     rt: &R,
     file: &str,
@@ -203,7 +240,7 @@ where
     I: Read,
     O: Write,
     E: Write,
-    ensures runs { Runs workers (I.remaining input.old) (I.remaining input.new)
+    ensures runs { Runs workers false (I.remaining input.old) (I.remaining input.new)
         (O.contents output.old) (O.contents output.new) result }
     ensures keeps { Keeps result input.old input.new output.old output.new }
     ensures quiet { stats ≡ false → errors.new ≡ errors.old }
@@ -221,11 +258,12 @@ where
     )
 }
 
-/// Answers lines as they come, from this number on, on the track in a file. The track is known before anything is read.
+/// Answers lines as they come, on the track in a file: `wanted` says from which number on, and whether with alarms. The
+/// track is known before anything is read.
 fn live_file<R, I, O>(
     rt: &R,
     file: &str,
-    from: u64,
+    wanted: Wanted,
     input: &mut I,
     output: &mut O,
 ) -> Result<(), Fault>
@@ -233,12 +271,12 @@ where
     R: AllocGlobal + Files,
     I: Read,
     O: Write,
-    ensures lives { Lives from (I.remaining input.old) (I.remaining input.new)
+    ensures lives { Lives wanted (I.remaining input.old) (I.remaining input.new)
         (O.contents output.old) (O.contents output.new) result }
     ensures keeps { Keeps result input.old input.new output.old output.new }
 {
     let text = track_text(rt, file)?;
-    live_text(rt.alloc(), text.as_str(), from, input, output)
+    live_text(rt.alloc(), text.as_str(), wanted, input, output)
 }
 
 /// Tells a batch in words, from this input on, on the track in a file. The track is known before anything is read.
@@ -292,7 +330,29 @@ fn track_text<R: AllocGlobal + Files>(rt: &R, file: &str) -> Result<String, Faul
     }
 }
 
-/// Runs a batch on the track that a text is. One worker takes the inputs in order; several attempt them, or share
+/// Runs a batch on the track that a text is, and writes its alarms too. The track is known before anything of the batch is
+/// read.
+fn run_with_alarms_on<R, I, O>(
+    rt: &R,
+    text: &str,
+    workers: u8,
+    input: &mut I,
+    output: &mut O,
+) -> Result<(), Fault>
+where
+    R: AllocGlobal + Threads + Sync,
+    I: Read,
+    O: Write,
+    ensures runs { RunsOn text.now workers true (I.remaining input.old) (I.remaining input.new)
+        (O.contents output.old) (O.contents output.new) result }
+    ensures keeps { Keeps result input.old input.new output.old output.new }
+{
+    let track = track_from_toml(rt.alloc(), text)?;
+    process_with_alarms(rt, &track, input, output, workers)?;
+    Ok(())
+}
+
+/// Runs a batch on the track that a text is, without alarms. One worker takes the inputs in order; several attempt them, or share
 /// messages by train. The track is known before anything of the batch is read. With `stats`, the figures of a run that is
 /// done go to `errors`. If they cannot be written, the run is done nevertheless.
 fn run_on<R, I, O, E>(
@@ -310,7 +370,7 @@ where
     I: Read,
     O: Write,
     E: Write,
-    ensures runs { RunsOn text.now workers (I.remaining input.old) (I.remaining input.new)
+    ensures runs { RunsOn text.now workers false (I.remaining input.old) (I.remaining input.new)
         (O.contents output.old) (O.contents output.new) result }
     ensures keeps { Keeps result input.old input.new output.old output.new }
     ensures quiet { stats ≡ false → errors.new ≡ errors.old }

@@ -1,8 +1,9 @@
 //! Worked cases of the law of forms, right ones and wrong ones.
 
 ghost use Rattle.std.specs.Prelude.{[], ◌∷◌, Some, codes};
-ghost use Rattle.rbc_dispatch.specs.Witnesses.{AskByFlag, AskByTrain, AskFor, AskForNone, AskFrom, AskFromNone};
-ghost use Rattle.rbc_dispatch.specs.Witnesses.{AskToDraw, AskToDrawNone, AskToExplain, AskToExplainNone};
+ghost use Rattle.rbc_dispatch.specs.Witnesses.{AskByFlag, AskByTrain, AskFor, AskForAlarms, AskForNone, AskFrom};
+ghost use Rattle.rbc_dispatch.specs.Witnesses.{AskFromNone, AskFromWithAlarms, AskToDraw, AskToDrawNone};
+ghost use Rattle.rbc_dispatch.specs.Witnesses.{AskToExplain, AskToExplainNone};
 
 /// What words behind `run --track t` ask for.
 ///
@@ -13,8 +14,11 @@ ghost use Rattle.rbc_dispatch.specs.Witnesses.{AskToDraw, AskToDrawNone, AskToEx
 ///   of workers as it is. `--stats` twice asks for no run.
 /// - `--by-train` asks for sharing by train, and leaves the number of workers as it is. `--by-train` twice asks for no
 ///   run.
+/// - `--alarms` asks for alarms, and leaves the number of workers as it is. Without it none are asked for. `--alarms`
+///   twice asks for no run.
 ///
-/// Behind `live --track t`, `--from 7` asks for the answers from number 7 on, and `--from 0` for none. Behind
+/// Behind `live --track t`, `--from 7` asks for the answers from number 7 on, and `--from 0` for none; `--alarms` asks
+/// for alarms, before `--from 7` or behind it, and `--alarms` twice for no answers. Behind
 /// `explain --track t`, `--from 4294967295` asks for the log from that input on, and `--from 0` for none. Behind
 /// `picture --track t`, `--after 0` asks for the picture before all inputs, and `--after 4294967296` for none.
 pub fn forms_law_witnesses()
@@ -35,8 +39,16 @@ pub fn forms_law_witnesses()
     ensures by_train { AskByTrain (codes "true") (codes "--by-train" ∷ []) }
     ensures by_train_of_four { AskFor 4 (codes "--workers" ∷ codes "4" ∷ codes "--by-train" ∷ []) }
     ensures by_train_twice { AskForNone (codes "--by-train" ∷ codes "--by-train" ∷ []) }
+    ensures alarms { AskForAlarms 1 (codes "--alarms" ∷ []) }
+    ensures alarms_of_four { AskForAlarms 4 (codes "--alarms" ∷ codes "--workers" ∷ codes "4" ∷ []) }
+    ensures alarms_unasked { AskForAlarms 1 [] → ⊥ }
+    ensures alarms_twice { AskForNone (codes "--alarms" ∷ codes "--alarms" ∷ []) }
     ensures from_seven { AskFrom 7 (codes "--from" ∷ codes "7" ∷ []) }
     ensures from_zero { AskFromNone (codes "--from" ∷ codes "0" ∷ []) }
+    ensures alarms_from_seven { AskFromWithAlarms 7 (codes "--alarms" ∷ codes "--from" ∷ codes "7" ∷ []) }
+    ensures from_seven_alarms { AskFromWithAlarms 7 (codes "--from" ∷ codes "7" ∷ codes "--alarms" ∷ []) }
+    ensures live_alarms_unasked { AskFromWithAlarms 1 [] → ⊥ }
+    ensures live_alarms_twice { AskFromNone (codes "--alarms" ∷ codes "--alarms" ∷ []) }
     ensures log_from_last { AskToExplain 4294967295 (codes "--from" ∷ codes "4294967295" ∷ []) }
     ensures log_from_zero { AskToExplainNone (codes "--from" ∷ codes "0" ∷ []) }
     ensures drawn_at_first { AskToDraw (Some 0) (codes "--after" ∷ codes "0" ∷ []) }

@@ -1,5 +1,6 @@
 //! The arguments that the program takes.
-ghost use Rattle.std.specs.Prelude.{◌≡◌, ◌⊎◌, ℕ, List, Option, Some, [], codes, false, IfErr, IfNone, IfOk, IfSome};
+ghost use Rattle.std.specs.Prelude.{◌≡◌, ◌⊎◌, ℕ, Bool, List, Option, Some, [], codes, false, IfErr, IfNone, IfOk};
+ghost use Rattle.std.specs.Prelude.{IfSome};
 ghost use Rattle.std.specs.Prelude.{OnOk, map, option_map, string_bytes, true};
 ghost use Rattle.clap.specs.Simple.{App, Shape, new_app, new_rule, with_rule, with_subcommand};
 ghost use Rattle.clap.specs.Walk.{Rule};
@@ -9,9 +10,10 @@ ghost use Rattle.rbc_dispatch.specs.NoTask.{status_of, status_of_kind};
 ghost use Rattle.rbc_dispatch.specs.Words.{AsksToCheck, AsksToDecode, AsksToDraw, AsksToExplain, AsksToLive};
 ghost use Rattle.rbc_dispatch.specs.Words.{AsksToRun, IsCheckOf, IsDecode, IsExplainOn, IsFound, IsLiveOn};
 ghost use Rattle.rbc_dispatch.specs.Words.{IsNoTask, IsPictureOn, IsRunOn, IsTakenFor, IsWantOfMemory, bare_line};
-ghost use Rattle.rbc_dispatch.specs.Words.{by_train_rule, command_line, count_after, finding_in, flag_after};
-ghost use Rattle.rbc_dispatch.specs.Words.{input_after, number_after, other_keys_rule, run_shape, stats_rule};
-ghost use Rattle.rbc_dispatch.specs.Words.{track_rule, word_after};
+ghost use Rattle.rbc_dispatch.specs.Words.{alarms_rule, by_train_rule, command_line, count_after, finding_in};
+ghost use Rattle.rbc_dispatch.specs.Words.{flag_after, input_after, is_set, live_shape, number_after};
+ghost use Rattle.rbc_dispatch.specs.Words.{other_keys_rule, run_shape, stats_rule, track_rule, word_after};
+ghost use Rattle.rbc_live.specs.declared.wanted.Wanted.{Wanted};
 
 use crate::no_task::NoTask;
 use clap::builder::ValueParser;
@@ -24,24 +26,29 @@ use std::{env, io};
 /// What the arguments ask the program to do.
 #[derive(Clone, Copy)]
 pub enum Task<'a> {
-    /// `dispatch run --track FILE --workers N --by-train --stats`: run the batch on standard input, on the track in
-    /// FILE.
+    /// `dispatch run --track FILE --workers N --by-train --stats --alarms`: run the batch on standard input, on the
+    /// track in FILE.
     ///
     /// - `workers`: the number of workers, 1 by default. One worker takes the inputs in order. Several workers attempt
     ///   many inputs at once, commit them in input order, and recompute the attempts that went stale.
     /// - `by_train`: several workers share runs of messages by train instead.
     /// - `stats`: report on standard error what the workers did.
+    /// - `alarms`: write the alarms too, each behind the result of its input. One worker takes the inputs then, in
+    ///   order, and nothing is reported.
     Run {
         track: &'a str,
         workers: u8,
         by_train: bool,
         stats: bool,
+        alarms: bool,
     },
-    /// `dispatch live --track FILE --from N`: answer the lines on standard input as they come, on the track in
-    /// the file of this name, and write the answers from this number on, or from 1 where the arguments name none.
+    /// `dispatch live --track FILE --from N --alarms`: answer the lines on standard input as they come, on the track in
+    /// the file of this name, and write the answers from this number on, or from 1 where the arguments name none. With
+    /// `alarms`, write the alarms too.
     Live {
         track: &'a str,
         from: u64,
+        alarms: bool,
     },
     /// `dispatch explain --track FILE --from N`: tell the batch on standard input in words, on the track in the file of
     /// this name, from this input on, 1 or more, or from 1 where the arguments name none.
@@ -108,6 +115,14 @@ a microsecond to decide, so one worker is usually fastest. With --by-train, seve
 long runs of messages by train instead: faster where trains hold many restrictions. The output is
 the same in every case.
 
+With --alarms, each result is followed by one line for each alarm that its input raises or clears:
+`INPUT raised ENGINE ALARM` or `INPUT cleared ENGINE ALARM`. An alarm says what a train is not told:
+  place                the train has no place: each stop stops it, and it is told no restriction
+  stop NUMBER          the stop concerns the train, which is not told of it
+  restriction NUMBER   the same for a restriction
+  answer NUMBER        the train left the stop unanswered, and cannot yet be told to stop at once
+One worker then takes the inputs in order, and --stats writes nothing.
+
 Exit status: 0 done; 1 a fault, one line on standard error; 2 bad arguments.
 `dispatch codes` says what each code and each fault means, `dispatch explain` tells a run in words.",
 };
@@ -120,8 +135,13 @@ Reads inputs from standard input, a line each, and answers each before it waits 
 `INPUT ok COUNT` or `INPUT refused CODE`, and then one line for each message that it sends, in the
 order in which they are sent: `ENGINE INPUT HEX`. Ends where standard input ends.
 
+With --alarms, one line for each alarm that the input raises or clears comes after its messages:
+`INPUT raised ENGINE ALARM` or `INPUT cleared ENGINE ALARM`. ALARM is `place`, `stop NUMBER`,
+`restriction NUMBER` or `answer NUMBER`; `dispatch help run` says what each means.
+
 No state is kept. Keep the lines in a log. After a crash, start the program again, give it the log
-first, and name in --from the first input whose answer you do not have.
+first, and name in --from the first input whose answer you do not have. With --alarms, the alarms
+that stand before that input come first, as raised by the input before it.
 
 Exit status: 0 done; 1 a fault, one line on standard error; 2 bad arguments. What was written before
 a fault stands.",
@@ -216,8 +236,7 @@ fn command<'a>(alloc: Global) -> Result<Command<'a>, AllocError>
     ensures { IfOk result (λ command. app_of command ≡ command_line) }
 {
     let with_run = with_subcommand(bare_command(alloc), run_command(alloc));
-    let answer = number_option(alloc, FIRST_ANSWER);
-    let with_live = with_subcommand(with_run, with_track(alloc, LIVE, answer));
+    let with_live = with_subcommand(with_run, live_command(alloc));
     let told = number_option(alloc, FIRST_TOLD);
     let with_explain = with_subcommand(with_live, with_track(alloc, EXPLAIN, told));
     let drawn = number_option(alloc, LAST_DRAWN);
@@ -251,7 +270,7 @@ fn bare_command<'a>(alloc: Global) -> Result<Command<'a>, AllocError>
 {
     Command::new(alloc, "dispatch")
         .no_binary_name(true)
-        .version("3.7.0, rules 3")
+        .version("3.8.0, rules 3")
         .about(
             "Emergency stops and speed restrictions, from a signaller's batch to each train's messages",
         )
@@ -260,7 +279,7 @@ fn bare_command<'a>(alloc: Global) -> Result<Command<'a>, AllocError>
         .bin_name("dispatch")
 }
 
-/// `run`, with its four options.
+/// `run`, with its five options.
 fn run_command<'a>(alloc: Global) -> Result<Command<'a>, AllocError>
     ensures shape { IfOk result (λ command. shape_of command ≡ run_shape) }
     ensures local { IfOk result (λ command. (fields_of command).has_globals ≡ false) }
@@ -268,7 +287,17 @@ fn run_command<'a>(alloc: Global) -> Result<Command<'a>, AllocError>
     let workers = number_option(alloc, WORKERS);
     with_track(alloc, RUN, workers)?
         .arg(by_train_option(alloc))?
-        .arg(stats_option(alloc))
+        .arg(stats_option(alloc))?
+        .arg(alarms_option(alloc))
+}
+
+/// `live`, with its three options.
+fn live_command<'a>(alloc: Global) -> Result<Command<'a>, AllocError>
+    ensures shape { IfOk result (λ command. shape_of command ≡ live_shape) }
+    ensures local { IfOk result (λ command. (fields_of command).has_globals ≡ false) }
+{
+    let answer = number_option(alloc, FIRST_ANSWER);
+    with_track(alloc, LIVE, answer)?.arg(alarms_option(alloc))
 }
 
 /// A subcommand that takes a track and one more option.
@@ -341,6 +370,16 @@ fn stats_option<'a>(alloc: Global) -> Arg<'a>
         .help("Say on standard error what the workers did")
 }
 
+fn alarms_option<'a>(alloc: Global) -> Arg<'a>
+    ensures rule { rule_of result ≡ alarms_rule }
+    ensures local { result.global ≡ false }
+{
+    Arg::new(alloc, "alarms")
+        .long("alarms")
+        .action(ArgAction::SetTrue)
+        .help("Write what trains are not told, as it begins and ends")
+}
+
 fn other_keys_option<'a>(alloc: Global) -> Arg<'a>
     ensures rule { rule_of result ≡ other_keys_rule }
     ensures local { result.global ≡ false }
@@ -395,10 +434,11 @@ fn refusal(alloc: Global, kind: ErrorKind, message: &str) -> Result<clap::Error,
 /// The task that the arguments ask for. The error is help, where they ask for that, what is wrong
 /// with them, or out of memory.
 pub fn parse<'a>(alloc: Global, words: &'a [String]) -> Result<Task<'a>, NoTask>
-    ensures run { (file : List ℕ) (workers : ℕ) → AsksToRun file workers (map string_bytes words.now)
-        → IsTakenFor (IsRunOn file workers) result }
-    ensures live { (file : List ℕ) (from : ℕ) → AsksToLive file from (map string_bytes words.now)
-        → IsTakenFor (IsLiveOn file from) result }
+    ensures run { (file : List ℕ) (workers : ℕ) (alarms : Bool)
+        → AsksToRun file workers alarms (map string_bytes words.now)
+        → IsTakenFor (IsRunOn file workers alarms) result }
+    ensures live { (file : List ℕ) (wanted : Wanted) → AsksToLive file wanted (map string_bytes words.now)
+        → IsTakenFor (IsLiveOn file wanted) result }
     ensures explain { (file : List ℕ) (from : ℕ) → AsksToExplain file from (map string_bytes words.now)
         → IsTakenFor (IsExplainOn file from) result }
     ensures picture { (file : List ℕ) (after : Option ℕ) → AsksToDraw file after (map string_bytes words.now)
@@ -427,16 +467,23 @@ fn task_of<'a>(matches: &ArgMatches<'a>) -> Option<Task<'a>>
         let workers = number_after(matches, "run", "workers");
         let by_train = has_flag_after(matches, "run", "by-train");
         let stats = has_flag_after(matches, "run", "stats");
+        let alarms = has_flag_after(matches, "run", "alarms");
         return Some(Task::Run {
             track,
             workers,
             by_train,
             stats,
+            alarms,
         });
     }
     if let Some(track) = word_after(matches, "live", "track") {
         let from = count_after(matches, "live", "from");
-        return Some(Task::Live { track, from });
+        let alarms = has_flag_after(matches, "live", "alarms");
+        return Some(Task::Live {
+            track,
+            from,
+            alarms,
+        });
     }
     if let Some(track) = word_after(matches, "explain", "track") {
         let from = input_after(matches, "explain", "from").unwrap_or(1);
@@ -500,12 +547,13 @@ fn input_after<'a>(matches: &ArgMatches<'a>, name: &str, id: &str) -> Option<u32
 
 // Whether a flag stands after the subcommand of this name.
 fn has_flag_after(matches: &ArgMatches<'_>, name: &str, id: &str) -> bool
+    ensures is { result ≡ is_set (flag_after name.now id.now (subcommand_rows_of matches.now)) }
     ensures set { flag_after name.now id.now (subcommand_rows_of matches.now) ≡ Some (codes "true") → result ≡ true }
     ensures unset { flag_after name.now id.now (subcommand_rows_of matches.now) ≡ Some (codes "false")
         → result ≡ false }
 {
     match matches.subcommand_matches(name) {
-        Some(found) => found.get_flag(id),
+        Some(found) => found.get_one::<bool>(id).unwrap_or(false),
         None => false,
     }
 }

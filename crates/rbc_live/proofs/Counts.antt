@@ -121,8 +121,8 @@ faults_of_line (Ok done) plan line input records most is at = tt
 faults_of_line (Err fault) plan line input records most is at = fault_of_line plan line input records most fault is at
 
 -- the step of the input of a line is one of the line
-pub fed_by_line : {E : Type 0} (r : Result Answer E) (plan : Plan) (line : List ℕ) (input : Input) (old new : List (Key × Rec))
-    → IsInput (line_of line) input → IfOk r (λ answer. IsStepOf plan input old new answer.reply answer.messages)
-    → IfOk r (λ answer. IsFed plan line old new answer.reply answer.messages)
-fed_by_line (Ok answer) plan line input old new is steps = (input, is, steps)
+pub fed_by_line : {E : Type 0} (r : Result (Answer × List (Key × Option Rec)) E) (plan : Plan) (line : List ℕ) (input : Input) (old new : List (Key × Rec))
+    → IsInput (line_of line) input → IfOk r (λ taken. IsStepOf plan input old new taken.0.reply taken.0.messages)
+    → IfOk r (λ taken. IsFed plan line old new taken.0.reply taken.0.messages)
+fed_by_line (Ok taken) plan line input old new is steps = (input, is, steps)
 fed_by_line (Err fault) plan line input old new is steps = tt

@@ -13,3 +13,9 @@ mod Taking
 mod Cutting
 mod Ending
 mod Calling
+pub mod Causing
+pub mod NothingWaits
+mod Changing
+mod AlarmReasons
+pub mod Following
+pub mod Showing

@@ -22,7 +22,7 @@ use Rattle.rbc_live.specs.History.{AreSame, IsStepOf, Taken, IsHistory, posted, 
 use Rattle.rbc_live.proofs.Steps.{same_world}
 
 -- one input more
-fold_snoc : {A B : Type 0} (f : A → B → A) (a : A) (xs : List B) (x : B) → fold f a (xs ++ x ∷ []) ≡ f (fold f a xs) x
+pub fold_snoc : {A B : Type 0} (f : A → B → A) (a : A) (xs : List B) (x : B) → fold f a (xs ++ x ∷ []) ≡ f (fold f a xs) x
 fold_snoc f a [] x = refl
 fold_snoc f a (y ∷ xs) x = fold_snoc f (f a y) xs x
 
@@ -43,12 +43,12 @@ goes_on plan input old new reply messages one is =
     (is.0 ++ input ∷ [], subst (λ (d : Desk). AreRecordsOf plan (record_in new) d.world) (sym (fold_snoc (step plan) new_desk is.0 input)) (one (serial plan new_desk is.0).world is.1).0)
 
 -- records, results and outboxes
-abbrev standing_of : List (Key × Rec) → List Reply → List (ℕ × List Mail) → Standing
+abbrev pub standing_of : List (Key × Rec) → List Reply → List (ℕ × List Mail) → Standing
 standing_of records results outboxes = record { records = record_in records; results = results; outboxes = outboxes }
 
 module _ (plan : Plan) where
   -- a line is a step of the desk
-  one_line : (input : Input) (old before after : List (Key × Rec)) (results : List Reply) (outboxes : List (ℕ × List Mail)) (reply : Reply) (messages : List Sent) (desk : Desk)
+  pub one_line : (input : Input) (old before after : List (Key × Rec)) (results : List Reply) (outboxes : List (ℕ × List Mail)) (reply : Reply) (messages : List Sent) (desk : Desk)
       → AreOutboxes outboxes → AreSame old before → IsStepOf plan input before after reply messages → Holds plan (standing_of old results outboxes) desk
       → Holds plan (standing_of after (results ++ reply ∷ []) (post_each (length results + 1) outboxes messages)) (step plan desk input)
   one_line input old before after results outboxes reply messages desk boxes same is h =
@@ -63,7 +63,7 @@ module _ (plan : Plan) where
       }
 
   -- one result more
-  length_snoc : (results : List Reply) (reply : Reply) → length (results ++ reply ∷ []) ≡ length results + 1
+  pub length_snoc : (results : List Reply) (reply : Reply) → length (results ++ reply ∷ []) ≡ length results + 1
   length_snoc [] reply = refl
   length_snoc (r ∷ results) reply = let h = length_snoc results reply in omega (arith, h)
 

@@ -7,6 +7,7 @@ use Rattle.rbc_text.specs.BatchText.{lines_of}
 use Rattle.rbc_text.specs.Streams.{IsAllRead}
 use Rattle.rbc_live.specs.Lines.{ended_lines_of, AreAnswers, AreFirstAnswers}
 use Rattle.rbc_live.specs.declared.prompt.PromptError.{PromptError}
+use Rattle.rbc_live.specs.declared.wanted.Wanted.{Wanted}
 use Rattle.rbc_live.specs.declared.prompt.PromptError.TheVariants.{Read, Memory, Write}
 
 -- a number as it is counted, up to 2 ^ 64 - 1
@@ -17,17 +18,17 @@ count_of number = min number (2 ^ 64 - 1)
 abbrev pub IsPartOut : Option (List ℕ) → Option (List ℕ) → List ℕ → ℕ → Type 0
 IsPartOut old new text sent = (out : ℕ) × (out ≤ length text) × (sent ≡ count_of out) × Appends old new (take out text)
 
--- At Ok all lines that were read are answered, and nothing else is written. At a read fault all lines that have ended are. Where memory was
+-- At Ok what is wanted of all lines that were read is out, and nothing else is written. At a read fault all lines that have ended are. Where memory was
 -- refused the first lines are, each answer whole; at a write fault the first bytes of such a text are out.
-abbrev pub Answers : {E : Type 0} → Plan → ℕ → Option (List ℕ) → Option (List ℕ) → Option (List ℕ) → Option (List ℕ) → Result E PromptError → Type 0
-Answers plan from read_old read_new old new (Ok done) =
-    (batch text : List ℕ) × IsAllRead read_old read_new batch × AreAnswers plan from (lines_of batch) text × Appends old new text
-Answers plan from read_old read_new old new (Err Read) =
-    (batch text : List ℕ) × Consumes read_old read_new batch × AreAnswers plan from (ended_lines_of batch) text × Appends old new text
-Answers plan from read_old read_new old new (Err Memory) =
-    (batch text : List ℕ) × Consumes read_old read_new batch × AreFirstAnswers plan from (lines_of batch) text × Appends old new text
-Answers plan from read_old read_new old new (Err (Write sent)) =
-    (batch text : List ℕ) × Consumes read_old read_new batch × AreFirstAnswers plan from (lines_of batch) text × IsPartOut old new text sent
+abbrev pub Answers : {E : Type 0} → Plan → Wanted → Option (List ℕ) → Option (List ℕ) → Option (List ℕ) → Option (List ℕ) → Result E PromptError → Type 0
+Answers plan wanted read_old read_new old new (Ok done) =
+    (batch text : List ℕ) × IsAllRead read_old read_new batch × AreAnswers plan wanted (lines_of batch) text × Appends old new text
+Answers plan wanted read_old read_new old new (Err Read) =
+    (batch text : List ℕ) × Consumes read_old read_new batch × AreAnswers plan wanted (ended_lines_of batch) text × Appends old new text
+Answers plan wanted read_old read_new old new (Err Memory) =
+    (batch text : List ℕ) × Consumes read_old read_new batch × AreFirstAnswers plan wanted (lines_of batch) text × Appends old new text
+Answers plan wanted read_old read_new old new (Err (Write sent)) =
+    (batch text : List ℕ) × Consumes read_old read_new batch × AreFirstAnswers plan wanted (lines_of batch) text × IsPartOut old new text sent
 
 -- the text of a fault
 abbrev pub fault_text : PromptError → List ℕ

@@ -12,7 +12,7 @@ use Rattle.rbc_rule.specs.World.{World}
 use Rattle.rbc_rule.specs.Step.{step, count_sent}
 use Rattle.rbc_rule.specs.Right.{messages_to}
 use Rattle.rbc_text.specs.Mail.{Mail}
-use Rattle.rbc_text.specs.Held.{AreRecordsOf, Holds, post_each}
+use Rattle.rbc_text.specs.Held.{AreRecordsOf, Holds, Standing, post_each}
 use Rattle.rbc_text.specs.Serial.{serial, new_desk}
 use Rattle.rbc_text.specs.BatchText.{line_of, IsInput, AreInputs}
 use Rattle.rbc_live.specs.declared.desk.LiveFault.{LiveFault}
@@ -71,11 +71,17 @@ abbrev pub posted : ℕ → List (ℕ × List Mail) → List Taken → List (ℕ
 posted number outboxes [] = outboxes
 posted number outboxes (taken ∷ more) = posted (number + 1) (post_each number outboxes taken.messages) more
 
--- the records, the answers and the messages are those of the serial run of the lines' inputs, from a new desk
+-- what stands after lines that led to these records: the records, the answers and the messages
+abbrev pub standing_after : List Taken → List (Key × Rec) → Standing
+standing_after taken records = record { records = record_in records; results = map (λ one. one.reply) taken; outboxes = posted 1 [] taken }
+
+-- these are the inputs of the lines, and what stands after them is that of their serial run, from a new desk
+abbrev pub IsSerialOf : Plan → List Input → List Taken → List (Key × Rec) → Type 0
+IsSerialOf plan inputs taken records = AreInputs (map (λ one. one.line) taken) inputs × Holds plan (standing_after taken records) (serial plan new_desk inputs)
+
+-- the same of some inputs of the lines
 abbrev pub IsSerialRunOf : Plan → List Taken → List (Key × Rec) → Type 0
-IsSerialRunOf plan taken records =
-    (inputs : List Input) × AreInputs (map (λ one. one.line) taken) inputs
-    × Holds plan (record { records = record_in records; results = map (λ one. one.reply) taken; outboxes = posted 1 [] taken }) (serial plan new_desk inputs)
+IsSerialRunOf plan taken records = (inputs : List Input) × AreInputs (map (λ one. one.line) taken) inputs × Holds plan (standing_after taken records) (serial plan new_desk inputs)
 
 -- on each track, for all lines that are taken from the opening of a desk on
 abbrev pub EachHistoryIsSerial : Type 0

@@ -1,3 +1,9 @@
+pub mod Known
+pub mod Waits
+pub mod Causes
+pub mod Alarms
+pub mod Watching
+pub mod AlarmLaws
 pub mod Serial
 pub mod History
 pub mod Witnesses

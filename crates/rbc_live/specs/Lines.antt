@@ -4,9 +4,13 @@ use Rattle.std.specs.List.{slice_split}
 use Rattle.rbc_track.specs.Plan.{Plan}
 use Rattle.rbc_records.specs.declared.record.Key.{Key}
 use Rattle.rbc_records.specs.declared.record.Rec.{Rec}
+use Rattle.rbc_rule.specs.declared.input.Input.{Input}
+use Rattle.rbc_text.specs.Serial.{Desk, step, new_desk}
 use Rattle.rbc_text.specs.BatchText.{is_line_feed}
 use Rattle.rbc_text.specs.OutputText.{answer_of}
-use Rattle.rbc_live.specs.History.{Taken, IsSerialRunOf}
+use Rattle.rbc_live.specs.declared.wanted.Wanted.{Wanted}
+use Rattle.rbc_live.specs.Alarms.{alarms_shown}
+use Rattle.rbc_live.specs.History.{Taken, IsSerialOf}
 
 -- all but the last one
 abbrev pub but_last : List (List ℕ) → List (List ℕ)
@@ -18,27 +22,33 @@ but_last (line ∷ more ∷ lines) = line ∷ but_last (more ∷ lines)
 abbrev pub ended_lines_of : List ℕ → List (List ℕ)
 ended_lines_of text = but_last (slice_split is_line_feed text)
 
--- the answer to a line of this number, where answers are written from that number on
+-- the answer to a line of this number, where answers are written from a number on
 abbrev pub shown : ℕ → ℕ → Taken → List ℕ
 shown from number taken = if nat_le from number then answer_of number taken.reply taken.messages else []
 
--- the answers to lines, of which the first has this number
-abbrev pub answers_from : ℕ → ℕ → List Taken → List ℕ
-answers_from from number [] = []
-answers_from from number (taken ∷ more) = shown from number taken ++ answers_from from (number + 1) more
+-- what is written of a line of this number, whose input a desk takes: the answer, and then the alarms that change
+abbrev pub written_of : Plan → Wanted → ℕ → Desk → Input → Taken → List ℕ
+written_of plan wanted number desk input taken = shown wanted.from number taken ++ alarms_shown plan wanted number desk.world (step plan desk input).world
 
--- The text is that of the answers to these lines, of which the first has number 1, from a number on: the answers and the messages are
--- those of the serial run of the lines, from a new desk.
-pub record AreAnswers (plan : Plan) (from : ℕ) (lines : List (List ℕ)) (text : List ℕ) : Type 0 where
+-- what is written of lines, of which the first has this number, and of their inputs, which a desk takes one after another
+abbrev pub answers_from : Plan → Wanted → ℕ → Desk → List Input → List Taken → List ℕ
+answers_from plan wanted number desk (input ∷ inputs) (taken ∷ more) = written_of plan wanted number desk input taken ++ answers_from plan wanted (number + 1) (step plan desk input) inputs more
+answers_from plan wanted number desk [] taken = []
+answers_from plan wanted number desk (input ∷ inputs) [] = []
+
+-- The text is what is wanted of these lines, of which the first has number 1: the answers, the messages and the alarms are those of the
+-- serial run of the lines, from a new desk.
+pub record AreAnswers (plan : Plan) (wanted : Wanted) (lines : List (List ℕ)) (text : List ℕ) : Type 0 where
   pub taken : List Taken
   pub records : List (Key × Rec)
+  pub inputs : List Input
   pub fed : map (λ one. one.line) taken ≡ lines
-  pub serial : IsSerialRunOf plan taken records
-  pub spelled : text ≡ answers_from from 1 taken
+  pub serial : IsSerialOf plan inputs taken records
+  pub spelled : text ≡ answers_from plan wanted 1 new_desk inputs taken
 
--- the text is that of the answers to the first of these lines, to some or all
-pub record AreFirstAnswers (plan : Plan) (from : ℕ) (lines : List (List ℕ)) (text : List ℕ) : Type 0 where
+-- the text is that of the first of these lines, of some or all
+pub record AreFirstAnswers (plan : Plan) (wanted : Wanted) (lines : List (List ℕ)) (text : List ℕ) : Type 0 where
   pub answered : List (List ℕ)
   pub more : List (List ℕ)
   pub parts : lines ≡ answered ++ more
-  pub answers : AreAnswers plan from answered text
+  pub answers : AreAnswers plan wanted answered text

@@ -4,7 +4,12 @@ use Rattle.std.specs.Io.KnownBytes.{Appends}
 use Rattle.rbc_track.specs.Plan.{Plan}
 use Rattle.rbc_records.specs.declared.record.Key.{Key}
 use Rattle.rbc_records.specs.declared.record.Rec.{Rec}
-use Rattle.rbc_live.specs.History.{Taken, IsHistory}
+use Rattle.rbc_rule.specs.declared.input.Input.{Input}
+use Rattle.rbc_text.specs.Held.{AreOutboxes}
+use Rattle.rbc_text.specs.Serial.{new_desk}
+use Rattle.rbc_live.specs.History.{Taken, IsSerialOf, posted}
+use Rattle.rbc_live.specs.Watching.{IsWatchFor}
+use Rattle.rbc_live.specs.declared.wanted.Wanted.{Wanted}
 use Rattle.rbc_live.specs.Lines.{but_last, answers_from, AreAnswers, AreFirstAnswers}
 use Rattle.rbc_live.specs.Answers.{count_of, IsPartOut}
 use Rattle.rbc_live.specs.GoingOn.{GoesOnAs, max_kept}
@@ -20,28 +25,33 @@ pub record Shows (line : List ℕ) (kept : UnfinishedLine) : Type 0 where
   pub within : length kept.bytes.items ≤ length line
   pub few : length kept.bytes.items ≤ max_kept
 
--- The answers to these lines, which were taken from a new desk, are out, or else in the text; so many bytes are out.
-pub record ArePending (plan : Plan) (from : ℕ) (text : List ℕ) (sent : ℕ) (old new : Option (List ℕ)) (ended : List (List ℕ)) : Type 0 where
+-- What is wanted of these lines, which were taken from a new desk, is out, or else in the text; so many bytes are out.
+pub record ArePending (plan : Plan) (wanted : Wanted) (text : List ℕ) (sent : ℕ) (old new : Option (List ℕ)) (ended : List (List ℕ)) : Type 0 where
   pub taken : List Taken
   pub records : List (Key × Rec)
+  pub inputs : List Input
   pub written : List ℕ
   pub fed : map (λ one. one.line) taken ≡ ended
-  pub history : IsHistory plan [] taken records
-  pub all : written ++ text ≡ answers_from from 1 taken
+  pub serial : IsSerialOf plan inputs taken records
+  pub all : written ++ text ≡ answers_from plan wanted 1 new_desk inputs taken
   pub out : Appends old new written
   pub count : sent ≡ count_of (length written)
 
 -- The same of a session, which can go on: the next line has begun with these bytes.
-pub record IsUnderWay (plan : Plan) (from : ℕ) (session : Session) (old new : Option (List ℕ)) (ended : List (List ℕ)) (rest : List ℕ) : Type 0 where
+pub record IsUnderWay (plan : Plan) (wanted : Wanted) (session : Session) (old new : Option (List ℕ)) (ended : List (List ℕ)) (rest : List ℕ) : Type 0 where
   pub taken : List Taken
+  pub inputs : List Input
   pub written : List ℕ
   pub fed : map (λ one. one.line) taken ≡ ended
-  pub history : IsHistory plan [] taken session.desk.records
-  pub all : written ++ session.text.items ≡ answers_from from 1 taken
+  pub serial : IsSerialOf plan inputs taken session.desk.records
+  pub as_many : length inputs ≡ length taken
+  pub boxes : AreOutboxes (posted 1 [] taken)
+  pub all : written ++ session.text.items ≡ answers_from plan wanted 1 new_desk inputs taken
   pub out : Appends old new written
   pub count : session.outlet.sent ≡ count_of (length written)
   pub track : session.desk.track ≡ plan
-  pub first : session.from ≡ from
+  pub first : session.wanted ≡ wanted
+  pub watch : IsWatchFor wanted.alarms plan.horizon session.desk.records session.watch
   pub next : session.number ≡ length taken + 1
   pub begun : Shows rest session.line
 
@@ -54,15 +64,15 @@ abbrev pub IsCutShort : ℕ → List ℕ → Option (List ℕ) → Option (List 
 IsCutShort sent text old new fault = (part : ℕ) × (part ≤ length text) × Appends old new (take part text) × (fault ≡ Write (count_of (sent + part)))
 
 -- a fault in mid-course: the answers to the first of these lines are out, or at a write fault the first bytes of them
-abbrev pub IsEnded : Plan → ℕ → List (List ℕ) → Option (List ℕ) → Option (List ℕ) → PromptError → Type 0
-IsEnded plan from lines old new Read = ⊥
-IsEnded plan from lines old new Memory = (text : List ℕ) × AreFirstAnswers plan from lines text × Appends old new text
-IsEnded plan from lines old new (Write sent) = (text : List ℕ) × AreFirstAnswers plan from lines text × IsPartOut old new text sent
+abbrev pub IsEnded : Plan → Wanted → List (List ℕ) → Option (List ℕ) → Option (List ℕ) → PromptError → Type 0
+IsEnded plan wanted lines old new Read = ⊥
+IsEnded plan wanted lines old new Memory = (text : List ℕ) × AreFirstAnswers plan wanted lines text × Appends old new text
+IsEnded plan wanted lines old new (Write sent) = (text : List ℕ) × AreFirstAnswers plan wanted lines text × IsPartOut old new text sent
 
 -- it goes on, or ends with a fault
-abbrev pub GoesOn : {E : Type 0} → Plan → ℕ → List (List ℕ) → Option (List ℕ) → Option (List ℕ) → Result E PromptError → Type 0 → Type 0
-GoesOn plan from lines old new (Ok done) P = P
-GoesOn plan from lines old new (Err fault) P = IsEnded plan from lines old new fault
+abbrev pub GoesOn : {E : Type 0} → Plan → Wanted → List (List ℕ) → Option (List ℕ) → Option (List ℕ) → Result E PromptError → Type 0 → Type 0
+GoesOn plan wanted lines old new (Ok done) P = P
+GoesOn plan wanted lines old new (Err fault) P = IsEnded plan wanted lines old new fault
 
 -- pieces, of which the first goes on from what stands before it
 abbrev pub joined : List ℕ → List (List ℕ) → List (List ℕ)
@@ -70,11 +80,11 @@ joined rest [] = rest ∷ []
 joined rest (first ∷ more) = (rest ++ first) ∷ more
 
 -- the answers to all these lines are out
-abbrev pub IsDone : Plan → ℕ → List (List ℕ) → Option (List ℕ) → Option (List ℕ) → Type 0
-IsDone plan from lines old new = (text : List ℕ) × AreAnswers plan from lines text × Appends old new text
+abbrev pub IsDone : Plan → Wanted → List (List ℕ) → Option (List ℕ) → Option (List ℕ) → Type 0
+IsDone plan wanted lines old new = (text : List ℕ) × AreAnswers plan wanted lines text × Appends old new text
 
 -- all pieces but the last one were taken as lines, and the last one has begun; or it ends with a fault
-abbrev pub HasTaken : {E : Type 0} → Plan → ℕ → List (List ℕ) → Option (List ℕ) → Option (List ℕ) → Session → Result E PromptError → Type 0
-HasTaken plan from pieces old new session (Ok done) =
-    (ended : List (List ℕ)) × (rest : List ℕ) × (pieces ≡ ended ++ rest ∷ []) × IsUnderWay plan from session old new ended rest
-HasTaken plan from pieces old new session (Err fault) = IsEnded plan from (but_last pieces) old new fault
+abbrev pub HasTaken : {E : Type 0} → Plan → Wanted → List (List ℕ) → Option (List ℕ) → Option (List ℕ) → Session → Result E PromptError → Type 0
+HasTaken plan wanted pieces old new session (Ok done) =
+    (ended : List (List ℕ)) × (rest : List ℕ) × (pieces ≡ ended ++ rest ∷ []) × IsUnderWay plan wanted session old new ended rest
+HasTaken plan wanted pieces old new session (Err fault) = IsEnded plan wanted (but_last pieces) old new fault

@@ -7,8 +7,9 @@ ghost use Rattle.rbc_rule.specs.Gathered.{AreSendable};
 ghost use Rattle.rbc_rule.specs.Inputs.{Fits};
 ghost use Rattle.rbc_live.specs.Serial.{IsSerial};
 ghost use Rattle.rbc_live.specs.History.{IsFed, IsStepOf, AreSame, IsFaultAt, IsFaultOf};
+ghost use Rattle.rbc_live.specs.Watching.{StayBut};
 
-use rbc_records::{PlainStore, apply};
+use rbc_records::{PlainStore, Writes, exchange};
 use rbc_rule::{Input, Reply, RuleFault, SentList};
 use rbc_text::{decide, parse_line, step_law};
 use rbc_track::{Track, TrackError, track_from_toml};
@@ -81,7 +82,6 @@ impl LiveDesk {
     ///
     /// `Memory` where memory was refused; `Room` with the number of messages where there are more than `most`. The desk
     /// is then as it was, and the line may be fed again.
-    #[tactic(auto, using(crate::proofs::Counts::faults_of_line))]
     pub fn feed(&mut self, alloc: Global, line: &[u8], most: usize) -> Result<Answer, LiveFault>
         ensures step { IfOk result (λ answer. IsFed self.old.track line.now self.old.records self.new.records
             answer.reply answer.messages) }
@@ -91,8 +91,34 @@ impl LiveDesk {
         ensures fault { IfErr result (λ fault. IsFaultOf self.old.track line.now self.old.records most fault) }
         ensures stays { OnErr result (AreSame self.old.records self.new.records) }
     {
+        let (answer, replaced) = self.feed_replacing(alloc, line, most)?;
+        self.keep_spare(replaced);
+        Ok(answer)
+    }
+
+    /// Takes one line as `feed` does, and hands back the records that its writes replaced, in their place.
+    ///
+    /// # Errors
+    ///
+    /// Those of `feed`.
+    #[tactic(auto, using(crate::proofs::Counts::faults_of_line))]
+    pub fn feed_replacing(
+        &mut self,
+        alloc: Global,
+        line: &[u8],
+        most: usize,
+    ) -> Result<(Answer, Writes), LiveFault>
+        ensures step { IfOk result (λ taken. IsFed self.old.track line.now self.old.records self.new.records
+            taken.0.reply taken.0.messages) }
+        ensures stay { IfOk result (λ taken. StayBut taken.1 self.old.records self.new.records) }
+        ensures fit { IfOk result (λ taken. AreSendable taken.0.messages) }
+        ensures few { IfOk result (λ taken. length taken.0.messages ≤ most) }
+        ensures track { self.new.track ≡ self.old.track }
+        ensures fault { IfErr result (λ fault. IsFaultOf self.old.track line.now self.old.records most fault) }
+        ensures stays { OnErr result (AreSame self.old.records self.new.records) }
+    {
         let input = parse_line(alloc, line)?;
-        self.take(alloc, &input, most)
+        self.take_replacing(alloc, &input, most)
     }
 
     /// Takes one input, which may send at most `most` messages, as `feed` takes its line.
@@ -110,6 +136,32 @@ impl LiveDesk {
         ensures fault { IfErr result (λ fault. IsFaultAt self.old.track input.now self.old.records most fault) }
         ensures stays { OnErr result (AreSame self.old.records self.new.records) }
     {
+        let (answer, replaced) = self.take_replacing(alloc, input, most)?;
+        self.keep_spare(replaced);
+        Ok(answer)
+    }
+
+    /// Takes one input as `take` does, and hands back the records that its writes replaced, in their place.
+    ///
+    /// # Errors
+    ///
+    /// Those of `feed`.
+    fn take_replacing(
+        &mut self,
+        alloc: Global,
+        input: &Input,
+        most: usize,
+    ) -> Result<(Answer, Writes), LiveFault>
+        requires { Fits input.now }
+        ensures step { IfOk result (λ taken. IsStepOf self.old.track input.now self.old.records self.new.records
+            taken.0.reply taken.0.messages) }
+        ensures stay { IfOk result (λ taken. StayBut taken.1 self.old.records self.new.records) }
+        ensures fit { IfOk result (λ taken. AreSendable taken.0.messages) }
+        ensures few { IfOk result (λ taken. length taken.0.messages ≤ most) }
+        ensures track { self.new.track ≡ self.old.track }
+        ensures fault { IfErr result (λ fault. IsFaultAt self.old.track input.now self.old.records most fault) }
+        ensures stays { OnErr result (AreSame self.old.records self.new.records) }
+    {
         is_plan(&self.track);
         step_law();
         let outcome = match decide(alloc, &self.track, input, &mut self.records) {
@@ -122,12 +174,21 @@ impl LiveDesk {
         if outcome.messages.len() > most {
             return Err(LiveFault::Room(outcome.messages.len()));
         }
-        match apply(&mut self.records, outcome.writes) {
-            Ok(()) => Ok(Answer {
-                reply: outcome.result,
-                messages: outcome.messages,
-            }),
+        let answer = Answer {
+            reply: outcome.result,
+            messages: outcome.messages,
+        };
+        match exchange(&mut self.records, outcome.writes) {
+            Ok(replaced) => Ok((answer, replaced)),
             Err(_) => Err(LiveFault::Memory),
         }
+    }
+
+    /// Keeps what an input replaced for the memory of the next one.
+    pub fn keep_spare(&mut self, replaced: Writes)
+        ensures records { self.new.records ≡ self.old.records }
+        ensures track { self.new.track ≡ self.old.track }
+    {
+        self.records.keep_spare(replaced);
     }
 }

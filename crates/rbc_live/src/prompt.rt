@@ -7,6 +7,7 @@ ghost use Rattle.rbc_live.specs.Calls.{AreCallsAt};
 use crate::calls::Calls;
 use crate::desk::LiveDesk;
 use crate::session::Session;
+use crate::wanted::Wanted;
 use std::alloc::Global;
 use std::error::Error;
 use std::fmt;
@@ -44,9 +45,9 @@ impl fmt::Display for PromptError {
 
 impl Error for PromptError {}
 
-/// Reads lines to the end of the reader, and takes each on a desk that has taken none. The answers to the lines from
-/// number `from` on are written and flushed before the reader is asked for more. The last line may lack its line feed.
-/// However long a line is, at most 131,072 bytes of it are kept.
+/// Reads lines to the end of the reader, and takes each on a desk that has taken none. What is wanted of them, the answers
+/// from a number on and alarms, is written and flushed before the reader is asked for more. The last line may lack its
+/// line feed. However long a line is, at most 131,072 bytes of it are kept.
 ///
 /// # Errors
 ///
@@ -56,13 +57,13 @@ pub fn answer_lines<R: Read, W: Write>(
     desk: LiveDesk,
     reader: &mut R,
     writer: &mut W,
-    from: u64,
+    wanted: Wanted,
 ) -> Result<(), PromptError>
     requires { desk.records ≡ [] }
-    ensures { Answers desk.track from (R.remaining reader.old) (R.remaining reader.new)
+    ensures { Answers desk.track wanted (R.remaining reader.old) (R.remaining reader.new)
         (W.contents writer.old) (W.contents writer.new) result }
 {
-    answer_counted(alloc, desk, reader, writer, from, &mut Calls::new())
+    answer_counted(alloc, desk, reader, writer, wanted, &mut Calls::new())
 }
 
 /// Does what `answer_lines` does, and counts the calls of the reader.
@@ -75,16 +76,16 @@ fn answer_counted<R: Read, W: Write>(
     desk: LiveDesk,
     reader: &mut R,
     writer: &mut W,
-    from: u64,
+    wanted: Wanted,
     calls: &mut Calls,
 ) -> Result<(), PromptError>
     requires empty { desk.records ≡ [] }
     requires uncalled { calls.old.made ≡ 0 }
-    ensures answers { Answers desk.track from (R.remaining reader.old) (R.remaining reader.new)
+    ensures answers { Answers desk.track wanted (R.remaining reader.old) (R.remaining reader.new)
         (W.contents writer.old) (W.contents writer.new) result }
     ensures called { AreCallsAt result calls.new }
 {
-    let mut session = Session::new(alloc, desk, from);
+    let mut session = Session::new(alloc, desk, wanted);
     let mut piece = [0u8; PIECE];
     while calls.may_go_on() {
         match calls.read(reader, &mut piece) {

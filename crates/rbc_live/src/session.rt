@@ -7,11 +7,14 @@ ghost use Rattle.rbc_text.specs.BatchText.{is_line_feed, without_empty_end};
 ghost use Rattle.rbc_live.specs.Lines.{but_last};
 ghost use Rattle.rbc_live.specs.UnderWay.{ArePending, IsUnderWay, IsWaiting, IsDone, GoesOn, IsEnded, HasTaken};
 ghost use Rattle.rbc_live.specs.UnderWay.{joined};
+ghost use Rattle.rbc_live.specs.declared.wanted.Wanted.{Wanted};
 
 use crate::desk::{LiveDesk, LiveFault};
 use crate::line::UnfinishedLine;
 use crate::outlet::Outlet;
 use crate::prompt::PromptError;
+use crate::wanted::Wanted;
+use crate::watch::{Watch, alarm_part, watch_for};
 use rbc_text::{cut, render_answer};
 use std::alloc::{AllocError, Global};
 use std::io::Write;
@@ -23,8 +26,9 @@ const ENOUGH: usize = 65_536;
 #[derive(Drop)]
 pub struct Session {
     desk: LiveDesk,
-    /// The number of the first line whose answer is written.
-    from: u64,
+    wanted: Wanted,
+    /// The alarms that stand, where they are wanted.
+    watch: Option<Watch>,
     /// The number of the next line; the first has number 1.
     number: u64,
     line: UnfinishedLine,
@@ -35,15 +39,16 @@ pub struct Session {
 
 impl Session {
     /// Begins at a desk that has taken no line. It takes no memory.
-    pub fn new(alloc: Global, desk: LiveDesk, from: u64) -> Session
+    pub fn new(alloc: Global, desk: LiveDesk, wanted: Wanted) -> Session
         requires { desk.records ≡ [] }
-        ensures under_way { (known : Option (List ℕ)) → IsUnderWay desk.track from result known known [] [] }
+        ensures under_way { (known : Option (List ℕ)) → IsUnderWay desk.track wanted result known known [] [] }
         ensures waiting { IsWaiting result }
         ensures number { result.number ≡ 1 }
     {
         Session {
             desk,
-            from,
+            wanted,
+            watch: watch_for(alloc, wanted),
             number: 1,
             line: UnfinishedLine::new(alloc),
             text: Vec::new(alloc),
@@ -55,27 +60,31 @@ impl Session {
     /// memory; the text is then as it was.
     fn take_line(&mut self, alloc: Global, end: &[u8]) -> Result<(), AllocError>
         requires { self.old.number + 1 < 2 ^ 64 }
-        ensures taken { (plan : Plan) (from : ℕ) (old new : Option (List ℕ)) (ended : List (List ℕ)) (rest : List ℕ)
-            → IsUnderWay plan from self.old old new ended rest
-            → OnOk result (IsUnderWay plan from self.new old new (ended ++ (rest ++ end.now) ∷ []) []) }
+        ensures taken { (plan : Plan) (wanted : Wanted) (old new : Option (List ℕ)) (ended : List (List ℕ)) (rest : List ℕ)
+            → IsUnderWay plan wanted self.old old new ended rest
+            → OnOk result (IsUnderWay plan wanted self.new old new (ended ++ (rest ++ end.now) ∷ []) []) }
         ensures number { OnOk result (self.new.number ≡ self.old.number + 1) }
         ensures text { OnErr result (self.new.text.items ≡ self.old.text.items) }
         ensures sent { self.new.outlet.sent ≡ self.old.outlet.sent }
     {
         self.line.add(alloc, end)?;
-        let answer = match self.desk.feed(alloc, self.line.bytes(), usize::MAX) {
-            Ok(answer) => answer,
+        let line = self.line.bytes();
+        let (answer, replaced) = match self.desk.feed_replacing(alloc, line, usize::MAX) {
+            Ok(taken) => taken,
             Err(LiveFault::Memory) => return Err(AllocError),
             // There is room for as many messages as can be counted.
             Err(LiveFault::Room(_)) => unreachable!(),
         };
-        let number = self.number;
+        let (desk, number) = (&self.desk, self.number);
+        let alarms = alarm_part(alloc, &mut self.watch, desk, &replaced, number, self.wanted)?;
+        self.desk.keep_spare(replaced);
         self.number += 1;
         self.line.clear();
-        if number < self.from {
-            return Ok(());
+        if number < self.wanted.from {
+            return self.text.extend_from_slice(&alarms);
         }
-        let text = render_answer(alloc, number, answer.reply, &answer.messages)?;
+        let mut text = render_answer(alloc, number, answer.reply, &answer.messages)?;
+        text.extend_from_slice(&alarms)?;
         self.text.extend_from_slice(&text)
     }
 
@@ -85,13 +94,13 @@ impl Session {
     ///
     /// `Write`.
     fn write_out<W: Write>(&mut self, writer: &mut W) -> Result<(), PromptError>
-        ensures written { (plan : Plan) (from : ℕ) (old : Option (List ℕ)) (ended : List (List ℕ))
-            → ArePending plan from self.old.text.items self.old.outlet.sent old (W.contents writer.old) ended
-            → GoesOn plan from ended old (W.contents writer.new) result
-            (IsDone plan from ended old (W.contents writer.new)) }
-        ensures under_way { (plan : Plan) (from : ℕ) (old : Option (List ℕ)) (ended : List (List ℕ)) (rest : List ℕ)
-            → IsUnderWay plan from self.old old (W.contents writer.old) ended rest
-            → OnOk result (IsUnderWay plan from self.new old (W.contents writer.new) ended rest) }
+        ensures written { (plan : Plan) (wanted : Wanted) (old : Option (List ℕ)) (ended : List (List ℕ))
+            → ArePending plan wanted self.old.text.items self.old.outlet.sent old (W.contents writer.old) ended
+            → GoesOn plan wanted ended old (W.contents writer.new) result
+            (IsDone plan wanted ended old (W.contents writer.new)) }
+        ensures under_way { (plan : Plan) (wanted : Wanted) (old : Option (List ℕ)) (ended : List (List ℕ)) (rest : List ℕ)
+            → IsUnderWay plan wanted self.old old (W.contents writer.old) ended rest
+            → OnOk result (IsUnderWay plan wanted self.new old (W.contents writer.new) ended rest) }
         ensures waiting { OnOk result (IsWaiting self.new) }
         ensures number { self.new.number ≡ self.old.number }
     {
@@ -102,9 +111,9 @@ impl Session {
 
     /// The fault of a line to which memory was refused: the answers to the lines before it are written first.
     fn out_of_memory<W: Write>(&mut self, writer: &mut W) -> PromptError
-        ensures { (plan : Plan) (from : ℕ) (old : Option (List ℕ)) (ended : List (List ℕ))
-            → ArePending plan from self.old.text.items self.old.outlet.sent old (W.contents writer.old) ended
-            → IsEnded plan from ended old (W.contents writer.new) result }
+        ensures { (plan : Plan) (wanted : Wanted) (old : Option (List ℕ)) (ended : List (List ℕ))
+            → ArePending plan wanted self.old.text.items self.old.outlet.sent old (W.contents writer.old) ended
+            → IsEnded plan wanted ended old (W.contents writer.new) result }
     {
         match self.write_out(writer) {
             Ok(()) => PromptError::Memory,
@@ -124,10 +133,10 @@ impl Session {
         writer: &mut W,
     ) -> Result<(), PromptError>
         requires { self.old.number + 1 < 2 ^ 64 }
-        ensures taken { (plan : Plan) (from : ℕ) (old : Option (List ℕ)) (ended : List (List ℕ)) (rest : List ℕ)
-            → IsUnderWay plan from self.old old (W.contents writer.old) ended rest
-            → GoesOn plan from (ended ++ (rest ++ end.now) ∷ []) old (W.contents writer.new) result
-            (IsUnderWay plan from self.new old (W.contents writer.new) (ended ++ (rest ++ end.now) ∷ []) []) }
+        ensures taken { (plan : Plan) (wanted : Wanted) (old : Option (List ℕ)) (ended : List (List ℕ)) (rest : List ℕ)
+            → IsUnderWay plan wanted self.old old (W.contents writer.old) ended rest
+            → GoesOn plan wanted (ended ++ (rest ++ end.now) ∷ []) old (W.contents writer.new) result
+            (IsUnderWay plan wanted self.new old (W.contents writer.new) (ended ++ (rest ++ end.now) ∷ []) []) }
         ensures number { OnOk result (self.new.number ≡ self.old.number + 1) }
     {
         if self.take_line(alloc, end).is_err() {
@@ -150,10 +159,10 @@ impl Session {
         more: &[u8],
         writer: &mut W,
     ) -> Result<(), PromptError>
-        ensures added { (plan : Plan) (from : ℕ) (old : Option (List ℕ)) (ended : List (List ℕ)) (rest : List ℕ)
-            → IsUnderWay plan from self.old old (W.contents writer.old) ended rest
-            → GoesOn plan from ended old (W.contents writer.new) result
-            (IsUnderWay plan from self.new old (W.contents writer.new) ended (rest ++ more.now)) }
+        ensures added { (plan : Plan) (wanted : Wanted) (old : Option (List ℕ)) (ended : List (List ℕ)) (rest : List ℕ)
+            → IsUnderWay plan wanted self.old old (W.contents writer.old) ended rest
+            → GoesOn plan wanted ended old (W.contents writer.new) result
+            (IsUnderWay plan wanted self.new old (W.contents writer.new) ended (rest ++ more.now)) }
         ensures number { OnOk result (self.new.number ≡ self.old.number) }
     {
         if self.line.add(alloc, more).is_err() {
@@ -174,9 +183,9 @@ impl Session {
         writer: &mut W,
     ) -> Result<(), PromptError>
         requires { self.old.number + length piece.now < 2 ^ 64 }
-        ensures taken { (plan : Plan) (from : ℕ) (old : Option (List ℕ)) (ended : List (List ℕ)) (rest : List ℕ)
-            → IsUnderWay plan from self.old old (W.contents writer.old) ended rest
-            → HasTaken plan from (ended ++ joined rest (slice_split is_line_feed piece.now))
+        ensures taken { (plan : Plan) (wanted : Wanted) (old : Option (List ℕ)) (ended : List (List ℕ)) (rest : List ℕ)
+            → IsUnderWay plan wanted self.old old (W.contents writer.old) ended rest
+            → HasTaken plan wanted (ended ++ joined rest (slice_split is_line_feed piece.now))
             old (W.contents writer.new) self.new result }
         ensures waiting { OnOk result (IsWaiting self.new) }
         ensures number { OnOk result (self.new.number ≤ self.old.number + length piece.now) }
@@ -201,10 +210,10 @@ impl Session {
     pub fn finish<W: Write>(mut self, alloc: Global, writer: &mut W) -> Result<(), PromptError>
         requires number { self.number + 1 < 2 ^ 64 }
         requires waiting { IsWaiting self }
-        ensures { (plan : Plan) (from : ℕ) (old : Option (List ℕ)) (ended : List (List ℕ)) (rest : List ℕ)
-            → IsUnderWay plan from self old (W.contents writer.old) ended rest
-            → GoesOn plan from (without_empty_end (ended ++ rest ∷ [])) old (W.contents writer.new) result
-            (IsDone plan from (without_empty_end (ended ++ rest ∷ [])) old (W.contents writer.new)) }
+        ensures { (plan : Plan) (wanted : Wanted) (old : Option (List ℕ)) (ended : List (List ℕ)) (rest : List ℕ)
+            → IsUnderWay plan wanted self old (W.contents writer.old) ended rest
+            → GoesOn plan wanted (without_empty_end (ended ++ rest ∷ [])) old (W.contents writer.new) result
+            (IsDone plan wanted (without_empty_end (ended ++ rest ∷ [])) old (W.contents writer.new)) }
     {
         if self.line.is_empty() {
             return Ok(());

@@ -7,9 +7,9 @@ use Rattle.rbc_settle.specs.declared.train.TrainRec.{TrainRec}
 use Rattle.rbc_records.specs.declared.record.Key.{Key}
 use Rattle.rbc_records.specs.declared.record.Rec.{Rec}
 use Rattle.rbc_account.specs.declared.state.TrainStanding.{TrainStanding}
-use Rattle.rbc_account.specs.declared.waiting.Waiting.{Waiting}
-use Rattle.rbc_account.specs.Known.{train_in, engines_in, active_stops, active_limits}
-use Rattle.rbc_account.specs.Coming.{waiting_at}
+use Rattle.rbc_live.specs.declared.waiting.Waiting.{Waiting}
+use Rattle.rbc_live.specs.Known.{train_in, engines_in, active_stops, active_limits}
+use Rattle.rbc_live.specs.Waits.{waiting_at}
 use Rattle.rbc_account.specs.Standings.{AreStandings, waiting_of, waiting_told}
 use Rattle.rbc_picture.specs.Titles.{ShownTrain}
 use Rattle.rbc_picture.specs.Trains.{known_train, known_trains}

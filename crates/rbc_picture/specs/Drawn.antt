@@ -12,8 +12,8 @@ use Rattle.rbc_records.specs.declared.record.Rec.{Rec}
 use Rattle.rbc_text.specs.BatchText.{lines_of}
 use Rattle.rbc_account.specs.Process.{IsAllRead}
 use Rattle.rbc_account.specs.History.{Taken, IsSerialRunOf}
-use Rattle.rbc_account.specs.Known.{train_in, engines_in, active_stops, active_limits}
-use Rattle.rbc_account.specs.Coming.{waiting_at}
+use Rattle.rbc_live.specs.Known.{train_in, engines_in, active_stops, active_limits}
+use Rattle.rbc_live.specs.Waits.{waiting_at}
 use Rattle.rbc_account.specs.Runs.{IsAccount}
 use Rattle.rbc_account.specs.declared.account.Account.{Account}
 use Rattle.rbc_picture.specs.Stretches.{stop_stretches, limit_stretches}

@@ -7,9 +7,9 @@ use Rattle.rbc_track.specs.declared.group.Way.{Way}
 use Rattle.rbc_track.specs.declared.group.Way.TheVariants as way
 use Rattle.rbc_zones.specs.declared.limit.Dirs.{Dirs}
 use Rattle.rbc_zones.specs.declared.limit.Dirs.TheVariants as dirs
-use Rattle.rbc_account.specs.declared.waiting.Waiting.{Waiting}
-use Rattle.rbc_account.specs.declared.waiting.Waits.{Waits}
-use Rattle.rbc_account.specs.declared.waiting.Waits.TheVariants as waits
+use Rattle.rbc_live.specs.declared.waiting.Waiting.{Waiting}
+use Rattle.rbc_live.specs.declared.waiting.Waits.{Waits}
+use Rattle.rbc_live.specs.declared.waiting.Waits.TheVariants as waits
 use Rattle.rbc_words.specs.Units.{km_text}
 use Rattle.rbc_picture.specs.declared.stretches.Stretch.{Stretch}
 use Rattle.rbc_picture.specs.declared.stretches.Active.{Active}

@@ -1,7 +1,7 @@
 //! The trains, as a picture shows them.
 
 ghost use Rattle.std.specs.Prelude.{◌≡◌, IfOk, is_some, map};
-ghost use Rattle.rbc_account.specs.Known.{train_in};
+ghost use Rattle.rbc_live.specs.Known.{train_in};
 ghost use Rattle.rbc_picture.specs.Trains.{is_on, is_unplaced, known_train, known_trains, train_shown};
 
 use crate::short_words::{Remark, ShortWord};

@@ -16,7 +16,9 @@ mod words;
 mod writing;
 
 pub use line::parse_line;
-pub use output::{render, render_answer, render_outboxes, render_results};
+pub use output::{
+    push_decimal, push_result, render, render_answer, render_outboxes, render_results,
+};
 pub use rbc_desk::{decide, step_law};
 pub use words::{cut, first_line};
 pub use writing::{write_on, write_text};

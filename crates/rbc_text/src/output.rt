@@ -19,7 +19,7 @@ use std::alloc::{AllocError, Global};
 
 /// Appends a number in decimal, without leading zeros.
 #[inline(always)]
-fn push_decimal(text: &mut Vec<u8>, number: u64) -> Result<(), AllocError>
+pub fn push_decimal(text: &mut Vec<u8>, number: u64) -> Result<(), AllocError>
     ensures { OnOk result (text.new.items ≡ text.old.items ++ decimal number) }
 {
     let mut buffer = Buffer::new();
@@ -51,7 +51,7 @@ fn push_nothing_sent(text: &mut Vec<u8>) -> Result<(), AllocError>
 
 /// Appends the line of one result.
 #[inline(always)]
-fn push_result(text: &mut Vec<u8>, input: u64, reply: Reply) -> Result<(), AllocError>
+pub fn push_result(text: &mut Vec<u8>, input: u64, reply: Reply) -> Result<(), AllocError>
     ensures { OnOk result (text.new.items ≡ text.old.items ++ result_line (input, reply)) }
 {
     push_decimal(text, input)?;

@@ -2,11 +2,17 @@
 
 use super::same;
 use super::setting::TRACK;
-use rbc_live::{LiveDesk, PromptError, answer_lines};
+use rbc_live::{LiveDesk, PromptError, Wanted, answer_lines};
 use std::cell::Cell;
 use std::io;
 use std::io::{ErrorKind, Read, Write};
 use std::process::Abort;
+
+/// All answers, and no alarms.
+const ALL: Wanted = Wanted {
+    from: 1,
+    alarms: false,
+};
 
 /// Four lines, of which the last one lacks its line feed.
 const LINES: &str = "enrol 7 2000\nstop 1 0:0-10\nx\nrelease 1";
@@ -104,7 +110,7 @@ where
         fails_at: course.flush,
         answers_wait: &answers_wait,
     };
-    let result = answer_lines(rt.alloc(), desk, &mut reader, &mut writer, 1);
+    let result = answer_lines(rt.alloc(), desk, &mut reader, &mut writer, ALL);
     same(rt, result, ended);
     let answers = ANSWERS.as_bytes();
     same(

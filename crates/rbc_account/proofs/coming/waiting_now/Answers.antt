@@ -1,5 +1,5 @@
 use Rattle.std.proofs.Common.{◌∙◌, sym}
-use Rattle.rbc_account.proofs.NothingWaits.{nothing_waits}
+use Rattle.rbc_live.proofs.NothingWaits.{nothing_waits}
 use Rattle.rbc_account.proofs.coming.waiting_now.Goals as goal
 
 pub returns-else-lacks_something : goal.returns-else-lacks_something

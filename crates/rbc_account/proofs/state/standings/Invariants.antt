@@ -1,6 +1,6 @@
 use Rattle.std.proofs.Common.{◌≡◌}
 use Rattle.std.specs.List.{filter_map}
-use Rattle.rbc_account.specs.Known.{engines_in}
+use Rattle.rbc_live.specs.Known.{engines_in}
 use Rattle.rbc_account.specs.Standings.{owed_by, waiting_of, waiting_told, waiting_everywhere}
 use Rattle.rbc_account.specs.Totals.{owed_told}
 use Rattle.rbc_account.proofs.Listing.{made_and_left}

@@ -1,7 +1,7 @@
 use Rattle.std.proofs.Common.{◌≡◌, option_copied, sym, ap, ◌∙◌, subst}
 use Rattle.std.proofs.lemmas.Option.{same_Some}
 use Rattle.rbc_settle.specs.declared.train.TrainRec.{TrainRec}
-use Rattle.rbc_account.specs.Known.{active_stops, active_limits}
+use Rattle.rbc_live.specs.Known.{active_stops, active_limits}
 use Rattle.rbc_account.specs.Found.{HasSubject, IsRevokedBy, IsLiftedBy}
 use Rattle.rbc_account.proofs.told.told_by_one.Goals as goal
 

@@ -1,5 +1,5 @@
 use Rattle.std.proofs.Common.{option_copied, subst}
-use Rattle.rbc_account.specs.Known.{active_stops, active_limits}
+use Rattle.rbc_live.specs.Known.{active_stops, active_limits}
 use Rattle.rbc_account.specs.Found.{PacketHasSubject, HasSubject, IsRevokedBy, IsLiftedBy, is_unknown_packet}
 use Rattle.rbc_account.proofs.NeverUnknown.{none_unknown}
 use Rattle.rbc_account.proofs.told.what_of.Goals as goal

@@ -1,4 +1,4 @@
-use Rattle.rbc_dispatch.proofs.Forms.{after_all_by_default, as_many_as_named, begin_at_one_by_default, from_one_by_default, no_figures_by_default, not_by_train_by_default, one_by_default}
+use Rattle.rbc_dispatch.proofs.Forms.{after_all_by_default, alarms_of_live, alarms_of_run, as_many_as_named, begin_at_one_by_default, from_one_by_default, no_figures_by_default, not_by_train_by_default, one_by_default}
 use Rattle.rbc_dispatch.proofs.law.forms_law.Goals as goal
 
 pub returns-clause-one : goal.returns-clause-one
@@ -21,3 +21,9 @@ returns-clause-log c = begin_at_one_by_default
 
 pub returns-clause-drawn : goal.returns-clause-drawn
 returns-clause-drawn c = after_all_by_default
+
+pub returns-clause-run_alarms : goal.returns-clause-run_alarms
+returns-clause-run_alarms c = alarms_of_run
+
+pub returns-clause-live_alarms : goal.returns-clause-live_alarms
+returns-clause-live_alarms c = alarms_of_live

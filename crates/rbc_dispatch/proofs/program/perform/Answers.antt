@@ -12,24 +12,24 @@ use Rattle.rbc_dispatch.proofs.program.perform.Goals as goal
 -- the task that was carried out is the one that the words ask for
 
 pub returns-in_err-carry_out-clause-run : goal.returns-in_err-carry_out-clause-run
-returns-in_err-carry_out-clause-run g c = λ file workers asked.
-    at_handed_on _ (Runs {E = Unit {0}} workers _ _ _ _) _ c.from_residual-in_err-carry_out.ensures.1
-    (c.in_err-carry_out.ensures.run file workers (c.in_ok-task.ensures.run file workers asked))
+returns-in_err-carry_out-clause-run g c = λ file workers alarms asked.
+    at_handed_on _ (Runs {E = Unit {0}} workers alarms _ _ _ _) _ c.from_residual-in_err-carry_out.ensures.1
+    (c.in_err-carry_out.ensures.run file workers alarms (c.in_ok-task.ensures.run file workers alarms asked))
 
 pub returns-in_err-carry_out-clause-keeps : goal.returns-in_err-carry_out-clause-keeps
-returns-in_err-carry_out-clause-keeps g c = λ file workers asked.
+returns-in_err-carry_out-clause-keeps g c = λ file workers alarms asked.
     at_handed_on _ (λ r. Keeps {E = Unit {0}} r c.args.input.now c.carry_out.new.input c.args.output.now c.carry_out.new.output) _ c.from_residual-in_err-carry_out.ensures.1
-    (c.in_err-carry_out.ensures.keeps file workers (c.in_ok-task.ensures.run file workers asked))
+    (c.in_err-carry_out.ensures.keeps file workers alarms (c.in_ok-task.ensures.run file workers alarms asked))
 
 pub returns-in_err-carry_out-clause-live : goal.returns-in_err-carry_out-clause-live
-returns-in_err-carry_out-clause-live g c = λ file from asked.
-    at_handed_on _ (Lives {E = Unit {0}} from _ _ _ _) _ c.from_residual-in_err-carry_out.ensures.1
-    (c.in_err-carry_out.ensures.live file from (c.in_ok-task.ensures.live file from asked))
+returns-in_err-carry_out-clause-live g c = λ file wanted asked.
+    at_handed_on _ (Lives {E = Unit {0}} wanted _ _ _ _) _ c.from_residual-in_err-carry_out.ensures.1
+    (c.in_err-carry_out.ensures.live file wanted (c.in_ok-task.ensures.live file wanted asked))
 
 pub returns-in_err-carry_out-clause-not_begun : goal.returns-in_err-carry_out-clause-not_begun
-returns-in_err-carry_out-clause-not_begun g c = λ file from asked.
+returns-in_err-carry_out-clause-not_begun g c = λ file wanted asked.
     at_handed_on _ (λ r. Keeps {E = Unit {0}} r c.args.input.now c.carry_out.new.input c.args.output.now c.carry_out.new.output) _ c.from_residual-in_err-carry_out.ensures.1
-    (c.in_err-carry_out.ensures.not_begun file from (c.in_ok-task.ensures.live file from asked))
+    (c.in_err-carry_out.ensures.not_begun file wanted (c.in_ok-task.ensures.live file wanted asked))
 
 pub returns-in_err-carry_out-clause-explain : goal.returns-in_err-carry_out-clause-explain
 returns-in_err-carry_out-clause-explain g c = λ file from asked.
@@ -67,10 +67,10 @@ returns-in_err-carry_out-clause-check g c = λ file asked.
     (done.0, at_handed_on _ (Checks {E = Unit {0}}) _ c.from_residual-in_err-carry_out.ensures.1 done.1)
 
 pub returns-clause-run : goal.returns-clause-run
-returns-clause-run g c = λ file workers asked. c.in_ok-carry_out.ensures.run file workers (c.in_ok-task.ensures.run file workers asked)
+returns-clause-run g c = λ file workers alarms asked. c.in_ok-carry_out.ensures.run file workers alarms (c.in_ok-task.ensures.run file workers alarms asked)
 
 pub returns-clause-live : goal.returns-clause-live
-returns-clause-live g c = λ file from asked. c.in_ok-carry_out.ensures.live file from (c.in_ok-task.ensures.live file from asked)
+returns-clause-live g c = λ file wanted asked. c.in_ok-carry_out.ensures.live file wanted (c.in_ok-task.ensures.live file wanted asked)
 
 pub returns-clause-explain : goal.returns-clause-explain
 returns-clause-explain g c = λ file from asked. c.in_ok-carry_out.ensures.explain file from (c.in_ok-task.ensures.explain file from asked)
@@ -108,12 +108,12 @@ returns-in_err-task-clause-unread g c = λ word asked.
 -- memory runs out over the words, and nothing was read or written
 
 pub returns-in_err-task-clause-keeps : goal.returns-in_err-task-clause-keeps
-returns-in_err-task-clause-keeps g c = λ file workers asked.
-    at_memory _ (λ r. Keeps {E = Unit {0}} r c.args.input.now c.args.input.now c.args.output.now c.args.output.now) c.in_err-task.field-0.0 c.from_residual.ensures.1 (c.in_err-task.ensures.run file workers asked) (refl, refl)
+returns-in_err-task-clause-keeps g c = λ file workers alarms asked.
+    at_memory _ (λ r. Keeps {E = Unit {0}} r c.args.input.now c.args.input.now c.args.output.now c.args.output.now) c.in_err-task.field-0.0 c.from_residual.ensures.1 (c.in_err-task.ensures.run file workers alarms asked) (refl, refl)
 
 pub returns-in_err-task-clause-not_begun : goal.returns-in_err-task-clause-not_begun
-returns-in_err-task-clause-not_begun g c = λ file from asked.
-    at_memory _ (λ r. Keeps {E = Unit {0}} r c.args.input.now c.args.input.now c.args.output.now c.args.output.now) c.in_err-task.field-0.0 c.from_residual.ensures.1 (c.in_err-task.ensures.live file from asked) (refl, refl)
+returns-in_err-task-clause-not_begun g c = λ file wanted asked.
+    at_memory _ (λ r. Keeps {E = Unit {0}} r c.args.input.now c.args.input.now c.args.output.now c.args.output.now) c.in_err-task.field-0.0 c.from_residual.ensures.1 (c.in_err-task.ensures.live file wanted asked) (refl, refl)
 
 pub returns-in_err-task-clause-not_told : goal.returns-in_err-task-clause-not_told
 returns-in_err-task-clause-not_told g c = λ file from asked.
@@ -126,12 +126,12 @@ returns-in_err-task-clause-not_drawn g c = λ file after asked.
 -- so the track was not read
 
 pub returns-in_err-task-clause-run : goal.returns-in_err-task-clause-run
-returns-in_err-task-clause-run g c = λ file workers asked.
-    at_memory _ (Runs {E = Unit {0}} workers _ _ _ _) c.in_err-task.field-0.0 c.from_residual.ensures.1 (c.in_err-task.ensures.run file workers asked) (inr (inr refl))
+returns-in_err-task-clause-run g c = λ file workers alarms asked.
+    at_memory _ (Runs {E = Unit {0}} workers alarms _ _ _ _) c.in_err-task.field-0.0 c.from_residual.ensures.1 (c.in_err-task.ensures.run file workers alarms asked) (inr (inr refl))
 
 pub returns-in_err-task-clause-live : goal.returns-in_err-task-clause-live
-returns-in_err-task-clause-live g c = λ file from asked.
-    at_memory _ (Lives {E = Unit {0}} from _ _ _ _) c.in_err-task.field-0.0 c.from_residual.ensures.1 (c.in_err-task.ensures.live file from asked) (inr (inr refl))
+returns-in_err-task-clause-live g c = λ file wanted asked.
+    at_memory _ (Lives {E = Unit {0}} wanted _ _ _ _) c.in_err-task.field-0.0 c.from_residual.ensures.1 (c.in_err-task.ensures.live file wanted asked) (inr (inr refl))
 
 pub returns-in_err-task-clause-explain : goal.returns-in_err-task-clause-explain
 returns-in_err-task-clause-explain g c = λ file from asked.

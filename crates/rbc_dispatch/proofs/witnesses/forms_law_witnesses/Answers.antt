@@ -1,4 +1,4 @@
-use Rattle.rbc_dispatch.proofs.WitnessWords.{below_zero, by_train, by_train_of_four, by_train_twice, drawn_at_first, drawn_too_late, figures, figures_of_four, figures_twice, from_seven, from_zero, leading_zeros, log_from_last, log_from_zero, no_figures, no_number, one, one_whatever_is_named, sixteen, too_great, twice, two_by_default, zero}
+use Rattle.rbc_dispatch.proofs.WitnessWords.{alarms, alarms_from_seven, alarms_of_four, alarms_twice, alarms_unasked, below_zero, by_train, by_train_of_four, by_train_twice, drawn_at_first, drawn_too_late, figures, figures_of_four, figures_twice, from_seven, from_seven_alarms, from_zero, leading_zeros, live_alarms_twice, live_alarms_unasked, log_from_last, log_from_zero, no_figures, no_number, one, one_whatever_is_named, sixteen, too_great, twice, two_by_default, zero}
 use Rattle.rbc_dispatch.proofs.witnesses.forms_law_witnesses.Goals as goal
 
 pub returns-clause-one : goal.returns-clause-one
@@ -69,3 +69,27 @@ returns-clause-drawn_at_first c = drawn_at_first
 
 pub returns-clause-drawn_too_late : goal.returns-clause-drawn_too_late
 returns-clause-drawn_too_late c = drawn_too_late
+
+pub returns-clause-alarms : goal.returns-clause-alarms
+returns-clause-alarms c = alarms
+
+pub returns-clause-alarms_of_four : goal.returns-clause-alarms_of_four
+returns-clause-alarms_of_four c = alarms_of_four
+
+pub returns-clause-alarms_unasked : goal.returns-clause-alarms_unasked
+returns-clause-alarms_unasked c = alarms_unasked
+
+pub returns-clause-alarms_twice : goal.returns-clause-alarms_twice
+returns-clause-alarms_twice c = alarms_twice
+
+pub returns-clause-alarms_from_seven : goal.returns-clause-alarms_from_seven
+returns-clause-alarms_from_seven c = alarms_from_seven
+
+pub returns-clause-from_seven_alarms : goal.returns-clause-from_seven_alarms
+returns-clause-from_seven_alarms c = from_seven_alarms
+
+pub returns-clause-live_alarms_unasked : goal.returns-clause-live_alarms_unasked
+returns-clause-live_alarms_unasked c = live_alarms_unasked
+
+pub returns-clause-live_alarms_twice : goal.returns-clause-live_alarms_twice
+returns-clause-live_alarms_twice c = live_alarms_twice

@@ -11,8 +11,9 @@ use Rattle.clap.specs.declared.error.Error.{Error}
 use Rattle.clap.specs.declared.error.kind.ErrorKind.{ErrorKind}
 use Rattle.clap.specs.declared.parser.matches.ArgMatches.{ArgMatches}
 use Rattle.clap.proofs.OnLiterals.{clap_on_literals}
+use Rattle.rbc_live.specs.declared.wanted.Wanted.{Wanted}
 use Rattle.rbc_dispatch.specs.NoTask.{no_task_of}
-use Rattle.rbc_dispatch.specs.Words.{Finding, IsCheckOf, IsDecode, IsExplainOn, IsFound, IsLiveOn, IsPictureOn, IsRunOn, IsTakenFor, IsWantOfMemory, command_line, count_after, finding_in, input_after, number_after, word_after}
+use Rattle.rbc_dispatch.specs.Words.{Finding, IsCheckOf, IsDecode, IsExplainOn, IsFound, IsLiveOn, IsPictureOn, IsRunOn, IsTakenFor, IsWantOfMemory, command_line, count_after, finding_in, flag_after, input_after, is_set, number_after, word_after}
 use Rattle.rbc_dispatch.specs.declared.no_task.NoTask.{NoTask}
 use Rattle.rbc_dispatch.specs.declared.no_task.NoTask.TheVariants.{OutOfMemory}
 use Rattle.rbc_dispatch.specs.declared.words.Task.{Task}
@@ -59,30 +60,32 @@ not_found (Some x) word none some = cc
 some_now : (a b : Text) → Some a ≡ Some b → a ≡ b
 some_now a b same = ap (λ (o : Option Text). unwrap_or o []) same
 
-run_found : (found : Finding) (task : Task) → IsFound found task → (file : Text) (workers : ℕ)
-    → word_after (codes "run") (codes "track") found ≡ Some file → number_after (codes "run") (codes "workers") found ≡ workers → IsRunOn file workers task
-run_found found (Run track number by_train stats) is file workers asked count = (some_now _ _ (sym is.0 ∙ asked), sym is.1 ∙ count)
-run_found found (Live track from) is file workers asked count = not_both (codes "run") (codes "live") (codes "track") (codes "track") found file track.now refl asked is.0
-run_found found (Explain track first) is file workers asked count = not_both (codes "run") (codes "explain") (codes "track") (codes "track") found file track.now refl asked is.0
-run_found found (Picture track after) is file workers asked count = not_both (codes "run") (codes "picture") (codes "track") (codes "track") found file track.now refl asked is.0
-run_found found (Check track other) is file workers asked count = not_found _ file is.0.0 asked
-run_found found (Decode hex) is file workers asked count = not_both (codes "run") (codes "decode") (codes "track") (codes "HEX") found file hex.now refl asked is
-run_found found Codes is file workers asked count = not_found _ file is.0.0 asked
+run_found : (found : Finding) (task : Task) → IsFound found task → (file : Text) (workers : ℕ) (asked_alarms : Bool)
+    → word_after (codes "run") (codes "track") found ≡ Some file → number_after (codes "run") (codes "workers") found ≡ workers
+    → is_set (flag_after (codes "run") (codes "alarms") found) ≡ asked_alarms → IsRunOn file workers asked_alarms task
+run_found found (Run track number by_train stats alarms) is file workers wanted asked count flag = (some_now _ _ (sym is.0 ∙ asked), sym is.1 ∙ count, sym is.4 ∙ flag)
+run_found found (Live track from alarms) is file workers wanted asked count flag = not_both (codes "run") (codes "live") (codes "track") (codes "track") found file track.now refl asked is.0
+run_found found (Explain track first) is file workers wanted asked count flag = not_both (codes "run") (codes "explain") (codes "track") (codes "track") found file track.now refl asked is.0
+run_found found (Picture track after) is file workers wanted asked count flag = not_both (codes "run") (codes "picture") (codes "track") (codes "track") found file track.now refl asked is.0
+run_found found (Check track other) is file workers wanted asked count flag = not_found _ file is.0.0 asked
+run_found found (Decode hex) is file workers wanted asked count flag = not_both (codes "run") (codes "decode") (codes "track") (codes "HEX") found file hex.now refl asked is
+run_found found Codes is file workers wanted asked count flag = not_found _ file is.0.0 asked
 
-live_found : (found : Finding) (task : Task) → IsFound found task → (file : Text) (from : ℕ)
-    → word_after (codes "live") (codes "track") found ≡ Some file → count_after (codes "live") (codes "from") found ≡ from → IsLiveOn file from task
-live_found found (Run track number by_train stats) is file from asked count = not_both (codes "run") (codes "live") (codes "track") (codes "track") found track.now file refl is.0 asked
-live_found found (Live track first) is file from asked count = (some_now _ _ (sym is.0 ∙ asked), sym is.1 ∙ count)
-live_found found (Explain track first) is file from asked count = not_both (codes "live") (codes "explain") (codes "track") (codes "track") found file track.now refl asked is.0
-live_found found (Picture track after) is file from asked count = not_both (codes "live") (codes "picture") (codes "track") (codes "track") found file track.now refl asked is.0
-live_found found (Check track other) is file from asked count = not_found _ file is.0.1 asked
-live_found found (Decode hex) is file from asked count = not_both (codes "live") (codes "decode") (codes "track") (codes "HEX") found file hex.now refl asked is
-live_found found Codes is file from asked count = not_found _ file is.0.1 asked
+live_found : (found : Finding) (task : Task) → IsFound found task → (file : Text) (wanted : Wanted)
+    → word_after (codes "live") (codes "track") found ≡ Some file → count_after (codes "live") (codes "from") found ≡ wanted.from
+    → is_set (flag_after (codes "live") (codes "alarms") found) ≡ wanted.alarms → IsLiveOn file wanted task
+live_found found (Run track number by_train stats alarms) is file wanted asked count flag = not_both (codes "run") (codes "live") (codes "track") (codes "track") found track.now file refl is.0 asked
+live_found found (Live track first alarms) is file wanted asked count flag = (some_now _ _ (sym is.0 ∙ asked), sym is.1 ∙ count, sym is.2 ∙ flag)
+live_found found (Explain track first) is file wanted asked count flag = not_both (codes "live") (codes "explain") (codes "track") (codes "track") found file track.now refl asked is.0
+live_found found (Picture track after) is file wanted asked count flag = not_both (codes "live") (codes "picture") (codes "track") (codes "track") found file track.now refl asked is.0
+live_found found (Check track other) is file wanted asked count flag = not_found _ file is.0.1 asked
+live_found found (Decode hex) is file wanted asked count flag = not_both (codes "live") (codes "decode") (codes "track") (codes "HEX") found file hex.now refl asked is
+live_found found Codes is file wanted asked count flag = not_found _ file is.0.1 asked
 
 explain_found : (found : Finding) (task : Task) → IsFound found task → (file : Text) (from : ℕ)
     → word_after (codes "explain") (codes "track") found ≡ Some file → unwrap_or (input_after (codes "explain") (codes "from") found) 1 ≡ from → IsExplainOn file from task
-explain_found found (Run track number by_train stats) is file from asked count = not_both (codes "run") (codes "explain") (codes "track") (codes "track") found track.now file refl is.0 asked
-explain_found found (Live track first) is file from asked count = not_both (codes "live") (codes "explain") (codes "track") (codes "track") found track.now file refl is.0 asked
+explain_found found (Run track number by_train stats alarms) is file from asked count = not_both (codes "run") (codes "explain") (codes "track") (codes "track") found track.now file refl is.0 asked
+explain_found found (Live track first alarms) is file from asked count = not_both (codes "live") (codes "explain") (codes "track") (codes "track") found track.now file refl is.0 asked
 explain_found found (Explain track first) is file from asked count = (some_now _ _ (sym is.0 ∙ asked), sym is.1 ∙ count)
 explain_found found (Picture track after) is file from asked count = not_both (codes "explain") (codes "picture") (codes "track") (codes "track") found file track.now refl asked is.0
 explain_found found (Check track other) is file from asked count = not_found _ file is.0.3 asked
@@ -91,8 +94,8 @@ explain_found found Codes is file from asked count = not_found _ file is.0.3 ask
 
 picture_found : (found : Finding) (task : Task) → IsFound found task → (file : Text) (after : Option ℕ)
     → word_after (codes "picture") (codes "track") found ≡ Some file → input_after (codes "picture") (codes "after") found ≡ after → IsPictureOn file after task
-picture_found found (Run track number by_train stats) is file after asked count = not_both (codes "run") (codes "picture") (codes "track") (codes "track") found track.now file refl is.0 asked
-picture_found found (Live track from) is file after asked count = not_both (codes "live") (codes "picture") (codes "track") (codes "track") found track.now file refl is.0 asked
+picture_found found (Run track number by_train stats alarms) is file after asked count = not_both (codes "run") (codes "picture") (codes "track") (codes "track") found track.now file refl is.0 asked
+picture_found found (Live track from alarms) is file after asked count = not_both (codes "live") (codes "picture") (codes "track") (codes "track") found track.now file refl is.0 asked
 picture_found found (Explain track from) is file after asked count = not_both (codes "explain") (codes "picture") (codes "track") (codes "track") found track.now file refl is.0 asked
 picture_found found (Picture track inputs) is file after asked count = (some_now _ _ (sym is.0 ∙ asked), sym is.1 ∙ count)
 picture_found found (Check track other) is file after asked count = not_found _ file is.0.4 asked
@@ -101,8 +104,8 @@ picture_found found Codes is file after asked count = not_found _ file is.0.4 as
 
 decode_found : (found : Finding) (task : Task) → IsFound found task → (word : Text)
     → word_after (codes "decode") (codes "HEX") found ≡ Some word → IsDecode word task
-decode_found found (Run track number by_train stats) is word asked = not_both (codes "run") (codes "decode") (codes "track") (codes "HEX") found track.now word refl is.0 asked
-decode_found found (Live track from) is word asked = not_both (codes "live") (codes "decode") (codes "track") (codes "HEX") found track.now word refl is.0 asked
+decode_found found (Run track number by_train stats alarms) is word asked = not_both (codes "run") (codes "decode") (codes "track") (codes "HEX") found track.now word refl is.0 asked
+decode_found found (Live track from alarms) is word asked = not_both (codes "live") (codes "decode") (codes "track") (codes "HEX") found track.now word refl is.0 asked
 decode_found found (Explain track first) is word asked = not_both (codes "explain") (codes "decode") (codes "track") (codes "HEX") found track.now word refl is.0 asked
 decode_found found (Picture track after) is word asked = not_both (codes "picture") (codes "decode") (codes "track") (codes "HEX") found track.now word refl is.0 asked
 decode_found found (Check track other) is word asked = not_found _ word is.0.2 asked
@@ -111,8 +114,8 @@ decode_found found Codes is word asked = not_found _ word is.0.2 asked
 
 check_found : (found : Finding) (task : Task) → IsFound found task → (file : Text)
     → word_after (codes "check") (codes "track") found ≡ Some file → IsCheckOf file task
-check_found found (Run track number by_train stats) is file asked = not_both (codes "run") (codes "check") (codes "track") (codes "track") found track.now file refl is.0 asked
-check_found found (Live track from) is file asked = not_both (codes "live") (codes "check") (codes "track") (codes "track") found track.now file refl is.0 asked
+check_found found (Run track number by_train stats alarms) is file asked = not_both (codes "run") (codes "check") (codes "track") (codes "track") found track.now file refl is.0 asked
+check_found found (Live track from alarms) is file asked = not_both (codes "live") (codes "check") (codes "track") (codes "track") found track.now file refl is.0 asked
 check_found found (Explain track first) is file asked = not_both (codes "explain") (codes "check") (codes "track") (codes "track") found track.now file refl is.0 asked
 check_found found (Picture track after) is file asked = not_both (codes "picture") (codes "check") (codes "track") (codes "track") found track.now file refl is.0 asked
 check_found found (Check track other) is file asked = some_now _ _ (sym is.1 ∙ asked)
@@ -137,16 +140,16 @@ returns-in-Some-clause-task c =
     subst (λ (f : Finding). IsFound f c.in-Some.task) (found_here _ words _ c.in_ok-command.ensures c.in_ok-matches.ensures.matches) c.in-Some.ensures.found
 
 pub returns-in-Some-clause-run : goal.returns-in-Some-clause-run
-returns-in-Some-clause-run c = λ file workers asked.
+returns-in-Some-clause-run c = λ file workers alarms asked.
     let words = map string_bytes c.args.words.now in
     let found = found_here _ words _ c.in_ok-command.ensures c.in_ok-matches.ensures.matches in
-    run_found (finding_in words) _ (subst (λ (f : Finding). IsFound f c.in-Some.task) found c.in-Some.ensures.found) file workers asked.1 asked.2
+    run_found (finding_in words) _ (subst (λ (f : Finding). IsFound f c.in-Some.task) found c.in-Some.ensures.found) file workers alarms asked.1 asked.2 asked.3
 
 pub returns-in-Some-clause-live : goal.returns-in-Some-clause-live
-returns-in-Some-clause-live c = λ file from asked.
+returns-in-Some-clause-live c = λ file wanted asked.
     let words = map string_bytes c.args.words.now in
     let found = found_here _ words _ c.in_ok-command.ensures c.in_ok-matches.ensures.matches in
-    live_found (finding_in words) _ (subst (λ (f : Finding). IsFound f c.in-Some.task) found c.in-Some.ensures.found) file from asked.1 asked.2
+    live_found (finding_in words) _ (subst (λ (f : Finding). IsFound f c.in-Some.task) found c.in-Some.ensures.found) file wanted asked.1 asked.2 asked.3
 
 pub returns-in-Some-clause-explain : goal.returns-in-Some-clause-explain
 returns-in-Some-clause-explain c = λ file from asked.
@@ -179,16 +182,16 @@ returns-in_err-matches-clause-check c = λ file asked.
     only_memory _ (IsCheckOf file) (no_task_of e) c.from_residual-in_err-matches.ensures.1 (memory_alone e (subst (λ (ks : List ErrorKind). HasKind ks e) asked.0 kinds))
 
 pub returns-in_err-matches-clause-run : goal.returns-in_err-matches-clause-run
-returns-in_err-matches-clause-run c = λ file workers asked.
+returns-in_err-matches-clause-run c = λ file workers alarms asked.
     let e = c.in_err-matches.field-0.0 in
     let kinds = kinds_here _ (map string_bytes c.args.words.now) (λ ks. HasKind ks e) c.in_ok-command.ensures c.in_err-matches.ensures.kinds in
-    only_memory _ (IsRunOn file workers) (no_task_of e) c.from_residual-in_err-matches.ensures.1 (memory_alone e (subst (λ (ks : List ErrorKind). HasKind ks e) asked.0 kinds))
+    only_memory _ (IsRunOn file workers alarms) (no_task_of e) c.from_residual-in_err-matches.ensures.1 (memory_alone e (subst (λ (ks : List ErrorKind). HasKind ks e) asked.0 kinds))
 
 pub returns-in_err-matches-clause-live : goal.returns-in_err-matches-clause-live
-returns-in_err-matches-clause-live c = λ file from asked.
+returns-in_err-matches-clause-live c = λ file wanted asked.
     let e = c.in_err-matches.field-0.0 in
     let kinds = kinds_here _ (map string_bytes c.args.words.now) (λ ks. HasKind ks e) c.in_ok-command.ensures c.in_err-matches.ensures.kinds in
-    only_memory _ (IsLiveOn file from) (no_task_of e) c.from_residual-in_err-matches.ensures.1 (memory_alone e (subst (λ (ks : List ErrorKind). HasKind ks e) asked.0 kinds))
+    only_memory _ (IsLiveOn file wanted) (no_task_of e) c.from_residual-in_err-matches.ensures.1 (memory_alone e (subst (λ (ks : List ErrorKind). HasKind ks e) asked.0 kinds))
 
 pub returns-in_err-matches-clause-decode : goal.returns-in_err-matches-clause-decode
 returns-in_err-matches-clause-decode c = λ word asked.
@@ -213,10 +216,10 @@ none_asked : {P : Type 0} (found same : Finding) (name id word : Text) → found
 none_asked found same name id word is none asked = absurd (not_found _ word none (ap (word_after name id) is ∙ asked))
 
 pub returns-in_err-command-clause-run : goal.returns-in_err-command-clause-run
-returns-in_err-command-clause-run c = λ file workers asked. only_memory _ (IsRunOn file workers) OutOfMemory c.from_residual.ensures.1 refl
+returns-in_err-command-clause-run c = λ file workers alarms asked. only_memory _ (IsRunOn file workers alarms) OutOfMemory c.from_residual.ensures.1 refl
 
 pub returns-in_err-command-clause-live : goal.returns-in_err-command-clause-live
-returns-in_err-command-clause-live c = λ file from asked. only_memory _ (IsLiveOn file from) OutOfMemory c.from_residual.ensures.1 refl
+returns-in_err-command-clause-live c = λ file wanted asked. only_memory _ (IsLiveOn file wanted) OutOfMemory c.from_residual.ensures.1 refl
 
 pub returns-in_err-command-clause-explain : goal.returns-in_err-command-clause-explain
 returns-in_err-command-clause-explain c = λ file from asked. only_memory _ (IsExplainOn file from) OutOfMemory c.from_residual.ensures.1 refl
@@ -231,12 +234,12 @@ pub returns-in_err-command-clause-check : goal.returns-in_err-command-clause-che
 returns-in_err-command-clause-check c = λ file asked. only_memory _ (IsCheckOf file) OutOfMemory c.from_residual.ensures.1 refl
 
 pub returns-clause-run : goal.returns-clause-run
-returns-clause-run c = λ file workers asked.
+returns-clause-run c = λ file workers alarms asked.
     let found = found_here _ (map string_bytes c.args.words.now) _ c.in_ok-command.ensures c.in_ok-matches.ensures.matches in
     none_asked _ _ (codes "run") (codes "track") file found c.in-None.ensures.none.0.0 asked.1
 
 pub returns-clause-live : goal.returns-clause-live
-returns-clause-live c = λ file from asked.
+returns-clause-live c = λ file wanted asked.
     let found = found_here _ (map string_bytes c.args.words.now) _ c.in_ok-command.ensures c.in_ok-matches.ensures.matches in
     none_asked _ _ (codes "live") (codes "track") file found c.in-None.ensures.none.0.1 asked.1
 

@@ -23,40 +23,40 @@ returns-in-Ok-eq0-clause-answers g c =
     let plan = c.args.desk.track in
     let (batch, ended, rest, read, e, is) = c.loop-alloc.invariant.read in
     let all : IsAllRead (g.R.Read.remaining c.args.reader.now) (g.R.Read.remaining c.read.new.reader) batch = search rules in
-    finished plan c.args.from (g.R.Read.remaining c.args.reader.now) (g.R.Read.remaining c.read.new.reader) (g.W.Write.contents c.args.writer.now) (g.W.Write.contents c.finish.new.writer)
-    batch ended rest c.finish.result all e (c.finish.ensures plan c.args.from (g.W.Write.contents c.args.writer.now) ended rest is)
+    finished plan c.args.wanted (g.R.Read.remaining c.args.reader.now) (g.R.Read.remaining c.read.new.reader) (g.W.Write.contents c.args.writer.now) (g.W.Write.contents c.finish.new.writer)
+    batch ended rest c.finish.result all e (c.finish.ensures plan c.args.wanted (g.W.Write.contents c.args.writer.now) ended rest is)
 
 pub returns-in-Ok-eq0-clause-called : goal.returns-in-Ok-eq0-clause-called
 returns-in-Ok-eq0-clause-called g c =
     let (batch, ended, rest, read, e, is) = c.loop-alloc.invariant.read in
     let sound : c.read.new.self.failed ≡ false = search rules in
-    called_to_end c.args.desk.track c.args.from (without_empty_end (ended ++ rest ∷ [])) (g.W.Write.contents c.args.writer.now) (g.W.Write.contents c.finish.new.writer) c.read.new.self sound _
-    c.finish.result (c.finish.ensures c.args.desk.track c.args.from (g.W.Write.contents c.args.writer.now) ended rest is)
+    called_to_end c.args.desk.track c.args.wanted (without_empty_end (ended ++ rest ∷ [])) (g.W.Write.contents c.args.writer.now) (g.W.Write.contents c.finish.new.writer) c.read.new.self sound _
+    c.finish.result (c.finish.ensures c.args.desk.track c.args.wanted (g.W.Write.contents c.args.writer.now) ended rest is)
 
 -- a fault at the lines of a piece
 pub returns-in_err-take_piece-in-Ok-clause-answers : goal.returns-in_err-take_piece-in-Ok-clause-answers
 returns-in_err-take_piece-in-Ok-clause-answers g c =
     let plan = c.args.desk.track in
     let (batch, ended, rest, read, e, is) = c.loop-alloc.invariant.read in
-    stopped plan c.args.from (g.R.Read.remaining c.args.reader.now) (g.R.Read.remaining c.read.new.reader) (g.W.Write.contents c.args.writer.now) (g.W.Write.contents c.take_piece.new.writer)
+    stopped plan c.args.wanted (g.R.Read.remaining c.args.reader.now) (g.R.Read.remaining c.read.new.reader) (g.W.Write.contents c.args.writer.now) (g.W.Write.contents c.take_piece.new.writer)
     _ _ c.from_residual.result c.in_err-take_piece-in-Ok.field-0.0 c.from_residual.ensures.1
     (Consumes-trans (g.R.Read.remaining c.args.reader.now) (g.R.Read.remaining c.loop-alloc.reader) (g.R.Read.remaining c.read.new.reader) batch _ read c.in-Ok.ensures.bytes.0)
     (one_piece_more is_line_feed batch _ ended rest e)
-    (c.in_err-take_piece-in-Ok.ensures.taken plan c.args.from (g.W.Write.contents c.args.writer.now) ended rest is)
+    (c.in_err-take_piece-in-Ok.ensures.taken plan c.args.wanted (g.W.Write.contents c.args.writer.now) ended rest is)
 
 pub returns-in_err-take_piece-in-Ok-clause-called : goal.returns-in_err-take_piece-in-Ok-clause-called
 returns-in_err-take_piece-in-Ok-clause-called g c =
     let (batch, ended, rest, read, e, is) = c.loop-alloc.invariant.read in
     let sound : c.read.new.self.failed ≡ false = search rules in
-    called_to_fault c.args.desk.track c.args.from _ (g.W.Write.contents c.args.writer.now) (g.W.Write.contents c.take_piece.new.writer) c.read.new.self sound
+    called_to_fault c.args.desk.track c.args.wanted _ (g.W.Write.contents c.args.writer.now) (g.W.Write.contents c.take_piece.new.writer) c.read.new.self sound
     c.from_residual.result c.in_err-take_piece-in-Ok.field-0.0 c.from_residual.ensures.1
-    (c.in_err-take_piece-in-Ok.ensures.taken c.args.desk.track c.args.from (g.W.Write.contents c.args.writer.now) ended rest is)
+    (c.in_err-take_piece-in-Ok.ensures.taken c.args.desk.track c.args.wanted (g.W.Write.contents c.args.writer.now) ended rest is)
 
 -- the reader is given up
 pub returns-clause-answers : goal.returns-clause-answers
 returns-clause-answers g c =
     let (batch, ended, rest, read, e, is) = c.loop-alloc.invariant.read in
-    not_read c.args.desk.track c.args.from (g.R.Read.remaining c.args.reader.now) (g.R.Read.remaining c.loop-alloc.reader) (g.W.Write.contents c.args.writer.now) (g.W.Write.contents c.loop-alloc.writer)
+    not_read c.args.desk.track c.args.wanted (g.R.Read.remaining c.args.reader.now) (g.R.Read.remaining c.loop-alloc.reader) (g.W.Write.contents c.args.writer.now) (g.W.Write.contents c.loop-alloc.writer)
     batch ended rest c.loop-alloc.session read e is c.loop-alloc.invariant.waiting
 
 pub returns-clause-called : goal.returns-clause-called
@@ -66,7 +66,7 @@ returns-clause-called g c = given_up c.loop-alloc.calls c.loop-alloc.invariant.f
 pub loop-alloc-preserved-in-Continue-1 : goal.loop-alloc-preserved-in-Continue-1
 loop-alloc-preserved-in-Continue-1 g c =
     let (batch, ended, rest, read, e, is) = c.loop-alloc.invariant.read in
-    let taken = c.in_ok-take_piece-in-Ok.ensures.taken c.args.desk.track c.args.from (g.W.Write.contents c.args.writer.now) ended rest is in
+    let taken = c.in_ok-take_piece-in-Ok.ensures.taken c.args.desk.track c.args.wanted (g.W.Write.contents c.args.writer.now) ended rest is in
     let before = c.loop-alloc.invariant.number in
     let made = c.read.ensures.made in
     let count : c.in-Ok.count ≤ 65536 = search rules in

@@ -11,7 +11,7 @@ abbrev pub invariant-loop-alloc : goal.invariant-loop-alloc
 invariant-loop-alloc g l = record {
   read : (batch : List ℕ) × (ended : List (List ℕ)) × (rest : List ℕ) × Consumes (g.R.Read.remaining l.fn.reader) (g.R.Read.remaining l.reader) batch
       × (slice_split is_line_feed batch ≡ ended ++ rest ∷ [])
-      × IsUnderWay l.fn.desk.track l.fn.from l.session (g.W.Write.contents l.fn.writer) (g.W.Write.contents l.writer) ended rest;
+      × IsUnderWay l.fn.desk.track l.fn.wanted l.session (g.W.Write.contents l.fn.writer) (g.W.Write.contents l.writer) ended rest;
   waiting : IsWaiting l.session;
   number : l.session.number ≤ 65536 * l.calls.made + 1;
   few : l.calls.made ≤ max_calls;

@@ -1,6 +1,6 @@
 use Rattle.std.proofs.Common.{◌∙◌, List, ℕ, map, ap, subst, string_bytes}
 use Rattle.std.proofs.lemmas.Result.{IfOk-weaker}
-use Rattle.rbc_account.specs.Known.{train_in}
+use Rattle.rbc_live.specs.Known.{train_in}
 use Rattle.rbc_picture.specs.Shown.{StandIn}
 use Rattle.rbc_picture.specs.Trains.{known_trains, train_shown}
 use Rattle.rbc_picture.proofs.Knowing.{trains_known, scene_shown}

@@ -1,5 +1,5 @@
 use Rattle.std.proofs.Common.{◌≡◌, ◌++◌, drop, map}
-use Rattle.rbc_account.specs.Known.{train_in}
+use Rattle.rbc_live.specs.Known.{train_in}
 use Rattle.rbc_picture.specs.Trains.{known_trains, train_shown}
 use Rattle.rbc_picture.proofs.train_state.trains_of.Given as goal
 

@@ -1,5 +1,5 @@
 use Rattle.std.proofs.Common.{◌∙◌, List, map, subst, string_bytes}
-use Rattle.rbc_account.specs.declared.waiting.Waiting.{Waiting}
+use Rattle.rbc_live.specs.declared.waiting.Waiting.{Waiting}
 use Rattle.rbc_picture.specs.Shown.{IsShownOn}
 use Rattle.rbc_picture.specs.Titles.{train_title, waiting_sentence}
 use Rattle.rbc_picture.proofs.Joining.{train_joined, of_text}

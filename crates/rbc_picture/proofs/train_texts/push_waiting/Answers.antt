@@ -1,5 +1,5 @@
 use Rattle.std.proofs.Common.{◌∙◌, get_or, string_bytes}
-use Rattle.rbc_account.specs.declared.waiting.Waiting.{Waiting}
+use Rattle.rbc_live.specs.declared.waiting.Waiting.{Waiting}
 use Rattle.rbc_picture.specs.Titles.{waiting_sentence}
 use Rattle.rbc_picture.proofs.Joining.{is_next, more_text, of_text}
 use Rattle.rbc_picture.proofs.train_texts.push_waiting.Goals as goal

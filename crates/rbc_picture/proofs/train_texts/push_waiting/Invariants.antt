@@ -1,5 +1,5 @@
 use Rattle.std.proofs.Common.{map, string_bytes, take}
-use Rattle.rbc_account.specs.declared.waiting.Waiting.{Waiting}
+use Rattle.rbc_live.specs.declared.waiting.Waiting.{Waiting}
 use Rattle.rbc_picture.specs.Shown.{IsShownOn}
 use Rattle.rbc_picture.specs.Titles.{waiting_sentence}
 use Rattle.rbc_picture.proofs.train_texts.push_waiting.Given as goal

@@ -1,4 +1,4 @@
-use Rattle.rbc_live.proofs.Counts.{fed_by_line}
+use Rattle.rbc_account.proofs.Feeding.{fed_by_line}
 use Rattle.rbc_account.proofs.account.Account.pass.Goals as goal
 
 pub returns-clause-fed : goal.returns-clause-fed

@@ -1,6 +1,10 @@
-use Rattle.rbc_live.proofs.Counts.{fed_by_line}
+use Rattle.std.proofs.Common.{List, sym, subst}
+use Rattle.rbc_records.specs.declared.record.Key.{Key}
+use Rattle.rbc_records.specs.declared.record.Rec.{Rec}
+use Rattle.rbc_live.specs.History.{IsFed}
 use Rattle.rbc_live.proofs.desk.LiveDesk.feed.Goals as goal
 
 pub returns-clause-step : goal.returns-clause-step
 returns-clause-step c =
-    fed_by_line c.take.result c.args.self.now.track c.args.line.now c.in_ok-input.input c.args.self.now.records c.take.new.self.records c.in_ok-input.ensures.spelled c.take.ensures.step
+    subst (λ (records : List (Key × Rec)). IsFed c.args.self.now.track c.args.line.now c.args.self.now.records records c.in_ok-answer.answer.reply c.in_ok-answer.answer.messages)
+    (sym c.keep_spare.ensures.records) c.in_ok-answer.ensures.step

@@ -3,15 +3,16 @@ use Rattle.std.specs.List.{slice_split}
 use Rattle.rbc_track.specs.Plan.{Plan}
 use Rattle.rbc_text.specs.BatchText.{is_line_feed}
 use Rattle.rbc_text.specs.Pieces.{pieces_behind, text_behind, length_left}
+use Rattle.rbc_live.specs.declared.wanted.Wanted.{Wanted}
 use Rattle.rbc_live.specs.UnderWay.{IsUnderWay, joined}
 use Rattle.rbc_live.proofs.session.Session.take_piece.Given as goal
 
 -- what was taken of the piece, and the pieces of what is left, are the pieces of the whole
 abbrev pub invariant-loop-left : goal.invariant-loop-left
 invariant-loop-left g l = record {
-  taken : (plan : Plan) (from : ℕ) (old : Option (List ℕ)) (ended : List (List ℕ)) (rest : List ℕ) → IsUnderWay plan from l.fn.self old (g.W.Write.contents l.fn.writer) ended rest
+  taken : (plan : Plan) (wanted : Wanted) (old : Option (List ℕ)) (ended : List (List ℕ)) (rest : List ℕ) → IsUnderWay plan wanted l.fn.self old (g.W.Write.contents l.fn.writer) ended rest
       → (lines : List (List ℕ)) × (begun : List ℕ) × (ended ++ joined rest (slice_split is_line_feed l.fn.piece) ≡ lines ++ joined begun (pieces_behind 10 l.left))
-      × IsUnderWay plan from l.self old (g.W.Write.contents l.writer) lines begun;
+      × IsUnderWay plan wanted l.self old (g.W.Write.contents l.writer) lines begun;
   number : l.self.number + length (text_behind l.left) ≤ l.fn.self.number + length l.fn.piece;
 }
 

@@ -1,5 +1,0 @@
-use Rattle.rbc_account.proofs.Causing.{each_cause_is_true}
-use Rattle.rbc_account.proofs.law.waiting_law.Goals as goal
-
-pub returns : goal.returns
-returns c = each_cause_is_true
