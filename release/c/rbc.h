@@ -48,11 +48,24 @@ typedef struct rbc_answer {
     size_t count;     /* how many messages it sent */
 } rbc_answer;
 
+/* An alarm that stands: what a train does not know, or what the desk does not know of it. 12 bytes. */
+typedef struct rbc_alarm {
+    uint32_t engine; /* NID_ENGINE of the train */
+    uint32_t kind;   /* RBC_ALARM_PLACE and so on */
+    uint32_t number; /* of the stop or the restriction; 0 at RBC_ALARM_PLACE */
+} rbc_alarm;
+enum {
+    RBC_ALARM_PLACE = 0,       /* it has no place: each stop stops it, and no restriction is told to it */
+    RBC_ALARM_STOP = 1,        /* an active stop concerns it and is not told to it */
+    RBC_ALARM_RESTRICTION = 2, /* an active restriction concerns it and is not told to it */
+    RBC_ALARM_ANSWER = 3       /* it left an active stop unanswered in three reports, and is not yet stopped at once */
+};
+
 /* What a call answers. */
 enum {
     RBC_DONE = 0,
     RBC_MEMORY = 1,        /* malloc or realloc gave nothing */
-    RBC_NOT_NOW = 2,       /* rbc_feed, rbc_close: no desk is open. rbc_open: one is */
+    RBC_NOT_NOW = 2,       /* rbc_feed, rbc_alarms, rbc_close: no desk is open. rbc_open: one is */
     RBC_ROOM = 3,          /* rbc_feed: there are more messages than room for them */
     RBC_VERSION_OTHER = 4, /* desk->version is not RBC_VERSION of the library: compile the caller with the header beside it */
     RBC_NOT_UTF8 = 5,      /* this and all below: of rbc_open alone */
@@ -77,6 +90,12 @@ uint32_t rbc_open(rbc_desk *desk, const uint8_t *track, size_t length);
    At RBC_MEMORY, RBC_NOT_NOW and RBC_VERSION_OTHER *answer stays as it was. A room of 0 is a way to ask how many messages there would
    be. */
 uint32_t rbc_feed(rbc_desk *desk, const uint8_t *line, size_t length, rbc_message *out, size_t room, rbc_answer *answer);
+
+/* Writes the alarms that stand on an open desk to the front of out, as many as there is room for: engines ascending, and those of
+   one train by kind and number. Answers RBC_DONE, and *count is how many stand; what is behind them in out stays. At every other
+   answer, RBC_MEMORY, RBC_NOT_NOW and RBC_VERSION_OTHER, out and *count stay as they were. The desk stays as it was in any case. A
+   room of 0 is a way to ask how many alarms there are. */
+uint32_t rbc_alarms(rbc_desk *desk, rbc_alarm *out, size_t room, size_t *count);
 
 /* Closes an open desk, and gives its memory back. Answers RBC_DONE, or RBC_NOT_NOW where none is open. It is none then, and may be opened
    again. At RBC_VERSION_OTHER it is as it was. */
