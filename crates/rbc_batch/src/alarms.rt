@@ -64,6 +64,7 @@ fn take_watched(
     let number = desk.results().len() as u64;
     push_result(text, number, reply)?;
     let alarms = watch.follow(alloc, track.horizon(), desk.store(), &replaced, number)?;
+    desk.keep_spare(replaced);
     text.extend_from_slice(&alarms)
 }
 

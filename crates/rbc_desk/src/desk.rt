@@ -152,8 +152,15 @@ impl Desk {
         ensures err { OnErr result (self.new ≡ self.old) }
     {
         let replaced = self.take_over(alloc, outcome)?;
-        self.records.keep_spare(replaced);
+        self.keep_spare(replaced);
         Ok(())
+    }
+
+    /// Keeps the records that an outcome replaced for the memory of the next one.
+    pub fn keep_spare(&mut self, replaced: Writes)
+        ensures { self.new ≡ self.old }
+    {
+        self.records.keep_spare(replaced);
     }
 
     /// Takes an outcome over: its messages, its result and its writes. There has to be room for one more result. Hands

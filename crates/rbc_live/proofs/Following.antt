@@ -1,6 +1,6 @@
 -- What a watch sees after an input.
 use Rattle.std.proofs.Common.{◌≡◌, ℕ, zero, suc, ◌+◌, ◌<◌, ◌≤◌, Bool, true, false, ◌==◌, ◌&&◌, ◌||◌, cond, List, [], ◌∷◌, ◌++◌, take, get_or, length, Option, Some, None, refl, sym, ap, ◌∙◌, arith}
-use Rattle.std.specs.Prelude.{slice_get, option_and_then, Result, Ok, Err, OnOk, IfOk}
+use Rattle.std.specs.Prelude.{slice_get, option_and_then, Result, Ok, Err, OnOk, IfOk, IfSome}
 use Rattle.std.specs.declared.vec.Vec.{Vec}
 use Rattle.std.specs.declared.alloc.Global.{Global}
 use Rattle.std.specs.List.{flat_map, list_any}
@@ -152,6 +152,34 @@ none_more_written writes i write old there is before n =
       or_false : (b : Bool) → b ≡ (b || false)
       or_false true = refl
       or_false false = refl
+
+-- where one record is written, and it is a train's: no other train is written, no stop and no restriction
+module _ (writes : List (Key × Option Rec)) (write : Key × Option Rec) (one : length writes ≡ 1) (there : slice_get writes 0 ≡ Some write) where
+  only_written : (writes : List (Key × Option Rec)) (engine : ℕ) → length writes ≡ 1 → slice_get writes 0 ≡ Some write → engine_of write.0 ≡ Some engine
+      → ((other : ℕ) → has_number (engine ∷ []) other ≡ false → is_train_written writes other ≡ false) × (are_zones_written writes ≡ false)
+  only_written [] engine one there is = absurd (omega (arith, one))
+  only_written (first ∷ second ∷ more) engine one there is = absurd (omega (arith, one))
+  only_written (first ∷ []) engine one there is =
+      let same : first ≡ write = get_or_from_slice_get (first ∷ []) 0 write write there in
+      let train : engine_of first.0 ≡ Some engine = ap (λ (w : Key × Option Rec). engine_of w.0) same ∙ is in (
+        λ other none. ap (λ found. option_map_or (λ written. written == other) found false || false) train ∙ none,
+        ap (λ b. b || false) (no_zone first.0 train),
+      ) where
+        no_zone : (k : Key) → engine_of k ≡ Some engine → is_zone k ≡ false
+        no_zone key.Roster e = refl
+        no_zone (key.Train other) e = refl
+        no_zone key.Stops e = absurd (cc e)
+        no_zone key.Limits e = absurd (cc e)
+        no_zone (key.Line line) e = refl
+        no_zone key.Unplaced e = refl
+
+  pub only_train : (found : Option ℕ) → found ≡ engine_of write.0 → IfSome found (λ engine. (other : ℕ) → has_number (engine ∷ []) other ≡ false → is_train_written writes other ≡ false)
+  only_train (Some engine) is = (only_written writes engine one there (sym is)).0
+  only_train None is = tt
+
+  pub no_zone_beside : (found : Option ℕ) → found ≡ engine_of write.0 → IfSome found (λ engine. are_zones_written writes ≡ false)
+  no_zone_beside (Some engine) is = (only_written writes engine one there (sym is)).1
+  no_zone_beside None is = tt
 
 pub one_more_kept : {V : Type 0} (seen : List (ℕ × V)) (i : ℕ) (one : ℕ × V) (first old new : List ℕ) → slice_get seen i ≡ Some one → new ≡ and_number one.0 old
     → ((n : ℕ) → has_number old n ≡ (has_number first n || has (take i seen) n)) → (n : ℕ) → has_number new n ≡ (has_number first n || has (take (i + 1) seen) n)

@@ -1,6 +1,6 @@
 //! The alarms that stand, followed from input to input.
 
-ghost use Rattle.std.specs.Prelude.{◌≡◌, ◌+◌, ◌<◌, ◌^◌, ◌||◌, ℕ, List, None, [], false, true, OnOk, IfOk};
+ghost use Rattle.std.specs.Prelude.{◌≡◌, ◌+◌, ◌<◌, ◌^◌, ◌||◌, ℕ, List, None, [], ◌∷◌, false, true, OnOk, IfOk, IfSome};
 ghost use Rattle.std.specs.List.{flat_map};
 ghost use Rattle.rbc_maps.specs.Maps.{has};
 ghost use Rattle.rbc_settle.specs.Numbers.{AreNumbers, has_number, and_number};
@@ -119,6 +119,19 @@ fn are_zones_written(writes: &Writes) -> bool
     false
 }
 
+/// The engine of the train that is written, where nothing else is.
+fn only_train_written(writes: &Writes) -> Option<u32>
+    ensures trains { IfSome result (λ engine. (other : ℕ) → has_number (engine ∷ []) other ≡ false
+        → is_train_written writes.now other ≡ false) }
+    ensures zones { IfSome result (λ engine. are_zones_written writes.now ≡ false) }
+{
+    if writes.len() == 1 {
+        engine_of(writes.at(0).0)
+    } else {
+        None
+    }
+}
+
 /// The engines of the trains that are written. Fails only for lack of memory.
 fn trains_written(alloc: Global, writes: &Writes) -> Result<Numbers, AllocError>
     ensures { IfOk result (λ engines. (engine : ℕ) → has_number engines engine ≡ is_train_written writes.now engine) }
@@ -212,19 +225,19 @@ impl Watch {
         alloc: Global,
         horizon: u32,
         records: &PlainStore,
-        engines: &Numbers,
+        engines: &[u32],
         input: u64,
     ) -> Result<Vec<u8>, AllocError>
+        requires { AreNumbers engines.now }
         ensures seen { OnOk result ((engine : ℕ) → has_number engines.now engine ≡ true
             → seen_in self.new engine ≡ seen_of horizon records.now engine) }
         ensures others { OnOk result ((engine : ℕ) → has_number engines.now engine ≡ false
             → seen_in self.new engine ≡ seen_in self.old engine) }
         ensures lines { IfOk result (λ text. text.items
             ≡ flat_map (seen_lines input (seen_in self.old) (seen_of horizon records.now)) engines.now) }
-        ensures sound { AreNumbers engines.now }
     {
         let mut text = Vec::new(alloc);
-        for engine in engines.as_slice() {
+        for engine in engines {
             let alarms = seen_of(alloc, horizon, records, *engine)?;
             let new = match &alarms {
                 Some(list) => list.as_slice(),
@@ -252,8 +265,11 @@ impl Watch {
             → StayBut writes.now before records.now → IfOk result (λ text.
             AreSeenLines input (seen_of horizon before) (seen_of horizon records.now) text.items) }
     {
+        if let Some(engine) = only_train_written(writes) {
+            return self.see_all(alloc, horizon, records, &[engine], input);
+        }
         let engines = self.concerned_by(alloc, writes)?;
-        self.see_all(alloc, horizon, records, &engines, input)
+        self.see_all(alloc, horizon, records, engines.as_slice(), input)
     }
 
     /// A line for each alarm that stands, as raised by an input. Fails only for lack of memory.

@@ -1,4 +1,4 @@
-use Rattle.std.proofs.Common.{◌≡◌, ◌∙◌, ◌++◌, List, Bor, get_or, sym, ap, subst}
+use Rattle.std.proofs.Common.{◌≡◌, ◌∙◌, ◌++◌, List, Bor, get_or, sym, ap}
 use Rattle.rbc_settle.specs.Numbers.{AreNumbers}
 use Rattle.rbc_live.specs.declared.alarm.Alarm.{Alarm}
 use Rattle.rbc_live.specs.Alarms.{engine_lines}
@@ -12,11 +12,11 @@ loop-engine-preserved c =
     let horizon = c.args.horizon in
     let records = c.args.records.now in
     let seen = seen_in c.args.self.now in
-    let engines = c.as_slice-engine-items.result.now in
+    let engines = c.args.engines.now in
     let index = c.loop-engine.engine-index in
     let engine = get_or engines index 0 in
     let within = c.loop-engine-test.true in
-    let ascending : AreNumbers engines = subst AreNumbers (sym c.as_slice-engine-items.ensures.value) c.as_slice-engine-items.ensures.sound in
+    let ascending : AreNumbers engines = c.requires in
     let before : c.alarms_of.result.now ≡ or_none (seen engine) =
     c.alarms_of.ensures ∙ ap or_none (c.loop-engine.invariant.seen engine ∙ seen_first horizon records seen engines index 0 ascending within) in
     let after : c.match-alarms.new.now ≡ or_none (seen_of horizon records engine) = elim c.match-alarms.branch [
