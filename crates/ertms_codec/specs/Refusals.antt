@@ -15,6 +15,6 @@ Never e = ⊥
 abbrev pub number_in : List ℕ → ℕ
 number_in bytes = value_at 0 8 (bits_of_bytes bytes)
 
--- at least 3 bytes, and L_MESSAGE is their number
+-- R-REFUSE-3: at least 3 bytes, and L_MESSAGE is their number
 abbrev pub HasItsLength : List ℕ → Type 0
 HasItsLength bytes = (3 ≤ length bytes) × (value_at 8 10 (bits_of_bytes bytes) ≡ length bytes)

@@ -9,10 +9,11 @@ use Rattle.ertms_codec.specs.Layout.{value_at}
 use Rattle.ertms_codec.specs.FromTrain.{has_length, has_system, ArePackets, Spells}
 use Rattle.ertms_codec.specs.Refusals.{Unless, Never, number_in, HasItsLength}
 
+-- R-REFUSE-4.
 abbrev pub IsFromTrain : ℕ → Type 0
 IsFromTrain number = (number ≡ 136) ⊎ ((number ≡ 146) ⊎ (number ≡ 147))
 
--- so many bytes are as many as the message has, or as its variables before the packets take
+-- R-REFUSE-3: so many bytes are as many as the message has, or as its variables before the packets take
 pub record IsLongEnough (number bytes : ℕ) : Type 0 where
   pub report : number ≡ 136 → 74 ≤ 8 * bytes
   pub acknowledgement : number ≡ 146 → bytes ≡ 14
@@ -52,16 +53,17 @@ pub record HavePackets (packet : List ℕ) : Type 0 where
   pub position : BeginWithPosition packet
   pub further : ArePackets (drop (value_at 8 13 packet) packet)
 
--- the packets of a message of this number
+-- R-REFUSE-5: the packets of a message of this number
 pub record HasItsPackets (number : ℕ) (bits : List ℕ) : Type 0 where
   pub report : number ≡ 136 → HavePackets (drop 74 bits)
   pub of_a_stop : number ≡ 147 → HavePackets (drop 80 bits)
 
--- bytes spell some message
+-- R-REFUSE-6: bytes spell some message
 abbrev pub IsSpelled : List ℕ → Type 0
 IsSpelled bytes = (m : FromTrain) × Spells bytes m
 
--- the first step that fails; the last one is that the bytes spell a message, all of whose variables have no spare value
+-- R-REFUSE-3, R-REFUSE-4, R-REFUSE-5, R-REFUSE-6: the first step that fails; the last one is that the bytes spell a
+-- message, all of whose variables have no spare value
 abbrev pub Refuses : List ℕ → DecodeError → Type 0
 Refuses bytes =
     Unless (HasItsLength bytes) Length

@@ -24,12 +24,12 @@ new_desk = record { world = new_world; results = []; outboxes = [] }
 abbrev pub mail : ℕ → ToTrain → Mail
 mail input message = record { input = input; message = message }
 
--- the messages to an engine join its outbox under the number of the input; no message, no outbox
+-- R-INPUT-10: the messages to an engine join its outbox under the number of the input; no message, no outbox
 abbrev pub post : ℕ → List (ℕ × List Mail) → ℕ × List ToTrain → List (ℕ × List Mail)
 post input outboxes (engine, []) = outboxes
 post input outboxes (engine, message ∷ messages) = with_value engine (value_or [] outboxes engine ++ map (mail input) (message ∷ messages)) outboxes
 
--- the messages of a step to all engines join their outboxes
+-- R-INPUT-10: the messages of a step to all engines join their outboxes
 abbrev pub post_all : ℕ → List (ℕ × List ToTrain) → List (ℕ × List Mail) → List (ℕ × List Mail)
 post_all input sent outboxes = fold (post input) outboxes sent
 
@@ -45,6 +45,6 @@ after desk s = record {
 abbrev pub step : Plan → Desk → Input → Desk
 step plan desk input = after desk (rule.step plan desk.world input)
 
--- a desk takes the inputs one after another, on one track
+-- R-INPUT-11: a desk takes the inputs one after another, on one track
 abbrev pub serial : Plan → Desk → List Input → Desk
 serial plan desk inputs = fold (step plan) desk inputs

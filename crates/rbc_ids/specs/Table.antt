@@ -13,16 +13,16 @@ use Rattle.rbc_ids.specs.declared.slot.StampAck.TheVariants as stamp_ack
 use Rattle.rbc_ids.specs.declared.slot.IdAck.{IdAck}
 use Rattle.rbc_ids.specs.declared.slot.IdAck.TheVariants as id_ack
 
--- the held identifiers in ascending order, each with its slot
+-- R-IDENTIFIER-1: the held identifiers in ascending order, each with its slot
 abbrev pub Slots : Type 0
 Slots = List (ℕ × Slot)
 
--- A slot tells this number. A slot that is being revoked tells none.
+-- R-IDENTIFIER-2. A slot tells this number. A slot that is being revoked tells none.
 abbrev pub tells : ℕ → Slot → Bool
 tells number (Used used) = used.number == number
 tells number (Revoking stamp) = false
 
--- a number is told if a slot tells it
+-- R-IDENTIFIER-2: a number is told if a slot tells it
 abbrev pub is_told : Slots → ℕ → Bool
 is_told slots number = list_any (λ held. tells number held.1) slots
 
@@ -31,8 +31,8 @@ abbrev pub TellsOnce : Slots → Type 0
 TellsOnce [] = Unit
 TellsOnce (held ∷ slots) = ((n : ℕ) → tells n held.1 ≡ true → is_told slots n ≡ false) × TellsOnce slots
 
--- A table is sound: it has at most 255 identifiers, those that are held ascend and are below `count`, and no number is told
--- under two of them.
+-- R-IDENTIFIER-1. A table is sound: it has at most 255 identifiers, those that are held ascend and are below `count`,
+-- and no number is told under two of them.
 pub record IsTable (count : ℕ) (slots : Slots) : Type 0 where
   pub small : count ≤ 255
   pub ascending : IsMap slots
@@ -52,7 +52,7 @@ is_used (Revoking stamp) = false
 abbrev pub is_used_at : Slots → ℕ → Bool
 is_used_at slots id = list_any (λ held. held.0 == id && is_used held.1) slots
 
--- the free identifiers in ascending order
+-- R-IDENTIFIER-3: the free identifiers in ascending order
 abbrev pub free_identifiers : ℕ → Slots → List ℕ
 free_identifiers count slots = filter (λ id. not (has slots id)) (range_with_len 0 count)
 
@@ -64,7 +64,7 @@ least_free count slots = slice_get (free_identifiers count slots) 0
 abbrev pub identifier_of : Slots → ℕ → Option ℕ
 identifier_of slots number = option_map (λ held. held.0) (find (λ held. tells number held.1) slots)
 
--- the slot of a number that is told now, which the train has not acknowledged
+-- R-IDENTIFIER-4: the slot of a number that is told now, which the train has not acknowledged
 abbrev pub told_now : ℕ → ℕ → Kind → Slot
 told_now number stamp kind = Used (record { number = number; stamp = stamp; kind = kind; acked = false; count = 0 })
 
@@ -72,7 +72,7 @@ told_now number stamp kind = Used (record { number = number; stamp = stamp; kind
 abbrev pub marked : UsedSlot → Slot
 marked used = Used (record used { acked = true })
 
--- how many reports without an answer are counted
+-- R-ESCALATE-1, R-ESCALATE-2: how many reports without an answer are counted
 abbrev pub most_reports : ℕ
 most_reports = 3
 
@@ -81,20 +81,21 @@ is_conditional Conditional = true
 is_conditional Unconditional = false
 is_conditional Restriction = false
 
--- a stop was told conditionally, and the train has not acknowledged that
+-- R-ESCALATE-1, R-ESCALATE-6: a stop was told conditionally, and the train has not acknowledged that
 abbrev pub is_unanswered : UsedSlot → Bool
 is_unanswered used = is_conditional used.kind && not used.acked
 
--- The slot after one more report of the train: a stop that is not answered counts it, to at most 3.
+-- R-IDENTIFIER-4, R-ESCALATE-1. The slot after one more report of the train: a stop that is not answered counts it, to
+-- at most 3.
 abbrev pub reported_slot : Slot → Slot
 reported_slot (Used used) = if is_unanswered used then Used (record used { count = min (used.count + 1) most_reports }) else Used used
 reported_slot (Revoking stamp) = Revoking stamp
 
--- so do all slots
+-- R-ESCALATE-1: so do all slots
 abbrev pub after_report : Slots → Slots
 after_report slots = map (λ held. (held.0, reported_slot held.1)) slots
 
--- a stop was told conditionally, and was left unanswered in three reports
+-- R-ESCALATE-2: a stop was told conditionally, and was left unanswered in three reports
 abbrev pub is_ripe : Slot → Bool
 is_ripe (Used used) = is_unanswered used && used.count == most_reports
 is_ripe (Revoking stamp) = false
@@ -118,13 +119,13 @@ is_of_restriction Conditional = false
 is_of_restriction Unconditional = false
 is_of_restriction Restriction = true
 
--- the message with this stamp told the restriction of a slot, or revoked its identifier
+-- R-INPUT-7, R-REFUSE-16: the message with this stamp told the restriction of a slot, or revoked its identifier
 abbrev pub is_answered_by : ℕ → Slot → Bool
 is_answered_by stamp (Used used) = is_of_restriction used.kind && used.stamp == stamp
 is_answered_by stamp (Revoking own) = own == stamp
 
--- The slot once the train has acknowledged the message with this stamp, or none where its identifier is free then: a
--- restriction is marked, and a stop stays as it is.
+-- R-INPUT-7. The slot once the train has acknowledged the message with this stamp, or none where its identifier is free
+-- then: a restriction is marked, and a stop stays as it is.
 abbrev pub acked_slot : ℕ → Slot → Option Slot
 acked_slot stamp (Used used) = Some (if is_answered_by stamp (Used used) then marked used else Used used)
 acked_slot stamp (Revoking own) = if own == stamp then None else Some (Revoking own)
@@ -133,7 +134,8 @@ acked_slot stamp (Revoking own) = if own == stamp then None else Some (Revoking 
 abbrev pub acked_slots : ℕ → Slots → Slots
 acked_slots stamp slots = filter_map (λ held. option_map (λ slot. (held.0, slot)) (acked_slot stamp held.1)) slots
 
--- the table after the acknowledgement of the message with this stamp, unless that answers no slot
+-- R-INPUT-7, R-REFUSE-16: the table after the acknowledgement of the message with this stamp, unless that answers no
+-- slot
 abbrev pub after_stamp_ack : Slots → ℕ → Option Slots
 after_stamp_ack slots stamp = if list_any (λ held. is_answered_by stamp held.1) slots then Some (acked_slots stamp slots) else None
 
@@ -165,20 +167,20 @@ abbrev pub changed_by_stamp : StampAck → Slots → Option Slots
 changed_by_stamp (stamp_ack.Answered freed marked) slots = Some slots
 changed_by_stamp stamp_ack.Nothing slots = None
 
--- Q_EMERGENCYSTOP accepts a stop: 0 and 1 a conditional one, 2 an unconditional one
+-- R-INPUT-8: Q_EMERGENCYSTOP accepts a stop: 0 and 1 a conditional one, 2 an unconditional one
 abbrev pub is_acceptance : Kind → ℕ → Bool
 is_acceptance Conditional answer = nat_le answer 1
 is_acceptance Unconditional answer = answer == 2
 is_acceptance Restriction answer = false
 
--- Q_EMERGENCYSTOP rejects a stop: 3 a conditional one
+-- R-INPUT-8: Q_EMERGENCYSTOP rejects a stop: 3 a conditional one
 abbrev pub is_rejection : Kind → ℕ → Bool
 is_rejection Conditional answer = answer == 3
 is_rejection Unconditional answer = false
 is_rejection Restriction answer = false
 
--- The table once the stop of a slot is answered, unless it waits for no such answer: the stop is marked if it was
--- accepted, and its identifier is free if it was rejected.
+-- R-INPUT-8, R-REFUSE-16. The table once the stop of a slot is answered, unless it waits for no such answer: the stop
+-- is marked if it was accepted, and its identifier is free if it was rejected.
 abbrev pub acked_by_id : Slots → ℕ → ℕ → Option Slot → Option Slots
 acked_by_id slots id answer (Some (Used used)) =
     if is_acceptance used.kind answer then Some (with_value id (marked used) slots)
@@ -186,7 +188,8 @@ acked_by_id slots id answer (Some (Used used)) =
 acked_by_id slots id answer (Some (Revoking stamp)) = None
 acked_by_id slots id answer None = None
 
--- the table after the train's answer to the stop under an identifier, unless nothing waits for that answer
+-- R-INPUT-8, R-REFUSE-16: the table after the train's answer to the stop under an identifier, unless nothing waits for
+-- that answer
 abbrev pub after_id_ack : Slots → ℕ → ℕ → Option Slots
 after_id_ack slots id answer = acked_by_id slots id answer (value_of slots id)
 

@@ -52,15 +52,15 @@ abbrev pub onward : Way → ℕ → ℕ → ℕ
 onward Up place by = place + by
 onward Down place by = place - by
 
--- the same, or the last place of the line if that comes first
+-- R-PLACE-4: the same, or the last place of the line if that comes first
 abbrev pub onward_on_line : Way → ℕ → ℕ → ℕ → ℕ
 onward_on_line way end place by = onward way place (min by (room way end place))
 
--- Q_DIRLRBG and Q_DLRBG: 1 is the nominal direction of the balise group, 0 the other one
+-- R-PLACE-2, R-PLACE-3: Q_DIRLRBG and Q_DLRBG: 1 is the nominal direction of the balise group, 0 the other one
 abbrev pub way_of : Way → ℕ → Way
 way_of nominal code = if code == 1 then nominal else back nominal
 
--- Q_SCALE: a distance is counted in 10 cm, 1 m or 10 m
+-- R-PLACE-3: Q_SCALE: a distance is counted in 10 cm, 1 m or 10 m
 abbrev pub in_units : ℕ → ℕ → ℕ
 in_units scale distance = distance * 10 ^ scale
 
@@ -68,18 +68,19 @@ in_units scale distance = distance * 10 ^ scale
 abbrev pub unknown : ℕ
 unknown = 32767
 
--- a report is enough to place a train: it is packet 0, no distance or direction is unknown, and no value is spare
+-- R-PLACE-1: a report is enough to place a train: it is packet 0, no distance or direction is unknown, and no value is
+-- spare
 abbrev pub is_known : Position → Bool
 is_known p =
     is_none p.previous && nat_le p.scale 2 && nat_le p.dir 1 && nat_le p.side 1
     && nat_lt p.distance unknown && nat_lt p.over unknown && nat_lt p.under unknown
 
--- the estimated front of the train lies on the line of the balise group
+-- R-PLACE-1: the estimated front of the train lies on the line of the balise group
 abbrev pub is_front_on_line : ℕ → Group → Position → Bool
 is_front_on_line end g p = nat_le (in_units p.scale p.distance) (room (way_of g.nominal p.side) end g.at)
 
--- The interval ends ahead of the estimated front by the doubt under, and behind it by the doubt over and the length
--- of the train. Both ends are cut to the line.
+-- R-PLACE-2, R-PLACE-3, R-PLACE-4. The interval ends ahead of the estimated front by the doubt under, and behind it by
+-- the doubt over and the length of the train. Both ends are cut to the line.
 abbrev pub place_from : ℕ → Group → Position → ℕ → Place
 place_from end g p length =
     let facing = way_of g.nominal p.dir in
@@ -96,12 +97,12 @@ place_from end g p length =
       hi = max ahead behind;
     }
 
--- the place of a train from its balise group: there is one if all is known and the front is on the line
+-- R-PLACE-1: the place of a train from its balise group: there is one if all is known and the front is on the line
 abbrev pub place_by_group : Plan → Position → ℕ → Group → Option Place
 place_by_group plan p length g =
     let end = slice_index plan.lines g.line in
     if is_known p && is_front_on_line end g p then Some (place_from end g p length) else None
 
--- the place of a train of some length from its report, if the track has its balise group
+-- R-PLACE-1, R-PLACE-5: the place of a train of some length from its report, if the track has its balise group
 abbrev pub place_of_report : Plan → Position → ℕ → Option Place
 place_of_report plan p length = option_and_then (place_by_group plan p length) (group_of plan p.lrbg)

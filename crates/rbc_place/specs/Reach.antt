@@ -27,20 +27,20 @@ pub record StandsAt (end : ℕ) (facing : Way) (estimate under over length place
   pub from_front : IsAtMostAhead facing front 0 place
   pub to_rear : IsAtMostAhead (back facing) front length place
 
--- By a report, a part of the train may stand at a place: the estimated front is at the reported distance from the
--- balise group.
+-- R-PLACE-3, R-PLACE-4. By a report, a part of the train may stand at a place: the estimated front is at the reported
+-- distance from the balise group.
 pub record MayStandAt (end : ℕ) (g : Group) (p : Position) (length place : ℕ) : Type 0 where
   pub estimate : ℕ
   pub counted : IsAhead (way_of g.nominal p.side) g.at (in_units p.scale p.distance) estimate
   pub stands : StandsAt end (way_of g.nominal p.dir) estimate (in_units p.scale p.under) (in_units p.scale p.over) length place
 
--- The interval of a place holds a train: each place of the line lies in it exactly where a part of the train may
--- stand.
+-- R-PLACE-4. The interval of a place holds a train: each place of the line lies in it exactly where a part of the train
+-- may stand.
 abbrev pub HoldsItsTrain : ℕ → Group → Position → ℕ → Place → Type 0
 HoldsItsTrain end g p length place =
     (x : ℕ) → x ≤ end → ((place.lo ≤ x) × (x ≤ place.hi)) ↔ MayStandAt end g p length x
 
--- the interval of each place that a report gives holds its train
+-- R-PLACE-4: the interval of each place that a report gives holds its train
 abbrev pub EachPlaceHoldsItsTrain : Type 0
 EachPlaceHoldsItsTrain =
     (plan : Plan) (p : Position) (length : ℕ) (g : Group) (place : Place)

@@ -1,15 +1,15 @@
 -- The greatest numbers and stamps (own rule).
 use Rattle.std.specs.Prelude.{ℕ}
 
--- the greatest number of enrolled trains
+-- R-REFUSE-9: the greatest number of enrolled trains
 abbrev pub max_trains : ℕ
 max_trains = 2000
 
--- the greatest number of active stops
+-- R-REFUSE-13: the greatest number of active stops
 abbrev pub max_stops : ℕ
 max_stops = 64
 
--- the greatest number of active restrictions
+-- R-REFUSE-13: the greatest number of active restrictions
 abbrev pub max_limits : ℕ
 max_limits = 300
 
@@ -17,6 +17,6 @@ max_limits = 300
 abbrev pub max_bad_code : ℕ
 max_bad_code = 6
 
--- the greatest T_TRAIN of a message from a train, in units of 10 ms
+-- R-REFUSE-15: the greatest T_TRAIN of a message from a train, in units of 10 ms
 abbrev pub max_stamp : ℕ
 max_stamp = 4200000000

@@ -5,7 +5,7 @@ use Rattle.rbc_rule.specs.declared.refuse.NotChanged.TheVariants.{Refused, OutOf
 use Rattle.rbc_rule.specs.declared.refuse.Refusal.{Refusal}
 use Rattle.rbc_rule.specs.declared.refuse.Refusal.TheVariants.{BadLine, BadHex, Length, Message, Packet, Field, UnknownTrain, AlreadyEnrolled, TooManyTrains, StopsOutstanding, NumberUsed, BadArea, TooManyActive, NoSuchNumber, StampTooHigh, NothingToAcknowledge}
 
--- the code of each reason
+-- R-INPUT-1: the code of each reason
 abbrev pub code_of : Refusal → ℕ
 code_of BadLine = 1
 code_of BadHex = 2

@@ -19,13 +19,14 @@ settled_trains plan stops limits trains = map (λ train. (train.0, settled plan 
 abbrev pub sent_to : Plan → Stops → Limits → List (ℕ × TrainRec) → List (ℕ × List ToTrain)
 sent_to plan stops limits trains = map (λ train. (train.0, messages_of plan stops limits train.1)) trains
 
+-- R-INPUT-9.
 abbrev pub settle_all : Plan → World → World
 settle_all plan w = record w { trains = settled_trains plan w.stops w.limits w.trains }
 
 abbrev pub sent_to_all : Plan → World → List (ℕ × List ToTrain)
 sent_to_all plan w = sent_to plan w.stops w.limits w.trains
 
--- how many messages were sent to all trains
+-- R-INPUT-9: how many messages were sent to all trains
 abbrev pub count_sent : List (ℕ × List ToTrain) → ℕ
 count_sent sent = sum_by (λ messages. length messages.1) sent
 
@@ -35,7 +36,8 @@ pub record Step : Type 0 where
   pub reply : Reply
   pub sent : List (ℕ × List ToTrain)
 
--- an input that is refused changes nothing, and sends nothing; after the effect of any other one every train is settled
+-- R-INPUT-1, R-INPUT-9: an input that is refused changes nothing, and sends nothing; after the effect of any other one
+-- every train is settled
 abbrev pub after : Plan → World → Result World ℕ → Step
 after plan w (Err code) = record { world = w; reply = Refused code; sent = [] }
 after plan w (Ok changed) = record {
@@ -44,5 +46,6 @@ after plan w (Ok changed) = record {
   sent = sent_to_all plan changed;
 }
 
+-- R-INPUT-1, R-INPUT-9.
 abbrev pub step : Plan → World → Input → Step
 step plan w input = after plan w (effect plan input w)

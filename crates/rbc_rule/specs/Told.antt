@@ -31,12 +31,12 @@ use Rattle.rbc_rule.specs.Effect.{effect}
 use Rattle.rbc_rule.specs.Step.{step}
 use Rattle.rbc_rule.specs.WellFormed.{IsWellFormed}
 
--- Each train is up to date, or its stamps have ended: each active stop or restriction that concerns it is told, or finds no free
--- identifier, and no slot is used by a number that is to be revoked.
+-- R-SETTLE-13. Each train is up to date, or its stamps have ended: each active stop or restriction that concerns it is
+-- told, or finds no free identifier, and no slot is used by a number that is to be revoked.
 abbrev pub EachTrainIsUpToDate : Plan → World → Type 0
 EachTrainIsUpToDate plan w = All (λ train. IsUpToDateOrAtTheEnd plan w.stops w.limits train.1) w.trains
 
--- after each step, from any well-formed world
+-- R-SETTLE-13: after each step, from any well-formed world
 abbrev pub EachStepTells : Type 0
 EachStepTells =
     (plan : Plan) (w : World) (input : Input) → IsPlan plan → Fits input → IsWellFormed plan w → EachTrainIsUpToDate plan (step plan w input).world

@@ -44,20 +44,20 @@ Stops = Numbered (List Segment)
 abbrev pub Limits : Type 0
 Limits = Numbered Limit
 
--- the last stamp that a message may have: the number after it means that the time is unknown
+-- R-SETTLE-9: the last stamp that a message may have: the number after it means that the time is unknown
 abbrev pub last_stamp : ℕ
 last_stamp = 4294967294
 
--- How many messages a train is sent at most where it is settled: 15 identifiers of stops are revoked and as many are told, and 255
--- of restrictions, which makes six groups.
+-- R-SETTLE-7. How many messages a train is sent at most where it is settled: 15 identifiers of stops are revoked and as
+-- many are told, and 255 of restrictions, which makes six groups.
 abbrev pub most_messages : ℕ
 most_messages = 36
 
--- NID_LRBG of a train without a place
+-- R-SETTLE-10: NID_LRBG of a train without a place
 abbrev pub unknown_group : ℕ
 unknown_group = 16777215
 
--- Q_DIR: 1 if the train faces in the nominal direction of its balise group, else 0
+-- R-STOP-8, R-RESTRICTION-5: Q_DIR: 1 if the train faces in the nominal direction of its balise group, else 0
 abbrev pub direction_of : Place → ℕ
 direction_of p = if is_up_way p.facing p.same then 1 else 0
   where
@@ -68,7 +68,8 @@ direction_of p = if is_up_way p.facing p.same then 1 else 0
 abbrev pub told_edge : ℕ → ℕ × ℕ → Edge
 told_edge dir (scale, distance) = record { dir = dir; scale = scale; distance = distance }
 
--- how a stop is told to a train at a place: not at all, at once, or with the distance from the balise group to an edge
+-- R-STOP-5, R-STOP-6: how a stop is told to a train at a place: not at all, at once, or with the distance from the
+-- balise group to an edge
 abbrev pub told_at : Place → Concern → Option ToldStop
 told_at p concern.None = None
 told_at p concern.Now = Some AtOnce
@@ -76,14 +77,15 @@ told_at p (concern.Before edge) =
     let distance = distance_to p.facing p.at edge in
     Some (Before (told_edge (direction_of p) (told_distance distance)))
 
--- How a stop is told to any train: a train without a place is told each stop that concerns it at once.
+-- R-STOP-5, R-STOP-6. How a stop is told to any train: a train without a place is told each stop that concerns it at
+-- once.
 abbrev pub told_stop : Option Place → Concern → Option ToldStop
 told_stop (Some p) c = told_at p c
 told_stop None concern.None = None
 told_stop None concern.Now = Some AtOnce
 told_stop None (concern.Before edge) = Some AtOnce
 
--- how a restriction is told to a train at a place
+-- R-RESTRICTION-5: how a restriction is told to a train at a place
 abbrev pub told_limit : Limit → Place → Part
 told_limit limit p = record {
   dir = direction_of p;
@@ -94,21 +96,22 @@ told_limit limit p = record {
   speed = limit.speed / 5;
 }
 
--- what an active stop is to a train
+-- R-STOP-1: what an active stop is to a train
 abbrev pub concern_to : TrainRec → ℕ × List Segment → Concern
 concern_to train stop = concern_of stop.1 (has_number train.forced stop.0) train.place
 
--- a stop that has to be told, since it is not told and concerns the train, with how it is told
+-- R-SETTLE-2, R-SETTLE-12, R-STOP-5: a stop that has to be told, since it is not told and concerns the train, with how
+-- it is told
 abbrev pub stop_to_tell : TrainRec → ℕ × List Segment → Option (ℕ × ToldStop)
 stop_to_tell train stop =
     if is_told train.stops stop.0 then None else option_map (λ told. (stop.0, told)) (told_stop train.place (concern_to train stop))
 
--- how a restriction is told to a train that it concerns
+-- R-RESTRICTION-4: how a restriction is told to a train that it concerns
 abbrev pub limit_told_to : ℕ → Option Place → Limit → Option Part
 limit_told_to horizon None limit = None
 limit_told_to horizon (Some p) limit = if concerns limit p horizon then Some (told_limit limit p) else None
 
--- a restriction that has to be told, since it is not told and concerns the train, with how it is told
+-- R-SETTLE-4: a restriction that has to be told, since it is not told and concerns the train, with how it is told
 abbrev pub limit_to_tell : ℕ → TrainRec → ℕ × Limit → Option (ℕ × Part)
 limit_to_tell horizon train limit =
     if is_told train.limits limit.0 then None else option_map (λ told. (limit.0, told)) (limit_told_to horizon train.place limit.1)
@@ -122,45 +125,47 @@ is_used_by is_gone (Revoking stamp) = false
 abbrev pub to_revoke : (ℕ → Bool) → Slots → List ℕ
 to_revoke is_gone slots = keys (filter (λ held. is_used_by is_gone held.1) slots)
 
--- A stop has to be revoked if it is not active.
+-- R-SETTLE-1, R-SETTLE-11. A stop has to be revoked if it is not active.
 abbrev pub is_stop_gone : Stops → ℕ → Bool
 is_stop_gone stops number = not (has stops.active number)
 
--- A restriction is clear of a train; of a train without a place none is.
+-- R-RESTRICTION-4. A restriction is clear of a train; of a train without a place none is.
 abbrev pub is_clear_of : Option Place → Limit → Bool
 is_clear_of None limit = false
 is_clear_of (Some p) limit = is_clear limit p
 
--- A restriction has to be revoked if it is not active, or is clear of the train.
+-- R-SETTLE-3, R-SETTLE-11. A restriction has to be revoked if it is not active, or is clear of the train.
 abbrev pub is_limit_gone : Limits → Option Place → ℕ → Bool
 is_limit_gone limits place number = option_map_or (is_clear_of place) (value_of limits.active number) true
 
 -- ---- what is escalated
 
--- The number of a slot that is due: it tells an active stop conditionally, and was left unanswered in three reports.
+-- R-ESCALATE-2. The number of a slot that is due: it tells an active stop conditionally, and was left unanswered in
+-- three reports.
 abbrev pub due_number : Stops → Slot → Option ℕ
 due_number stops (Used used) = if is_ripe (Used used) && has stops.active used.number then Some used.number else None
 due_number stops (Revoking stamp) = None
 
--- how many free identifiers no stop needs that has to be told
+-- R-ESCALATE-3: how many free identifiers no stop needs that has to be told
 abbrev pub spare_identifiers : Stops → TrainRec → ℕ
 spare_identifiers stops train = length (free_identifiers stop_identifiers train.stops) - length (filter_map (stop_to_tell train) stops.active)
 
--- The numbers that are escalated: those of the first slots that are due, in order of their identifiers, as many as there are
--- identifiers to spare.
+-- R-ESCALATE-4. The numbers that are escalated: those of the first slots that are due, in order of their identifiers,
+-- as many as there are identifiers to spare.
 abbrev pub escalated : Stops → TrainRec → List ℕ
 escalated stops train = take (spare_identifiers stops train) (filter_map (λ held. due_number stops held.1) train.stops)
 
--- A stop has to be revoked if it is not active, or is escalated.
+-- R-SETTLE-1, R-ESCALATE-5. A stop has to be revoked if it is not active, or is escalated.
 abbrev pub is_stop_revoked : Stops → List ℕ → ℕ → Bool
 is_stop_revoked stops forced_now number = is_stop_gone stops number || has_number forced_now number
 
--- the number that becomes forced as its slot is revoked: one that is escalated
+-- R-ESCALATE-5: the number that becomes forced as its slot is revoked: one that is escalated
 abbrev pub number_forced : List ℕ → Slot → Option ℕ
 number_forced forced_now (Used used) = if has_number forced_now used.number then Some used.number else None
 number_forced forced_now (Revoking stamp) = None
 
--- an escalated stop is told again, at once, and any other one if it has to be told
+-- R-SETTLE-2, R-SETTLE-12, R-ESCALATE-5: an escalated stop is told again, at once, and any other one if it has to be
+-- told
 abbrev pub next_to_tell : List ℕ → TrainRec → ℕ × List Segment → Option (ℕ × ToldStop)
 next_to_tell forced_now train stop = if has_number forced_now stop.0 then Some (stop.0, AtOnce) else stop_to_tell train stop
 
@@ -178,44 +183,45 @@ tell_stop ((number, told), id) = stop_change.Tell id number told
 abbrev pub tell_limit : (ℕ × Part) × ℕ → LimitChange
 tell_limit ((number, told), id) = limit_change.Tell id number told
 
--- a revocation of each stop that has to be revoked, in ascending order of the identifiers
+-- R-SETTLE-1: a revocation of each stop that has to be revoked, in ascending order of the identifiers
 abbrev pub stops_revoked : List ℕ → Stops → TrainRec → List StopChange
 stops_revoked forced_now stops train = map (revoke_stop forced_now) (filter (λ held. is_used_by (is_stop_revoked stops forced_now) held.1) train.stops)
 
--- the stops that have to be told, in pairs with the free identifiers, as long as there are both
+-- R-SETTLE-2: the stops that have to be told, in pairs with the free identifiers, as long as there are both
 abbrev pub stops_told : List ℕ → Stops → TrainRec → List StopChange
 stops_told forced_now stops train = map tell_stop (zip (filter_map (next_to_tell forced_now train) stops.active) (free_identifiers stop_identifiers train.stops))
 
--- a revocation of each restriction that has to be revoked
+-- R-SETTLE-3: a revocation of each restriction that has to be revoked
 abbrev pub limits_revoked : Limits → TrainRec → List LimitChange
 limits_revoked limits train = map limit_change.Revoke (to_revoke (is_limit_gone limits train.place) train.limits)
 
--- the restrictions that have to be told, in pairs with the free identifiers
+-- R-SETTLE-4: the restrictions that have to be told, in pairs with the free identifiers
 abbrev pub limits_told : ℕ → Limits → TrainRec → List LimitChange
 limits_told horizon limits train = map tell_limit (zip (filter_map (limit_to_tell horizon train) limits.active) (free_identifiers limit_identifiers train.limits))
 
--- revocations stand before what is told
+-- R-SETTLE-1, R-SETTLE-2: revocations stand before what is told
 abbrev pub stop_changes : Stops → TrainRec → List StopChange
 stop_changes stops train = stops_revoked (escalated stops train) stops train ++ stops_told (escalated stops train) stops train
 
+-- R-SETTLE-3, R-SETTLE-4.
 abbrev pub limit_changes : ℕ → Limits → TrainRec → List LimitChange
 limit_changes horizon limits train = limits_revoked limits train ++ limits_told horizon limits train
 
 -- ---- the actions
 
--- a message for each stop, and then one for each group of restrictions
+-- R-SETTLE-6: a message for each stop, and then one for each group of restrictions
 abbrev pub in_messages : List StopChange → List LimitChange → List Action
 in_messages stops limits = map ChangesStop stops ++ map ChangesLimits (groups limits)
 
--- All actions: each is judged by the train as it was before the first one.
+-- R-SETTLE-5. All actions: each is judged by the train as it was before the first one.
 abbrev pub actions : Plan → Stops → Limits → TrainRec → List Action
 actions plan stops limits train = in_messages (stop_changes stops train) (limit_changes plan.horizon limits train)
 
--- the actions for which stamps are left
+-- R-SETTLE-9: the actions for which stamps are left
 abbrev pub actions_with_stamp : Plan → Stops → Limits → TrainRec → List Action
 actions_with_stamp plan stops limits train = take (last_stamp - train.stamp) (actions plan stops limits train)
 
--- the kind of message by which a stop is told
+-- R-STOP-6: the kind of message by which a stop is told
 abbrev pub kind_of : ToldStop → Kind
 kind_of AtOnce = Unconditional
 kind_of (Before edge) = Conditional
@@ -225,13 +231,14 @@ abbrev pub and_forced : Option ℕ → List ℕ → List ℕ
 and_forced None forced = forced
 and_forced (Some number) forced = and_number number forced
 
--- The restrictions after a change that the message with a stamp makes. A revoked identifier is held until the train has acknowledged
--- that, and an identifier under which a number is told is used from then on.
+-- R-SETTLE-8. The restrictions after a change that the message with a stamp makes. A revoked identifier is held until
+-- the train has acknowledged that, and an identifier under which a number is told is used from then on.
 abbrev pub limit_changed : ℕ → Slots → LimitChange → Slots
 limit_changed stamp slots (limit_change.Revoke id) = with_value id (Revoking stamp) slots
 limit_changed stamp slots (limit_change.Tell id number told) = with_value id (told_now number stamp Restriction) slots
 
--- An action takes the next stamp. Stops are changed as restrictions are, and an escalated number is forced as it is revoked.
+-- R-SETTLE-8, R-ESCALATE-5. An action takes the next stamp. Stops are changed as restrictions are, and an escalated
+-- number is forced as it is revoked.
 abbrev pub carried_out : TrainRec → Action → TrainRec
 carried_out train (ChangesStop (stop_change.Revoke id number)) =
     record train { stamp = train.stamp + 1; stops = with_value id (Revoking (train.stamp + 1)) train.stops; forced = and_forced number train.forced }
@@ -239,27 +246,28 @@ carried_out train (ChangesStop (stop_change.Tell id number told)) =
     record train { stamp = train.stamp + 1; stops = with_value id (told_now number (train.stamp + 1) (kind_of told)) train.stops }
 carried_out train (ChangesLimits changes) = record train { stamp = train.stamp + 1; limits = fold (limit_changed (train.stamp + 1)) train.limits changes }
 
--- NID_LRBG: the balise group that the train's report counts from
+-- R-SETTLE-10: NID_LRBG: the balise group that the train's report counts from
 abbrev pub group_of : TrainRec → ℕ
 group_of train = option_map_or (λ p. p.lrbg) train.place unknown_group
 
--- what each message begins with: the next stamp, M_ACK, and the balise group
+-- R-SETTLE-10: what each message begins with: the next stamp, M_ACK, and the balise group
 abbrev pub head_of : TrainRec → Bool → Head
 head_of train ack = record { stamp = train.stamp + 1; ack = ack; lrbg = group_of train }
 
--- the packet of a change: 66 (Q_DIR 2: both ways), or 65
+-- R-SETTLE-3, R-SETTLE-4, R-RESTRICTION-5: the packet of a change: 66 (Q_DIR 2: both ways), or 65
 abbrev pub packet_of : LimitChange → Packet
 packet_of (limit_change.Revoke id) = packet.Lift 2 id
 packet_of (limit_change.Tell id number told) = packet.Restrict told.dir told.scale id told.start told.length told.front told.speed
 
--- the message of an action: 18, 15 or 16, and 24 with a packet for each change
+-- R-SETTLE-1, R-SETTLE-6, R-SETTLE-10, R-STOP-6: the message of an action: 18, 15 or 16, and 24 with a packet for each
+-- change
 abbrev pub message_of : TrainRec → Action → ToTrain
 message_of train (ChangesStop (stop_change.Revoke id number)) = message.Revoke (head_of train true) id
 message_of train (ChangesStop (stop_change.Tell id number AtOnce)) = message.Stop (head_of train false) id
 message_of train (ChangesStop (stop_change.Tell id number (Before edge))) = message.StopAt (head_of train false) id edge.scale (pos 0) edge.dir edge.distance
 message_of train (ChangesLimits changes) = message.General (head_of train true) (map packet_of changes)
 
--- the train after its actions, which are carried out one after another
+-- R-SETTLE-5: the train after its actions, which are carried out one after another
 abbrev pub settled : Plan → Stops → Limits → TrainRec → TrainRec
 settled plan stops limits train = fold carried_out train (actions_with_stamp plan stops limits train)
 

@@ -2,11 +2,11 @@
 use Rattle.std.specs.Prelude.{ℕ, [], None}
 use Rattle.rbc_settle.specs.declared.train.TrainRec.{TrainRec}
 
--- how many stop identifiers a train has (NID_EM): 0 to 14
+-- R-IDENTIFIER-1: how many stop identifiers a train has (NID_EM): 0 to 14
 abbrev pub stop_identifiers : ℕ
 stop_identifiers = 15
 
--- how many restriction identifiers it has (NID_TSR): 0 to 254
+-- R-IDENTIFIER-1: how many restriction identifiers it has (NID_TSR): 0 to 254
 abbrev pub limit_identifiers : ℕ
 limit_identifiers = 255
 
@@ -18,6 +18,6 @@ max_engine = 16777215
 abbrev pub max_train_length : ℕ
 max_train_length = 40000
 
--- a train without a place, to which nothing was told
+-- R-INPUT-2: a train without a place, to which nothing was told
 abbrev pub new_train : ℕ → ℕ → ℕ → TrainRec
 new_train engine length stamp = record { engine = engine; length = length; stamp = stamp; place = None; forced = []; stops = []; limits = [] }

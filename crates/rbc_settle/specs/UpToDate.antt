@@ -11,20 +11,21 @@ use Rattle.rbc_settle.specs.declared.train.TrainRec.{TrainRec}
 use Rattle.rbc_settle.specs.Trains.{stop_identifiers, limit_identifiers}
 use Rattle.rbc_settle.specs.Settling.{Stops, Limits, last_stamp, concern_to, limit_told_to, is_stop_gone, is_limit_gone, is_used_by, due_number, actions, settled, messages_of}
 
--- A stop does not concern the train, or is told to it, or all stop identifiers are held.
+-- R-SETTLE-13. A stop does not concern the train, or is told to it, or all stop identifiers are held.
 abbrev pub IsToldIfItCan : TrainRec → ℕ × List Segment → Type 0
 IsToldIfItCan train stop = (concern_to train stop ≡ concern.None) ⊎ ((is_told train.stops stop.0 ≡ true) ⊎ (length train.stops ≡ stop_identifiers))
 
--- A restriction does not concern the train, or is told to it, or all restriction identifiers are held.
+-- R-SETTLE-13. A restriction does not concern the train, or is told to it, or all restriction identifiers are held.
 abbrev pub IsLimitToldIfItCan : ℕ → TrainRec → ℕ × Limit → Type 0
 IsLimitToldIfItCan horizon train limit = (limit_told_to horizon train.place limit.1 ≡ None) ⊎ ((is_told train.limits limit.0 ≡ true) ⊎ (length train.limits ≡ limit_identifiers))
 
--- No slot is due, or all stop identifiers are held.
+-- R-SETTLE-13. No slot is due, or all stop identifiers are held.
 abbrev pub IsNoneDue : Stops → TrainRec → Type 0
 IsNoneDue stops train = All (λ held. due_number stops held.1 ≡ None) train.stops ⊎ (length train.stops ≡ stop_identifiers)
 
--- A train is up to date: each active stop and each active restriction that concerns it is told, unless no identifier is free; no
--- slot is used by a number that has to be revoked; and where a stop identifier is free no slot is due.
+-- R-SETTLE-13. A train is up to date: each active stop and each active restriction that concerns it is told, unless no
+-- identifier is free; no slot is used by a number that has to be revoked; and where a stop identifier is free no slot
+-- is due.
 pub record IsUpToDate (plan : Plan) (stops : Stops) (limits : Limits) (train : TrainRec) : Type 0 where
   pub told : All (IsToldIfItCan train) stops.active
   pub limits_told : All (IsLimitToldIfItCan plan.horizon train) limits.active
@@ -32,7 +33,7 @@ pub record IsUpToDate (plan : Plan) (stops : Stops) (limits : Limits) (train : T
   pub no_limit_gone : All (λ held. is_used_by (is_limit_gone limits train.place) held.1 ≡ false) train.limits
   pub none_due : IsNoneDue stops train
 
--- a train is up to date, or no stamp is left for it
+-- R-SETTLE-13: a train is up to date, or no stamp is left for it
 abbrev pub IsUpToDateOrAtTheEnd : Plan → Stops → Limits → TrainRec → Type 0
 IsUpToDateOrAtTheEnd plan stops limits train = (last_stamp ≤ train.stamp) ⊎ IsUpToDate plan stops limits train
 

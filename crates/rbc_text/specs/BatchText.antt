@@ -149,7 +149,7 @@ pub data Line : Type 0 where
   Spelled : Input → Line
   Heard : List ℕ → Line
 
--- the bytes that hexadecimal digits spell, or a bad line, refused for its digits
+-- R-REFUSE-2: the bytes that hexadecimal digits spell, or a bad line, refused for its digits
 abbrev pub line_of_hex : Result (List ℕ) FromHexError → Line
 line_of_hex (Ok bytes) = Heard bytes
 line_of_hex (Err fault) = Spelled (Bad (code_of refusal.BadHex))
@@ -182,18 +182,19 @@ line_of_words (word ∷ arguments) =
     if bytes_eq word (codes "recv") then message_of arguments
     else option_map Spelled (command_of word arguments)
 
--- what a line spells; where it spells nothing, it is a bad line
+-- R-REFUSE-1: what a line spells; where it spells nothing, it is a bad line
 abbrev pub line_of : List ℕ → Line
 line_of line = unwrap_or (line_of_words (words_of line)) (Spelled (Bad (code_of refusal.BadLine)))
 
--- why bytes that are no message are refused
+-- R-REFUSE-3, R-REFUSE-4, R-REFUSE-5, R-REFUSE-6: why bytes that are no message are refused
 abbrev pub refusal_of : DecodeError → Refusal
 refusal_of Length = refusal.Length
 refusal_of Message = refusal.Message
 refusal_of Packet = refusal.Packet
 refusal_of Field = refusal.Field
 
--- the input of bytes: the message that they spell, or a bad line with the code of the first step that fails
+-- R-REFUSE-3, R-REFUSE-4, R-REFUSE-5, R-REFUSE-6: the input of bytes: the message that they spell, or a bad line with
+-- the code of the first step that fails
 abbrev pub AreHeard : List ℕ → Input → Type 0
 AreHeard bytes (Received message) = Spells bytes message
 AreHeard bytes (Bad code) = (fault : DecodeError) × Refuses bytes fault × (code ≡ code_of (refusal_of fault))

@@ -11,30 +11,31 @@ use Rattle.rbc_zones.specs.declared.limit.Dirs.TheVariants as dirs
 use Rattle.rbc_zones.specs.Segments.{is_good_segment}
 use Rattle.rbc_zones.specs.Concerns.{max_units, scale_by}
 
--- the greatest speed of a restriction, in km/h
+-- R-RESTRICTION-1, R-REFUSE-12: the greatest speed of a restriction, in km/h
 abbrev pub max_speed : ℕ
 max_speed = 600
 
--- a restriction: its segment, its directions, its speed in km/h, and Q_FRONT
+-- R-RESTRICTION-1: a restriction: its segment, its directions, its speed in km/h, and Q_FRONT
 pub record Limit : Type 0 where
   pub segment : Segment
   pub dirs : Dirs
   pub speed : ℕ
   pub front : Bool
 
--- the ends of each restriction are apart and at places that a line can have, and its speed is a value of V_TSR
+-- R-RESTRICTION-1: the ends of each restriction are apart and at places that a line can have, and its speed is a value
+-- of V_TSR
 pub record IsLimit (limit : Limit) : Type 0 where
   pub ordered : limit.segment.from < limit.segment.to
   pub within : limit.segment.to ≤ max_length
   pub speed : limit.speed ≤ max_speed
   pub in_fives : limit.speed % 5 ≡ 0
 
--- a segment and a speed are good for a track
+-- R-REFUSE-12: a segment and a speed are good for a track
 abbrev pub is_good_limit : Plan → Segment → ℕ → Bool
 is_good_limit plan segment speed =
     is_good_segment plan segment && nat_lt segment.from segment.to && nat_le speed max_speed && speed % 5 == 0
 
--- a restriction applies to trains that face this way
+-- R-RESTRICTION-2: a restriction applies to trains that face this way
 abbrev pub is_for : Dirs → Way → Bool
 is_for dirs.Up Up = true
 is_for dirs.Up Down = false
@@ -42,58 +43,59 @@ is_for dirs.Down Up = false
 is_for dirs.Down Down = true
 is_for dirs.Both way = true
 
--- it lies wholly behind the interval in which the train may stand
+-- R-RESTRICTION-2: it lies wholly behind the interval in which the train may stand
 abbrev pub lies_behind : Way → Segment → Place → Bool
 lies_behind Up segment p = nat_lt segment.to p.lo
 lies_behind Down segment p = nat_lt p.hi segment.from
 
--- a restriction is clear of a train
+-- R-RESTRICTION-2: a restriction is clear of a train
 abbrev pub is_clear : Limit → Place → Bool
 is_clear limit p =
     not (limit.segment.line == p.line) || not (is_for limit.dirs p.facing) || lies_behind p.facing limit.segment p
 
--- a segment ends beyond a balise group
+-- R-RESTRICTION-3: a segment ends beyond a balise group
 abbrev pub ends_beyond : Way → Segment → ℕ → Bool
 ends_beyond Up segment at = nat_lt at segment.to
 ends_beyond Down segment at = nat_lt segment.from at
 
--- a restriction ends beyond the train's balise group
+-- R-RESTRICTION-3: a restriction ends beyond the train's balise group
 abbrev pub ends_beyond_group : Limit → Place → Bool
 ends_beyond_group limit p = ends_beyond p.facing limit.segment p.at
 
--- a segment begins no farther ahead of the interval in which the train may stand than the horizon
+-- R-RESTRICTION-3: a segment begins no farther ahead of the interval in which the train may stand than the horizon
 abbrev pub starts_within : Way → Segment → Place → ℕ → Bool
 starts_within Up segment p horizon = nat_le segment.from (p.hi + horizon)
 starts_within Down segment p horizon = nat_le p.lo (segment.to + horizon)
 
--- a restriction concerns a train, which has to be told of it
+-- R-RESTRICTION-3: a restriction concerns a train, which has to be told of it
 abbrev pub concerns : Limit → Place → ℕ → Bool
 concerns limit p horizon =
     not (is_clear limit p) && ends_beyond_group limit p && starts_within p.facing limit.segment p horizon
 
--- the distance from a balise group at which a segment begins, without the part that is behind the group
+-- R-RESTRICTION-5: the distance from a balise group at which a segment begins, without the part that is behind the
+-- group
 abbrev pub begins_at : Way → Segment → ℕ → ℕ
 begins_at Up segment at = max segment.from at - at
 begins_at Down segment at = at - min segment.to at
 
--- the distance from a balise group at which a segment ends
+-- R-RESTRICTION-5: the distance from a balise group at which a segment ends
 abbrev pub ends_at : Way → Segment → ℕ → ℕ
 ends_at Up segment at = segment.to - at
 ends_at Down segment at = at - segment.from
 
--- a distance in whole units, rounded up
+-- R-RESTRICTION-6: a distance in whole units, rounded up
 abbrev pub divided_up : ℕ → ℕ → ℕ
 divided_up distance unit = (distance + (unit - 1)) / unit
 
--- D_TSR at a scale: the start, rounded down
+-- R-RESTRICTION-6: D_TSR at a scale: the start, rounded down
 abbrev pub start_at : ℕ → ℕ → ℕ
 start_at scale begin = begin / 10 ^ scale
 
--- L_TSR at a scale: the length from that start to the end, which is rounded up
+-- R-RESTRICTION-6: L_TSR at a scale: the length from that start to the end, which is rounded up
 abbrev pub length_at : ℕ → ℕ → ℕ → ℕ
 length_at scale begin end = divided_up end (10 ^ scale) - begin / 10 ^ scale
 
--- the least scale at which both have room in their fields
+-- R-RESTRICTION-6: the least scale at which both have room in their fields
 abbrev pub part_scale : ℕ → ℕ → ℕ
 part_scale begin end = scale_by (λ scale. nat_le (start_at scale begin) max_units && nat_le (length_at scale begin end) max_units)
 
@@ -102,7 +104,7 @@ abbrev pub told_of_part : ℕ → ℕ → ℕ × ℕ × ℕ
 told_of_part begin end =
     (part_scale begin end, start_at (part_scale begin end) begin, length_at (part_scale begin end) begin end)
 
--- Q_SCALE, D_TSR and L_TSR of a restriction for a train
+-- R-RESTRICTION-5, R-RESTRICTION-6: Q_SCALE, D_TSR and L_TSR of a restriction for a train
 abbrev pub told_part : Limit → Place → ℕ × ℕ × ℕ
 told_part limit p = told_of_part (begins_at p.facing limit.segment p.at) (ends_at p.facing limit.segment p.at)
 
@@ -133,8 +135,8 @@ pub record IsNearOne (limit : Limit) (p : Place) (unit distance : ℕ) : Type 0 
 abbrev pub HasNoRoom : ℕ → ℕ → ℕ → Type 0
 HasNoRoom scale begin end = (max_units < start_at scale begin) ⊎ (max_units < length_at scale begin end)
 
--- A restriction is told: the interval covers all of it that is not behind the balise group, and less than a unit
--- more at each end, in the finest unit that has room.
+-- R-RESTRICTION-5, R-RESTRICTION-6. A restriction is told: the interval covers all of it that is not behind the balise
+-- group, and less than a unit more at each end, in the finest unit that has room.
 pub record IsToldPart (limit : Limit) (p : Place) (scale start length : ℕ) : Type 0 where
   pub not_spare : scale ≤ 2
   pub start_in_field : start ≤ max_units
@@ -144,7 +146,7 @@ pub record IsToldPart (limit : Limit) (p : Place) (scale start length : ℕ) : T
   pub no_longer : (distance : ℕ) → IsTold scale start length distance → IsNearOne limit p (10 ^ scale) distance
   pub finest : (finer : ℕ) → finer < scale → HasNoRoom finer (begins_at p.facing limit.segment p.at) (ends_at p.facing limit.segment p.at)
 
--- each restriction that concerns a train is told in this way
+-- R-RESTRICTION-5, R-RESTRICTION-6: each restriction that concerns a train is told in this way
 abbrev pub EachLimitIsToldRightly : Type 0
 EachLimitIsToldRightly =
     (limit : Limit) (p : Place) (horizon : ℕ) → IsLimit limit → IsSound p → concerns limit p horizon ≡ true

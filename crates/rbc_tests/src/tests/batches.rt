@@ -9,13 +9,14 @@ pub(crate) struct Worked {
     pub(crate) output: &'static str,
 }
 
-/// The train is told a stop: it has not reported, so it has to stop at once.
+/// R-STOP-1, R-STOP-6. The train is told a stop: it has not reported, so it has to stop at once.
 pub(crate) const STOPPED: Worked = Worked {
     batch: "enrol 7 2000\nstop 1 0:0-10\n",
     output: "1 ok 0\n2 ok 1\n7 2 1002800000005FFFFFE0\n",
 };
 
-/// Stops take all 15 identifiers of the train; one more waits until it acknowledges that the first one is revoked.
+/// R-IDENTIFIER-3, R-SETTLE-1, R-SETTLE-2, R-INPUT-7. Stops take all 15 identifiers of the train; one more waits until
+/// it acknowledges that the first one is revoked.
 pub(crate) const FULL: Worked = Worked {
     batch: "enrol 7 2000
 stop 1 0:0-10

@@ -110,6 +110,7 @@ const READ_IN_BETWEEN: &[Call] = &[
     AT_END,
 ];
 
+// R-STOP-1, R-INPUT-11.
 #[test]
 fn read_before_and_behind_a_commit(rt: HostRuntime) {
     let inputs = enrol_and_stop(&rt);
@@ -195,13 +196,15 @@ fn assert_two_told<R: Abort + AllocGlobal + Wait>(
     assert!(rt; desk.outbox(10).is_empty());
 }
 
-// both trains are told: where two attempts are misled, and in a book at whose end each call is made once more
+// R-STOP-1, R-INPUT-11: both trains are told: where two attempts are misled, and in a book at whose end each call is
+// made once more
 #[test]
 fn two_trains_are_told(rt: HostRuntime) {
     assert_two_told(&rt, 8, MISLED, 2);
     assert_two_told(&rt, 9, AT_THE_END, 1);
 }
 
+// R-INPUT-2, R-INPUT-11.
 #[test]
 fn there_and_back(rt: HostRuntime) {
     let leaving = Input::Withdraw { engine: 7 };

@@ -108,8 +108,8 @@ fn assert_desk<R: Abort + AllocGlobal>(rt: &R, desk: &Desk, text: &str) {
     same(rt, written.as_slice(), text.as_bytes());
 }
 
-// The second input reads what the first one writes, and is deposited before it: it is recomputed. Then the first
-// input is begun after attempts at all others are deposited, each of which has read what it writes.
+// R-INPUT-11. The second input reads what the first one writes, and is deposited before it: it is recomputed. Then the
+// first input is begun after attempts at all others are deposited, each of which has read what it writes.
 #[test]
 fn computes_again_what_went_stale(rt: HostRuntime) {
     let gate = Hold::new(&rt, Moment::BeforeDeposit(1), Moment::AfterDeposit(2));
@@ -130,8 +130,8 @@ fn computes_again_what_went_stale(rt: HostRuntime) {
     same(&rt, late.was_passed(), true);
 }
 
-// The second input reads what the attempt at the first one writes, which is not committed yet: nothing is computed
-// again.
+// R-INPUT-11. The second input reads what the attempt at the first one writes, which is not committed yet: nothing is
+// computed again.
 #[test]
 fn reads_what_is_not_committed(rt: HostRuntime) {
     let gate = Both {
@@ -148,7 +148,7 @@ fn reads_what_is_not_committed(rt: HostRuntime) {
     same(&rt, gate.other.was_passed(), true);
 }
 
-// The second enrolment is deposited after the stop, which has read that there is no such train.
+// R-INPUT-11. The second enrolment is deposited after the stop, which has read that there is no such train.
 #[test]
 fn commits_in_the_order_of_the_inputs(rt: HostRuntime) {
     let gate = Hold::new(&rt, Moment::BeforeDeposit(2), Moment::AfterDeposit(3));
@@ -165,8 +165,8 @@ fn commits_in_the_order_of_the_inputs(rt: HostRuntime) {
     same(&rt, gate.was_passed(), true);
 }
 
-// Two trains acknowledge at once, and neither reads what the other writes: nothing is recomputed. The run goes on
-// from the desk that an earlier one left.
+// R-INPUT-7, R-INPUT-11. Two trains acknowledge at once, and neither reads what the other writes: nothing is
+// recomputed. The run goes on from the desk that an earlier one left.
 #[test]
 fn applies_what_is_apart(rt: HostRuntime) {
     let alloc = rt.alloc();
@@ -207,8 +207,8 @@ fn stops<R: Abort + AllocGlobal>(rt: &R, from: usize, count: usize) -> String {
     lines_of(rt.alloc(), FULL.batch, from, count).expect(rt, "memory")
 }
 
-// A gate is told each input by its own number, once in each call, and the train that is read for it. As many workers
-// are at an input at once as are asked for, and no more.
+// R-REFUSE-7. A gate is told each input by its own number, once in each call, and the train that is read for it. As
+// many workers are at an input at once as are asked for, and no more.
 #[test]
 fn tells_the_gate_each_input(rt: HostRuntime) {
     let batch = "withdraw 7\nwithdraw 8\nwithdraw 9\n";
@@ -247,7 +247,7 @@ where
     assert_desk(rt, &desk, FULL.output);
 }
 
-// Two runs of parts of a batch leave what a run of all its lines leaves.
+// R-INPUT-11. Two runs of parts of a batch leave what a run of all its lines leaves.
 #[test]
 fn goes_on_from_the_desk_of_an_earlier_run(rt: HostRuntime) {
     for workers in [1, 2, 16] {

@@ -72,7 +72,7 @@ fn assert_sent(rt: &impl Abort, sent: &[Sent], wanted: &[ToTrain]) {
     }
 }
 
-// the last stamp is used, and nothing is told after it
+// R-STOP-1, R-SETTLE-9: the last stamp is used, and nothing is told after it
 #[test]
 fn stamps_end_inside_a_list(rt: HostRuntime) {
     let alloc = rt.alloc();
@@ -93,8 +93,8 @@ fn stamps_end_inside_a_list(rt: HostRuntime) {
     same(&rt, (train.stamp, train.stops.held()), (LAST, 1));
 }
 
-// two stamps are left for three messages: a stop is revoked and another one told, and no message on restrictions
-// follows
+// R-STOP-4, R-STOP-6, R-STOP-8, R-SETTLE-1, R-SETTLE-2, R-SETTLE-9: two stamps are left for three messages: a stop is
+// revoked and another one told, and no message on restrictions follows
 #[test]
 fn the_first_two_messages_get_the_last_two_stamps(rt: HostRuntime) {
     let alloc = rt.alloc();
@@ -158,7 +158,8 @@ fn settle_limits(
     (train.stamp, train.limits.held())
 }
 
-// where stamps are left for all, and where one is left: its message tells a hundred, and nothing is told after it
+// R-SETTLE-4, R-SETTLE-6, R-SETTLE-9: where stamps are left for all, and where one is left: its message tells a
+// hundred, and nothing is told after it
 #[test]
 fn tells_a_hundred_restrictions_a_message(rt: HostRuntime) {
     let alloc = rt.alloc();

@@ -86,8 +86,8 @@ fn assert_line(rt: &impl Abort, text: &[u8], line: &str) {
     assert!(rt; text.contains(line), "{line}");
 }
 
-// Each enrolment writes the list of all trains anew, and that of the trains without a place, so the run takes more than
-// one stretch.
+// R-INPUT-11. Each enrolment writes the list of all trains anew, and that of the trains without a place, so the run
+// takes more than one stretch.
 #[test]
 fn goes_on_where_a_log_is_full(rt: HostRuntime) {
     let mut batch = enrolments(&rt, TRAINS);
@@ -115,8 +115,8 @@ fn add_acks(rt: &impl Abort, batch: &mut String, stamp: u32) {
     }
 }
 
-// At the stop the front of train `e` is at 10,050 + 200 e, and its rear may be 2,100 behind. So the first 40 trains have to
-// stop before 15,000 or are there, and the others are beyond 16,000.
+// R-STOP-1, R-STOP-2, R-STOP-4, R-INPUT-9. At the stop the front of train `e` is at 10,050 + 200 e, and its rear may be
+// 2,100 behind. So the first 40 trains have to stop before 15,000 or are there, and the others are beyond 16,000.
 #[test]
 fn commands_among_messages_of_a_crowd(rt: HostRuntime) {
     let mut batch = enrolments(&rt, CROWD);
@@ -164,8 +164,8 @@ fn bursts<R: Abort + AllocGlobal>(rt: &R) -> String {
     batch
 }
 
-// Where many inputs are left, one worker takes so many at once that several of these are of one train. It sees what its
-// own earlier attempts write, before they are deposited.
+// R-INPUT-11. Where many inputs are left, one worker takes so many at once that several of these are of one train. It
+// sees what its own earlier attempts write, before they are deposited.
 #[test]
 fn sees_its_own_attempts(rt: HostRuntime) {
     let track = good_track(&rt);

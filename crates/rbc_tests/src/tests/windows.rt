@@ -51,7 +51,7 @@ where
     (windows.count, windows.shared)
 }
 
-// The messages on end are two, and then three. The train of the other batch holds 15 identifiers.
+// R-INPUT-11. The messages on end are two, and then three. The train of the other batch holds 15 identifiers.
 #[test]
 fn windows_as_the_pace_says(rt: HostRuntime) {
     let rows = [
