@@ -5,6 +5,8 @@
     python3 .ci/documents.py --count    also lists the definitions of each class of docs/MODEL.md, with the number of their lines
     python3 .ci/documents.py --write    first puts into docs/MODEL.md how many lines have to be believed, and into docs/ASSESSMENT.md
                                         how many faulty variants each crate has
+    python3 .ci/documents.py --rules    prints for each rule of docs/RULES.md where its definitions, tests and faulty variants
+                                        stand, and checks nothing
 
 What is checked:
 - each path, module, file and link that a document names is there, and so is each name in backticks: a function, a type, a
@@ -16,6 +18,8 @@ What is checked:
 - docs/ASSESSMENT.md says how many faulty variants each crate has;
 - the table of docs/ARCHITECTURE.md says what crates.txt says, and an output in README.md is that of its file;
 - no document is longer than MOST_LINES says, each subcommand `dispatch WORD` is one of SUBCOMMANDS, and no prose tells of machines or earlier versions;
+- each name of a rule, such as R-STOP-3, is defined once in docs/RULES.md, each rule is named by a definition, and no name stands above
+  nothing (documents_rules.py);
 - no file cites a paper, or a demand by its number.
 """
 import re
@@ -28,6 +32,7 @@ sys.dont_write_bytecode = True
 
 import documents_model as model
 import documents_reach as reach
+import documents_rules as rules
 import documents_words as words
 
 ROOT = Path(__file__).resolve().parent.parent
@@ -232,10 +237,14 @@ def command_faults(text):
                 yield code.start() + match.start(), f"names `dispatch {match.group(1)}`, which is no subcommand"
 
 
+def texts(root):
+    """The files in which citations and names of rules are looked for: all but this one."""
+    return [path for path in files(root)
+            if path.suffix in CITED_IN and "data" not in path.parts and path.resolve() != Path(__file__).resolve()]
+
+
 def citation_faults(root):
-    for path in files(root):
-        if path.suffix not in CITED_IN or "data" in path.parts or path.resolve() == Path(__file__).resolve():
-            continue
+    for path in texts(root):
         try:
             text = path.read_text()
         except UnicodeDecodeError:
@@ -269,10 +278,14 @@ def faults(root, world):
             yield document, whole, place, fault
     for path, place, fault in citation_faults(root):
         yield path, path.read_text(), place, fault
+    yield from rules.faults(root, texts(root))
 
 
 def main():
     root = ROOT
+    if "--rules" in sys.argv[1:]:
+        rules.show(root, texts(root))
+        return 0
     ENDS.update(ends_of(root))
     world = reach.World(root)
     if "--write" in sys.argv[1:]:
