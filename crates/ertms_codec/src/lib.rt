@@ -1,4 +1,13 @@
-//! Messages between a radio block centre and its trains, as values and as bytes.
+//! Messages between a radio block centre and its trains: as values, as bytes and as text.
+//!
+//! It stands on ertms_bits. rbc_text reads and writes batches with it, rbc_place and rbc_rule take its values, ertms_c
+//! offers it to C. They rest on `read_from_train` and `read_to_train`, which answer `Ok(m)` exactly if the bytes encode
+//! m (`Spells`) and else the first step that fails (`Refuses`), and on `write_to_train`, which writes the encoding of a
+//! message that fits (`Fits`), in at most 897 bytes. `describe` gives a message as text. Only message 24 takes memory.
+//!
+//! Begin with to_train.rt, from_train.rt and specs/ToTrain.antt; then write.rt has one line for each variable, and
+//! from_train_reader.rt a small function for each message. In proofs/, Fields and FieldLists lead from fields at places
+//! to fields in a row.
 #![tactic(auto)]
 
 mod error;

@@ -1,4 +1,6 @@
 //! What holds over all lines.
+//!
+//! A change of the rules may need another reason (reason.rt), words for it in rbc_explain, and cases in golden/told.
 
 ghost use Rattle.rbc_account.specs.Runs.{EachAccountIsTrue};
 

@@ -1,4 +1,7 @@
 //! The book of a run: its inputs are taken and attempted in any order, and committed in their own.
+//!
+//! The definitions speak of what stands under each key, whatever the order in the store (`standing` of rbc_desk). A
+//! book is generic over the name of its run and its log, so all that it is handed is of that run and log.
 
 ghost use Rattle.std.specs.Prelude.{◌≡◌, ◌+◌, ◌<◌, ◌≤◌, ◌↔◌, ◌-◌, ℕ, IsTrue, Some, None, length, replicate, set};
 ghost use Rattle.std.specs.Prelude.{slice_get, is_ok, IfOk, IfErr, IfSome, OnOk, OnErr};

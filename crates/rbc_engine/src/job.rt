@@ -1,4 +1,8 @@
 //! What the workers of a stretch do.
+//!
+//! A book forwards: it answers the number that the latest earlier attempt puts under a key, so a later input may be
+//! attempted before an earlier one is committed. The attempts of one chunk see each other through hand.rt. chunk.rt and
+//! way.rt decide only who takes what, and when.
 
 ghost use Rattle.std.specs.Prelude.{◌≡◌, ◌≤◌, IfOk, IfSome, length};
 ghost use Rattle.std.specs.List.{All};

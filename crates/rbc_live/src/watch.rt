@@ -1,4 +1,6 @@
 //! The alarms that stand, followed from input to input.
+//!
+//! After an input only the trains that may have changed are looked at.
 
 ghost use Rattle.std.specs.Prelude.{◌≡◌, ◌+◌, ◌<◌, ◌^◌, ◌||◌, ℕ, List, None, [], ◌∷◌, false, true, OnOk, IfOk, IfSome};
 ghost use Rattle.std.specs.List.{flat_map};

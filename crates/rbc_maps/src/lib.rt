@@ -1,4 +1,12 @@
-//! Maps from numbers to values. A map is a vector of pairs in ascending order of the number, with a binary search.
+//! Maps from numbers to values, as vectors of pairs in ascending order of the number; and what is active by number
+//! ([`Numbered`]), with the lines on which it lies.
+//!
+//! It stands on nothing but `memchr` of the kit. rbc_track, rbc_ids and rbc_desk keep maps with it, and rbc_zones the
+//! active stops and restrictions. They rest on this: looking up and removing do what specs/Maps.antt says; each active
+//! number is above 0 and not above the last one given; and `on_line` gives among the active values, in their order,
+//! each that lies on a line, by the marks that its type has (`OnLines`), and looks at no other.
+//!
+//! Begin with lookup.rt, then numbered.rt; chain.rt has the places of the next value with the same mark.
 #![tactic(auto)]
 
 mod chain;

@@ -1,4 +1,12 @@
-//! A picture of a track, of its trains, and of the stops and restrictions that stand after the inputs of a batch.
+//! A picture of a track, of its trains, and of the stops and restrictions that stand after the inputs of a batch: SVG.
+//!
+//! It stands on rbc_account, which tells the state as values. `dispatch picture` calls [`picture`], and rests on
+//! `IsPictureOfRun` (specs/Drawn.antt): each line, each active stretch, and each train with what it is not told are on
+//! it. [`part_law`]: each train stands in one part. [`order_law`]: order on the picture is order on the line. How a
+//! thing looks is tested.
+//!
+//! Begin with batch_picture.rt, then scene.rt (what is drawn) and plan.rt (panels, and trains without a place).
+//! window.rt gives the places on a panel, escape.rt texts in XML, lanes.rt keeps trains apart.
 #![tactic(auto)]
 
 mod axis;

@@ -1,4 +1,9 @@
 //! A table of records, with what a search reads of them beside it.
+//!
+//! A search scans one of two columns that stand beside the records. told_bits.rt has one bit for each remainder of 64
+//! of the numbers that a train was told (a train with more than 16 restriction identifiers held counts as told of all);
+//! extent.rt has where a new stop must lie to be told to a train. No record that is sought is missed
+//! (proofs/Asked.antt).
 
 ghost use Rattle.std.specs.Prelude.{◌≡◌, ◌+◌, ◌<◌, ◌≤◌, [], length, slice_get, Some, None, is_some, IsTrue, IsFalse};
 ghost use Rattle.std.specs.Prelude.{OnOk, IfOk, IfSome, option_copied};

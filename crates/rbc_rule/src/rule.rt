@@ -1,4 +1,9 @@
 //! Decides one input by reading single records.
+//!
+//! Functions over `&mut S` fetch records, and functions over `&S` decide by what was read. A command takes the road
+//! commands.rt, begin_and_end.rt, touched_trains.rt. What begins touches a train that it concerns and that has a free
+//! identifier; what ends touches one that is told it or stops at once for it. Other trains stay as they are
+//! (proofs/Untouched.antt; Elsewhere.antt for another line; Seeking.antt: a search finds enough).
 
 ghost use Rattle.std.specs.Prelude.{◌≡◌, ◌+◌, ◌<◌, ◌^◌, IfOk, OnOk};
 ghost use Rattle.rbc_records.specs.Notes.{Extends};

@@ -1,4 +1,12 @@
-//! One train: what is known of it and how it is told of stops and restrictions, and what settling does to it.
+//! One train: what is known of it, and how it is told. Settling revokes stops that are not active or are escalated, and
+//! restrictions that are not active or are clear of the train, and tells what concerns it.
+//!
+//! It stands on rbc_zones, rbc_ids and the messages of ertms_codec. rbc_rule settles each train that an input touches.
+//! It rests on [`settled`]: train and messages are those of the definition (specs/Settling.antt), at most 36, each with
+//! room for its values; a refusal leaves the train as it was. [`settle_law`]: settling twice is settling once.
+//!
+//! Begin with train.rt and settling.rt. judge.rt judges all changes before the first; carrying_out.rt makes them.
+//! `can_follow` (proofs/Follows.antt): each identifier is still free, or still used, at its turn.
 #![tactic(auto)]
 
 mod carrying_out;

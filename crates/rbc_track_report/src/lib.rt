@@ -1,5 +1,11 @@
-//! What a track file says, in words: its lines and balise groups in order, what is doubtful about it, and where it
-//! breaks the first rule that it breaks.
+//! What a track file says, in words: its lines and balise groups in order, what is doubtful about it, and the first
+//! rule that it breaks.
+//!
+//! It stands on rbc_track, whose verdict it repeats, and on rbc_words. `dispatch check` calls [`check`]; rbc_explain
+//! and rbc_picture call [`named_track`] for the names of lines and groups. They rest on the clause of [`check`] that
+//! its verdict is that of `track_from_toml` (`IsVerdictOn`); the words beside it are tested.
+//!
+//! Begin with report.rt. [`Sheet`] (report_text.rt) is a text that says at its end whether memory was refused.
 #![tactic(auto)]
 
 mod doubts;

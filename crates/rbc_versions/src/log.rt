@@ -1,4 +1,7 @@
 //! The log: any thread publishes records in it under numbers, and looks them up, with no lock.
+//!
+//! A ticket hides a token of `boxcar`, so no crate above names one. Publishing may wait for a thread that makes room in
+//! the log; looking up waits for nobody. `is_same` (present.rt) is the only comparison of numbers.
 
 ghost use Rattle.std.specs.Prelude.{◌≡◌, ◌+◌, ◌<◌, IfOk, IfSome, None};
 ghost use Rattle.rbc_versions.specs.Log.{IsOf};

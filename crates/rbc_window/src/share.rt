@@ -1,4 +1,8 @@
 //! The messages of one share, taken in one after another by trains of the share's own.
+//!
+//! What a message does to a train depends on that train, the stops and the restrictions alone. So `outcome_of` is the
+//! same in every world that has these, and each share can follow the records after all messages (`records_after`),
+//! though it sees its own trains alone.
 
 ghost use Rattle.std.specs.Prelude.{◌≡◌, ◌<◌, ◌++◌, ◌∷◌, [], false, OnOk, IfOk, IfSome, IfNone, option_copied};
 ghost use Rattle.rbc_records.specs.declared.record.Key.TheVariants as key;

@@ -1,5 +1,12 @@
 //! What a stop and a temporary speed restriction mean for one train at its place, and what the train is told. Places
 //! and lengths are whole units of 10 cm, and places count from the lower end of a line.
+//!
+//! It stands on rbc_place and rbc_maps. rbc_settle judges a train by it, rbc_rule asks which trains a command touches,
+//! and rbc_records searches by the same rules. They rest on [`concern`], [`limit_clear`] and [`limit_concerns`], which
+//! are the words of the rules (specs/Concerns.antt, specs/Limits.antt). [`stop_field`] and [`limit_fields`] give the
+//! distances of a message; [`stop_law`] and [`limit_law`] say how exact they are.
+//!
+//! Begin with stop.rt and limit.rt. area.rt has the segments of a stop, with a mark for the line of each.
 #![tactic(auto)]
 
 mod area;
