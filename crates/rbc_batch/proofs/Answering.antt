@@ -19,7 +19,7 @@ use Rattle.rbc_batch.specs.declared.batch.ProcessError.TheVariants as fault
 use Rattle.rbc_text.specs.BatchText.{lines_of}
 use Rattle.rbc_text.specs.OutputText.{output_of, outbox_lines}
 use Rattle.rbc_batch.specs.declared.batch.ProcessError.{ProcessError}
-use Rattle.rbc_batch.specs.Process.{AreFew, AreRead, Answers, AnswersBy, AnswersWithAlarms, IsBeforeRun, IsCounted, IsRunOf, IsWatchedRun, text_of, watched_results, watched_text_of}
+use Rattle.rbc_batch.specs.Process.{AreFew, AreRead, Answers, AnswersBy, AnswersWithAlarms, AnswersWithDesk, IsBeforeRun, IsCounted, IsRun as IsRunDesk, IsRunOf, IsWatchedRun, text_of, watched_results, watched_text_of}
 use Rattle.rbc_batch.proofs.Existing.{have_inputs}
 
 -- it came to its end
@@ -44,7 +44,7 @@ ran_not plan held new inputs workers (OutOfMemory committed) opening h = (h.0, h
 -- the first bytes of the text are out
 pub wrote_part : (plan : Plan) (workers : ℕ) (read_old read_new old new : Option (List ℕ)) (inputs : List Input) (held : Held) (stats : Stats) (text : List ℕ) (sent : ℕ)
     → AreRead read_old read_new inputs → IsRunOf plan inputs workers (Ok (held, stats)) → text ≡ output_of held.results held.outboxes → sent ≤ length text → Appends old new (take sent text)
-    → Answers plan workers read_old read_new old new (Err (fault.Write sent))
+    → AnswersWithDesk plan workers read_old read_new old new (Err (fault.Write sent))
 wrote_part plan workers read_old read_new old new inputs held stats text sent read ran is few out =
     let desk = serial plan new_desk inputs in
     let same : text ≡ text_of plan inputs = is ∙ (ap (λ (xs : List Reply). output_of xs held.outboxes) ran.2.results ∙ ap (λ (boxes : List (ℕ × List Mail)). output_of desk.results boxes) ran.2.outboxes) in
@@ -53,11 +53,11 @@ wrote_part plan workers read_old read_new old new inputs held stats text sent re
 -- all of the text is out
 pub wrote_all : (plan : Plan) (workers : ℕ) (read_old read_new old new : Option (List ℕ)) (inputs : List Input) (held : Held) (stats : Stats) (text : List ℕ)
     → AreRead read_old read_new inputs → IsRunOf plan inputs workers (Ok (held, stats)) → text ≡ output_of held.results held.outboxes → Appends old new text
-    → Answers plan workers read_old read_new old new (Ok stats)
+    → AnswersWithDesk plan workers read_old read_new old new (Ok (stats, held))
 wrote_all plan workers read_old read_new old new inputs held stats text read ran is out =
     let desk = serial plan new_desk inputs in
     let same : text ≡ text_of plan inputs = is ∙ (ap (λ (xs : List Reply). output_of xs held.outboxes) ran.2.results ∙ ap (λ (boxes : List (ℕ × List Mail)). output_of desk.results boxes) ran.2.outboxes) in
-    (inputs, read, ran.0, ran.1, subst (λ (t : List ℕ). Appends old new t) same out, ran.3, ran.4)
+    (inputs, read, ran.0, ran.1, subst (λ (t : List ℕ). Appends old new t) same out, ran.3, (ran.4, ran.2))
 
 -- a batch that is refused before its lines are read has inputs all the same
 before_run : {E : Type 0} (text : List Input → List ℕ) (Counted : List Input → E → Type 0) (plan : Plan) (workers : ℕ) (read_old read_new old new : Option (List ℕ)) (error : ProcessError)
@@ -88,9 +88,25 @@ handed_on_as text Counted plan workers read_old read_new old (Ok counts) error i
 handed_on_as text Counted plan workers read_old read_new old (Err other) error is h =
     subst (λ (e : ProcessError). AnswersBy text Counted plan workers read_old read_new old old (Err e)) (sym is) (before_run text Counted plan workers read_old read_new old old error h (stays old))
 
-pub handed_on : (plan : Plan) (workers : ℕ) (read_old read_new old : Option (List ℕ)) (result : Result Stats ProcessError) (error : ProcessError) → IsErrAnd result (λ other. other ≡ error)
-    → IsBeforeRun workers read_old read_new error → Answers plan workers read_old read_new old old result
-handed_on plan workers read_old read_new old result error is h = handed_on_as (text_of plan) IsCounted plan workers read_old read_new old result error is h
+pub handed_on : (plan : Plan) (workers : ℕ) (read_old read_new old : Option (List ℕ)) (result : Result (Stats × Held) ProcessError) (error : ProcessError) → IsErrAnd result (λ other. other ≡ error)
+    → IsBeforeRun workers read_old read_new error → AnswersWithDesk plan workers read_old read_new old old result
+handed_on plan workers read_old read_new old result error is h = handed_on_as (text_of plan) (IsRunDesk plan) plan workers read_old read_new old result error is h
+
+-- the counts alone
+pub counts_of : (plan : Plan) (workers : ℕ) (read_old read_new old new : Option (List ℕ)) (stats : Stats) (held : Held)
+    → AnswersWithDesk plan workers read_old read_new old new (Ok (stats, held)) → Answers plan workers read_old read_new old new (Ok stats)
+counts_of plan workers read_old read_new old new stats held (inputs, read, may, few, out, said, run) = (inputs, read, may, few, out, said, run.0)
+
+-- the same fault
+pub same_fault : (plan : Plan) (workers : ℕ) (read_old read_new old new : Option (List ℕ)) (error : ProcessError)
+    → AnswersWithDesk plan workers read_old read_new old new (Err error) → Answers plan workers read_old read_new old new (Err error)
+same_fault plan workers read_old read_new old new (fault.Write sent) h = h
+same_fault plan workers read_old read_new old new (fault.Run Workers) h = h
+same_fault plan workers read_old read_new old new (fault.Run TooManyInputs) h = h
+same_fault plan workers read_old read_new old new (fault.Run (OutOfMemory committed)) h = h
+same_fault plan workers read_old read_new old new fault.Read h = h
+same_fault plan workers read_old read_new old new fault.TooLong h = h
+same_fault plan workers read_old read_new old new fault.Memory h = h
 
 -- ---- with alarms
 

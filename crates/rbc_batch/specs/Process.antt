@@ -75,6 +75,14 @@ AnswersBy text Counted plan workers read_old read_new old new (Err fault.Memory)
 abbrev pub Answers : Plan → ℕ → Option (List ℕ) → Option (List ℕ) → Option (List ℕ) → Option (List ℕ) → Result Stats ProcessError → Type 0
 Answers plan workers read_old read_new old new result = AnswersBy (text_of plan) IsCounted plan workers read_old read_new old new result
 
+-- a run's counts, with its desk: that of the inputs, which a new desk took one after another
+abbrev pub IsRun : Plan → List Input → Stats × Held → Type 0
+IsRun plan inputs (stats, held) = IsCounted inputs stats × Holds plan (standing held) (serial plan new_desk inputs)
+
+-- the output text is out, and the desk is returned with the counts
+abbrev pub AnswersWithDesk : Plan → ℕ → Option (List ℕ) → Option (List ℕ) → Option (List ℕ) → Option (List ℕ) → Result (Stats × Held) ProcessError → Type 0
+AnswersWithDesk plan workers read_old read_new old new result = AnswersBy (text_of plan) (IsRun plan) plan workers read_old read_new old new result
+
 -- ---- with alarms
 
 -- what is written of an input that a desk takes: its result, and then the alarms that change

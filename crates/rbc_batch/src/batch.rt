@@ -6,7 +6,7 @@ ghost use Rattle.rbc_engine.specs.Answers.{MayWork, max_inputs};
 ghost use Rattle.rbc_rule.specs.Inputs.{Fits};
 ghost use Rattle.rbc_text.specs.BatchText.{lines_of};
 ghost use Rattle.rbc_text.specs.Pieces.{texts_of};
-ghost use Rattle.rbc_batch.specs.Process.{Answers, AreRead, IsBeforeRun, IsRefused, IsRunOf, IsUntouched, max_batch};
+ghost use Rattle.rbc_batch.specs.Process.{Answers, AnswersWithDesk, AreRead, IsBeforeRun, IsRefused, IsRunOf, IsUntouched, max_batch};
 
 use crate::inputs::{first_lines, parse_lines};
 use crate::rendering::texts_of_desk;
@@ -192,19 +192,45 @@ pub fn process<R: Read, W: Write, G: Gate + Sync>(
         → IfSome (R.remaining reader.old) (λ batch. max_batch < length batch) }
     ensures untouched { IsUntouched result writer.old writer.new }
 {
+    match process_with_desk(rt, track, reader, writer, workers, gate) {
+        Ok((stats, _)) => Ok(stats),
+        Err(error) => Err(error),
+    }
+}
+
+/// Does what [`process`] does, and returns the desk too, with all results and messages.
+///
+/// # Errors
+///
+/// Those of [`process`].
+pub fn process_with_desk<R: Read, W: Write, G: Gate + Sync>(
+    rt: &(impl AllocGlobal + Threads + Wait + Sync),
+    track: &Track,
+    reader: &mut R,
+    writer: &mut W,
+    workers: u8,
+    gate: &G,
+) -> Result<(Stats, Desk), ProcessError>
+    ensures answers { AnswersWithDesk track.now workers (R.remaining reader.old) (R.remaining reader.new)
+        (W.contents writer.old) (W.contents writer.new) result }
+    ensures too_long { IsErrOf result ProcessError.TooLong
+        → IfSome (R.remaining reader.old) (λ batch. max_batch < length batch) }
+    ensures untouched { IsUntouched result writer.old writer.new }
+{
     let (desk, stats) = {
         let inputs = read_inputs(rt, reader, workers)?;
         run_all(rt, track, &inputs, workers, gate)?
     };
     let texts = texts_of_desk(rt, &desk, workers)?;
     match write_texts(writer, &texts) {
-        Ok(()) => Ok(stats),
+        Ok(()) => Ok((stats, desk)),
         Err(sent) => Err(ProcessError::Write { sent: sent as u64 }),
     }
 }
 
 /// Does the same, with the same output, without attempts: one worker takes the inputs in order, and long runs of messages
-/// are shared by train among all workers, at a pace (`run_by_train` of rbc_engine). Counts the windows of messages.
+/// are shared by train among all workers, at a pace (`run_by_train` of rbc_engine). Counts the windows of messages, and
+/// returns the desk with the counts of the run.
 ///
 /// # Errors
 ///
@@ -217,8 +243,8 @@ pub fn process_by_train<R: Read, W: Write>(
     workers: u8,
     pace: Pace,
     windows: &mut Windows,
-) -> Result<Stats, ProcessError>
-    ensures answers { Answers track.now workers (R.remaining reader.old) (R.remaining reader.new)
+) -> Result<(Stats, Desk), ProcessError>
+    ensures answers { AnswersWithDesk track.now workers (R.remaining reader.old) (R.remaining reader.new)
         (W.contents writer.old) (W.contents writer.new) result }
     ensures too_long { IsErrOf result ProcessError.TooLong
         → IfSome (R.remaining reader.old) (λ batch. max_batch < length batch) }
@@ -230,7 +256,7 @@ pub fn process_by_train<R: Read, W: Write>(
     };
     let texts = texts_of_desk(rt, &desk, workers)?;
     match write_texts(writer, &texts) {
-        Ok(()) => Ok(stats),
+        Ok(()) => Ok((stats, desk)),
         Err(sent) => Err(ProcessError::Write { sent: sent as u64 }),
     }
 }

@@ -15,8 +15,8 @@ mod rendering;
 mod streams;
 
 pub use alarms::process_with_alarms;
-pub use batch::{ProcessError, lines_of_batch, process, process_by_train};
+pub use batch::{ProcessError, lines_of_batch, process, process_by_train, process_with_desk};
 pub use inputs::{first_lines, parse_batch, parse_lines};
-pub use rbc_engine::{Gate, OpenGate, PACE, Pace, Stats, Windows};
+pub use rbc_engine::{Desk, Gate, OpenGate, PACE, Pace, Stats, Windows};
 pub use rbc_text::{parse_line, render, write_text};
 pub use streams::read_batch;

@@ -5,11 +5,10 @@ use Rattle.rbc_dispatch.specs.declared.words.Task.{Task}
 use Rattle.rbc_dispatch.specs.declared.words.Task.TheVariants.{Run, Live, Explain, Picture, Check, Decode, Codes}
 use Rattle.rbc_dispatch.specs.declared.figures.Figures.{Figures}
 
--- the lines of figures, without the last line feed
+-- the lines on the workers, without the last line feed
 abbrev pub report_of : Figures → List ℕ
 report_of figures =
-    codes "inputs: " ++ decimal figures.inputs
-    ++ codes "\nattempted ahead: " ++ decimal figures.attempted
+    codes "attempted ahead: " ++ decimal figures.attempted
     ++ codes "\ntaken over as attempted: " ++ decimal figures.taken_over
     ++ codes "\nrecomputed, since a record that was read had changed: " ++ decimal figures.recomputed
     ++ codes "\ngiven up as they were taken: " ++ decimal figures.given_up

@@ -8,5 +8,6 @@ pub mod Ending
 pub mod Fault
 pub mod Figures
 pub mod Living
+pub mod Replies
 pub mod Running
 pub mod Showing

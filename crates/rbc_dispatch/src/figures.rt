@@ -2,8 +2,8 @@
 use rbc_batch::{Stats, Windows};
 use std::fmt;
 
-/// How many inputs a run had, and how each came to its result. Its `Display` is the text for the user: eight lines, the
-/// last one without its line feed.
+/// How many inputs a run had, and how each came to its result. Its `Display` is the text for the user on the
+/// workers: seven lines, the last one without its line feed.
 #[derive(Clone, Copy)]
 pub struct Figures {
     /// How many inputs there were.
@@ -93,10 +93,9 @@ impl fmt::Display for Figures {
     fn fmt<W: fmt::Write>(&self, f: &mut fmt::Formatter<W>) -> fmt::Result {
         write!(
             f,
-            "inputs: {}\nattempted ahead: {}\ntaken over as attempted: {}\n\
+            "attempted ahead: {}\ntaken over as attempted: {}\n\
              recomputed, since a record that was read had changed: {}\ngiven up as they were taken: {}\n\
              shared by train: {} messages in {} windows\nin order: {}\nworkers: {}",
-            self.inputs,
             self.attempted,
             self.taken_over,
             self.recomputed,

@@ -22,6 +22,8 @@ mod live;
 mod no_task;
 mod picture;
 mod program;
+mod replies;
+mod report;
 mod witnesses;
 mod words;
 

@@ -26,8 +26,11 @@ use crate::fault::Fault;
 use crate::figures::Figures;
 use crate::live::live_text;
 use crate::picture::picture_text;
+use crate::report::write_report;
 use crate::words::Task;
-use rbc_batch::{OpenGate, PACE, Windows, process, process_by_train, process_with_alarms};
+use rbc_batch::{
+    OpenGate, PACE, Windows, process, process_by_train, process_with_alarms, process_with_desk,
+};
 use rbc_live::Wanted;
 use rbc_track::track_from_toml;
 use std::env::Env;
@@ -37,12 +40,13 @@ use std::process::ExitCode;
 use std::rt::Files;
 use std::sync::Wait;
 use std::thread::Threads;
+use std::time::{Clock, Instant};
 
 /// Does what the arguments of the process ask for, and returns the exit status. `output` should have no
 /// buffer of its own, so that what a write fault counts is what went out.
 pub fn run<R, I, O, E>(rt: &R, input: &mut I, output: &mut O, errors: &mut E) -> ExitCode
 where
-    R: AllocGlobal + Env + Files + Threads + Wait + Sync,
+    R: AllocGlobal + Clock + Env + Files + Threads + Wait + Sync,
     I: Read,
     O: Write,
     E: Write,
@@ -83,7 +87,7 @@ fn perform<R, I, O, E>(
     errors: &mut E,
 ) -> Result<(), Ending>
 where
-    R: AllocGlobal + Files + Threads + Wait + Sync,
+    R: AllocGlobal + Clock + Files + Threads + Wait + Sync,
     I: Read,
     O: Write,
     E: Write,
@@ -133,7 +137,7 @@ fn carry_out<R, I, O, E>(
     errors: &mut E,
 ) -> Result<(), Fault>
 where
-    R: AllocGlobal + Files + Threads + Wait + Sync,
+    R: AllocGlobal + Clock + Files + Threads + Wait + Sync,
     I: Read,
     O: Write,
     E: Write,
@@ -236,7 +240,7 @@ fn run_file<R, I, O, E>(
     errors: &mut E,
 ) -> Result<(), Fault>
 where
-    R: AllocGlobal + Files + Threads + Wait + Sync,
+    R: AllocGlobal + Clock + Files + Threads + Wait + Sync,
     I: Read,
     O: Write,
     E: Write,
@@ -353,8 +357,8 @@ where
 }
 
 /// Runs a batch on the track that a text is, without alarms. One worker takes the inputs in order; several attempt them, or share
-/// messages by train. The track is known before anything of the batch is read. With `stats`, the figures of a run that is
-/// done go to `errors`. If they cannot be written, the run is done nevertheless.
+/// messages by train. The track is known before anything of the batch is read. With `stats`, a report on a run that is
+/// done goes to `errors`. If it cannot be written, the run is done nevertheless.
 fn run_on<R, I, O, E>(
     rt: &R,
     text: &str,
@@ -366,7 +370,7 @@ fn run_on<R, I, O, E>(
     errors: &mut E,
 ) -> Result<(), Fault>
 where
-    R: AllocGlobal + Threads + Wait + Sync,
+    R: AllocGlobal + Clock + Files + Threads + Wait + Sync,
     I: Read,
     O: Write,
     E: Write,
@@ -376,19 +380,21 @@ where
     ensures quiet { stats ≡ false → errors.new ≡ errors.old }
 {
     let track = track_from_toml(rt.alloc(), text)?;
+    let began = if stats { Instant::now(rt).ok() } else { None };
     if workers < 2 || by_train {
         let mut windows = Windows::none();
-        let counts = process_by_train(rt, &track, input, output, workers, PACE, &mut windows)?;
+        let (counts, desk) = process_by_train(rt, &track, input, output, workers, PACE, &mut windows)?;
         if stats {
-            let _ = writeln!(errors, "{}", Figures::of_windows(counts, windows, workers));
+            let figures = Figures::of_windows(counts, windows, workers);
+            let _ = write_report(rt, &desk, &figures, began, errors);
         }
         return Ok(());
     }
     if stats {
         let attempts = Attempts::none();
-        let counts = process(rt, &track, input, output, workers, &attempts)?;
+        let (counts, desk) = process_with_desk(rt, &track, input, output, workers, &attempts)?;
         let figures = Figures::of_attempts(counts, attempts.count(), workers);
-        let _ = writeln!(errors, "{figures}");
+        let _ = write_report(rt, &desk, &figures, began, errors);
         return Ok(());
     }
     process(rt, &track, input, output, workers, &OpenGate)?;

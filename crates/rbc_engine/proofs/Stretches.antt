@@ -1,5 +1,5 @@
 -- A run in stretches: some of its first inputs, and then the rest from the desk that these leave.
-use Rattle.std.proofs.Common.{◌≡◌, ◌⊎◌, inl, inr, ℕ, ◌+◌, ◌<◌, ◌≤◌, List, [], ◌∷◌, length, take, drop, Result, Ok, Err, refl, sym, ap, ◌∙◌, subst, arith, take-add, take-take}
+use Rattle.std.proofs.Common.{◌≡◌, ◌⊎◌, inl, inr, ℕ, ◌+◌, ◌<◌, ◌≤◌, List, [], ◌∷◌, length, take, drop, Result, Ok, Err, sym, ap, ◌∙◌, subst, arith, take-add, take-take}
 use Rattle.std.specs.Prelude.{IsErrAnd}
 use Rattle.std.specs.List.{fold}
 use Rattle.std.proofs.lemmas.List.{length-append, length-take-le, length-drop}
@@ -17,7 +17,7 @@ use Rattle.rbc_core.specs.Runs.{Run, IsGoodRun, IsSerialRun}
 use Rattle.rbc_core.proofs.Mails.{said_since}
 use Rattle.rbc_engine.specs.declared.workers.RunError.{RunError}
 use Rattle.rbc_engine.specs.declared.workers.RunError.TheVariants.{Workers, TooManyInputs, OutOfMemory}
-use Rattle.rbc_engine.specs.Answers.{IsDeskAfter, IsStretch, IsFinished, rest_of, plus, IsNextStretch, AreCounts}
+use Rattle.rbc_engine.specs.Answers.{IsDeskAfter, IsStretch, IsFinished, rest_of, IsNextStretch}
 use Rattle.rbc_engine.proofs.Ends.{desk_before}
 
 -- a run of these inputs from there on
@@ -109,16 +109,10 @@ pub record AreDone (run : Run) (all : Stats) (held : Held) : Type 0 where
   pub desk : IsDeskAfter run all.taken held
   pub within : all.taken ≤ length run.inputs
   pub some : all.recomputed ≤ all.taken
-  pub counted : AreCounts run all held
 
 -- none at first
 pub none_done : (run : Run) → IsGoodRun run → AreDone run (record { taken = 0; recomputed = 0 }) run.opening
-none_done run good = record { desk = desk_before run good; within = omega arith; some = omega arith; counted = ([], refl, refl) }
-
--- the counts of one stretch more
-one_more_counted : (run : Run) (all stats now : Stats) (mid new : Held) → AreCounts run all mid → IsStretch (rest_of run all.taken mid) (Ok stats) new → now ≡ plus all stats → AreCounts run now new
-one_more_counted run all stats now mid new (before, are, is) h e =
-    (stats ∷ before, (mid, are, subst (λ (a : Stats). IsStretch (rest_of run a.taken mid) (Ok stats) new) is h), e ∙ ap (λ (a : Stats). plus a stats) is)
+none_done run good = record { desk = desk_before run good; within = omega arith; some = omega arith }
 
 module _ (run : Run) (all : Stats) (mid : Held) (good : IsGoodRun run) (before : AreDone run all mid) where
   -- the inputs of the next stretch too
@@ -135,7 +129,6 @@ module _ (run : Run) (all : Stats) (mid : Held) (good : IsGoodRun run) (before :
         desk = subst (λ n. IsDeskAfter run n new) (sym taken) (onward run all.taken stats.taken mid new good before.desk h.0);
         within = omega (arith, within, left, few, taken);
         some = omega (arith, some, fewer, taken, recomputed);
-        counted = one_more_counted run all stats now mid new before.counted h is;
       }
 
   -- memory was refused in the next stretch: those that were committed in it too
@@ -167,4 +160,4 @@ pub all_done : (run : Run) (all : Stats) (held : Held) → AreDone run all held 
 all_done run all held before past =
     let within = before.within in
     let same : all.taken ≡ length run.inputs = omega (arith, within, past) in
-    (subst (λ n. IsDeskAfter run n held) same before.desk, same, before.some, before.counted)
+    (subst (λ n. IsDeskAfter run n held) same before.desk, same, before.some)

@@ -1,5 +1,5 @@
 -- What a run by several workers leaves (own rule).
-use Rattle.std.specs.Prelude.{◌≡◌, ◌⊎◌, ℕ, ◌+◌, ◌<◌, ◌≤◌, List, [], ◌∷◌, ◌++◌, codes, length, drop, Result, Ok, Err}
+use Rattle.std.specs.Prelude.{◌≡◌, ◌⊎◌, ℕ, ◌+◌, ◌<◌, ◌≤◌, List, ◌++◌, codes, length, drop, Result, Ok, Err}
 use Rattle.std.specs.Fmt.{decimal}
 use Rattle.rbc_track.specs.Plan.{Plan}
 use Rattle.rbc_core.specs.Serial.{Desk}
@@ -51,16 +51,6 @@ rest_of run count mid = record { track = run.track; opening = mid; inputs = drop
 abbrev pub plus : Stats → Stats → Stats
 plus all more = record { taken = all.taken + more.taken; recomputed = all.recomputed + more.recomputed }
 
--- the counts of stretches together, of which the last stands first
-abbrev pub all_of : List Stats → Stats
-all_of [] = record { taken = 0; recomputed = 0 }
-all_of (last ∷ before) = plus (all_of before) last
-
--- stretches one after another, the last one first: each begins from the desk that those before it left, behind the inputs that they took
-abbrev pub AreStretches : Run → List Stats → Held → Type 0
-AreStretches run [] new = new ≡ run.opening
-AreStretches run (last ∷ before) new = (mid : Held) × AreStretches run before mid × IsStretch (rest_of run (all_of before).taken mid) (Ok last) new
-
 -- what the next stretch of a run leaves, behind those with these counts and from the desk that they left: its counts come to theirs
 abbrev pub IsNextStretch : Run → Stats → Result Stats RunError → Held → Type 0
 IsNextStretch run all (Ok now) new = (stats : Stats) × IsStretch (rest_of run all.taken run.opening) (Ok stats) new × (now ≡ plus all stats)
@@ -68,13 +58,9 @@ IsNextStretch run all (Err (OutOfMemory committed)) new = (more : ℕ) × IsStre
 IsNextStretch run all (Err Workers) new = ⊥
 IsNextStretch run all (Err TooManyInputs) new = ⊥
 
--- the counts of a run are those of its stretches together
-abbrev pub AreCounts : Run → Stats → Held → Type 0
-AreCounts run stats new = (stretches : List Stats) × AreStretches run stretches new × (stats ≡ all_of stretches)
-
 -- what a run that was not refused leaves: every input is done, or memory was refused after the first of them
 abbrev pub IsFinished : Run → Result Stats RunError → Held → Type 0
-IsFinished run (Ok stats) new = IsDeskAfter run (length run.inputs) new × (stats.taken ≡ length run.inputs) × (stats.recomputed ≤ stats.taken) × AreCounts run stats new
+IsFinished run (Ok stats) new = IsDeskAfter run (length run.inputs) new × (stats.taken ≡ length run.inputs) × (stats.recomputed ≤ stats.taken)
 IsFinished run (Err (OutOfMemory committed)) new = IsDeskAfter run committed new × (committed ≤ length run.inputs)
 IsFinished run (Err Workers) new = ⊥
 IsFinished run (Err TooManyInputs) new = ⊥
