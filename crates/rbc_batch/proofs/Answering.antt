@@ -19,7 +19,7 @@ use Rattle.rbc_batch.specs.declared.batch.ProcessError.TheVariants as fault
 use Rattle.rbc_text.specs.BatchText.{lines_of}
 use Rattle.rbc_text.specs.OutputText.{output_of, outbox_lines}
 use Rattle.rbc_batch.specs.declared.batch.ProcessError.{ProcessError}
-use Rattle.rbc_batch.specs.Process.{AreFew, AreRead, Answers, AnswersBy, AnswersWithAlarms, AnswersWithDesk, IsBeforeRun, IsCounted, IsRun as IsRunDesk, IsRunOf, IsWatchedRun, text_of, watched_results, watched_text_of}
+use Rattle.rbc_batch.specs.Process.{AreFew, AreRead, Answers, AnswersBy, AnswersWithAlarms, AnswersWithDesk, IsBeforeRun, IsCounted, IsRunOf, IsRunWithDesk, IsWatchedRun, text_of, watched_results, watched_text_of}
 use Rattle.rbc_batch.proofs.Existing.{have_inputs}
 
 -- it came to its end
@@ -57,7 +57,7 @@ pub wrote_all : (plan : Plan) (workers : ℕ) (read_old read_new old new : Optio
 wrote_all plan workers read_old read_new old new inputs held stats text read ran is out =
     let desk = serial plan new_desk inputs in
     let same : text ≡ text_of plan inputs = is ∙ (ap (λ (xs : List Reply). output_of xs held.outboxes) ran.2.results ∙ ap (λ (boxes : List (ℕ × List Mail)). output_of desk.results boxes) ran.2.outboxes) in
-    (inputs, read, ran.0, ran.1, subst (λ (t : List ℕ). Appends old new t) same out, ran.3, (ran.4, ran.2))
+    (inputs, read, ran.0, ran.1, subst (λ (t : List ℕ). Appends old new t) same out, ran.3, (ran.4, ran.2.results, ran.2.outboxes))
 
 -- a batch that is refused before its lines are read has inputs all the same
 before_run : {E : Type 0} (text : List Input → List ℕ) (Counted : List Input → E → Type 0) (plan : Plan) (workers : ℕ) (read_old read_new old new : Option (List ℕ)) (error : ProcessError)
@@ -90,7 +90,7 @@ handed_on_as text Counted plan workers read_old read_new old (Err other) error i
 
 pub handed_on : (plan : Plan) (workers : ℕ) (read_old read_new old : Option (List ℕ)) (result : Result (Stats × Held) ProcessError) (error : ProcessError) → IsErrAnd result (λ other. other ≡ error)
     → IsBeforeRun workers read_old read_new error → AnswersWithDesk plan workers read_old read_new old old result
-handed_on plan workers read_old read_new old result error is h = handed_on_as (text_of plan) (IsRunDesk plan) plan workers read_old read_new old result error is h
+handed_on plan workers read_old read_new old result error is h = handed_on_as (text_of plan) (IsRunWithDesk plan) plan workers read_old read_new old result error is h
 
 -- the counts alone
 pub counts_of : (plan : Plan) (workers : ℕ) (read_old read_new old new : Option (List ℕ)) (stats : Stats) (held : Held)

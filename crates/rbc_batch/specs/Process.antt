@@ -75,13 +75,15 @@ AnswersBy text Counted plan workers read_old read_new old new (Err fault.Memory)
 abbrev pub Answers : Plan → ℕ → Option (List ℕ) → Option (List ℕ) → Option (List ℕ) → Option (List ℕ) → Result Stats ProcessError → Type 0
 Answers plan workers read_old read_new old new result = AnswersBy (text_of plan) IsCounted plan workers read_old read_new old new result
 
--- a run's counts, with its desk: that of the inputs, which a new desk took one after another
-abbrev pub IsRun : Plan → List Input → Stats × Held → Type 0
-IsRun plan inputs (stats, held) = IsCounted inputs stats × Holds plan (standing held) (serial plan new_desk inputs)
+-- a run's counts, with a desk that has the results and the mails of the serial run
+abbrev pub IsRunWithDesk : Plan → List Input → Stats × Held → Type 0
+IsRunWithDesk plan inputs (stats, held) =
+    let desk = serial plan new_desk inputs in
+    IsCounted inputs stats × (held.results ≡ desk.results) × (held.outboxes ≡ desk.outboxes)
 
 -- the output text is out, and the desk is returned with the counts
 abbrev pub AnswersWithDesk : Plan → ℕ → Option (List ℕ) → Option (List ℕ) → Option (List ℕ) → Option (List ℕ) → Result (Stats × Held) ProcessError → Type 0
-AnswersWithDesk plan workers read_old read_new old new result = AnswersBy (text_of plan) (IsRun plan) plan workers read_old read_new old new result
+AnswersWithDesk plan workers read_old read_new old new result = AnswersBy (text_of plan) (IsRunWithDesk plan) plan workers read_old read_new old new result
 
 -- ---- with alarms
 
