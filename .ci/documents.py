@@ -2,9 +2,9 @@
 """Checks README.md and docs/ against the crates. It reads files only.
 
     python3 .ci/documents.py            prints each fault on a line, and one line of summary; status 1 where there is a fault
-    python3 .ci/documents.py --count    also lists the definitions of each class of docs/MODEL.md, with the number of their lines
-    python3 .ci/documents.py --write    first puts into docs/MODEL.md how many lines have to be believed, and into docs/ASSESSMENT.md
-                                        how many faulty variants each crate has
+    python3 .ci/documents.py --count    also lists the definitions of each class (documents_reach.py), with the number of their lines
+    python3 .ci/documents.py --write    first puts into docs/MODEL.md and docs/TEXTS.md how many lines have to be believed, and into
+                                        docs/ASSESSMENT.md how many faulty variants each crate has
     python3 .ci/documents.py --rules    prints for each rule of docs/RULES.md where its definitions, tests and faulty variants
                                         stand, and checks nothing
 
@@ -12,9 +12,9 @@ What is checked:
 - each path, module, file and link that a document names is there, and so is each name in backticks: a function, a type, a
   constant or a field of src/, a definition or a field of specs/ and proofs/, or a word of documents_words.py;
 - `name` of CRATE, `TYPE::name`, `CRATE::name`, names in a table's row of a crate, and names before (CRATE, FILE) or (CRATE, FILE.rt) are where that says;
-- docs/MODEL.md names each definition that a public contract or a law reaches, in the part and the section where its class
-  belongs (documents_reach.py), each specs file, and each word of the kit that is not of everyday use; and it says how many
-  lines of rules, of formats, of the headline and of texts there are;
+- docs/MODEL.md and docs/TEXTS.md name each definition that has to be believed or that a law uses, in the part and the section where
+  its class belongs (documents_reach.py), and each word of the kit that these use and that is not of everyday use; they say how many
+  lines there are of each class, and for `dispatch run`; and each other definition has a sentence above it in specs/;
 - docs/ASSESSMENT.md says how many faulty variants each crate has;
 - the table of docs/ARCHITECTURE.md says what crates.txt says, and an output in README.md is that of its file;
 - no document is longer than MOST_LINES says, each subcommand `dispatch WORD` is one of SUBCOMMANDS, and no prose tells of machines or earlier versions;
@@ -43,7 +43,7 @@ CITATION = re.compile(
 CITED_IN = {".rt", ".antt", ".md", ".edit", ".txt", ".toml", ".sh", ".py", ""}
 NAME = re.compile(r"(?<!\w)[A-Za-z_][A-Za-z0-9_']*")
 CRATE = r"(?:rbc|ertms|test)_[a-z_]+"
-MOST_LINES = {"README.md": 100, "docs/GUIDE.md": 300, "docs/INTEGRATION.md": 200}
+MOST_LINES = {"README.md": 100, "docs/GUIDE.md": 300, "docs/INTEGRATION.md": 200, "docs/MODEL.md": 900, "docs/TEXTS.md": 300}
 SUBCOMMANDS = {"run", "live", "explain", "picture", "check", "decode", "codes", "help"}
 HISTORY = re.compile(r"\bon (?:[\w-]+ ){0,3}machines?\b|\bearlier versions?\b|\bprevious versions?\b", re.I)
 SUBCOMMAND = re.compile(r"(?<![\w/-])(?:\./)?dispatch ([a-z][\w-]*)")
@@ -268,8 +268,8 @@ def faults(root, world):
         text = without_blocks(whole)
         found = [*path_faults(root, document, text), *name_faults(world, known, text), *owned_faults(world, text), *output_faults(root, whole)]
         found += [*length_faults(root, document, whole), *command_faults(whole), *history_faults(text)]
-        if document.name == "MODEL.md":
-            found += model.faults(world, whole)
+        if document.name in model.DOCUMENTS:
+            found += model.faults(world, document.name, whole)
         if document.name == "ASSESSMENT.md":
             found += variant_faults(root, whole)
         if document.name == "ARCHITECTURE.md":
@@ -289,7 +289,7 @@ def main():
     ENDS.update(ends_of(root))
     world = reach.World(root)
     if "--write" in sys.argv[1:]:
-        model.write(world, root / "docs" / "MODEL.md")
+        model.write(world, root / "docs")
         assessment = root / "docs" / "ASSESSMENT.md"
         assessment.write_text(VARIANTS.sub(lambda _: variants(root), assessment.read_text()))
     if "--count" in sys.argv[1:]:
@@ -299,7 +299,7 @@ def main():
         broken += 1
         at = "" if place is None else f":{line_at(text, place)}"
         print(f"{document.relative_to(root)}{at}: {fault}")
-    print(f"documents: {broken} faults in {len(documents(root))} documents, {len(world.needed)} definitions to be named")
+    print(f"documents: {broken} faults in {len(documents(root))} documents, {model.to_be_named(world)} definitions to be named")
     return 1 if broken else 0
 
 

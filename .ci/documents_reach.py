@@ -2,7 +2,9 @@
 
 - believed: the contracts of the calls by which a batch is answered and bytes are read and written (`CALLED`), but for what that of
   `process` says by `SAID`. They are the rules, or formats (`is_rule`).
-- headline: what `SAID` and the contracts of `HEADLINE` say beyond that: any opening desk, any interleaving, what messages say.
+- messages: what `SAID` says beyond that. Up to here `dispatch run` is described.
+- run: what the contract of `run` of rbc_engine says beyond those: any opening desk, any number of workers.
+- books: what `event_law` of rbc_core says beyond those: any interleaving of attempts.
 - text: what the contracts of the program itself (`PRINTING`), and the texts of values and faults, say beyond those.
 - law: laws, and none of those.
 - boundary: contracts of functions that some crate gives away, and none of those. They are proved to compose into the contracts of
@@ -30,7 +32,7 @@ CALLED_FUNCTIONS = {("rbc_track", "track_from_toml")}
 SAID = ("rbc_batch", "Process", "AreSaid")
 
 # the functions beside `process` on whose contracts the headline stands
-HEADLINE = {("rbc_engine", "run"), ("rbc_core", "event_law")}
+HEADLINE = {"run": ("rbc_engine", "run"), "books": ("rbc_core", "event_law")}
 
 # the program, but for the files that read its words, and the one function that it calls for a text
 PRINTING = {"rbc_dispatch"}
@@ -40,7 +42,7 @@ PRINTING_FUNCTIONS = {("ertms_codec", "describe")}
 RULES = {"rbc_place", "rbc_zones", "rbc_ids", "rbc_maps", "rbc_settle", "rbc_rule"}
 RULES_FILES = {("rbc_desk", "Serial"), ("rbc_desk", "outbox.rt")}
 
-CLASSES = ("believed", "headline", "text", "law", "boundary")
+CLASSES = ("believed", "messages", "run", "books", "text", "law", "boundary")
 
 
 def is_printing(crate, found):
@@ -132,8 +134,9 @@ class World:
         return reached
 
     def roots(self, part):
-        if part == "headline":
+        if part == "messages":
             yield ("definition", *SAID)
+            return
         for crate in self.crates.values():
             for found in crate.source.functions:
                 if crate.is_given(found) and self.is_root(part, crate, found):
@@ -146,8 +149,8 @@ class World:
                         yield from self.words(crate, scope, text)
 
     def is_root(self, part, crate, found):
-        if part == "headline":
-            return (crate.name, found.name) in HEADLINE
+        if part in HEADLINE:
+            return (crate.name, found.name) == HEADLINE[part]
         if part in {"law", "witness"}:
             return found.kind() == part
         roots = {"believed": is_called, "text": is_printing, "boundary": lambda crate, found: True}

@@ -5,6 +5,9 @@ TOKEN = re.compile(r"[A-Za-z_][A-Za-z0-9_']*(?:\.[A-Za-z0-9_][A-Za-z0-9_']*)*")
 RUST_NOISE = re.compile(r'//[^\n]*|b?"(?:\\.|[^"\\])*"|b?\'(?:\\.[^\']*|[^\\\'\n])\'', re.S)
 ANTT_NOISE = re.compile(r'--[^\n]*|"(?:\\.|[^"\\])*"', re.S)
 
+# the most definitions over which one sentence stands in specs/
+MOST_IN_GROUP = 4
+
 # the files of the program that read its words: of these public contracts alone count, as those of a library
 WORDS_OF_PROGRAM = {"words.rt", "no_task.rt"}
 
@@ -52,15 +55,21 @@ class Spec:
 
     def __init__(self, path):
         self.scope, self.definitions, self.makes = Scope(), {}, {}
-        text = blank(ANTT_NOISE, path.read_text())
-        current = None
-        for line in text.split("\n"):
+        self.told = set()  # the definitions with a sentence: one above each, or above a group of them
+        written = path.read_text()
+        current, in_group = None, MOST_IN_GROUP
+        for line, with_words in zip(blank(ANTT_NOISE, written).split("\n"), written.split("\n")):
+            if with_words.startswith("--"):
+                in_group = 0
             if line.startswith(("use ", "pub use ")):
                 self.scope.use(line.removeprefix("pub ")[4:])
                 current = None
             elif self.begins(line):
                 match = self.HEAD.match(line)
                 current = Definition(match.group(2), match.group(1), [line])
+                if current.name not in self.definitions and in_group < MOST_IN_GROUP:
+                    self.told.add(current.name)
+                in_group += current.name not in self.definitions
                 self.definitions[current.name] = current
             elif re.match(r"infix|pub mod|mod ", line):
                 current = None
@@ -94,8 +103,8 @@ class Function:
 
 
 class Type:
-    def __init__(self, name, module, text):
-        self.name, self.module, self.text = name, module, text
+    def __init__(self, name, module, text, is_told):
+        self.name, self.module, self.text, self.is_told = name, module, text, is_told
         self.value = None  # in contracts: its text, and the scope of that
         body = text.partition("{")[2]
         self.members = set(re.findall(r"^\s*(?:pub(?:\([a-z]+\))? )?([a-z_]\w*):", body, flags=re.M))
@@ -150,7 +159,8 @@ class Source:
             self.is_test = "tests" in module
             self.module = module
             self.in_file.setdefault(module, set())
-            text = blank(RUST_NOISE, path.read_text())
+            self.written = path.read_text()
+            text = blank(RUST_NOISE, self.written)
             if not self.is_test:
                 shown = text.split("#[cfg(test)]\nmod tests {")[0]
                 self.clauses_written += len(re.findall(r"\b(?:requires|ensures)\b", shown))
@@ -235,7 +245,8 @@ class Source:
         name = re.compile(r"\s*(\w+)").match(text, match.end()).group(1)
         stop = head_end(text, match.end())
         at = stop + 1 if text[stop] == ";" else closing(text, stop)
-        found = Type(name, self.module, text[match.start():at])
+        is_told = re.search(r"///[^\n]*\n(?:\s*#\[[^\n]*\n)*\s*\Z", self.written[:match.start()]) is not None
+        found = Type(name, self.module, text[match.start():at], is_told)
         self.name(name, *found.members)
         if self.module == "lib.rt" and found.text.startswith("pub "):
             self.given.add(name)
