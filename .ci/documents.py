@@ -278,6 +278,8 @@ def faults(root, world):
             yield document, whole, place, fault
     for path, place, fault in citation_faults(root):
         yield path, path.read_text(), place, fault
+    for name in sorted(model.DOCUMENTS - {document.name for document in documents(root)}):
+        yield root / "docs" / name, "", None, "is not there"
     yield from rules.faults(root, texts(root))
 
 
