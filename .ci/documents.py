@@ -3,10 +3,7 @@
 
     python3 .ci/documents.py            prints each fault on a line, and one line of summary; status 1 where there is a fault
     python3 .ci/documents.py --count    also lists the definitions of each class (documents_reach.py), with the number of their lines
-    python3 .ci/documents.py --write    first puts into docs/MODEL.md and docs/TEXTS.md how many lines have to be believed, and into
-                                        docs/ASSESSMENT.md how many faulty variants each crate has
-    python3 .ci/documents.py --rules    prints for each rule of docs/RULES.md where its definitions, tests and faulty variants
-                                        stand, and checks nothing
+    yield from rules.faults(root, texts(root))
 
 What is checked:
 - each path, module, file and link that a document names is there, and so is each name in backticks: a function, a type, a
@@ -43,7 +40,7 @@ CITATION = re.compile(
 CITED_IN = {".rt", ".antt", ".md", ".edit", ".txt", ".toml", ".sh", ".py", ""}
 NAME = re.compile(r"(?<!\w)[A-Za-z_][A-Za-z0-9_']*")
 CRATE = r"(?:rbc|ertms|test)_[a-z_]+"
-MOST_LINES = {"README.md": 100, "docs/GUIDE.md": 300, "docs/INTEGRATION.md": 200, "docs/MODEL.md": 900, "docs/TEXTS.md": 300}
+MOST_LINES = {"README.md": 100, "docs/GUIDE.md": 300, "docs/INTEGRATION.md": 200}
 SUBCOMMANDS = {"run", "live", "explain", "picture", "check", "decode", "codes", "help"}
 HISTORY = re.compile(r"\bon (?:[\w-]+ ){0,3}machines?\b|\bearlier versions?\b|\bprevious versions?\b", re.I)
 SUBCOMMAND = re.compile(r"(?<![\w/-])(?:\./)?dispatch ([a-z][\w-]*)")
@@ -263,6 +260,8 @@ def history_faults(text):
 
 def faults(root, world):
     known = known_names(world)
+    for name in sorted(model.DOCUMENTS - {document.name for document in documents(root)}):
+        yield root / "docs" / name, "", None, "is not there"
     for document in documents(root):
         whole = document.read_text()
         text = without_blocks(whole)
@@ -278,8 +277,6 @@ def faults(root, world):
             yield document, whole, place, fault
     for path, place, fault in citation_faults(root):
         yield path, path.read_text(), place, fault
-    for name in sorted(model.DOCUMENTS - {document.name for document in documents(root)}):
-        yield root / "docs" / name, "", None, "is not there"
     yield from rules.faults(root, texts(root))
 
 

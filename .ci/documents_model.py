@@ -17,6 +17,7 @@ PLACES = {
     "text": ("TEXTS.md", BELIEVED, ""),
 }
 DOCUMENTS = {document for document, _, _ in PLACES.values()}
+MOST_LINES = {"MODEL.md": 900, "TEXTS.md": 300}
 
 # the kinds of sections of what has to be believed, in the order of a reader, with the sentence where that of `dispatch run` may stop
 STOP = "A reader of `dispatch run` may stop here"
@@ -155,6 +156,8 @@ def sentence_faults(world):
 def faults(world, document, text):
     for crate in world.misread():
         yield None, f"cannot be checked: not all clauses of {crate} were read"
+    if len(text.splitlines()) > MOST_LINES[document]:
+        yield None, f"has {len(text.splitlines())} lines, and may have {MOST_LINES[document]}"
     said = set()
     yield from row_faults(world, document, text, said)
     yield from missing_faults(world, document, said)
