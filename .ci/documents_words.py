@@ -35,7 +35,7 @@ fault group halt help horizon lift line long many memory out recv refused releas
 
 KNOWN = set(" ".join([RUST, ANTT, PORTED, TOOL, FORMATS]).split())
 
-# modules of the kit that docs/MODEL.md need not name: numbers, options, lists, maps, text, references, and how a program ends
+# modules of the kit that docs/MODEL.md and docs/TEXTS.md need not name: numbers, options, lists, maps, text, references, and how a program ends
 EVERYDAY = {
     "denote.Ref",
     "Rattle.std.specs.Prelude",
