@@ -3,7 +3,10 @@
 
     python3 .ci/documents.py            prints each fault on a line, and one line of summary; status 1 where there is a fault
     python3 .ci/documents.py --count    also lists the definitions of each class (documents_reach.py), with the number of their lines
-    yield from rules.faults(root, texts(root))
+    python3 .ci/documents.py --write    first puts into MODEL.md and TEXTS.md how many lines have to be believed, and into ASSESSMENT.md
+                                        how many faulty variants each crate has
+    python3 .ci/documents.py --rules    prints for each rule of docs/RULES.md where its definitions, tests and faulty variants
+                                        stand, and checks nothing
 
 What is checked:
 - each path, module, file and link that a document names is there, and so is each name in backticks: a function, a type, a
