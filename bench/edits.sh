@@ -1,14 +1,19 @@
 #!/usr/bin/env bash
-# Tries the faulty variants that the gate leaves out, and says which ones the prover lets through: bench/edits.sh [CRATE..]
+# Tries the faulty variants that the gate leaves out, and says which ones the prover lets through: bench/edits.sh [--anew] [CRATE..]
 #
 # A variant of crates/NAME/edits/ is an edit of the crate that the prover must refuse, as one of crates/NAME/must-fail/ is; the gate tries
 # the latter alone. Without words, all crates that have such a folder are tried. The sources as they stand are copied to a scratch folder with the
 # libraries that `rt check` has built of them, and the edits there to must-fail/, in place of those of the gate. Then `rt must-fail` tries them. It
 # first proves the libraries below that are not built. It prints each variant that was not refused, or that was refused for a reason that says little
 # of a contract, and a line for each crate; the exit status is 0 where all were refused, and 1 where one was not. All of them take hours of one
-# processor.
+# processor. What an earlier run on this machine tried of the same files is taken over, but with --anew.
 set -euo pipefail
 
+anew=()
+if [[ ${1-} == --anew ]]; then
+    anew=(--anew)
+    shift
+fi
 here=$(dirname "$(dirname "$(readlink -f "$0")")")
 scratch=$(mktemp -d)
 trap 'rm -rf "$scratch"' EXIT
@@ -24,7 +29,7 @@ for crate in "$@"; do
     mv "crates/$crate/edits" "crates/$crate/must-fail"
 done
 
-said=$(rt must-fail "$@" 2>&1) || true
+said=$(rt must-fail "${anew[@]}" "$@" 2>&1) || true
 grep '^rt: must-fail ' <<< "$said" | grep -Ev ': refused, as it must be(:|$)' || true
 status=0
 for crate in "$@"; do

@@ -1,4 +1,4 @@
-# Sourced by ./dispatch and by what makes and compares a release, with `root` set. Functions on the crates of the repository, as crates.txt has them.
+# Sourced by ./dispatch, by .ci/run and by what makes and compares a release, with `root` set. Functions on the crates of the repository, as crates.txt has them.
 
 # Prints crates, and below them those of the repository that they stand on.
 crates_of() {
@@ -40,4 +40,50 @@ is_released() {
     shift
     [[ -f $root/release/$file && -f $root/release/SOURCES ]] \
         && grep -qxF "$file $(sum_of_sources "$@")" "$root/release/SOURCES"
+}
+
+# Prints the crates of crates.txt.
+names_of_crates() {
+    sed -E 's/#.*//; s/[[:space:]:].*//; /^$/d' "$root/crates.txt" | LC_ALL=C sort
+}
+
+# Prints the sum of all that the gate proves and tries of each crate (its files, but for out/ and edits/), and those of
+# crates.txt and HANDLES.
+sums_of_proved() {
+    (
+        cd "$root"
+        for name in $(names_of_crates); do
+            printf '%s  crates/%s\n' "$(sum_of_folder "crates/$name")" "$name"
+        done
+        sha256sum crates.txt HANDLES
+    )
+}
+
+sum_of_folder() {
+    find "$1" \( -path "$1/out" -o -path "$1/edits" \) -prune -o -type f -print0 | LC_ALL=C sort -z \
+        | xargs -0 sha256sum | sha256sum | cut -d ' ' -f 1
+}
+
+# Prints the line by which the log of a gate says what it proved.
+line_of_proved() {
+    printf 'release: the sum of all that was proved and tried is %s\n' "$(sums_of_proved | sha256sum | cut -d ' ' -f 1)"
+}
+
+# Prints how many crates a log of `rt ci` says were proved in that run, and how many functions they have.
+proved_in() {
+    awk '
+        /^== / { functions = 0 }
+        /^logic=proved / && match($0, / functions=[0-9]+/) { functions = substr($0, RSTART + 11, RLENGTH - 11) }
+        /^rt: [a-z0-9_]+ proved$/ { crates++; all += functions }
+        END { print crates + 0, all + 0 }
+    ' "$1"
+}
+
+# Writes release/SHA256SUMS.
+sum_files() {
+    (
+        cd "$root/release"
+        shopt -s nullglob
+        sha256sum dispatch c/* GATE.* > SHA256SUMS
+    )
 }
