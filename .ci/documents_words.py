@@ -5,7 +5,7 @@ FILES = {"crates/CRATE/specs/FILE.antt", "FILE.rt", "crates/CRATE/src/", "crates
 
 # of Rust
 RUST = """
-Abort Bool Bor Copy Debug Display Env PartialEq String push_str Sized Wait assert_eq IndexMap List Option Vec allow always as bool collect copied data div_ceil entry env false for from get_index
+Abort AllocError Bool Bor Copy Debug Display Env PartialEq String push_str Sized Wait assert_eq IndexMap List Option Vec allow always as bool collect copied data div_ceil entry env false for from get_index
 ghost i16 if impl inline into iter iterator let malloc map match max min mut not pub realloc ref self source string true type u32 u8
 unwrap_or unwrap use usize var vec while
 """
