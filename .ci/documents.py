@@ -1,5 +1,5 @@
 #!/usr/bin/env python3
-"""Checks README.md and docs/ against the crates. It reads files only.
+"""Checks README.md, docs/ and the documents of bench/ against the crates. It reads files only.
 
     python3 .ci/documents.py            prints each fault on a line, and one line of summary; status 1 where there is a fault
     python3 .ci/documents.py --count    also lists the definitions of each class (documents_reach.py), with the number of their lines
@@ -16,6 +16,7 @@ What is checked:
   its class belongs (documents_reach.py), and each word of the kit that these use and that is not of everyday use; they say how many
   lines there are of each class, and for `dispatch run`; and each other definition has a sentence above it in specs/;
 - docs/ASSESSMENT.md says how many faulty variants each crate has;
+- figures of speed, memory and tests are those of bench/RESULTS.md, and constants those of the sources (documents_figures.py);
 - the table of docs/ARCHITECTURE.md says what crates.txt says, and an output in README.md is that of its file;
 - no document is longer than MOST_LINES says, each subcommand `dispatch WORD` is one of SUBCOMMANDS, and no prose tells of machines or earlier versions;
 - each name of a rule, such as R-STOP-3, is defined once in docs/RULES.md, each rule is named by a definition, and no name stands above
@@ -30,6 +31,7 @@ from pathlib import Path
 sys.path.insert(0, str(Path(__file__).resolve().parent))
 sys.dont_write_bytecode = True
 
+import documents_figures
 import documents_model as model
 import documents_reach as reach
 import documents_rules as rules
@@ -62,7 +64,7 @@ def files(root):
 
 
 def documents(root):
-    return [root / "README.md"] + sorted((root / "docs").glob("*.md"))
+    return [root / "README.md"] + sorted((root / "docs").glob("*.md")) + sorted((root / "bench").glob("*.md"))
 
 
 def without_blocks(text):
@@ -278,6 +280,7 @@ def faults(root, world):
             found += table_faults(root, whole)
         for place, fault in found:
             yield document, whole, place, fault
+    yield from documents_figures.faults(root, documents(root))
     for path, place, fault in citation_faults(root):
         yield path, path.read_text(), place, fault
     yield from rules.faults(root, texts(root))
