@@ -21,20 +21,20 @@ static void stop(const char *what, unsigned code) {
 }
 
 static void *grown(void *old, size_t bytes) {
-    void *new = realloc(old, bytes);
-    if (!new)
+    void *block = realloc(old, bytes);
+    if (!block)
         stop("out of memory", 0);
-    return new;
+    return block;
 }
 
 static uint8_t *read_all(FILE *stream, size_t *length) {
     size_t room = 1 << 16;
-    uint8_t *bytes = grown(NULL, room);
+    uint8_t *bytes = (uint8_t *)grown(NULL, room);
     *length = 0;
     for (size_t read; (read = fread(bytes + *length, 1, room - *length, stream)) > 0;) {
         *length += read;
         if (*length == room)
-            bytes = grown(bytes, room *= 2);
+            bytes = (uint8_t *)grown(bytes, room *= 2);
     }
     return bytes;
 }
@@ -46,7 +46,7 @@ static void feed(rbc_desk *desk, const uint8_t *text, size_t length) {
     rbc_answer answer;
     uint32_t code;
     while ((code = rbc_feed(desk, text, length, out, room, &answer)) == RBC_ROOM)
-        out = grown(out, (room = answer.count) * sizeof *out);
+        out = (rbc_message *)grown(out, (room = answer.count) * sizeof *out);
     if (code != RBC_DONE)
         stop("a line was not taken", code);
 }
@@ -59,7 +59,7 @@ static void ask(rbc_desk *desk, struct list *list) {
             stop("no alarms", code);
         if (list->count <= list->room)
             return;
-        list->all = grown(list->all, (list->room = list->count) * sizeof *list->all);
+        list->all = (rbc_alarm *)grown(list->all, (list->room = list->count) * sizeof *list->all);
     }
 }
 
@@ -81,14 +81,14 @@ static void print(size_t line, const char *how, const rbc_alarm *alarm) {
 }
 
 /* The alarms of only one of two lists: both are in order. */
-static void print_changes(size_t line, const struct list *old, const struct list *new) {
+static void print_changes(size_t line, const struct list *old, const struct list *now) {
     size_t i = 0, k = 0;
-    while (i < old->count || k < new->count) {
-        int order = i == old->count ? 1 : k == new->count ? -1 : compare(&old->all[i], &new->all[k]);
+    while (i < old->count || k < now->count) {
+        int order = i == old->count ? 1 : k == now->count ? -1 : compare(&old->all[i], &now->all[k]);
         if (order < 0)
             print(line, "cleared", &old->all[i]);
         if (order > 0)
-            print(line, "raised", &new->all[k]);
+            print(line, "raised", &now->all[k]);
         i += order <= 0;
         k += order >= 0;
     }
@@ -112,7 +112,7 @@ int main(int argc, char **argv) {
     struct list lists[2] = {{NULL, 0, 0}, {NULL, 0, 0}};
     size_t line = 0;
     for (const uint8_t *at = batch, *end = batch + length; at < end;) {
-        const uint8_t *feed_at = memchr(at, '\n', (size_t)(end - at));
+        const uint8_t *feed_at = (const uint8_t *)memchr(at, '\n', (size_t)(end - at));
         const uint8_t *behind = feed_at ? feed_at : end;
         feed(&desk, at, (size_t)(behind - at));
         at = feed_at ? behind + 1 : end;

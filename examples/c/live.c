@@ -25,21 +25,21 @@ static void stop(const char *what, unsigned code) {
 }
 
 static void *grown(void *old, size_t bytes) {
-    void *new = realloc(old, bytes);
-    if (!new)
+    void *block = realloc(old, bytes);
+    if (!block)
         stop("out of memory", 0);
-    return new;
+    return block;
 }
 
 /* All bytes of a stream. */
 static uint8_t *read_all(FILE *stream, size_t *length) {
     size_t room = 1 << 16;
-    uint8_t *bytes = grown(NULL, room);
+    uint8_t *bytes = (uint8_t *)grown(NULL, room);
     *length = 0;
     for (size_t read; (read = fread(bytes + *length, 1, room - *length, stream)) > 0;) {
         *length += read;
         if (*length == room)
-            bytes = grown(bytes, room *= 2);
+            bytes = (uint8_t *)grown(bytes, room *= 2);
     }
     return bytes;
 }
@@ -51,7 +51,7 @@ static void feed(rbc_desk *desk, size_t line, const uint8_t *text, size_t length
     rbc_answer answer;
     uint32_t code;
     while ((code = rbc_feed(desk, text, length, out, room, &answer)) == RBC_ROOM)
-        out = grown(out, (room = answer.count) * sizeof *out);
+        out = (rbc_message *)grown(out, (room = answer.count) * sizeof *out);
     if (code != RBC_DONE)
         stop("a line was not taken", code);
     if (answer.refused)
@@ -60,15 +60,16 @@ static void feed(rbc_desk *desk, size_t line, const uint8_t *text, size_t length
         printf("%zu ok %zu\n", line, answer.count);
     for (size_t i = 0; i < answer.count; i++) {
         if (count_of_mails == room_for_mails)
-            mails = grown(mails, (room_for_mails = 2 * room_for_mails + 64) * sizeof *mails);
-        uint8_t *bytes = memcpy(grown(NULL, out[i].length), out[i].bytes, out[i].length);
-        mails[count_of_mails] = (struct mail){count_of_mails, line, out[i].engine, out[i].length, bytes};
+            mails = (struct mail *)grown(mails, (room_for_mails = 2 * room_for_mails + 64) * sizeof *mails);
+        uint8_t *bytes = (uint8_t *)memcpy(grown(NULL, out[i].length), out[i].bytes, out[i].length);
+        struct mail mail = {count_of_mails, line, out[i].engine, out[i].length, bytes};
+        mails[count_of_mails] = mail;
         count_of_mails++;
     }
 }
 
 static int by_engine(const void *a, const void *b) {
-    const struct mail *x = a, *y = b;
+    const struct mail *x = (const struct mail *)a, *y = (const struct mail *)b;
     if (x->engine != y->engine)
         return x->engine < y->engine ? -1 : 1;
     return x->number < y->number ? -1 : 1;
@@ -91,7 +92,7 @@ int main(int argc, char **argv) {
     uint8_t *batch = read_all(stdin, &length);
     size_t line = 0;
     for (const uint8_t *at = batch, *end = batch + length; at < end;) {
-        const uint8_t *feed_at = memchr(at, '\n', (size_t)(end - at));
+        const uint8_t *feed_at = (const uint8_t *)memchr(at, '\n', (size_t)(end - at));
         const uint8_t *behind = feed_at ? feed_at : end;
         feed(&desk, ++line, at, (size_t)(behind - at));
         at = feed_at ? behind + 1 : end;
