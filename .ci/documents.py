@@ -42,15 +42,15 @@ CITATION = re.compile(
     r"\b[Dd]ocument 0?[1-4]\b|\b0[1-4] section\b|\b(?:T[1-5](?:\.\d)|[DW]\d{1,2}|R(?:1[0-5]|[1-9]))\b(?!\()"
     r"|\brow \d{1,2}\b|\b(?:scope|theorems|requests|formats)\.md\b"
 )
-CITED_IN = {".rt", ".antt", ".md", ".edit", ".txt", ".toml", ".sh", ".py", ""}
+CITED_IN = {".rt", ".antt", ".md", ".edit", ".txt", ".toml", ".sh", ".py", ".cpp", ".hpp", ".ads", ".adb", ".rs", ".lua", ""}
 NAME = re.compile(r"(?<!\w)[A-Za-z_][A-Za-z0-9_']*")
 CRATE = r"(?:rbc|ertms|test)_[a-z_]+"
-MOST_LINES = {"README.md": 100, "docs/GUIDE.md": 320, "docs/INTEGRATION.md": 200}
+MOST_LINES = {"README.md": 100, "docs/GUIDE.md": 320, "docs/INTEGRATION.md": 200, "docs/C_LIBRARY.md": 160}
 SUBCOMMANDS = {"run", "live", "explain", "picture", "check", "decode", "codes", "help"}
 HISTORY = re.compile(r"\bon (?:[\w-]+ ){0,3}machines?\b|\bearlier versions?\b|\bprevious versions?\b", re.I)
 SUBCOMMAND = re.compile(r"(?<![\w/-])(?:\./)?dispatch ([a-z][\w-]*)")
-FILE = re.compile(r"(?<![\w/.-])((?:[\w.-]+/)*[\w.-]+\.(?:md|rt|antt|sh|py|toml|batch|expected|edit|tsv|txt|c|h)|"
-                  r"(?:crates|docs|examples|bench|include|\.ci)(?:/[\w.-]+)*/?)(?![\w/-])")
+FILE = re.compile(r"(?<![\w/.-])((?:[\w.-]+/)*[\w.-]+\.(?:md|rt|antt|sh|py|toml|batch|expected|edit|tsv|txt|c|h|cpp|hpp|ads|adb|lua)|"
+                  r"(?:crates|docs|examples|bench|bindings|include|\.ci)(?:/[\w.-]+)*/?)(?![\w/-])")
 
 
 # ---- documents

@@ -24,7 +24,7 @@ PORTED = "anyhow boxcar clap crossbeam_queue hex indexmap itoa memchr rayon this
 
 # of rt and of the scripts here, and of the folders and files that they know
 TOOL = """
-bash python3 Prelude ci must-fail edits check doc fail fmt lemma must plant program proofs specs src test tests tidy tries try version rt allocations rlib PID RLIMIT_AS autogroup proc selftest golden SOURCES
+bash python3 Prelude ci must-fail edits check doc fail fmt lemma must plant program proofs specs src test tests tidy tries try version rt allocations rlib PID RLIMIT_AS autogroup proc selftest golden SOURCES make install lib PREFIX
 """
 
 # of batches, outputs, tracks, texts of messages and command lines
