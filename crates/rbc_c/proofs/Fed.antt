@@ -3,8 +3,7 @@ use Rattle.std.proofs.Common.{◌≡◌, ℕ, List, Option, Some, None, refl, sy
 use Rattle.rbc_live.specs.declared.desk.LiveDesk.{LiveDesk}
 use Rattle.rbc_c.specs.declared.feed.Answer.{Answer}
 use Rattle.rbc_c.specs.declared.message.Message.{Message}
-use Rattle.rbc_c.specs.declared.alarms.Alarm.{Alarm}
-use Rattle.rbc_c.specs.Alarms.{GivesAlarmsOf, GivesAlarms}
+use Rattle.rbc_c.specs.Given.{GivesOf, Gives}
 use Rattle.rbc_c.specs.Feeds.{IsFed, Feeds}
 use Rattle.rbc_c.specs.Opens.{Opens, IsNew, IsWhyNot}
 
@@ -31,13 +30,13 @@ pub not_opened : (old after : Option LiveDesk) (text : List ℕ) (code : ℕ) �
 not_opened old after text code e f is =
     subst (λ (o : Option LiveDesk). Opens o text code after) (sym e) (subst (λ (a : Option LiveDesk). Opens None text code a) (sym f) is)
 
-pub tells : (old after : Option LiveDesk) (out written : List Alarm) (before count code : ℕ) (desk new : LiveDesk)
-    → old ≡ Some desk → after ≡ Some new → GivesAlarmsOf desk out before code new written count → GivesAlarms old out before code after written count
-tells old after out written before count code desk new e f told =
-    subst (λ (o : Option LiveDesk). GivesAlarms o out before code after written count) (sym e)
-    (subst (λ (a : Option LiveDesk). GivesAlarms (Some desk) out before code a written count) (sym f) told)
+pub gives : {A : Type 0} (IsOf : LiveDesk → List A → Type 0) (old after : Option LiveDesk) (out written : List A) (before count code : ℕ) (desk new : LiveDesk)
+    → old ≡ Some desk → after ≡ Some new → GivesOf IsOf desk out before code new written count → Gives IsOf old out before code after written count
+gives {A = A} IsOf old after out written before count code desk new e f given =
+    subst (λ (o : Option LiveDesk). Gives {A = A} IsOf o out before code after written count) (sym e)
+    (subst (λ (a : Option LiveDesk). Gives {A = A} IsOf (Some desk) out before code a written count) (sym f) given)
 
-pub not_told : (old after : Option LiveDesk) (out : List Alarm) (before code : ℕ) → old ≡ None → after ≡ None → code ≡ 2 → GivesAlarms old out before code after out before
-not_told old after out before code e f is =
-    subst (λ (o : Option LiveDesk). GivesAlarms o out before code after out before) (sym e)
-    (subst (λ (a : Option LiveDesk). GivesAlarms None out before code a out before) (sym f) (is, refl, refl))
+pub not_given : {A : Type 0} (IsOf : LiveDesk → List A → Type 0) (old after : Option LiveDesk) (out : List A) (before code : ℕ) → old ≡ None → after ≡ None → code ≡ 2 → Gives IsOf old out before code after out before
+not_given {A = A} IsOf old after out before code e f is =
+    subst (λ (o : Option LiveDesk). Gives {A = A} IsOf o out before code after out before) (sym e)
+    (subst (λ (a : Option LiveDesk). Gives {A = A} IsOf None out before code a out before) (sym f) (is, refl, refl))

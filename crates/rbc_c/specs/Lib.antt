@@ -3,4 +3,10 @@ pub mod Messages
 pub mod Feeds
 pub mod Closes
 pub mod Versions
+pub mod Given
 pub mod Alarms
+pub mod Trains
+pub mod Active
+pub mod Outstanding
+pub mod Checks
+pub mod Reasons

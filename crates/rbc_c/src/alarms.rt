@@ -1,11 +1,11 @@
 //! Alarms as C has them.
 
-ghost use Rattle.std.specs.Prelude.{◌≡◌, ◌<◌, ◌⊎◌};
-ghost use Rattle.rbc_c.specs.Alarms.{AreGiven, AreAlarmsWritten, StaysBehindAlarms, alarm_of};
+ghost use Rattle.std.specs.Prelude.{◌≡◌, IfOk, map};
+ghost use Rattle.rbc_c.specs.Alarms.{alarm_of};
 
-use crate::faults::{DONE, MEMORY};
+use crate::given::Entry;
 use rbc_live::{Alarm as Stands, LiveDesk};
-use std::alloc::Global;
+use std::alloc::{AllocError, Global};
 
 /// An alarm that stands.
 #[repr(C)]
@@ -30,28 +30,23 @@ fn alarm_of(engine: u32, alarm: Stands) -> Alarm
     }
 }
 
-/// Writes alarms to the front of those that are there, as many as there is room for.
-fn write_alarms(alarms: &[(u32, Stands)], out: &mut [Alarm])
-    ensures written { AreAlarmsWritten alarms.now out.new }
-    ensures behind { StaysBehindAlarms alarms.now out.old out.new }
+/// Alarms as C has them. Fails only for lack of memory.
+fn alarms_of(alloc: Global, alarms: &[(u32, Stands)]) -> Result<Vec<Alarm>, AllocError>
+    ensures { IfOk result (λ all. all.items ≡ map alarm_of alarms.now) }
 {
-    for index in 0..alarms.len().min(out.len()) {
-        let (engine, alarm) = alarms[index];
-        out[index] = alarm_of(engine, alarm);
-    }
+    alarms
+        .iter()
+        .map(|stands| alarm_of(stands.0, stands.1))
+        .collect(alloc)
 }
 
-/// Writes the alarms that stand on a desk, as many as there is room for, and says how many there are. Answers 0, or the
-/// code of a fault.
-pub fn alarms_of_desk(desk: &LiveDesk, alloc: Global, out: &mut [Alarm], count: &mut usize) -> u32
-    ensures codes { (result ≡ 0) ⊎ (result ≡ 1) }
-    ensures given { result ≡ 0 → AreGiven desk.now out.old out.new count.new }
-    ensures stays { 0 < result → (out.new ≡ out.old) × (count.new ≡ count.old) }
-{
-    let Ok(alarms) = desk.alarms(alloc) else {
-        return MEMORY;
-    };
-    write_alarms(&alarms, out);
-    *count = alarms.len();
-    DONE
+impl Entry for Alarm {
+    ghost use Rattle.rbc_c.specs.Alarms.{AreAlarms};
+
+    ghost is_of = { AreAlarms };
+
+    fn list(desk: &LiveDesk, alloc: Global) -> Result<Vec<Alarm>, AllocError> {
+        let alarms = desk.alarms(alloc)?;
+        alarms_of(alloc, alarms.as_slice())
+    }
 }

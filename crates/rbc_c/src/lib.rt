@@ -4,24 +4,55 @@
 ghost use Rattle.std.specs.Prelude.{◌≡◌, None, IfOk, IfErr};
 ghost use Rattle.rbc_c.specs.Opens.{Opens, IsNew, IsWhyNot};
 ghost use Rattle.rbc_c.specs.Feeds.{Feeds};
-ghost use Rattle.rbc_c.specs.Alarms.{GivesAlarms};
+ghost use Rattle.rbc_c.specs.Given.{Gives};
+ghost use Rattle.rbc_c.specs.Alarms.{AreAlarms};
+ghost use Rattle.rbc_c.specs.Trains.{AreTrains};
+ghost use Rattle.rbc_c.specs.Active.{AreStops, AreRestrictions};
+ghost use Rattle.rbc_c.specs.Outstanding.{AreOutstanding};
+ghost use Rattle.rbc_c.specs.Checks.{Checks};
+ghost use Rattle.rbc_c.specs.Reasons.{IsReason};
 ghost use Rattle.rbc_c.specs.Closes.{Closes};
-ghost use Rattle.rbc_c.specs.Versions.{this_version, Versioned};
+ghost use Rattle.rbc_c.specs.Versions.{this_version, rules_number, Versioned};
 
+mod active;
 mod alarms;
 mod faults;
 mod feed;
+mod given;
 mod handle;
 mod message;
+mod outstanding;
+mod reason;
+#[cfg(test)]
+mod tests;
+mod track_check;
+mod trains;
 
-use alarms::{Alarm, alarms_of_desk};
+use active::{Restriction, Stop};
+use alarms::Alarm;
 use faults::{DONE, MEMORY, NOT_NOW, NOT_UTF8, OTHER_VERSION, code_of};
 use feed::{Answer, feed_desk};
+use given::list_of_handle;
 use handle::Handle;
 use message::Message;
+use outstanding::Outstanding;
 use rbc_live::LiveDesk;
+use reason::explain_to;
 use std::alloc::Global;
 use std::str;
+use track_check::{Report, check_text};
+use trains::Train;
+
+/// The number of the rules by which a desk decides, as `dispatch --version` tells it.
+const RULES: u32 = 3;
+
+/// The number of the rules by which a desk decides. A log that was written by other rules may be answered otherwise.
+#[unsafe(no_mangle)]
+pub extern "C" fn rbc_rules() -> u32
+    ensures { result ≡ rules_number }
+{
+    RULES
+}
 
 /// Makes a desk on the heap, on the track of a text; or answers the code that says why not.
 fn desk_on(alloc: Global, track: &[u8]) -> Result<Box<LiveDesk>, u32>
@@ -114,10 +145,8 @@ fn feed_handle(
     code
 }
 
-/// Writes the alarms that stand on the desk of a handle to the front of `out`, as many as there is room for: engines
-/// ascending, and those of one train by kind and number. Answers 0, and `count` says how many there are. At the code of
-/// a fault `out` and `count` are as they were. A handle with no desk is refused, and so is that of a caller that was
-/// compiled with another rbc.h.
+/// Gives the alarms that stand on the desk of a handle, as `list_of_handle` does: engines ascending, and those of one
+/// train by kind and number.
 #[unsafe(no_mangle)]
 pub extern "C" fn rbc_alarms(
     handle: &mut Handle,
@@ -126,26 +155,122 @@ pub extern "C" fn rbc_alarms(
     count: &mut usize,
 ) -> u32
     ensures { Versioned handle.old.version handle.new.version result
-        (GivesAlarms handle.old.memory.live out.old count.old result handle.new.memory.live out.new count.new)
+        (Gives AreAlarms handle.old.memory.live out.old count.old result handle.new.memory.live out.new count.new)
+        ((handle.new ≡ handle.old) × (out.new ≡ out.old) × (count.new ≡ count.old)) }
+{
+    list_of_handle(handle, alloc, out, count)
+}
+
+/// Gives the trains of the desk of a handle, as `list_of_handle` does: engines ascending.
+#[unsafe(no_mangle)]
+pub extern "C" fn rbc_trains(
+    handle: &mut Handle,
+    alloc: Global,
+    out: &mut [Train],
+    count: &mut usize,
+) -> u32
+    ensures { Versioned handle.old.version handle.new.version result
+        (Gives AreTrains handle.old.memory.live out.old count.old result handle.new.memory.live out.new count.new)
+        ((handle.new ≡ handle.old) × (out.new ≡ out.old) × (count.new ≡ count.old)) }
+{
+    list_of_handle(handle, alloc, out, count)
+}
+
+/// Gives the segments of the active stops of the desk of a handle, as `list_of_handle` does: numbers ascending, and
+/// those of one stop in the order in which they were given.
+#[unsafe(no_mangle)]
+pub extern "C" fn rbc_stops(
+    handle: &mut Handle,
+    alloc: Global,
+    out: &mut [Stop],
+    count: &mut usize,
+) -> u32
+    ensures { Versioned handle.old.version handle.new.version result
+        (Gives AreStops handle.old.memory.live out.old count.old result handle.new.memory.live out.new count.new)
+        ((handle.new ≡ handle.old) × (out.new ≡ out.old) × (count.new ≡ count.old)) }
+{
+    list_of_handle(handle, alloc, out, count)
+}
+
+/// Gives the active restrictions of the desk of a handle, as `list_of_handle` does: numbers ascending.
+#[unsafe(no_mangle)]
+pub extern "C" fn rbc_restrictions(
+    handle: &mut Handle,
+    alloc: Global,
+    out: &mut [Restriction],
+    count: &mut usize,
+) -> u32
+    ensures { Versioned handle.old.version handle.new.version result
+        (Gives AreRestrictions handle.old.memory.live out.old count.old result handle.new.memory.live out.new count.new)
+        ((handle.new ≡ handle.old) × (out.new ≡ out.old) × (count.new ≡ count.old)) }
+{
+    list_of_handle(handle, alloc, out, count)
+}
+
+/// Gives what waits for an answer or an acknowledgement on the desk of a handle, as `list_of_handle` does: engines
+/// ascending; of one train its stop identifiers, and then its restriction identifiers, each ascending.
+#[unsafe(no_mangle)]
+pub extern "C" fn rbc_outstanding(
+    handle: &mut Handle,
+    alloc: Global,
+    out: &mut [Outstanding],
+    count: &mut usize,
+) -> u32
+    ensures { Versioned handle.old.version handle.new.version result
+        (Gives AreOutstanding handle.old.memory.live out.old count.old result handle.new.memory.live out.new count.new)
+        ((handle.new ≡ handle.old) × (out.new ≡ out.old) × (count.new ≡ count.old)) }
+{
+    list_of_handle(handle, alloc, out, count)
+}
+
+/// Gives the words on the answer that a line would have on the desk of a handle, as `list_of_handle` does: the name of its
+/// refusal and what that means, or nothing where it would be accepted.
+#[unsafe(no_mangle)]
+pub extern "C" fn rbc_explain_line(
+    handle: &mut Handle,
+    alloc: Global,
+    line: &[u8],
+    out: &mut [u8],
+    count: &mut usize,
+) -> u32
+    ensures { Versioned handle.old.version handle.new.version result
+        (Gives (IsReason line.now) handle.old.memory.live out.old count.old result handle.new.memory.live out.new
+        count.new)
         ((handle.new ≡ handle.old) × (out.new ≡ out.old) × (count.new ≡ count.old)) }
 {
     if !handle.is_of_this_version() {
         return OTHER_VERSION;
     }
-    alarms_of_handle(handle, alloc, out, count)
+    explain_to_handle(handle, alloc, line, out, count)
 }
 
-/// Writes alarms, as `rbc_alarms` does for a caller of this version.
-fn alarms_of_handle(handle: &mut Handle, alloc: Global, out: &mut [Alarm], count: &mut usize) -> u32
-    ensures tells { GivesAlarms handle.old.memory.live out.old count.old result handle.new.memory.live out.new count.new }
+/// Explains a line, as `rbc_explain_line` does for a caller of this version.
+fn explain_to_handle(
+    handle: &mut Handle,
+    alloc: Global,
+    line: &[u8],
+    out: &mut [u8],
+    count: &mut usize,
+) -> u32
+    ensures gives { Gives (IsReason line.now) handle.old.memory.live out.old count.old result handle.new.memory.live
+        out.new count.new }
     ensures version { handle.new.version ≡ this_version }
 {
     let Some(desk) = handle.take(alloc) else {
         return NOT_NOW;
     };
-    let code = alarms_of_desk(&desk, alloc, out, count);
+    let code = explain_to(&desk, alloc, line, out, count);
     *handle = Handle::of(desk);
     code
+}
+
+/// Checks the text of a track, as `dispatch check` does. Answers 0: `report` says what came of it, and the report stands
+/// at the front of `out`, as many bytes as there is room for. At the code of a fault both are as they were.
+#[unsafe(no_mangle)]
+pub extern "C" fn rbc_check(alloc: Global, track: &[u8], out: &mut [u8], report: &mut Report) -> u32
+    ensures { Checks track.now out.old report.old result out.new report.new }
+{
+    check_text(alloc, track, out, report)
 }
 
 /// Gives back the memory of a handle's desk, which has none then. A handle with no desk is refused, and so is that of a

@@ -1,4 +1,4 @@
-use Rattle.std.proofs.Common.{◌≡◌, ◌<◌, ◌≤◌, ℕ, slice_get, Some}
+use Rattle.std.proofs.Common.{◌≡◌, ◌<◌, ℕ, slice_get, Some}
 use Rattle.rbc_settle.specs.declared.sent.Sent.{Sent}
 use Rattle.rbc_c.specs.declared.message.Message.{Message}
 use Rattle.rbc_c.specs.Messages.{IsWritten, StaysBehind}
