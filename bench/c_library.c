@@ -1,8 +1,11 @@
 /* Feeds a batch to a live desk and prints what `dispatch run` prints for it; or refuses memory to it; or times it.
 
-   c_library TRACK              room is asked for first, where a line sends messages
+   c_library TRACK              room is asked for first, where a line sends messages. Before each line the desk is asked whether it
+                                will refuse it, and after it for each list that it has: for the count alone, with room for one entry
+                                more, and with room for one too few
    c_library TRACK refuse       each line is fed again and again: the first time its first allocation is refused, then its second, and so
-                                on, until it is taken; opening too. The number of refusals goes to standard error
+                                on, until it is taken; opening, each list and the report on the track too. The number of refusals goes to
+                                standard error
    c_library TRACK time         prints no answer, but how many ns a line took, and how many bytes are resident
    c_library TRACK many COUNT   feeds COUNT lines, those of the batch over and over on one desk, and prints ten times how
                                 many bytes are resident
@@ -17,7 +20,12 @@
 #include <string.h>
 #include <time.h>
 
-enum { ROOM = 1 << 16, MAILS = 1 << 20 };
+enum { ROOM = 1 << 16, MAILS = 1 << 20, LISTS = 1 << 24 };
+
+/* What a desk is asked for, and how long an entry is. */
+enum { ALARMS, TRAINS, STOPS, RESTRICTIONS, OUTSTANDING, REASON, ASKED };
+static const size_t sizes[ASKED] = {sizeof(rbc_alarm), sizeof(rbc_train), sizeof(rbc_stop_segment), sizeof(rbc_restriction),
+                                    sizeof(rbc_outstanding_entry), 1};
 
 struct mail {
     size_t number, line;
@@ -29,6 +37,7 @@ static uint8_t track[1 << 24], batch[(1 << 24) + 1];
 static rbc_message out[ROOM], before[ROOM];
 static struct mail mails[MAILS];
 static uint8_t kept[1 << 27]; /* the bytes of all mails */
+static _Alignas(16) uint8_t list[LISTS], other[LISTS];
 static size_t count_of_mails, count_kept, refusals;
 static long refused_at, calls;
 
@@ -64,6 +73,138 @@ static long resident(void) {
     return pages * 4096;
 }
 
+static uint32_t ask(int what, rbc_desk *desk, const uint8_t *line, size_t length, void *into, size_t room, size_t *count) {
+    switch (what) {
+    case ALARMS:
+        return rbc_alarms(desk, into, room, count);
+    case TRAINS:
+        return rbc_trains(desk, into, room, count);
+    case STOPS:
+        return rbc_stops(desk, into, room, count);
+    case RESTRICTIONS:
+        return rbc_restrictions(desk, into, room, count);
+    case OUTSTANDING:
+        return rbc_outstanding(desk, into, room, count);
+    default:
+        return rbc_explain_line(desk, line, length, into, room, count);
+    }
+}
+
+/* A desk that is not to be asked answers this code, and says nothing. */
+static void try_unasked(rbc_desk *desk, uint32_t wanted) {
+    for (int what = 0; what < ASKED; what++) {
+        _Alignas(16) uint8_t into[64];
+        size_t count = 77;
+        memset(into, 0xAA, sizeof into);
+        uint32_t code = ask(what, desk, batch, 0, into, 1, &count);
+        if (code != wanted || count != 77 || into[0] != 0xAA || memcmp(into, into + 1, sizeof into - 1) != 0)
+            stop("a desk that is not to be asked gave something", (size_t)what, code);
+    }
+}
+
+/* The list of one kind: the count alone, then with room for one entry more, which stays as it was, and with room for one too few.
+   With `refuse` each allocation is refused in turn, and then nothing is written. The list stands in `list`. */
+static size_t ask_for(int what, rbc_desk *desk, size_t line, const uint8_t *text, size_t length, int refuse) {
+    size_t count = 77, again = 77, size = sizes[what];
+    if (ask(what, desk, text, length, NULL, 0, &count) != RBC_DONE || (count + 1) * size > LISTS)
+        stop("no count", line, (unsigned)what);
+    memset(list, 0xAA, (count + 1) * size);
+    memset(other, 0xAA, (count + 1) * size);
+    for (refused_at = refuse; refused_at; refused_at++) {
+        calls = 0;
+        uint32_t code = ask(what, desk, text, length, list, count + 1, &again);
+        if (code == RBC_DONE)
+            break;
+        refusals++;
+        if (code != RBC_MEMORY || again != 77 || memcmp(list, other, (count + 1) * size) != 0)
+            stop("memory was refused, and something was given", line, code);
+    }
+    refused_at = 0;
+    if (ask(what, desk, text, length, list, count + 1, &again) != RBC_DONE || again != count)
+        stop("another count with room", line, (unsigned)what);
+    if (memcmp(list + count * size, other, size) != 0)
+        stop("more was written than there is", line, (unsigned)what);
+    if (count > 0 && (ask(what, desk, text, length, other, count - 1, &again) != RBC_DONE || again != count ||
+                      memcmp(list, other, (count - 1) * size) != 0 || other[(count - 1) * size] != 0xAA))
+        stop("room for one too few", line, (unsigned)what);
+    return count;
+}
+
+/* What the lists have to do with one another: each train holds what waits at it, engines and numbers ascend, and places are in order. */
+static void compare_lists(rbc_desk *desk, size_t line, int refuse) {
+    static rbc_train trains[2048];
+    size_t count = ask_for(TRAINS, desk, line, NULL, 0, refuse), at = 0, waits;
+    if (count > 2000)
+        stop("too many trains", line, (unsigned)count);
+    memcpy(trains, list, count * sizeof *trains);
+    for (size_t i = 0; i < count; i++)
+        if ((i && trains[i].engine <= trains[i - 1].engine) || trains[i].placed > 1 || trains[i].from > trains[i].to ||
+            trains[i].facing > RBC_UP || trains[i].stops > 15 || trains[i].restrictions > 255)
+            stop("a bad train", line, trains[i].engine);
+    waits = ask_for(OUTSTANDING, desk, line, NULL, 0, refuse);
+    for (size_t i = 0; i < waits; i++) {
+        rbc_outstanding_entry one;
+        memcpy(&one, list + i * sizeof one, sizeof one);
+        while (at < count && trains[at].engine < one.engine)
+            at++;
+        int of_stop = one.kind == RBC_WAITS_REVOCATION_OF_STOP || one.kind <= RBC_WAITS_UNCONDITIONAL_STOP;
+        uint32_t *held = at < count && trains[at].engine == one.engine ? of_stop ? &trains[at].stops : &trains[at].restrictions : NULL;
+        if (!held || *held == 0 || one.stamp > trains[at].stamp || (one.number == 0) != (one.kind >= RBC_WAITS_REVOCATION_OF_STOP))
+            stop("a bad entry of what waits", line, one.engine);
+        --*held;
+    }
+    count = ask_for(STOPS, desk, line, NULL, 0, refuse);
+    for (size_t i = 0; i < count; i++) {
+        const rbc_stop_segment *all = (const void *)list;
+        if ((i && all[i].number < all[i - 1].number) || all[i].from > all[i].to)
+            stop("a bad segment of a stop", line, all[i].number);
+    }
+    count = ask_for(RESTRICTIONS, desk, line, NULL, 0, refuse);
+    for (size_t i = 0; i < count; i++) {
+        const rbc_restriction *all = (const void *)list;
+        if ((i && all[i].number <= all[i - 1].number) || all[i].from >= all[i].to || all[i].ways > RBC_BOTH || all[i].speed % 5 ||
+            all[i].speed > 600 || all[i].front > 1)
+            stop("a bad restriction", line, all[i].number);
+    }
+    ask_for(ALARMS, desk, line, NULL, 0, refuse);
+}
+
+/* The report on a text, with more than enough room, with refusals and with room for one byte too few. */
+static rbc_report report_on(const uint8_t *text, size_t length, int refuse) {
+    static const rbc_report none = {77, 77, 77};
+    rbc_report report = none, again;
+    memset(list, 0xAA, LISTS);
+    for (refused_at = refuse; refused_at; refused_at++) {
+        calls = 0;
+        uint32_t code = rbc_check(text, length, list, LISTS, &report);
+        if (code == RBC_DONE)
+            break;
+        refusals++;
+        if (code != RBC_MEMORY || report.refused != 77 || report.warnings != 77 || report.count != 77 || list[0] != 0xAA)
+            stop("memory was refused, and something was reported", 0, code);
+    }
+    refused_at = 0;
+    if (rbc_check(text, length, list, LISTS, &report) != RBC_DONE || report.count == 0 || report.count >= LISTS ||
+        list[report.count - 1] != '\n' || list[report.count] != 0xAA)
+        stop("no report", 0, report.refused);
+    memset(other, 0xAA, report.count);
+    if (rbc_check(text, length, other, report.count - 1, &again) != RBC_DONE || again.count != report.count ||
+        again.refused != report.refused || memcmp(list, other, report.count - 1) != 0 || other[report.count - 1] != 0xAA)
+        stop("another report without room", 0, again.refused);
+    return report;
+}
+
+static void try_check(size_t length, int refuse) {
+    static const uint8_t shape[] = "horizon = 1\n", no_text[] = {'a', 0xFF};
+    rbc_report report = {77, 77, 77};
+    if (report_on(track, length, refuse).refused != 0)
+        stop("the report refuses the track", 0, 0);
+    if (report_on(shape, sizeof shape - 1, refuse).refused != RBC_TRACK_SHAPE)
+        stop("another reason for no track", 0, 0);
+    if (rbc_check(no_text, sizeof no_text, NULL, 0, &report) != RBC_NOT_UTF8 || report.count != 77)
+        stop("a report on what is not UTF-8", 0, 0);
+}
+
 /* A caller that was compiled with another rbc.h is refused at each call, and nothing is changed. Behind the first byte, which was 0 in
    RBC_NONE before version 3, an older desk has padding, of any value. */
 static void try_version(uint8_t version, size_t length) {
@@ -76,6 +217,7 @@ static void try_version(uint8_t version, size_t length) {
         stop("a desk of another version was opened", 0, version);
     if (rbc_feed(&desk, batch, 0, out, 0, &answer) != RBC_VERSION_OTHER || answer.refused != 77 || answer.count != 77)
         stop("a desk of another version took a line", 0, version);
+    try_unasked(&desk, RBC_VERSION_OTHER);
     if (rbc_close(&desk) != RBC_VERSION_OTHER || desk.version != version || desk.open != RBC_VERSION || desk.memory)
         stop("a desk of another version was closed", 0, version);
 }
@@ -89,6 +231,8 @@ static void open_desk(rbc_desk *desk, size_t length, int refuse) {
         stop("a desk that is not open took a line", 0, 0);
     if (rbc_close(desk) != RBC_NOT_NOW)
         stop("a desk that is not open was closed", 0, 0);
+    try_unasked(desk, RBC_NOT_NOW);
+    try_check(length, refuse);
     for (refused_at = refuse; refused_at; refused_at++) {
         calls = 0;
         uint32_t code = rbc_open(desk, track, length);
@@ -188,7 +332,11 @@ static void run(rbc_desk *desk, const uint8_t *end, int refuse) {
         const uint8_t *text = at;
         rbc_answer answer;
         at = line_at(at, end, &length);
-        feed(desk, ++line, text, length, refuse, &answer);
+        size_t words = ask_for(REASON, desk, ++line, text, length, refuse);
+        feed(desk, line, text, length, refuse, &answer);
+        if ((words == 0) != (answer.refused == 0))
+            stop("words on a line that is accepted, or none on one that is refused", line, answer.refused);
+        compare_lists(desk, line, refuse);
         print(line, &answer);
     }
     print_mails();
