@@ -6,8 +6,7 @@ use Rattle.rbc_live.specs.declared.desk.LiveDesk.{LiveDesk}
 abbrev pub fronted : {A : Type 0} → List A → List A → List A
 fronted given out = take (length out) given ++ drop (length given) out
 
--- What room for a list leads to, on a desk, which stays as it is, at a code: 0 done, 1 memory was refused. It is a list of which it is said what it
--- has of the desk.
+-- What room for a list leads to, on a desk, which stays as it is, at a code: 0 done, 1 memory was refused. `IsOf desk list` says which list that is.
 pub record GivesOf {A : Type 0} (IsOf : LiveDesk → List A → Type 0) (desk : LiveDesk) (out : List A) (before code : ℕ) (after : LiveDesk) (written : List A) (count : ℕ) : Type 0 where
   pub same : after ≡ desk
   pub codes : (code ≡ 0) ⊎ (code ≡ 1)

@@ -9,12 +9,12 @@ use crate::handle::Handle;
 use rbc_live::LiveDesk;
 use std::alloc::{AllocError, Global};
 
-/// What there is a list of on each desk, as C has it.
+/// An entry of a list that each desk has, as C has it.
 pub trait Entry: Copy + Drop {
     ghost use Rattle.std.specs.Prelude.{List, IfOk};
     ghost use Rattle.rbc_live.specs.declared.desk.LiveDesk as declared;
 
-    // Whether a list is that of a desk.
+    // Which list is that of a desk.
     ghost is_of: { declared.LiveDesk → List Self → Type 0 };
 
     /// The list of a desk. Fails only for lack of memory.
@@ -61,7 +61,7 @@ fn list_of_desk<T: Entry>(desk: &LiveDesk, alloc: Global, out: &mut [T], count: 
     give(T::list(desk, alloc), out, count)
 }
 
-/// Answers for the desk of a handle, as `list_of_handle` does for a caller of this version.
+/// Writes the list of a handle's desk, as `list_of_handle` does for a caller of this version.
 fn list_of_this_version<T: Entry>(
     handle: &mut Handle,
     alloc: Global,
