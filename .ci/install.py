@@ -3,7 +3,7 @@
 
 It shows that the shared libraries export the functions of their headers alone; that the callers of examples/c link in C and in C++ by
 pkg-config; that the callers of bindings/ build, write what `dispatch live --alarms` writes, and write the same where the library gets no memory
-at one allocation or another, and leak nothing; that man pages and completions are well formed; and that `make uninstall` leaves nothing.
+at one allocation or another, and leak nothing, and that others write what a desk knows (golden/desk); that man pages and completions are well formed; and that `make uninstall` leaves nothing.
 
 What a missing tool leaves out is a line, `not run: ..`. Each fault is a line; the last line counts what came out right, and the exit status is
 0 where all did.
@@ -216,26 +216,37 @@ def caller(checks, scratch, name, words, step=1):
         checks.runs(f"{name}: leaks", *WATCHED, *words, track, input=lines, env=scratch.env)
 
 
+def asked(checks, scratch, name, words):
+    """A caller of bindings/ that prints what a desk knows, and why it refused a line."""
+    folder = ROOT / "golden/desk"
+    done = run(*words, ROOT / "examples/main_line.toml", input=(folder / "questions.batch").read_bytes(), env=scratch.env)
+    wanted = (folder / "questions.expected").read_bytes()
+    checks.check(f"{name}: what a desk knows", (done.returncode, done.stdout, done.stderr) == (0, wanted, b""), done.stderr)
+
+
 def in_cpp(checks, scratch):
-    if checks.has("g++", "cc", "pkg-config", what="the caller in C++"):
-        built = scratch.folder / "live_cpp"
-        source, found = scratch.bindings / "cpp/live.cpp", scratch.package("--cflags", "--libs", "rbc")
-        if checks.runs("C++: live.cpp", "g++", "-std=c++17", "-pedantic", *STRICT, source, *found, "-o", built):
-            caller(checks, scratch, "C++", [built])
+    if checks.has("g++", "cc", "pkg-config", what="the callers in C++"):
+        found = scratch.package("--cflags", "--libs", "rbc")
+        for name, shown in (("live", caller), ("desk", asked)):
+            source, built = scratch.bindings / f"cpp/{name}.cpp", scratch.folder / f"{name}_cpp"
+            if checks.runs(f"C++: {name}.cpp", "g++", "-std=c++17", "-pedantic", *STRICT, source, *found, "-o", built):
+                shown(checks, scratch, "C++", [built])
 
 
 def in_ada(checks, scratch):
-    if checks.has("gnatmake", "cc", "pkg-config", what="the caller in Ada"):
+    if checks.has("gnatmake", "cc", "pkg-config", what="the callers in Ada"):
         folder = scratch.folder / "ada"
         folder.mkdir()
-        words = ["gnatmake", "-q", "-gnat2012", "-gnatwa", "-gnatwe", "-gnata", f"-I{scratch.bindings}/ada", "live.adb", "-largs"]
-        if checks.runs("Ada: live.adb", *words, *scratch.package("--libs", "rbc"), cwd=folder):
-            caller(checks, scratch, "Ada", [folder / "live"])
+        for name, shown in (("live", caller), ("desk", asked)):
+            words = ["gnatmake", "-q", "-gnat2012", "-gnatwa", "-gnatwe", "-gnata", f"-I{scratch.bindings}/ada", f"{name}.adb", "-largs"]
+            if checks.runs(f"Ada: {name}.adb", *words, *scratch.package("--libs", "rbc"), cwd=folder):
+                shown(checks, scratch, "Ada", [folder / name])
 
 
 def in_python(checks, scratch):
-    if checks.has("cc", what="the caller in Python"):
+    if checks.has("cc", what="the callers in Python"):
         caller(checks, scratch, "Python", [sys.executable, scratch.bindings / "python/live.py"], step=5)
+        asked(checks, scratch, "Python", [sys.executable, scratch.bindings / "python/desk.py"])
 
 
 def in_rust(checks, scratch):
@@ -252,6 +263,7 @@ def in_rust(checks, scratch):
             done = run(target / "debug/examples/message", message, env=scratch.env)
             checks.check(f"Rust: message {message}", done.stdout.endswith(f"{message}\n".encode()))
     caller(checks, scratch, "Rust", [target / "debug/examples/live"])
+    asked(checks, scratch, "Rust", [target / "debug/examples/desk"])
 
 
 def removed(checks, scratch):

@@ -4,7 +4,7 @@
 --  again. A refused line is no fault: the Answer of Feed has its code. A desk is closed where its scope ends. One call
 --  at a time may be made on it.
 --
---  rbc.h says what each field means. live.adb is a whole program.
+--  rbc.h says what each field means. live.adb and desk.adb are whole programs.
 
 with Ada.Finalization;
 with Interfaces;   use Interfaces;
@@ -62,6 +62,90 @@ package RBC is
 
    type Alarm_Array is array (Positive range <>) of Alarm with Convention => C;
 
+   --  How a train faces, or which trains a restriction is for.
+
+   type Way is (Down, Up, Both) with Convention => C, Size => 32;
+
+   --  A train that is enrolled.
+
+   type Train is record
+      Engine       : Unsigned_32;
+      Length       : Unsigned_32;
+      Stamp        : Unsigned_32;
+      Placed       : Unsigned_32; --  1: its place is known. 0: the next four fields mean nothing
+      Line         : Unsigned_32;
+      From         : Unsigned_32;
+      To           : Unsigned_32;
+      Facing       : Way;
+      Stops        : Unsigned_32; --  how many of its stop identifiers are held
+      Restrictions : Unsigned_32; --  how many of its restriction identifiers are held
+   end record
+     with Convention => C, Size => 40 * 8;
+
+   type Train_Array is array (Positive range <>) of Train with Convention => C;
+
+   --  One segment of an active stop.
+
+   type Stop_Segment is record
+      Number : Unsigned_32;
+      Line   : Unsigned_32;
+      From   : Unsigned_32;
+      To     : Unsigned_32;
+   end record
+     with Convention => C, Size => 16 * 8;
+
+   type Stop_Segment_Array is array (Positive range <>) of Stop_Segment with Convention => C;
+
+   --  An active restriction.
+
+   type Active_Restriction is record
+      Number : Unsigned_32;
+      Line   : Unsigned_32;
+      From   : Unsigned_32;
+      To     : Unsigned_32;
+      Ways   : Way;
+      Speed  : Unsigned_32; --  km/h
+      Front  : Unsigned_32; --  Q_FRONT
+   end record
+     with Convention => C, Size => 28 * 8;
+
+   type Active_Restriction_Array is array (Positive range <>) of Active_Restriction with Convention => C;
+
+   --  An identifier whose message waits for an answer or an acknowledgement.
+
+   type Waiting_Kind is
+     (Conditional_Stop, Unconditional_Stop, Told_Restriction, Revocation_Of_Stop, Revocation_Of_Restriction)
+     with Convention => C, Size => 32;
+
+   type Outstanding_Entry is record
+      Engine     : Unsigned_32;
+      Kind       : Waiting_Kind;
+      Number     : Unsigned_32; --  of the stop or the restriction; 0 where the identifier is being revoked
+      Identifier : Unsigned_32;
+      Stamp      : Unsigned_32;
+   end record
+     with Convention => C, Size => 20 * 8;
+
+   type Outstanding_Entry_Array is array (Positive range <>) of Outstanding_Entry with Convention => C;
+
+   --  What came of the check of a track.
+
+   type Report is record
+      Refused  : Unsigned_32; --  0: it is a track. Else the rule that its text breaks first, as a Status
+      Warnings : size_t;
+      Count    : size_t;      --  how many characters the report has
+   end record
+     with Convention => C, Size => 24 * 8;
+
+   --  The number of the rules, as `dispatch --version` tells it.
+
+   function Rules return Unsigned_32 with Import, Convention => C, External_Name => "rbc_rules";
+
+   --  Checks the text of a track, as `dispatch check` does, and writes the report into Text, as much as there is room
+   --  for.
+
+   procedure Check (Track : String; Text : in out String; Result : out Report; Code : out Status);
+
    --  A desk. It is closed at first.
 
    type Desk is limited private;
@@ -81,6 +165,26 @@ package RBC is
    --  kind and number. Count is how many stand: where that is more than Found'Length, ask again with that room.
 
    procedure Alarms (Self : in out Desk; Found : in out Alarm_Array; Count : out Natural; Code : out Status);
+
+   --  Likewise the trains that are enrolled; the segments of the active stops; the active restrictions; and what waits
+   --  for an answer or an acknowledgement. rbc.h says in which order.
+
+   procedure Trains
+     (Self : in out Desk; Found : in out Train_Array; Count : out Natural; Code : out Status);
+
+   procedure Stops
+     (Self : in out Desk; Found : in out Stop_Segment_Array; Count : out Natural; Code : out Status);
+
+   procedure Restrictions
+     (Self : in out Desk; Found : in out Active_Restriction_Array; Count : out Natural; Code : out Status);
+
+   procedure Outstanding
+     (Self : in out Desk; Found : in out Outstanding_Entry_Array; Count : out Natural; Code : out Status);
+
+   --  Likewise, in words, why the desk refuses a line. Count is 0 if it would accept the line.
+
+   procedure Explain
+     (Self : in out Desk; Line : String; Text : in out String; Count : out Natural; Code : out Status);
 
    --  Closes a desk, and gives its memory back. It may be opened again.
 
@@ -121,6 +225,31 @@ private
 
    function Raw_Alarms (Self : in out Handle; To : System.Address; Room : size_t; Count : in out size_t) return Status
      with Import, Convention => C, External_Name => "rbc_alarms";
+
+   function Raw_Trains
+     (Self : in out Handle; To : System.Address; Room : size_t; Count : in out size_t) return Status
+     with Import, Convention => C, External_Name => "rbc_trains";
+
+   function Raw_Stops
+     (Self : in out Handle; To : System.Address; Room : size_t; Count : in out size_t) return Status
+     with Import, Convention => C, External_Name => "rbc_stops";
+
+   function Raw_Restrictions
+     (Self : in out Handle; To : System.Address; Room : size_t; Count : in out size_t) return Status
+     with Import, Convention => C, External_Name => "rbc_restrictions";
+
+   function Raw_Outstanding
+     (Self : in out Handle; To : System.Address; Room : size_t; Count : in out size_t) return Status
+     with Import, Convention => C, External_Name => "rbc_outstanding";
+
+   function Raw_Explain
+     (Self : in out Handle; Line : System.Address; Length : size_t; To : System.Address; Room : size_t;
+      Count : in out size_t) return Status
+     with Import, Convention => C, External_Name => "rbc_explain_line";
+
+   function Raw_Check
+     (Track : System.Address; Length : size_t; To : System.Address; Room : size_t; Result : in out Report) return Status
+     with Import, Convention => C, External_Name => "rbc_check";
 
    function Raw_Close (Self : in out Handle) return Status
      with Import, Convention => C, External_Name => "rbc_close";

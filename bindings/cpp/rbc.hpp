@@ -7,7 +7,7 @@
    - A desk can be moved, not copied. One that was moved from is closed: each call on it throws rbc::fault with
      RBC_NOT_NOW.
 
-   rbc.h has the rules for threads, and says what each field means. live.cpp is a whole program. */
+   rbc.h has the rules for threads, and says what each field means. live.cpp and desk.cpp are whole programs. */
 #ifndef RBC_HPP
 #define RBC_HPP
 #include "rbc.h"
@@ -40,6 +40,44 @@ inline void done(std::uint32_t code) {
         throw std::bad_alloc();
     if (code != RBC_DONE)
         throw fault(code);
+}
+
+/* What a call gives, with more room until there is room for all. */
+template <class List, class Call> List all_of(Call call) {
+    List found;
+    for (std::size_t count;;) {
+        done(call(found.data(), found.size(), &count));
+        bool is_all = count <= found.size();
+        found.resize(count);
+        if (is_all)
+            return found;
+    }
+}
+
+inline const std::uint8_t *bytes(std::string_view text) noexcept {
+    return reinterpret_cast<const std::uint8_t *>(text.data());
+}
+inline std::uint8_t *bytes(char *text) noexcept { return reinterpret_cast<std::uint8_t *>(text); }
+
+/* The number of the rules, as `dispatch --version` tells it. */
+inline std::uint32_t rules() noexcept { return rbc_rules(); }
+
+/* What came of the check of a track, with the report of `dispatch check`. */
+struct report {
+    std::uint32_t refused; /* 0: it is a track */
+    std::size_t warnings;
+    std::string text;
+};
+
+/* Checks the text of a track. */
+inline report check(std::string_view track) {
+    rbc_report found;
+    std::string text = all_of<std::string>([&](char *out, std::size_t room, std::size_t *count) {
+        std::uint32_t code = rbc_check(bytes(track), track.size(), bytes(out), room, &found);
+        *count = code == RBC_DONE ? found.count : 0;
+        return code;
+    });
+    return report{found.refused, found.warnings, std::move(text)};
 }
 
 /* What a line led to: why it was refused, or its messages in the order in which they are sent. */
@@ -86,21 +124,33 @@ public:
     }
 
     /* The alarms that stand: engines ascending, those of one train by kind and number. */
-    std::vector<rbc_alarm> alarms() {
-        std::vector<rbc_alarm> found;
-        for (std::size_t count;;) {
-            done(rbc_alarms(&raw_, found.data(), found.size(), &count));
-            bool is_all = count <= found.size();
-            found.resize(count);
-            if (is_all)
-                return found;
-        }
+    std::vector<rbc_alarm> alarms() { return list(rbc_alarms); }
+
+    /* The trains that are enrolled: engines ascending. */
+    std::vector<rbc_train> trains() { return list(rbc_trains); }
+
+    /* The segments of the active stops: numbers ascending, those of one stop as they were given. */
+    std::vector<rbc_stop_segment> stops() { return list(rbc_stops); }
+
+    /* The active restrictions: numbers ascending. */
+    std::vector<rbc_restriction> restrictions() { return list(rbc_restrictions); }
+
+    /* What waits for an answer or an acknowledgement: engines ascending; of one train its stop identifiers first. */
+    std::vector<rbc_outstanding_entry> outstanding() { return list(rbc_outstanding); }
+
+    /* Why the desk refuses a line, in words. Empty if it would accept the line. */
+    std::string explain(std::string_view line) {
+        return all_of<std::string>([&](char *out, std::size_t room, std::size_t *count) {
+            return rbc_explain_line(&raw_, bytes(line), line.size(), bytes(out), room, count);
+        });
     }
 
 private:
     static rbc_desk closed() noexcept { return RBC_NONE; }
-    static const std::uint8_t *bytes(std::string_view text) noexcept {
-        return reinterpret_cast<const std::uint8_t *>(text.data());
+
+    template <class T> std::vector<T> list(std::uint32_t (*call)(rbc_desk *, T *, std::size_t, std::size_t *)) {
+        return all_of<std::vector<T>>(
+            [&](T *out, std::size_t room, std::size_t *count) { return call(&raw_, out, room, count); });
     }
 
     rbc_desk raw_ = RBC_NONE;

@@ -2,8 +2,8 @@
 //! codec is in [`codec`].
 //!
 //! A [`Fault`] changes nothing: the desk goes on after it, and the line may be fed again. A refused line is no fault.
-//! Nothing is allocated behind a line that was taken. `rbc.h` says what each field means; `examples/live.rs` is a whole
-//! program.
+//! Nothing is allocated behind a line that was taken. `rbc.h` says what each field means; `examples/live.rs` and
+//! `examples/desk.rs` are whole programs.
 
 pub mod codec;
 
@@ -79,6 +79,111 @@ impl AlarmKind {
     pub const ANSWER: AlarmKind = AlarmKind(3);
 }
 
+/// How a train faces, or which trains a restriction is for: `RBC_DOWN` and the others of `rbc.h`.
+#[repr(transparent)]
+#[derive(Clone, Copy, Debug, Default, PartialEq, Eq)]
+pub struct Way(pub u32);
+
+impl Way {
+    pub const DOWN: Way = Way(0);
+    pub const UP: Way = Way(1);
+    pub const BOTH: Way = Way(2);
+}
+
+/// A train that is enrolled.
+#[repr(C)]
+#[derive(Clone, Copy, Debug, Default, PartialEq, Eq)]
+pub struct Train {
+    pub engine: u32,
+    pub length: u32,
+    pub stamp: u32,
+    /// 1 if its place is known. If it is 0, so are the next four.
+    pub placed: u32,
+    pub line: u32,
+    pub from: u32,
+    pub to: u32,
+    pub facing: Way,
+    /// How many of its stop identifiers are held.
+    pub stops: u32,
+    /// How many of its restriction identifiers are held.
+    pub restrictions: u32,
+}
+
+/// One segment of an active stop.
+#[repr(C)]
+#[derive(Clone, Copy, Debug, Default, PartialEq, Eq)]
+pub struct StopSegment {
+    pub number: u32,
+    pub line: u32,
+    pub from: u32,
+    pub to: u32,
+}
+
+/// An active restriction.
+#[repr(C)]
+#[derive(Clone, Copy, Debug, Default, PartialEq, Eq)]
+pub struct Restriction {
+    pub number: u32,
+    pub line: u32,
+    pub from: u32,
+    pub to: u32,
+    pub ways: Way,
+    /// In km/h.
+    pub speed: u32,
+    /// Q_FRONT.
+    pub front: u32,
+}
+
+/// An identifier whose message waits for an answer or an acknowledgement.
+#[repr(C)]
+#[derive(Clone, Copy, Debug, Default, PartialEq, Eq)]
+pub struct Outstanding {
+    pub engine: u32,
+    pub kind: Waits,
+    /// The number of the stop or the restriction; 0 if the identifier is being revoked.
+    pub number: u32,
+    pub identifier: u32,
+    pub stamp: u32,
+}
+
+/// `RBC_WAITS_CONDITIONAL_STOP` and the others of `rbc.h`.
+#[repr(transparent)]
+#[derive(Clone, Copy, Debug, Default, PartialEq, Eq)]
+pub struct Waits(pub u32);
+
+impl Waits {
+    pub const CONDITIONAL_STOP: Waits = Waits(0);
+    pub const UNCONDITIONAL_STOP: Waits = Waits(1);
+    pub const RESTRICTION: Waits = Waits(2);
+    pub const REVOCATION_OF_STOP: Waits = Waits(3);
+    pub const REVOCATION_OF_RESTRICTION: Waits = Waits(4);
+}
+
+#[repr(C)]
+#[derive(Clone, Copy, Default)]
+struct RawReport {
+    refused: u32,
+    warnings: usize,
+    count: usize,
+}
+
+/// What came of the check of a track.
+#[derive(Clone, Debug, PartialEq, Eq)]
+pub struct Report {
+    /// 0 if it is a track. Else the rule that its text breaks first, a number of `rbc.h`.
+    pub refused: u32,
+    pub warnings: usize,
+    /// The report of `dispatch check`.
+    pub text: String,
+}
+
+// The library is linked by these sizes.
+const _: () = assert!(std::mem::size_of::<Train>() == 40);
+const _: () = assert!(std::mem::size_of::<StopSegment>() == 16);
+const _: () = assert!(std::mem::size_of::<Restriction>() == 28);
+const _: () = assert!(std::mem::size_of::<Outstanding>() == 20);
+const _: () = assert!(std::mem::size_of::<RawReport>() == 24);
+
 extern "C" {
     fn rbc_open(desk: *mut RawDesk, track: *const u8, length: usize) -> u32;
     fn rbc_feed(
@@ -90,6 +195,20 @@ extern "C" {
         answer: *mut RawAnswer,
     ) -> u32;
     fn rbc_alarms(desk: *mut RawDesk, out: *mut Alarm, room: usize, count: *mut usize) -> u32;
+    fn rbc_trains(desk: *mut RawDesk, out: *mut Train, room: usize, count: *mut usize) -> u32;
+    fn rbc_stops(desk: *mut RawDesk, out: *mut StopSegment, room: usize, count: *mut usize) -> u32;
+    fn rbc_restrictions(desk: *mut RawDesk, out: *mut Restriction, room: usize, count: *mut usize) -> u32;
+    fn rbc_outstanding(desk: *mut RawDesk, out: *mut Outstanding, room: usize, count: *mut usize) -> u32;
+    fn rbc_explain_line(
+        desk: *mut RawDesk,
+        line: *const u8,
+        length: usize,
+        out: *mut u8,
+        room: usize,
+        count: *mut usize,
+    ) -> u32;
+    fn rbc_check(track: *const u8, length: usize, out: *mut u8, room: usize, report: *mut RawReport) -> u32;
+    fn rbc_rules() -> u32;
     fn rbc_close(desk: *mut RawDesk) -> u32;
 }
 
@@ -129,6 +248,43 @@ fn make_room<T: Copy>(out: &mut Vec<T>, count: usize, empty: T) -> Result<(), Fa
     out.try_reserve_exact(count.saturating_sub(out.len()))?;
     out.resize(count, empty);
     Ok(())
+}
+
+/// The list that a call gives. The call gets room and its size, and says how long the list is. The room grows until it
+/// is enough.
+fn list<T: Copy>(empty: T, mut call: impl FnMut(*mut T, usize, &mut usize) -> u32) -> Result<Vec<T>, Fault> {
+    let mut found = Vec::new();
+    loop {
+        let mut count = 0;
+        done(call(found.as_mut_ptr(), found.len(), &mut count))?;
+        if count <= found.len() {
+            found.truncate(count);
+            return Ok(found);
+        }
+        make_room(&mut found, count, empty)?;
+    }
+}
+
+fn text(bytes: Vec<u8>) -> String {
+    String::from_utf8_lossy(&bytes).into_owned()
+}
+
+/// The number of the rules, as `dispatch --version` tells it.
+pub fn rules() -> u32 {
+    // SAFETY: it takes nothing.
+    unsafe { rbc_rules() }
+}
+
+/// Checks the text of a track, as `dispatch check` does.
+pub fn check(track: &str) -> Result<Report, Fault> {
+    let mut report = RawReport::default();
+    let bytes = list(0, |out, room, count| {
+        // SAFETY: each pointer goes with its length or its room.
+        let code = unsafe { rbc_check(track.as_ptr(), track.len(), out, room, &mut report) };
+        *count = report.count;
+        code
+    })?;
+    Ok(Report { refused: report.refused, warnings: report.warnings, text: text(bytes) })
 }
 
 /// What a line led to.
@@ -176,17 +332,41 @@ impl Desk {
 
     /// The alarms that stand, in order.
     pub fn alarms(&mut self) -> Result<Vec<Alarm>, Fault> {
-        let mut found = Vec::new();
-        loop {
-            let mut count = 0;
-            // SAFETY: the handle is this desk's alone, and the pointer goes with its room.
-            done(unsafe { rbc_alarms(&mut self.raw, found.as_mut_ptr(), found.len(), &mut count) })?;
-            if count <= found.len() {
-                found.truncate(count);
-                return Ok(found);
-            }
-            make_room(&mut found, count, Alarm::EMPTY)?;
-        }
+        // SAFETY: the handle is this desk's alone, and the pointer goes with its room.
+        list(Alarm::EMPTY, |out, room, count| unsafe { rbc_alarms(&mut self.raw, out, room, count) })
+    }
+
+    /// The trains that are enrolled: engines ascending.
+    pub fn trains(&mut self) -> Result<Vec<Train>, Fault> {
+        // SAFETY: as above.
+        list(Train::default(), |out, room, count| unsafe { rbc_trains(&mut self.raw, out, room, count) })
+    }
+
+    /// The segments of the active stops: numbers ascending, those of one stop as they were given.
+    pub fn stops(&mut self) -> Result<Vec<StopSegment>, Fault> {
+        // SAFETY: as above.
+        list(StopSegment::default(), |out, room, count| unsafe { rbc_stops(&mut self.raw, out, room, count) })
+    }
+
+    /// The active restrictions: numbers ascending.
+    pub fn restrictions(&mut self) -> Result<Vec<Restriction>, Fault> {
+        // SAFETY: as above.
+        list(Restriction::default(), |out, room, count| unsafe { rbc_restrictions(&mut self.raw, out, room, count) })
+    }
+
+    /// What waits for an answer or an acknowledgement: engines ascending; of one train its stop identifiers first.
+    pub fn outstanding(&mut self) -> Result<Vec<Outstanding>, Fault> {
+        // SAFETY: as above.
+        list(Outstanding::default(), |out, room, count| unsafe { rbc_outstanding(&mut self.raw, out, room, count) })
+    }
+
+    /// Why the desk refuses a line, in words. Empty if it would accept the line.
+    pub fn explain(&mut self, line: &[u8]) -> Result<String, Fault> {
+        let bytes = list(0, |out, room, count| {
+            // SAFETY: as above, and the line is as long as it says.
+            unsafe { rbc_explain_line(&mut self.raw, line.as_ptr(), line.len(), out, room, count) }
+        })?;
+        Ok(text(bytes))
     }
 }
 
