@@ -1,6 +1,6 @@
 -- How a task ends that a `?` leaves.
-use Rattle.std.proofs.Common.{◌≡◌, Result, Ok, Err}
-use Rattle.std.specs.Result.{IsErrAnd}
+use Rattle.std.proofs.Common.{◌≡◌, ap, Result, Ok, Err}
+use Rattle.std.specs.Result.{IsErrAnd, result_unwrap_or}
 use Rattle.rbc_dispatch.specs.declared.no_task.NoTask.{NoTask}
 use Rattle.rbc_dispatch.specs.declared.no_task.NoTask.TheVariants as words
 use Rattle.rbc_dispatch.specs.Ending.{AtTask, ending_of}
@@ -20,3 +20,11 @@ pub at_memory : {E : Type 0} (r : Result E Ending) (P : Result E Fault → Type 
     → P (Err OutOfMemory) → AtTask P r
 at_memory (Ok done) P no_task same memory holds = absurd same
 at_memory (Err ending) P no_task same memory holds = rw same (rw memory holds)
+
+-- a task that is had is the one that it is said to be
+pub task_is : {A E : Type 0} (x y : A) → ◌≡◌ {A = Result A E} (Ok x) (Ok y) → x ≡ y
+task_is x y same = ap (λ r. result_unwrap_or r x) same
+
+-- no task is had where there is one
+pub no_task_is : {A E P : Type 0} (e : E) (y : A) → ◌≡◌ {A = Result A E} (Err e) (Ok y) → P
+no_task_is e y same = absurd cc

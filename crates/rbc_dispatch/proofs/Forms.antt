@@ -19,8 +19,8 @@ use Rattle.clap.specs.declared.builder.value_parser.ValueParser.TheVariants as v
 use Rattle.clap.proofs.OnLiterals.{clap_on_literals}
 use Rattle.clap.proofs.ValueTestLemmas.{Accepts-accepts}
 use Rattle.clap.proofs.WalkLemmas.{byte_read}
-use Rattle.rbc_dispatch.specs.Forms.{AfterAllByDefault, AlarmsOfLive, AlarmsOfRun, AsManyAsNamed, BeginAtOneByDefault, FromOneByDefault, NoFiguresByDefault, NotByTrainByDefault, OneByDefault, WritesByte}
-use Rattle.rbc_dispatch.specs.Words.{AsksToDraw, AsksToExplain, AsksToLive, AsksToRun, alarms_rule, by_train_rule, check_shape, codes_shape, command_line, count_or_one, decode_shape, explain_shape, finding_in, flag_after, found_after, is_set, live_shape, picture_shape, stats_rule, track_rule, word_after, workers_rule}
+use Rattle.rbc_dispatch.specs.Forms.{AfterAllByDefault, AlarmsOfLive, AlarmsOfRun, AsManyAsNamed, BeginAtOneByDefault, FromOneByDefault, LongIfAsked, NoFiguresByDefault, NotByTrainByDefault, OneByDefault, OneLineByDefault, WritesByte}
+use Rattle.rbc_dispatch.specs.Words.{AsksToDecode, AsksToDraw, AsksToExplain, AsksToLive, AsksToRun, alarms_rule, by_train_rule, check_shape, codes_shape, command_line, count_or_one, decode_shape, explain_shape, finding_in, flag_after, found_after, is_set, live_shape, picture_shape, stats_rule, track_rule, word_after, workers_rule}
 
 no_hyphen : (c : ℕ) → c ≢ 45 → (c == 45) ≡ false
 no_hyphen c plain = ne_eqb c 45 plain
@@ -242,6 +242,29 @@ begin_at_one_by_default (c ∷ rest) plain = explain_alone c rest (no_hyphen c p
 pub after_all_by_default : AfterAllByDefault
 after_all_by_default [] plain = absurd plain
 after_all_by_default (c ∷ rest) plain = picture_alone c rest (no_hyphen c plain)
+
+-- ---- a message
+
+module _ (c : ℕ) (rest : Text) (plain : (c == 45) ≡ false) where
+  decode_alone : AsksToDecode (c ∷ rest) false (codes "decode" ∷ (c ∷ rest) ∷ [])
+  unfolding clap_on_literals
+  decode_alone = (simp plain, simp plain, simp plain)
+
+  long_first : AsksToDecode (c ∷ rest) true (codes "decode" ∷ codes "--long" ∷ (c ∷ rest) ∷ [])
+  unfolding clap_on_literals
+  long_first = (simp plain, simp plain, simp plain)
+
+  long_last : AsksToDecode (c ∷ rest) true (codes "decode" ∷ (c ∷ rest) ∷ codes "--long" ∷ [])
+  unfolding clap_on_literals
+  long_last = (simp plain, simp plain, simp plain)
+
+pub one_line_by_default : OneLineByDefault
+one_line_by_default [] plain = absurd plain
+one_line_by_default (c ∷ rest) plain = decode_alone c rest (no_hyphen c plain)
+
+pub long_if_asked : LongIfAsked
+long_if_asked [] plain = absurd plain
+long_if_asked (c ∷ rest) plain = (long_first c rest (no_hyphen c plain), (long_last c rest (no_hyphen c plain), tt))
 
 -- the walk with the last option's value still pending
 abbrev ends_at : Rule → Text → Text → Text → Walk

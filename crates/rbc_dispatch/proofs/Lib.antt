@@ -1,6 +1,12 @@
 mod Added
+mod Columns
 mod Findings
 mod Forms
+mod LongText
+mod PageWords
+mod PartOn
+mod Rows
+mod Sending
 mod WitnessWords
 mod Ends
 mod Quiet

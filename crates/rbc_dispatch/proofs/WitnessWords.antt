@@ -1,10 +1,12 @@
 -- What clap finds in the words of the worked cases.
-use Rattle.std.proofs.Common.{refl, ◌≡◌, ℕ, Bool, true, false, [], ◌∷◌, Some, codes}
+use Rattle.std.proofs.Common.{refl, ◌≡◌, ℕ, Bool, true, false, [], ◌∷◌, Option, None, Some, codes}
 use Rattle.clap.specs.Kinds.{Kinds}
 use Rattle.clap.specs.declared.error.kind.ErrorKind.{ErrorKind}
 use Rattle.clap.specs.declared.error.kind.ErrorKind.TheVariants as kind
 use Rattle.clap.proofs.OnLiterals.{clap_on_literals}
-use Rattle.rbc_dispatch.specs.Witnesses.{AskByFlag, AskByTrain, AskFor, AskForAlarms, AskForNone, AskFrom, AskFromNone, AskFromWithAlarms, AskToDraw, AskToDrawNone, AskToExplain, AskToExplainNone}
+use Rattle.rbc_dispatch.specs.declared.pages.Topic.{Topic}
+use Rattle.rbc_dispatch.specs.declared.pages.Topic.TheVariants.{Batch, Track}
+use Rattle.rbc_dispatch.specs.Witnesses.{AskByFlag, AskByTrain, AskFor, AskForAlarms, AskForNone, AskFrom, AskFromNone, AskFromWithAlarms, AskForCode, AskForNoCode, AskForPage, AskToDraw, AskToDrawNone, AskToExplain, AskToExplainNone}
 
 pub one : AskFor 1 []
 unfolding clap_on_literals
@@ -143,3 +145,53 @@ drawn_at_first = (refl, refl, refl)
 pub drawn_too_late : AskToDrawNone (codes "--after" ∷ codes "4294967296" ∷ [])
 unfolding clap_on_literals
 drawn_too_late after asked = faulty _ kind.ValueValidation refl asked.0
+
+pub all_codes : AskForCode None []
+unfolding clap_on_literals
+all_codes = (refl, refl, refl)
+
+pub code_twelve : AskForCode (Some 12) (codes "12" ∷ [])
+unfolding clap_on_literals
+code_twelve = (refl, refl, refl)
+
+-- one code is not another
+other_code : (found : Option ℕ) (a b : ℕ) → found ≡ Some a → (a ≡ b → ⊥) → found ≡ Some b → ⊥
+other_code (Some x) a b is apart same = apart (some_here (rw (← is) same))
+  where
+    some_here : {m n : ℕ} → Some m ≡ Some n → m ≡ n
+    some_here e = cc
+other_code None a b is apart same = cc
+
+pub another_code : AskForCode (Some 13) (codes "12" ∷ []) → ⊥
+unfolding clap_on_literals
+another_code asked = other_code _ 12 13 refl (λ e. cc) asked.2
+
+pub code_zero : AskForNoCode (codes "0" ∷ [])
+unfolding clap_on_literals
+code_zero code asked = faulty _ kind.ValueValidation refl asked.0
+
+pub code_seventeen : AskForNoCode (codes "17" ∷ [])
+unfolding clap_on_literals
+code_seventeen code asked = faulty _ kind.ValueValidation refl asked.0
+
+pub batch_page : AskForPage (Some Batch) (codes "help" ∷ codes "batch" ∷ [])
+batch_page = (refl, refl)
+
+pub track_page : AskForPage (Some Track) (codes "help" ∷ codes "track" ∷ [])
+track_page = (refl, refl)
+
+-- so do words with two faults
+both_faulty : (found : Kinds) (fault other : ErrorKind) → found ≡ fault ∷ other ∷ [] → found ≡ [] → ⊥
+both_faulty [] fault other is none = cc
+both_faulty (k ∷ more) fault other is none = cc
+
+pub help_of_run : AskForPage None (codes "help" ∷ codes "run" ∷ []) → ⊥
+unfolding clap_on_literals
+help_of_run asked = both_faulty _ kind.DisplayHelp kind.InvalidSubcommand refl asked.1
+
+-- no page is some page
+no_page : (topic : Topic) → None ≡ Some topic → ⊥
+no_page topic e = cc
+
+pub page_and_more : AskForPage (Some Batch) (codes "help" ∷ codes "batch" ∷ codes "batch" ∷ []) → ⊥
+page_and_more asked = no_page Batch asked.0

@@ -4,19 +4,21 @@ use Rattle.std.specs.Io.KnownBytes.{Appends}
 use Rattle.hex.specs.Hex.{decode_of}
 use Rattle.ertms_codec.specs.Texts.{HasText, IsRefused}
 use Rattle.ertms_codec.specs.declared.error.DecodeError.{DecodeError}
+use Rattle.rbc_dispatch.specs.Long.{long_text}
 use Rattle.rbc_dispatch.specs.declared.fault.Fault.{Fault}
-use Rattle.rbc_dispatch.specs.declared.fault.Fault.TheVariants.{Batch, OnlyInputs, Live, BadHex, Decode, Write, OutOfMemory, Track, TrackUnreadable, TrackWarnings}
+use Rattle.rbc_dispatch.specs.declared.fault.Fault.TheVariants.{Batch, OnlyInputs, Live, BadHex, Decode, Write, ReaderGone, OutOfMemory, Track, TrackUnreadable, TrackWarnings}
 
 -- the word stands for bytes with this text
 abbrev pub SpellsText : List ℕ → List ℕ → Type 0
 SpellsText word text = (bytes : List ℕ) × (decode_of word ≡ Ok bytes) × HasText bytes text
 
--- At Ok the output holds the text of the word's bytes more, and nothing else; at a write fault exactly
--- the first bytes of that text. A bad word is no hexadecimal text of whole bytes, and bytes are refused
+-- At Ok the output holds the text of the word's bytes more, and nothing else; at a write fault, or where the reader
+-- went away, exactly the first bytes of that text. A bad word is no hexadecimal text of whole bytes, and bytes are refused
 -- only by the codec.
 abbrev pub Decodes : {E : Type 0} → List ℕ → Option (List ℕ) → Option (List ℕ) → Result E Fault → Type 0
 Decodes word old new (Ok done) = (text : List ℕ) × SpellsText word text × Appends old new text
 Decodes word old new (Err (Write sent)) = (text : List ℕ) × SpellsText word text × (sent ≤ length text) × Appends old new (take sent text)
+Decodes word old new (Err (ReaderGone sent)) = (text : List ℕ) × SpellsText word text × (sent ≤ length text) × Appends old new (take sent text)
 Decodes word old new (Err BadHex) = IsErr (decode_of word)
 Decodes word old new (Err (Decode e)) = (bytes : List ℕ) × (decode_of word ≡ Ok bytes) × IsRefused bytes e
 Decodes word old new (Err OutOfMemory) = ⊤
@@ -27,6 +29,17 @@ Decodes word old new (Err (Track e)) = ⊥
 Decodes word old new (Err TrackUnreadable) = ⊥
 Decodes word old new (Err (TrackWarnings count)) = ⊥
 
+-- the word stands for bytes that are a message, and this is that message in lines
+abbrev pub SpellsLongText : List ℕ → List ℕ → Type 0
+SpellsLongText word text = (bytes : List ℕ) × (decode_of word ≡ Ok bytes) × ((line : List ℕ) × HasText bytes line) × (text ≡ long_text bytes)
+
+-- The same with a line for each variable. What is refused is refused as for one line.
+abbrev pub DecodesLong : {E : Type 0} → List ℕ → Option (List ℕ) → Option (List ℕ) → Result E Fault → Type 0
+DecodesLong word old new (Ok done) = (text : List ℕ) × SpellsLongText word text × Appends old new text
+DecodesLong word old new (Err (Write sent)) = (text : List ℕ) × SpellsLongText word text × (sent ≤ length text) × Appends old new (take sent text)
+DecodesLong word old new (Err (ReaderGone sent)) = (text : List ℕ) × SpellsLongText word text × (sent ≤ length text) × Appends old new (take sent text)
+DecodesLong {E = E} word old new (Err fault) = Decodes {E = E} word old new (Err fault)
+
 -- refused bytes are answered by their refusal, unless memory runs out
 abbrev pub MeetsRefusal : {E : Type 0} → DecodeError → Result E Fault → Type 0
 MeetsRefusal e r = IsErrAnd r (λ fault. (fault ≡ Decode e) ⊎ (fault ≡ OutOfMemory))
@@ -35,6 +48,7 @@ MeetsRefusal e r = IsErrAnd r (λ fault. (fault ≡ Decode e) ⊎ (fault ≡ Out
 abbrev pub IsUntouched : {E W : Type 0} → Result E Fault → W → W → Type 0
 IsUntouched (Ok done) old new = ⊤
 IsUntouched (Err (Write sent)) old new = ⊤
+IsUntouched (Err (ReaderGone sent)) old new = ⊤
 IsUntouched (Err BadHex) old new = new ≡ old
 IsUntouched (Err (Decode e)) old new = new ≡ old
 IsUntouched (Err OutOfMemory) old new = new ≡ old

@@ -1,5 +1,5 @@
 -- How the program ends where its task was not done.
-use Rattle.std.specs.Prelude.{ℕ, List, [], ◌∷◌, ◌++◌, Option, Result, Ok, Err}
+use Rattle.std.specs.Prelude.{◌≢◌, ℕ, List, [], ◌∷◌, ◌++◌, Option, Result, Ok, Err}
 use Rattle.std.specs.Io.KnownBytes.{Appends}
 use Rattle.clap.specs.Words.{kind_of}
 use Rattle.rbc_dispatch.specs.NoTask.{status_of_kind}
@@ -9,22 +9,36 @@ use Rattle.rbc_dispatch.specs.Fault.{line_of}
 use Rattle.rbc_dispatch.specs.declared.ending.Ending.{Ending}
 use Rattle.rbc_dispatch.specs.declared.ending.Ending.TheVariants.{Words, Fault}
 use Rattle.rbc_dispatch.specs.declared.fault.Fault.{Fault as AnyFault}
-use Rattle.rbc_dispatch.specs.declared.fault.Fault.TheVariants.{OutOfMemory}
+use Rattle.rbc_dispatch.specs.declared.fault.Fault.TheVariants.{OutOfMemory, ReaderGone}
+
+-- the exit status of a fault: that a reader of a text for people went away is none
+abbrev pub status_of_fault : AnyFault → ℕ
+status_of_fault (ReaderGone sent) = 0
+status_of_fault _ = 1
 
 -- the exit status of an ending
 abbrev pub status_of : Ending → ℕ
 status_of (Words error) = status_of_kind (kind_of error)
-status_of (Fault fault) = 1
+status_of (Fault fault) = status_of_fault fault
 
 -- the ending where the words ask for no task: want of memory is a fault
 abbrev pub ending_of : NoTask → Ending
 ending_of (no_task.Words error) = Words error
 ending_of no_task.OutOfMemory = Fault OutOfMemory
 
--- a fault adds its line, with a line feed, to what the stream held
+-- a fault adds its line, with a line feed, to what the stream held; a reader that went away is told nothing
+abbrev pub PrintsLine : AnyFault → Option (List ℕ) → Option (List ℕ) → Type 0
+PrintsLine (ReaderGone sent) old new = Unit {0}
+PrintsLine fault old new = Appends old new (line_of fault ++ 10 ∷ [])
+
 abbrev pub PrintsFault : Ending → Option (List ℕ) → Option (List ℕ) → Type 0
 PrintsFault (Words error) old new = Unit {0}
-PrintsFault (Fault fault) old new = Appends old new (line_of fault ++ 10 ∷ [])
+PrintsFault (Fault fault) old new = PrintsLine fault old new
+
+-- the ending is no help, which is printed on standard output
+abbrev pub IsNoHelp : Ending → Type 0
+IsNoHelp (Words error) = status_of_kind (kind_of error) ≢ 0
+IsNoHelp (Fault fault) = Unit {0}
 
 -- the words are taken, and the task ends as the fact says
 abbrev pub AtTask : {E : Type 0} → (Result E AnyFault → Type 0) → Result E Ending → Type 0

@@ -15,7 +15,7 @@ use Rattle.rbc_live.specs.Answers as prompt
 use Rattle.rbc_track.specs.Plan.{name_of as name_of_track}
 use Rattle.rbc_words.specs.Units.{count_text}
 use Rattle.rbc_dispatch.specs.declared.fault.Fault.{Fault}
-use Rattle.rbc_dispatch.specs.declared.fault.Fault.TheVariants.{Batch, OnlyInputs, Live, BadHex, Decode, Write, OutOfMemory, Track, TrackUnreadable, TrackWarnings}
+use Rattle.rbc_dispatch.specs.declared.fault.Fault.TheVariants.{Batch, OnlyInputs, Live, BadHex, Decode, Write, ReaderGone, OutOfMemory, Track, TrackUnreadable, TrackWarnings}
 
 -- the line of a fault, without its line feed
 abbrev pub line_of : Fault → List ℕ
@@ -25,6 +25,7 @@ line_of (Live error) = prompt.fault_text error
 line_of BadHex = codes "bad hex"
 line_of (Decode error) = codes "decode: " ++ name_of error
 line_of (Write sent) = codes "write fault after " ++ decimal sent ++ codes " bytes"
+line_of (ReaderGone sent) = codes "reader gone after " ++ decimal sent ++ codes " bytes"
 line_of OutOfMemory = codes "out of memory"
 line_of (Track error) = codes "track: " ++ name_of_track error
 line_of TrackUnreadable = codes "track: unreadable"
@@ -45,6 +46,11 @@ fault_of_hex _ = BadHex
 abbrev pub fault_of_describing : DescribeError → Fault
 fault_of_describing (describing.Decode error) = Decode error
 fault_of_describing describing.OutOfMemory = OutOfMemory
+
+-- the fault by what writing a text for people answers, behind its first bytes: where its reader went away, that is told apart
+abbrev pub fault_of_writing : ErrorKind → ℕ → Fault
+fault_of_writing reading.BrokenPipe sent = ReaderGone sent
+fault_of_writing _ sent = Write sent
 
 -- the fault by what reading the track file answers
 abbrev pub fault_of_reading : ErrorKind → Fault

@@ -2,7 +2,7 @@
 use Rattle.std.specs.Prelude.{◌≡◌, ◌⊎◌, ⊤, ℕ, List, ◌++◌, codes, false, true}
 use Rattle.std.specs.Fmt.{decimal}
 use Rattle.rbc_dispatch.specs.declared.words.Task.{Task}
-use Rattle.rbc_dispatch.specs.declared.words.Task.TheVariants.{Run, Live, Explain, Picture, Check, Decode, Codes}
+use Rattle.rbc_dispatch.specs.declared.words.Task.TheVariants.{Run, Live, Explain, Picture, Check, Decode, Codes, Page}
 use Rattle.rbc_dispatch.specs.declared.figures.Figures.{Figures}
 
 -- the lines on the workers, without the last line feed
@@ -15,12 +15,13 @@ report_of figures =
     ++ codes "\nshared by train: " ++ decimal figures.shared ++ codes " messages in " ++ decimal figures.windows ++ codes " windows\nin order: " ++ decimal figures.in_order
     ++ codes "\nworkers: " ++ decimal figures.workers
 
--- the task is none that reports on standard error
+-- the task is none that reports figures on standard error
 abbrev pub IsQuiet : Task → Type 0
 IsQuiet (Run track workers by_train stats alarms) = (stats ≡ false) ⊎ (alarms ≡ true)
 IsQuiet (Live track from alarms) = ⊤
 IsQuiet (Explain track from) = ⊤
 IsQuiet (Picture track after) = ⊤
 IsQuiet (Check track other) = ⊤
-IsQuiet (Decode hex) = ⊤
-IsQuiet Codes = ⊤
+IsQuiet (Decode hex long) = ⊤
+IsQuiet (Codes code) = ⊤
+IsQuiet (Page topic) = ⊤

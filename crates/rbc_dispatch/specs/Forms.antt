@@ -3,7 +3,7 @@ use Rattle.std.specs.Prelude.{◌≡◌, ◌≢◌, ◌<◌, ℕ, true, false, L
 use Rattle.std.specs.List.{AllByRecursion}
 use Rattle.std.specs.Str.Parse.{IsNumeral, digits_value}
 use Rattle.clap.specs.Walk.{Text}
-use Rattle.rbc_dispatch.specs.Words.{AsksToDraw, AsksToExplain, AsksToLive, AsksToRun, finding_in, flag_after}
+use Rattle.rbc_dispatch.specs.Words.{AsksToDecode, AsksToDraw, AsksToExplain, AsksToLive, AsksToRun, finding_in, flag_after}
 
 -- the word has a first byte, which is no hyphen
 abbrev pub IsPlain : Text → Type 0
@@ -63,3 +63,12 @@ AlarmsOfRun = (file : Text) → IsPlain file → AllByRecursion (AsksToRun file 
 -- `live` with `--alarms` asks for the answers with their alarms
 abbrev pub AlarmsOfLive : Type 0
 AlarmsOfLive = (file : Text) → IsPlain file → AllByRecursion (AsksToLive file (record { from = 1; alarms = true })) (alarmed_forms_of (codes "live") file)
+
+-- without `--long` the text of a message is one line
+abbrev pub OneLineByDefault : Type 0
+OneLineByDefault = (word : Text) → IsPlain word → AsksToDecode word false (codes "decode" ∷ word ∷ [])
+
+-- with `--long`, before the message or behind it, it has a line for each variable
+abbrev pub LongIfAsked : Type 0
+LongIfAsked = (word : Text) → IsPlain word
+    → AllByRecursion (AsksToDecode word true) ((codes "decode" ∷ codes "--long" ∷ word ∷ []) ∷ (codes "decode" ∷ word ∷ codes "--long" ∷ []) ∷ [])

@@ -8,7 +8,7 @@ use Rattle.rbc_track.specs.Reading.{IsTrackOf, RefusesTrack}
 use Rattle.rbc_track.specs.declared.error.TrackError.{TrackError}
 use Rattle.rbc_track.specs.declared.error.TrackError.TheVariants as track
 use Rattle.rbc_dispatch.specs.declared.fault.Fault.{Fault}
-use Rattle.rbc_dispatch.specs.declared.fault.Fault.TheVariants.{Batch, OnlyInputs, Live, BadHex, Decode, Write, OutOfMemory, Track, TrackUnreadable, TrackWarnings}
+use Rattle.rbc_dispatch.specs.declared.fault.Fault.TheVariants.{Batch, OnlyInputs, Live, BadHex, Decode, Write, ReaderGone, OutOfMemory, Track, TrackUnreadable, TrackWarnings}
 
 -- the batch is answered by so many workers, with its alarms or without; nothing is told of the counts of a run
 abbrev pub AnswersBatch : Plan → ℕ → Bool → Option (List ℕ) → Option (List ℕ) → Option (List ℕ) → Option (List ℕ) → Result (Unit {0}) ProcessError → Type 0
@@ -38,6 +38,7 @@ RunsOn text workers alarms read_old read_new old new (Err OutOfMemory) = ⊥
 RunsOn text workers alarms read_old read_new old new (Err BadHex) = ⊥
 RunsOn text workers alarms read_old read_new old new (Err (Decode e)) = ⊥
 RunsOn text workers alarms read_old read_new old new (Err (Write sent)) = ⊥
+RunsOn text workers alarms read_old read_new old new (Err (ReaderGone sent)) = ⊥
 
 -- the file could not be read, or memory ran out over it
 abbrev pub IsUnread : Fault → Type 0
@@ -64,3 +65,4 @@ Keeps (Err OutOfMemory) read_old read_new old new = (read_new ≡ read_old) × (
 Keeps (Err BadHex) read_old read_new old new = (read_new ≡ read_old) × (new ≡ old)
 Keeps (Err (Decode e)) read_old read_new old new = (read_new ≡ read_old) × (new ≡ old)
 Keeps (Err (Write sent)) read_old read_new old new = ⊤
+Keeps (Err (ReaderGone sent)) read_old read_new old new = ⊤

@@ -7,7 +7,7 @@ use Rattle.rbc_explain.specs.Log.{IsLogOfRun}
 use Rattle.rbc_picture.specs.Drawn.{IsPictureOfRun}
 use Rattle.rbc_dispatch.specs.Running.{IsErrUnread}
 use Rattle.rbc_dispatch.specs.declared.fault.Fault.{Fault}
-use Rattle.rbc_dispatch.specs.declared.fault.Fault.TheVariants.{Batch, OnlyInputs, Live, BadHex, Decode, Write, OutOfMemory, Track, TrackUnreadable, TrackWarnings}
+use Rattle.rbc_dispatch.specs.declared.fault.Fault.TheVariants.{Batch, OnlyInputs, Live, BadHex, Decode, Write, ReaderGone, OutOfMemory, Track, TrackUnreadable, TrackWarnings}
 
 -- what is to hold of a text that shows a run, by the text of the track and what the reader had left before and has left after
 abbrev pub Showing : Type 1
@@ -22,11 +22,13 @@ abbrev pub IsPictureAfter : Option ℕ → List ℕ → Option (List ℕ) → Op
 IsPictureAfter after text old new drawn = IsPictureOfRun text after old new drawn
 
 -- What comes of a run that is shown, on the track that a text is to be. At Ok what shows it has been written, and nothing else; at a write
--- fault exactly its first bytes. `Missing count` says that a batch of so many inputs lacks the one that is asked for.
+-- fault, or where the reader went away, exactly its first bytes. `Missing count` says that a batch of so many inputs lacks the one that is asked for.
 abbrev pub ShowsOn : {E : Type 0} → (ℕ → Type 0) → Showing → List ℕ → Option (List ℕ) → Option (List ℕ) → Option (List ℕ) → Option (List ℕ) → Result E Fault → Type 0
 ShowsOn Missing IsShown text read_old read_new old new (Ok done) =
     (shown : List ℕ) × Tells {T = List ℕ} Missing text read_old read_new (Ok shown) × IsShown text read_old read_new shown × Appends old new shown
 ShowsOn Missing IsShown text read_old read_new old new (Err (Write sent)) =
+    (shown : List ℕ) × Tells {T = List ℕ} Missing text read_old read_new (Ok shown) × IsShown text read_old read_new shown × (sent ≤ length shown) × Appends old new (take sent shown)
+ShowsOn Missing IsShown text read_old read_new old new (Err (ReaderGone sent)) =
     (shown : List ℕ) × Tells {T = List ℕ} Missing text read_old read_new (Ok shown) × IsShown text read_old read_new shown × (sent ≤ length shown) × Appends old new (take sent shown)
 ShowsOn Missing IsShown text read_old read_new old new (Err (Track error)) = Tells {T = List ℕ} Missing text read_old read_new (Err (telling.Track error))
 ShowsOn Missing IsShown text read_old read_new old new (Err (Batch error)) = Tells {T = List ℕ} Missing text read_old read_new (Err (telling.Batch error))

@@ -3,7 +3,9 @@ use Rattle.std.specs.Prelude.{◌≡◌, ℕ, Bool, true, false, List, [], Optio
 use Rattle.clap.specs.Walk.{Text}
 use Rattle.clap.specs.Words.{fault_of}
 use Rattle.rbc_live.specs.declared.wanted.Wanted.{Wanted}
-use Rattle.rbc_dispatch.specs.Words.{AsksToDraw, AsksToExplain, AsksToLive, AsksToRun, command_line, finding_in, flag_after}
+use Rattle.rbc_dispatch.specs.Pages.{topic_in}
+use Rattle.rbc_dispatch.specs.declared.pages.Topic.{Topic}
+use Rattle.rbc_dispatch.specs.Words.{AsksForCodes, AsksToDraw, AsksToExplain, AsksToLive, AsksToRun, command_line, fault_in, finding_in, flag_after}
 
 -- the words that name the track, and more words
 abbrev pub run_with : List Text → List Text
@@ -56,6 +58,18 @@ AskToExplainNone more = (from : ℕ) → AskToExplain from more → ⊥
 -- the same behind `picture`: they ask for the picture after so many inputs
 abbrev pub AskToDraw : Option ℕ → List Text → Type 0
 AskToDraw after more = AsksToDraw (codes "t") after (codes "picture" ∷ codes "--track" ∷ codes "t" ∷ more)
+
+-- the same behind `codes`: they ask what this code means
+abbrev pub AskForCode : Option ℕ → List Text → Type 0
+AskForCode code more = AsksForCodes code (codes "codes" ∷ more)
+
+-- they ask for no codes
+abbrev pub AskForNoCode : List Text → Type 0
+AskForNoCode more = (code : Option ℕ) → AskForCode code more → ⊥
+
+-- words without a fault ask for the page on this topic
+abbrev pub AskForPage : Option Topic → List Text → Type 0
+AskForPage topic words = (topic_in words ≡ topic) × (fault_in words ≡ [])
 
 -- they ask for no picture, after any inputs
 abbrev pub AskToDrawNone : List Text → Type 0

@@ -1,5 +1,5 @@
 -- What the words ask for.
-use Rattle.std.specs.Prelude.{◌≡◌, ◌⊎◌, ℕ, Bool, List, [], ◌∷◌, Option, Some, None, Result, MatchResult, option_and_then, unwrap_or, if◌then◌else◌, ◌&&◌, nat_lt, length, pos, true, false, codes}
+use Rattle.std.specs.Prelude.{◌≡◌, ◌⊎◌, ℕ, Bool, List, [], ◌∷◌, Option, Some, None, Result, MatchResult, option_and_then, unwrap_or, is_some, if◌then◌else◌, ◌&&◌, nat_lt, length, pos, true, false, codes}
 use Rattle.std.specs.Option.{option_map_or}
 use Rattle.std.specs.List.{list_all}
 use Rattle.std.specs.Char.{digit_value}
@@ -11,10 +11,13 @@ use Rattle.clap.specs.Words.{fault_of}
 use Rattle.clap.specs.declared.builder.action.ArgAction.TheVariants.{SetTrue}
 use Rattle.clap.specs.declared.builder.value_parser.ValueParser.TheVariants as vp
 use Rattle.rbc_live.specs.declared.wanted.Wanted.{Wanted}
+use Rattle.clap.specs.Kinds.{Kinds}
+use Rattle.rbc_dispatch.specs.Pages.{topic_in}
+use Rattle.rbc_dispatch.specs.declared.pages.Topic.{Topic}
 use Rattle.rbc_dispatch.specs.declared.no_task.NoTask.{NoTask}
 use Rattle.rbc_dispatch.specs.declared.no_task.NoTask.TheVariants.{OutOfMemory}
 use Rattle.rbc_dispatch.specs.declared.words.Task.{Task}
-use Rattle.rbc_dispatch.specs.declared.words.Task.TheVariants.{Run, Live, Explain, Picture, Check, Decode, Codes}
+use Rattle.rbc_dispatch.specs.declared.words.Task.TheVariants.{Run, Live, Explain, Picture, Check, Decode, Codes, Page}
 
 -- the option that names the track file
 abbrev pub track_rule : Rule
@@ -90,13 +93,25 @@ other_keys_rule = record (new_rule (codes "other-keys")) { long = Some (codes "o
 abbrev pub check_shape : Shape
 check_shape = (with_rule (with_rule (new_app (codes "check")) track_rule) other_keys_rule).top
 
--- `codes`, alone
-abbrev pub codes_shape : Shape
-codes_shape = (new_app (codes "codes")).top
+-- the word that names one code: a number from 1 to 16
+abbrev pub code_rule : Rule
+code_rule = record (new_rule (codes "CODE")) { parser = Some (vp.Signed (pos 1) (pos 16)) }
 
--- `decode`, with one word after it
+-- `codes`, with its word
+abbrev pub codes_shape : Shape
+codes_shape = (with_rule (new_app (codes "codes")) code_rule).top
+
+-- the word that is a message
+abbrev pub hex_rule : Rule
+hex_rule = record (new_rule (codes "HEX")) { required = true }
+
+-- the flag that writes a line for each variable
+abbrev pub long_rule : Rule
+long_rule = record (new_rule (codes "long")) { long = Some (codes "long"); action = Some SetTrue }
+
+-- `decode`, with its word and its flag
 abbrev pub decode_shape : Shape
-decode_shape = (with_rule (new_app (codes "decode")) (record (new_rule (codes "HEX")) { required = true })).top
+decode_shape = (with_rule (with_rule (new_app (codes "decode")) hex_rule) long_rule).top
 
 -- the command line without its subcommands, from the word after its name
 abbrev pub bare_line : App
@@ -131,6 +146,11 @@ abbrev pub found_after : Text → Finding → Option (List Row)
 found_after name None = None
 found_after name (Some p) = if bytes_eq p.0 name then Some p.1 else None
 
+-- the subcommand of this name was named
+abbrev pub is_named : Text → Finding → Bool
+is_named name None = false
+is_named name (Some p) = bytes_eq p.0 name
+
 -- the word that an argument was given after the subcommand of this name
 abbrev pub word_after : Text → Text → Finding → Option Text
 word_after name id found = option_and_then (first_of id) (found_after name found)
@@ -157,7 +177,7 @@ number_in text =
     if nat_lt 0 (length digits) && list_all (λ digit. nat_lt (digit_value digit) 10) digits && nat_lt (digits_value 10 digits) 4294967296
     then Some (digits_value 10 digits) else None
 
--- the number of an input that an argument was given after the subcommand of this name, if it was given one
+-- the number of an input, or the code, that an argument was given after the subcommand of this name, if it was given one
 abbrev pub input_after : Text → Text → Finding → Option ℕ
 input_after name id found = option_and_then number_in (option_and_then (one_of id) (found_after name found))
 
@@ -206,9 +226,27 @@ AsksToDraw file after words = (fault_of command_line words ≡ [])
     × (word_after (codes "picture") (codes "track") (finding_in words) ≡ Some file)
     × (input_after (codes "picture") (codes "after") (finding_in words) ≡ after)
 
--- words without a fault that ask for the text of the message that this word stands for
-abbrev pub AsksToDecode : Text → List Text → Type 0
-AsksToDecode word words = (fault_of command_line words ≡ []) × (word_after (codes "decode") (codes "HEX") (finding_in words) ≡ Some word)
+-- words without a fault that ask for the text of the message that this word stands for, with a line for each variable or in one line
+abbrev pub AsksToDecode : Text → Bool → List Text → Type 0
+AsksToDecode word long words = (fault_of command_line words ≡ [])
+    × (word_after (codes "decode") (codes "HEX") (finding_in words) ≡ Some word)
+    × (is_set (flag_after (codes "decode") (codes "long") (finding_in words)) ≡ long)
+
+-- words without a fault that ask what codes mean: this code alone, or all of them
+abbrev pub AsksForCodes : Option ℕ → List Text → Type 0
+AsksForCodes code words = (fault_of command_line words ≡ [])
+    × (is_named (codes "codes") (finding_in words) ≡ true)
+    × (input_after (codes "codes") (codes "CODE") (finding_in words) ≡ code)
+
+-- What is wrong with words: nothing with those that ask for a page of help, and else what clap says of them.
+abbrev pub fault_in : List Text → Kinds
+fault_in words = if is_some (topic_in words) then [] else fault_of command_line words
+
+-- the words name none of `run`, `live` and `explain`
+abbrev pub AsksForNoBatch : List Text → Type 0
+AsksForNoBatch words = (word_after (codes "run") (codes "track") (finding_in words) ≡ None)
+    × (word_after (codes "live") (codes "track") (finding_in words) ≡ None)
+    × (word_after (codes "explain") (codes "track") (finding_in words) ≡ None)
 
 -- words without a fault that ask for the report on the track in the file of this name
 abbrev pub AsksToCheck : Text → List Text → Type 0
@@ -238,32 +276,45 @@ IsFound found (Picture track after) = (word_after (codes "picture") (codes "trac
     × (input_after (codes "picture") (codes "after") found ≡ after)
 IsFound found (Check track other) = IsNeither found × (word_after (codes "check") (codes "track") found ≡ Some track.now)
     × IsFlag (flag_after (codes "check") (codes "other-keys") found) other
-IsFound found Codes = IsNeither found × (word_after (codes "check") (codes "track") found ≡ None)
-IsFound found (Decode hex) = word_after (codes "decode") (codes "HEX") found ≡ Some hex.now
+IsFound found (Codes code) = (is_named (codes "codes") found ≡ true)
+    × (input_after (codes "codes") (codes "CODE") found ≡ code)
+IsFound found (Decode hex long) = (word_after (codes "decode") (codes "HEX") found ≡ Some hex.now)
+    × (is_set (flag_after (codes "decode") (codes "long") found) ≡ long)
+IsFound found (Page topic) = ⊥
+
+-- the task is the page that the words ask for, or else what was found in them
+abbrev pub IsTaskBy : Option Topic → Finding → Task → Type 0
+IsTaskBy (Some topic) found task = task ≡ Page topic
+IsTaskBy None found task = IsFound found task
+
+abbrev pub IsTaskOf : List Text → Task → Type 0
+IsTaskOf words task = IsTaskBy (topic_in words) (finding_in words) task
 
 -- no word was found for any task
 abbrev pub IsNoTask : Finding → Type 0
-IsNoTask found = IsNeither found × (word_after (codes "check") (codes "track") found ≡ None)
+IsNoTask found = IsNeither found × (word_after (codes "check") (codes "track") found ≡ None) × (is_named (codes "codes") found ≡ false)
 
 -- the task is the batch, on the track in the file of this name, with so many workers, and with its alarms or without
 abbrev pub IsRunOn : Text → ℕ → Bool → Task → Type 0
 IsRunOn file workers alarms (Run track number by_train stats are_asked) = (track.now ≡ file) × (number ≡ workers) × (are_asked ≡ alarms)
 IsRunOn file workers alarms (Live track from are_asked) = ⊥
 IsRunOn file workers alarms (Check track other) = ⊥
-IsRunOn file workers alarms (Decode hex) = ⊥
+IsRunOn file workers alarms (Decode hex long) = ⊥
 IsRunOn file workers alarms (Explain track first) = ⊥
 IsRunOn file workers alarms (Picture track after) = ⊥
-IsRunOn file workers alarms Codes = ⊥
+IsRunOn file workers alarms (Codes code) = ⊥
+IsRunOn file workers alarms (Page topic) = ⊥
 
 -- the task is lines as they come, on the track in the file of this name: from which number on, and with alarms or without
 abbrev pub IsLiveOn : Text → Wanted → Task → Type 0
 IsLiveOn file wanted (Live track first are_asked) = (track.now ≡ file) × (first ≡ wanted.from) × (are_asked ≡ wanted.alarms)
 IsLiveOn file wanted (Run track number by_train stats alarms) = ⊥
 IsLiveOn file wanted (Check track other) = ⊥
-IsLiveOn file wanted (Decode hex) = ⊥
+IsLiveOn file wanted (Decode hex long) = ⊥
 IsLiveOn file wanted (Explain track first) = ⊥
 IsLiveOn file wanted (Picture track after) = ⊥
-IsLiveOn file wanted Codes = ⊥
+IsLiveOn file wanted (Codes code) = ⊥
+IsLiveOn file wanted (Page topic) = ⊥
 
 -- the task is the log of the batch, on the track in the file of this name, from this input on
 abbrev pub IsExplainOn : Text → ℕ → Task → Type 0
@@ -272,8 +323,9 @@ IsExplainOn file from (Run track number by_train stats alarms) = ⊥
 IsExplainOn file from (Live track first alarms) = ⊥
 IsExplainOn file from (Picture track after) = ⊥
 IsExplainOn file from (Check track other) = ⊥
-IsExplainOn file from (Decode hex) = ⊥
-IsExplainOn file from Codes = ⊥
+IsExplainOn file from (Decode hex long) = ⊥
+IsExplainOn file from (Codes code) = ⊥
+IsExplainOn file from (Page topic) = ⊥
 
 -- the task is the picture of the track in the file of this name, after so many inputs of the batch, or after all
 abbrev pub IsPictureOn : Text → Option ℕ → Task → Type 0
@@ -282,28 +334,42 @@ IsPictureOn file after (Run track number by_train stats alarms) = ⊥
 IsPictureOn file after (Live track from alarms) = ⊥
 IsPictureOn file after (Explain track from) = ⊥
 IsPictureOn file after (Check track other) = ⊥
-IsPictureOn file after (Decode hex) = ⊥
-IsPictureOn file after Codes = ⊥
+IsPictureOn file after (Decode hex long) = ⊥
+IsPictureOn file after (Codes code) = ⊥
+IsPictureOn file after (Page topic) = ⊥
 
--- the task is the text of the message that this word stands for
-abbrev pub IsDecode : Text → Task → Type 0
-IsDecode word (Run track number by_train stats alarms) = ⊥
-IsDecode word (Live track from alarms) = ⊥
-IsDecode word (Check track other) = ⊥
-IsDecode word (Explain track first) = ⊥
-IsDecode word (Picture track after) = ⊥
-IsDecode word Codes = ⊥
-IsDecode word (Decode hex) = hex.now ≡ word
+-- the task is the text of the message that this word stands for, with a line for each variable or in one line
+abbrev pub IsDecode : Text → Bool → Task → Type 0
+IsDecode word long (Run track number by_train stats alarms) = ⊥
+IsDecode word long (Live track from alarms) = ⊥
+IsDecode word long (Check track other) = ⊥
+IsDecode word long (Explain track first) = ⊥
+IsDecode word long (Picture track after) = ⊥
+IsDecode word long (Codes code) = ⊥
+IsDecode word long (Page topic) = ⊥
+IsDecode word long (Decode hex by_variable) = (hex.now ≡ word) × (by_variable ≡ long)
+
+-- the task is what codes mean: this code alone, or all of them
+abbrev pub IsCodesOf : Option ℕ → Task → Type 0
+IsCodesOf code (Codes named) = named ≡ code
+IsCodesOf code (Run track number by_train stats alarms) = ⊥
+IsCodesOf code (Live track from alarms) = ⊥
+IsCodesOf code (Check track other) = ⊥
+IsCodesOf code (Decode hex long) = ⊥
+IsCodesOf code (Explain track first) = ⊥
+IsCodesOf code (Picture track after) = ⊥
+IsCodesOf code (Page topic) = ⊥
 
 -- the task is the report on the track in the file of this name
 abbrev pub IsCheckOf : Text → Task → Type 0
 IsCheckOf file (Check track other) = track.now ≡ file
 IsCheckOf file (Run track number by_train stats alarms) = ⊥
 IsCheckOf file (Live track from alarms) = ⊥
-IsCheckOf file (Decode hex) = ⊥
+IsCheckOf file (Decode hex long) = ⊥
 IsCheckOf file (Explain track first) = ⊥
 IsCheckOf file (Picture track after) = ⊥
-IsCheckOf file Codes = ⊥
+IsCheckOf file (Codes code) = ⊥
+IsCheckOf file (Page topic) = ⊥
 
 -- the words are taken for a task, unless memory runs out
 abbrev pub IsTakenFor : (Task → Type 0) → Result Task NoTask → Type 0

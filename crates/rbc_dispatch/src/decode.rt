@@ -4,11 +4,12 @@ ghost use Rattle.std.specs.Prelude.{◌≡◌, ℕ, List};
 ghost use Rattle.hex.specs.Hex.{decode_of};
 ghost use Rattle.ertms_codec.specs.Texts.{IsRefused};
 ghost use Rattle.ertms_codec.specs.declared.error.DecodeError.{DecodeError};
-ghost use Rattle.rbc_dispatch.specs.Decoding.{Decodes, IsUntouched, MeetsRefusal};
+ghost use Rattle.rbc_dispatch.specs.Decoding.{Decodes, DecodesLong, IsUntouched, MeetsRefusal};
 
 use crate::fault::Fault;
+use crate::long::long_text;
+use crate::show::show;
 use ertms_codec::describe;
-use rbc_batch::write_text;
 use std::alloc::Global;
 use std::io::Write;
 
@@ -16,7 +17,7 @@ use std::io::Write;
 ///
 /// # Errors
 ///
-/// As [`Fault`] has them, but no `Batch`. Nothing was written before a `Write`.
+/// `BadHex`, `Decode` or `OutOfMemory`, with nothing written, or that the text was cut short.
 pub fn decode<O: Write>(alloc: Global, word: &str, output: &mut O) -> Result<(), Fault>
     ensures decodes { Decodes word.now (O.contents output.old) (O.contents output.new) result }
     ensures refused { (bytes : List ℕ) (e : DecodeError) → decode_of word.now ≡ Ok bytes
@@ -25,5 +26,22 @@ pub fn decode<O: Write>(alloc: Global, word: &str, output: &mut O) -> Result<(),
 {
     let bytes = hex::decode(alloc, word)?;
     let text = describe(alloc, &bytes)?;
-    write_text(output, &text).map_err(|sent| Fault::Write { sent })
+    show(output, &text)
+}
+
+/// Writes the same message in lines, one for each variable. Refuses what `decode` refuses.
+///
+/// # Errors
+///
+/// As those of `decode`.
+pub fn decode_long<O: Write>(alloc: Global, word: &str, output: &mut O) -> Result<(), Fault>
+    ensures decodes { DecodesLong word.now (O.contents output.old) (O.contents output.new) result }
+    ensures refused { (bytes : List ℕ) (e : DecodeError) → decode_of word.now ≡ Ok bytes
+        → IsRefused bytes e → MeetsRefusal e result }
+    ensures untouched { IsUntouched result output.old output.new }
+{
+    let bytes = hex::decode(alloc, word)?;
+    let _ = describe(alloc, &bytes)?;
+    let text = long_text(alloc, &bytes)?;
+    show(output, text.as_bytes())
 }

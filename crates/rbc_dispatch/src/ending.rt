@@ -5,7 +5,7 @@ use std::io;
 use std::io::Write;
 use std::process::ExitCode;
 
-/// Why the program ends with its task not done.
+/// Why the program ends with its task not done, or not all of its text written.
 #[derive(Drop)]
 pub enum Ending {
     /// The words ask for help, or are no words of the program's.
@@ -15,32 +15,35 @@ pub enum Ending {
 }
 
 impl Ending {
-    ghost use Rattle.std.specs.Prelude.{◌≡◌, ◌≢◌, OnOk};
+    ghost use Rattle.std.specs.Prelude.{◌≡◌, OnOk};
     ghost use Rattle.std.specs.Process.{exit_status};
-    ghost use Rattle.rbc_dispatch.specs.Ending.{PrintsFault, status_of};
+    ghost use Rattle.rbc_dispatch.specs.Ending.{IsNoHelp, PrintsFault, status_of};
 
-    /// The exit status: 0 for help and the version, 2 for bad arguments and 1 for a fault.
+    /// The exit status: 0 for help and the version, and where the reader went away; 2 for bad arguments; 1 for any
+    /// other fault.
     pub fn exit_code(&self) -> ExitCode
         ensures { exit_status result ≡ status_of self.now }
     {
         match self {
             Ending::Words(error) if !error.use_stderr() => ExitCode::SUCCESS,
             Ending::Words(_) => ExitCode::from(2),
+            Ending::Fault(Fault::ReaderGone { .. }) => ExitCode::SUCCESS,
             Ending::Fault(_) => ExitCode::FAILURE,
         }
     }
 
-    /// Prints help on `output`, and on `errors` the text on bad arguments or the line of the fault.
-    /// An error may leave a part of it printed.
+    /// Prints help on `output`, and on `errors` the text on bad arguments or the line of the fault. Where the reader
+    /// went away, prints nothing. An error may leave a part of it printed.
     pub fn print<O: Write, E: Write>(&self, output: &mut O, errors: &mut E) -> io::Result<()>
         ensures line { OnOk result
             (PrintsFault self.now (E.contents errors.old) (E.contents errors.new)) }
-        ensures output { status_of self.now ≢ 0 → output.new ≡ output.old }
+        ensures output { IsNoHelp self.now → output.new ≡ output.old }
         ensures errors { status_of self.now ≡ 0 → errors.new ≡ errors.old }
     {
         match self {
             Ending::Words(error) if !error.use_stderr() => write!(output, "{error}"),
             Ending::Words(error) => write!(errors, "{error}"),
+            Ending::Fault(Fault::ReaderGone { .. }) => Ok(()),
             Ending::Fault(fault) => writeln!(errors, "{fault}"),
         }
     }

@@ -30,6 +30,9 @@ pub enum Fault {
     Decode(DecodeError),
     /// Standard output took no more than the first `sent` bytes of the text.
     Write { sent: usize },
+    /// The reader of standard output went away after the first `sent` bytes of a text that is written for people. The
+    /// program then ends quietly.
+    ReaderGone { sent: usize },
     /// Memory ran out before anything was written.
     OutOfMemory,
 }
@@ -63,6 +66,7 @@ impl fmt::Display for Fault {
             Fault::BadHex => write!(f, "bad hex"),
             Fault::Decode(error) => write!(f, "decode: {error}"),
             Fault::Write { sent } => write!(f, "write fault after {sent} bytes"),
+            Fault::ReaderGone { sent } => write!(f, "reader gone after {sent} bytes"),
             Fault::OutOfMemory => write!(f, "out of memory"),
         }
     }
@@ -71,7 +75,7 @@ impl fmt::Display for Fault {
 impl Fault {
     ghost use Rattle.std.specs.Prelude.{◌≡◌};
     ghost use Rattle.std.specs.IoError.{error_kind};
-    ghost use Rattle.rbc_dispatch.specs.Fault.{fault_of_reading};
+    ghost use Rattle.rbc_dispatch.specs.Fault.{fault_of_reading, fault_of_writing};
 
     /// The fault that an error of reading the track file is.
     pub fn of_reading(error: &io::Error) -> Fault
@@ -80,6 +84,16 @@ impl Fault {
         match error.kind() {
             io::ErrorKind::OutOfMemory => Fault::OutOfMemory,
             _ => Fault::TrackUnreadable,
+        }
+    }
+
+    /// The fault that an error of writing a text for people is, behind its first `sent` bytes.
+    pub fn of_writing(error: &io::Error, sent: usize) -> Fault
+        ensures { result ≡ fault_of_writing (error_kind error.now) sent }
+    {
+        match error.kind() {
+            io::ErrorKind::BrokenPipe => Fault::ReaderGone { sent },
+            _ => Fault::Write { sent },
         }
     }
 }

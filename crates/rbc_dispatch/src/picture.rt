@@ -5,7 +5,7 @@ ghost use Rattle.rbc_dispatch.specs.Running.{Keeps};
 ghost use Rattle.rbc_dispatch.specs.Showing.{IsPictureAfter, ShowsOn};
 
 use crate::fault::Fault;
-use rbc_batch::write_text;
+use crate::show::show;
 use rbc_picture::picture;
 use std::alloc::Global;
 use std::io::{Read, Write};
@@ -15,7 +15,8 @@ use std::io::{Read, Write};
 ///
 /// # Errors
 ///
-/// `Track`, with nothing read or written; `Batch` or `OnlyInputs`, with nothing written; or `Write`.
+/// `Track`, with nothing read or written; `Batch` or `OnlyInputs`, with nothing written; or that the picture was cut
+/// short.
 pub fn picture_text<I: Read, O: Write>(
     alloc: Global,
     text: &str,
@@ -28,5 +29,5 @@ pub fn picture_text<I: Read, O: Write>(
     ensures keeps { Keeps result input.old input.new output.old output.new }
 {
     let drawing = picture(alloc, text, input, after)?;
-    write_text(output, drawing.as_bytes()).map_err(|sent| Fault::Write { sent })
+    show(output, drawing.as_bytes())
 }

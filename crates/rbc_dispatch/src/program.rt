@@ -1,32 +1,38 @@
 //! The program, over any streams.
 ghost use Rattle.std.specs.Prelude.{◌≡◌, ◌≢◌, ◌≤◌, ℕ, Bool, List, Option, [], IfErr, OnOk, false, map};
-ghost use Rattle.std.specs.Prelude.{string_bytes, true};
+ghost use Rattle.std.specs.Prelude.{Some, string_bytes, true};
 ghost use Rattle.std.specs.Process.{exit_status};
-ghost use Rattle.clap.specs.Words.{fault_of};
 ghost use Rattle.rbc_explain.specs.AccountTelling.{TooFewFor, TooLate};
 ghost use Rattle.rbc_live.specs.declared.wanted.Wanted.{Wanted as WantedAnswers};
 ghost use Rattle.rbc_dispatch.specs.Checking.{Checks, IsUnreported};
-ghost use Rattle.rbc_dispatch.specs.Decoding.{Decodes, IsUntouched};
+ghost use Rattle.rbc_dispatch.specs.Decoding.{Decodes, DecodesLong, IsUntouched};
 ghost use Rattle.rbc_dispatch.specs.Ending.{AtTask, status_of};
 ghost use Rattle.rbc_dispatch.specs.Figures.{IsQuiet};
 ghost use Rattle.rbc_dispatch.specs.Living.{Lives};
 ghost use Rattle.rbc_dispatch.specs.Running.{IsUnread, Keeps, Runs, RunsOn};
 ghost use Rattle.rbc_dispatch.specs.Showing.{IsLogFrom, IsPictureAfter, Shows};
-ghost use Rattle.rbc_dispatch.specs.Words.{AsksToCheck, AsksToDecode, AsksToDraw, AsksToExplain, AsksToLive};
-ghost use Rattle.rbc_dispatch.specs.Words.{AsksForNoFigures, AsksToRun, IsCheckOf, IsDecode, IsExplainOn, IsLiveOn};
-ghost use Rattle.rbc_dispatch.specs.Words.{IsPictureOn, IsRunOn, command_line};
+ghost use Rattle.rbc_dispatch.specs.Pages.{topic_in};
+ghost use Rattle.rbc_dispatch.specs.Telling.{TellsCodes, TellsPage};
+ghost use Rattle.rbc_dispatch.specs.Terminal.{IsSilent, SaysOnly};
+ghost use Rattle.rbc_dispatch.specs.Words.{AsksForCodes, AsksForNoBatch, AsksForNoFigures, AsksToCheck};
+ghost use Rattle.rbc_dispatch.specs.Words.{AsksToDecode, AsksToDraw, AsksToExplain, AsksToLive, AsksToRun};
+ghost use Rattle.rbc_dispatch.specs.Words.{IsCheckOf, IsCodesOf, IsDecode, IsExplainOn, IsLiveOn, IsPictureOn};
+ghost use Rattle.rbc_dispatch.specs.Words.{IsRunOn, fault_in};
 
 use crate::attempts::Attempts;
 use crate::check::check_text;
 use crate::codes::write_codes;
-use crate::decode::decode;
+use crate::decode::{decode, decode_long};
 use crate::ending::Ending;
 use crate::explain::explain_text;
 use crate::fault::Fault;
 use crate::figures::Figures;
 use crate::live::live_text;
+use crate::pages::{BATCH_PAGE, TRACK_PAGE, Topic, page_on};
 use crate::picture::picture_text;
 use crate::report::write_report;
+use crate::show::show;
+use crate::terminal::{NOTICE, announce};
 use crate::words::Task;
 use rbc_batch::{
     OpenGate, PACE, Windows, process, process_by_train, process_with_alarms, process_with_desk,
@@ -42,9 +48,15 @@ use std::sync::Wait;
 use std::thread::Threads;
 use std::time::{Clock, Instant};
 
-/// Does what the arguments of the process ask for, and returns the exit status. `output` should have no
-/// buffer of its own, so that what a write fault counts is what went out.
-pub fn run<R, I, O, E>(rt: &R, input: &mut I, output: &mut O, errors: &mut E) -> ExitCode
+/// Does what the arguments of the process ask for, and returns the exit status. `at_terminal` says whether `input` is a
+/// terminal. `output` should have no buffer of its own, so that what a write fault counts is what went out.
+pub fn run<R, I, O, E>(
+    rt: &R,
+    at_terminal: bool,
+    input: &mut I,
+    output: &mut O,
+    errors: &mut E,
+) -> ExitCode
 where
     R: AllocGlobal + Clock + Env + Files + Threads + Wait + Sync,
     I: Read,
@@ -53,7 +65,7 @@ where
     ensures { exit_status result ≤ 2 }
 {
     let outcome = match crate::words::read(rt) {
-        Ok(words) => perform(rt, words.as_slice(), input, output, errors),
+        Ok(words) => perform(rt, words.as_slice(), at_terminal, input, output, errors),
         Err(no_task) => Err(Ending::from(no_task)),
     };
     conclude(outcome, output, errors)
@@ -78,10 +90,11 @@ where
 }
 
 /// Does the task that the arguments ask for. Arguments that are refused leave the streams untouched, and so does each
-/// task `errors`, but a run that is to report its figures there.
+/// task `errors`, but a run that is to report its figures there, and a notice at a terminal.
 fn perform<R, I, O, E>(
     rt: &R,
     words: &[String],
+    at_terminal: bool,
     input: &mut I,
     output: &mut O,
     errors: &mut E,
@@ -113,25 +126,39 @@ where
         (O.contents output.old) (O.contents output.new)) result }
     ensures not_drawn { (file : List ℕ) (after : Option ℕ) → AsksToDraw file after (map string_bytes words.now)
         → AtTask (λ r. Keeps r input.old input.new output.old output.new) result }
-    ensures decode { (word : List ℕ) → AsksToDecode word (map string_bytes words.now)
+    ensures decode { (word : List ℕ) → AsksToDecode word false (map string_bytes words.now)
         → AtTask (Decodes word (O.contents output.old) (O.contents output.new)) result }
-    ensures unread { (word : List ℕ) → AsksToDecode word (map string_bytes words.now)
+    ensures long { (word : List ℕ) → AsksToDecode word true (map string_bytes words.now)
+        → AtTask (DecodesLong word (O.contents output.old) (O.contents output.new)) result }
+    ensures unread { (word : List ℕ) (long : Bool) → AsksToDecode word long (map string_bytes words.now)
         → (input.new ≡ input.old) × AtTask (λ r. IsUntouched r output.old output.new) result }
+    ensures codes { (code : Option ℕ) → AsksForCodes code (map string_bytes words.now)
+        → (input.new ≡ input.old) × AtTask (TellsCodes code (O.contents output.old) (O.contents output.new)) result }
+    ensures batch_page { topic_in (map string_bytes words.now) ≡ Some Topic.Batch
+        → (input.new ≡ input.old) × AtTask (TellsPage BATCH_PAGE.now
+        (O.contents output.old) (O.contents output.new)) result }
+    ensures track_page { topic_in (map string_bytes words.now) ≡ Some Topic.Track
+        → (input.new ≡ input.old) × AtTask (TellsPage TRACK_PAGE.now
+        (O.contents output.old) (O.contents output.new)) result }
     ensures check { (file : List ℕ) → AsksToCheck file (map string_bytes words.now)
         → (input.new ≡ input.old) × AtTask Checks result }
-    ensures only { OnOk result (fault_of command_line (map string_bytes words.now) ≡ []) }
-    ensures refused { fault_of command_line (map string_bytes words.now) ≢ []
+    ensures only { OnOk result (fault_in (map string_bytes words.now) ≡ []) }
+    ensures refused { fault_in (map string_bytes words.now) ≢ []
         → (input.new ≡ input.old) × (output.new ≡ output.old) × (errors.new ≡ errors.old) }
-    ensures quiet { AsksForNoFigures (map string_bytes words.now) → errors.new ≡ errors.old }
+    ensures quiet { at_terminal ≡ false → AsksForNoFigures (map string_bytes words.now) → errors.new ≡ errors.old }
+    ensures silent { AsksForNoBatch (map string_bytes words.now) → errors.new ≡ errors.old }
+    ensures says { AsksForNoFigures (map string_bytes words.now)
+        → SaysOnly NOTICE.now (E.contents errors.old) (E.contents errors.new) }
 {
     let task = crate::words::parse(rt.alloc(), words)?;
-    Ok(carry_out(rt, task, input, output, errors)?)
+    Ok(carry_out(rt, task, at_terminal, input, output, errors)?)
 }
 
 /// Does a task.
 fn carry_out<R, I, O, E>(
     rt: &R,
     task: Task<'_>,
+    at_terminal: bool,
     input: &mut I,
     output: &mut O,
     errors: &mut E,
@@ -161,12 +188,22 @@ where
         (O.contents output.old) (O.contents output.new) result }
     ensures not_drawn { (file : List ℕ) (after : Option ℕ) → IsPictureOn file after task.entry
         → Keeps result input.old input.new output.old output.new }
-    ensures decode { (word : List ℕ) → IsDecode word task.entry
+    ensures decode { (word : List ℕ) → IsDecode word false task.entry
         → Decodes word (O.contents output.old) (O.contents output.new) result }
-    ensures unread { (word : List ℕ) → IsDecode word task.entry
+    ensures long { (word : List ℕ) → IsDecode word true task.entry
+        → DecodesLong word (O.contents output.old) (O.contents output.new) result }
+    ensures unread { (word : List ℕ) (long : Bool) → IsDecode word long task.entry
         → (input.new ≡ input.old) × IsUntouched result output.old output.new }
     ensures check { (file : List ℕ) → IsCheckOf file task.entry → (input.new ≡ input.old) × Checks result }
-    ensures quiet { IsQuiet task.entry → errors.new ≡ errors.old }
+    ensures codes { (code : Option ℕ) → IsCodesOf code task.entry
+        → (input.new ≡ input.old) × TellsCodes code (O.contents output.old) (O.contents output.new) result }
+    ensures batch_page { task.entry ≡ Task.Page Topic.Batch
+        → (input.new ≡ input.old) × TellsPage BATCH_PAGE.now (O.contents output.old) (O.contents output.new) result }
+    ensures track_page { task.entry ≡ Task.Page Topic.Track
+        → (input.new ≡ input.old) × TellsPage TRACK_PAGE.now (O.contents output.old) (O.contents output.new) result }
+    ensures quiet { at_terminal ≡ false → IsQuiet task.entry → errors.new ≡ errors.old }
+    ensures silent { IsSilent task.entry → errors.new ≡ errors.old }
+    ensures says { IsQuiet task.entry → SaysOnly NOTICE.now (E.contents errors.old) (E.contents errors.new) }
 {
     match task {
         Task::Run {
@@ -177,21 +214,48 @@ where
             alarms,
         } => {
             if alarms {
-                run_file_with_alarms(rt, track, workers, input, output)
+                run_file_with_alarms(rt, track, workers, at_terminal, input, output, errors)
             } else {
-                run_file(rt, track, workers, by_train, stats, input, output, errors)
+                run_file(
+                    rt,
+                    track,
+                    workers,
+                    by_train,
+                    stats,
+                    at_terminal,
+                    input,
+                    output,
+                    errors,
+                )
             }
         }
         Task::Live {
             track,
             from,
             alarms,
-        } => live_file(rt, track, Wanted { from, alarms }, input, output),
-        Task::Explain { track, from } => explain_file(rt, track, from, input, output),
+        } => live_file(
+            rt,
+            track,
+            Wanted { from, alarms },
+            at_terminal,
+            input,
+            output,
+            errors,
+        ),
+        Task::Explain { track, from } => {
+            explain_file(rt, track, from, at_terminal, input, output, errors)
+        }
         Task::Picture { track, after } => picture_file(rt, track, after, input, output),
         Task::Check { track, other_keys } => check_file(rt, track, other_keys, output),
-        Task::Decode(word) => decode(rt.alloc(), word, output),
-        Task::Codes => write_codes(rt.alloc(), output),
+        Task::Decode { word, long } => {
+            if long {
+                decode_long(rt.alloc(), word, output)
+            } else {
+                decode(rt.alloc(), word, output)
+            }
+        }
+        Task::Codes { code } => write_codes(rt.alloc(), code, output),
+        Task::Page(topic) => show(output, page_on(topic).as_bytes()),
     }
 }
 
@@ -209,23 +273,36 @@ where
 
 /// Runs a batch on the track in a file, and writes its alarms too. The track is known before anything of the batch is
 /// read.
-fn run_file_with_alarms<R, I, O>(
+fn run_file_with_alarms<R, I, O, E>(
     rt: &R,
     file: &str,
     workers: u8,
+    at_terminal: bool,
     input: &mut I,
     output: &mut O,
+    errors: &mut E,
 ) -> Result<(), Fault>
 where
     R: AllocGlobal + Files + Threads + Sync,
     I: Read,
     O: Write,
+    E: Write,
     ensures runs { Runs workers true (I.remaining input.old) (I.remaining input.new)
         (O.contents output.old) (O.contents output.new) result }
     ensures keeps { Keeps result input.old input.new output.old output.new }
+    ensures silent { at_terminal ≡ false → errors.new ≡ errors.old }
+    ensures says { SaysOnly NOTICE.now (E.contents errors.old) (E.contents errors.new) }
 {
     let text = track_text(rt, file)?;
-    run_with_alarms_on(rt, text.as_str(), workers, input, output)
+    run_with_alarms_on(
+        rt,
+        text.as_str(),
+        workers,
+        at_terminal,
+        input,
+        output,
+        errors,
+    )
 }
 
 /// Runs a batch on the track in a file, without alarms. The track is known before anything of the batch is read.
@@ -235,6 +312,7 @@ fn run_file<R, I, O, E>(
     workers: u8,
     by_train: bool,
     stats: bool,
+    at_terminal: bool,
     input: &mut I,
     output: &mut O,
     errors: &mut E,
@@ -247,7 +325,8 @@ where
     ensures runs { Runs workers false (I.remaining input.old) (I.remaining input.new)
         (O.contents output.old) (O.contents output.new) result }
     ensures keeps { Keeps result input.old input.new output.old output.new }
-    ensures quiet { stats ≡ false → errors.new ≡ errors.old }
+    ensures quiet { at_terminal ≡ false → stats ≡ false → errors.new ≡ errors.old }
+    ensures says { stats ≡ false → SaysOnly NOTICE.now (E.contents errors.old) (E.contents errors.new) }
 {
     let text = track_text(rt, file)?;
     run_on(
@@ -256,6 +335,7 @@ where
         workers,
         by_train,
         stats,
+        at_terminal,
         input,
         output,
         errors,
@@ -264,43 +344,69 @@ where
 
 /// Answers lines as they come, on the track in a file: `wanted` says from which number on, and whether with alarms. The
 /// track is known before anything is read.
-fn live_file<R, I, O>(
+fn live_file<R, I, O, E>(
     rt: &R,
     file: &str,
     wanted: Wanted,
+    at_terminal: bool,
     input: &mut I,
     output: &mut O,
+    errors: &mut E,
 ) -> Result<(), Fault>
 where
     R: AllocGlobal + Files,
     I: Read,
     O: Write,
+    E: Write,
     ensures lives { Lives wanted (I.remaining input.old) (I.remaining input.new)
         (O.contents output.old) (O.contents output.new) result }
     ensures keeps { Keeps result input.old input.new output.old output.new }
+    ensures silent { at_terminal ≡ false → errors.new ≡ errors.old }
+    ensures says { SaysOnly NOTICE.now (E.contents errors.old) (E.contents errors.new) }
 {
     let text = track_text(rt, file)?;
-    live_text(rt.alloc(), text.as_str(), wanted, input, output)
+    live_text(
+        rt.alloc(),
+        text.as_str(),
+        wanted,
+        at_terminal,
+        input,
+        output,
+        errors,
+    )
 }
 
 /// Tells a batch in words, from this input on, on the track in a file. The track is known before anything is read.
-fn explain_file<R, I, O>(
+fn explain_file<R, I, O, E>(
     rt: &R,
     file: &str,
     from: u32,
+    at_terminal: bool,
     input: &mut I,
     output: &mut O,
+    errors: &mut E,
 ) -> Result<(), Fault>
 where
     R: AllocGlobal + Files,
     I: Read,
     O: Write,
+    E: Write,
     ensures shows { Shows (TooLate from) (IsLogFrom from) (I.remaining input.old) (I.remaining input.new)
         (O.contents output.old) (O.contents output.new) result }
     ensures keeps { Keeps result input.old input.new output.old output.new }
+    ensures silent { at_terminal ≡ false → errors.new ≡ errors.old }
+    ensures says { SaysOnly NOTICE.now (E.contents errors.old) (E.contents errors.new) }
 {
     let text = track_text(rt, file)?;
-    explain_text(rt.alloc(), text.as_str(), from, input, output)
+    explain_text(
+        rt.alloc(),
+        text.as_str(),
+        from,
+        at_terminal,
+        input,
+        output,
+        errors,
+    )
 }
 
 /// Draws what stands after so many inputs of a batch, or after all, on the track in a file. The track is known before
@@ -336,22 +442,28 @@ fn track_text<R: AllocGlobal + Files>(rt: &R, file: &str) -> Result<String, Faul
 
 /// Runs a batch on the track that a text is, and writes its alarms too. The track is known before anything of the batch is
 /// read.
-fn run_with_alarms_on<R, I, O>(
+fn run_with_alarms_on<R, I, O, E>(
     rt: &R,
     text: &str,
     workers: u8,
+    at_terminal: bool,
     input: &mut I,
     output: &mut O,
+    errors: &mut E,
 ) -> Result<(), Fault>
 where
     R: AllocGlobal + Threads + Sync,
     I: Read,
     O: Write,
+    E: Write,
     ensures runs { RunsOn text.now workers true (I.remaining input.old) (I.remaining input.new)
         (O.contents output.old) (O.contents output.new) result }
     ensures keeps { Keeps result input.old input.new output.old output.new }
+    ensures silent { at_terminal ≡ false → errors.new ≡ errors.old }
+    ensures says { SaysOnly NOTICE.now (E.contents errors.old) (E.contents errors.new) }
 {
     let track = track_from_toml(rt.alloc(), text)?;
+    announce(at_terminal, errors);
     process_with_alarms(rt, &track, input, output, workers)?;
     Ok(())
 }
@@ -365,6 +477,7 @@ fn run_on<R, I, O, E>(
     workers: u8,
     by_train: bool,
     stats: bool,
+    at_terminal: bool,
     input: &mut I,
     output: &mut O,
     errors: &mut E,
@@ -377,13 +490,23 @@ where
     ensures runs { RunsOn text.now workers false (I.remaining input.old) (I.remaining input.new)
         (O.contents output.old) (O.contents output.new) result }
     ensures keeps { Keeps result input.old input.new output.old output.new }
-    ensures quiet { stats ≡ false → errors.new ≡ errors.old }
+    ensures quiet { at_terminal ≡ false → stats ≡ false → errors.new ≡ errors.old }
+    ensures says { stats ≡ false → SaysOnly NOTICE.now (E.contents errors.old) (E.contents errors.new) }
 {
     let track = track_from_toml(rt.alloc(), text)?;
+    announce(at_terminal, errors);
     let began = if stats { Instant::now(rt).ok() } else { None };
     if workers < 2 || by_train {
         let mut windows = Windows::none();
-        let (counts, desk) = process_by_train(rt, &track, input, output, workers, PACE, &mut windows)?;
+        let (counts, desk) = process_by_train(
+            rt,
+            &track,
+            input,
+            output,
+            workers,
+            PACE,
+            &mut windows,
+        )?;
         if stats {
             let figures = Figures::of_windows(counts, windows, workers);
             let _ = write_report(rt, &desk, &figures, began, errors);

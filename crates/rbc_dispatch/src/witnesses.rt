@@ -1,9 +1,10 @@
 //! Worked cases of the law of forms, right ones and wrong ones.
 
-ghost use Rattle.std.specs.Prelude.{[], ◌∷◌, Some, codes};
+ghost use Rattle.std.specs.Prelude.{[], ◌∷◌, None, Some, codes};
 ghost use Rattle.rbc_dispatch.specs.Witnesses.{AskByFlag, AskByTrain, AskFor, AskForAlarms, AskForNone, AskFrom};
 ghost use Rattle.rbc_dispatch.specs.Witnesses.{AskFromNone, AskFromWithAlarms, AskToDraw, AskToDrawNone};
-ghost use Rattle.rbc_dispatch.specs.Witnesses.{AskToExplain, AskToExplainNone};
+ghost use Rattle.rbc_dispatch.specs.Witnesses.{AskForCode, AskForNoCode, AskForPage, AskToExplain, AskToExplainNone};
+ghost use Rattle.rbc_dispatch.specs.declared.pages.Topic.TheVariants.{Batch, Track};
 
 /// What words behind `run --track t` ask for.
 ///
@@ -21,6 +22,9 @@ ghost use Rattle.rbc_dispatch.specs.Witnesses.{AskToExplain, AskToExplainNone};
 /// for alarms, before `--from 7` or behind it, and `--alarms` twice for no answers. Behind
 /// `explain --track t`, `--from 4294967295` asks for the log from that input on, and `--from 0` for none. Behind
 /// `picture --track t`, `--after 0` asks for the picture before all inputs, and `--after 4294967296` for none.
+///
+/// `codes` asks for all codes, `codes 12` for code 12, and `codes 0` and `codes 17` for nothing. `help batch` and
+/// `help track` ask for a page; `help run` and `help batch batch` for none.
 pub fn forms_law_witnesses()
     ensures one { AskFor 1 [] }
     ensures sixteen { AskFor 16 (codes "--workers" ∷ codes "16" ∷ []) }
@@ -53,4 +57,13 @@ pub fn forms_law_witnesses()
     ensures log_from_zero { AskToExplainNone (codes "--from" ∷ codes "0" ∷ []) }
     ensures drawn_at_first { AskToDraw (Some 0) (codes "--after" ∷ codes "0" ∷ []) }
     ensures drawn_too_late { AskToDrawNone (codes "--after" ∷ codes "4294967296" ∷ []) }
+    ensures all_codes { AskForCode None [] }
+    ensures code_twelve { AskForCode (Some 12) (codes "12" ∷ []) }
+    ensures another_code { AskForCode (Some 13) (codes "12" ∷ []) → ⊥ }
+    ensures code_zero { AskForNoCode (codes "0" ∷ []) }
+    ensures code_seventeen { AskForNoCode (codes "17" ∷ []) }
+    ensures batch_page { AskForPage (Some Batch) (codes "help" ∷ codes "batch" ∷ []) }
+    ensures track_page { AskForPage (Some Track) (codes "help" ∷ codes "track" ∷ []) }
+    ensures help_of_run { AskForPage None (codes "help" ∷ codes "run" ∷ []) → ⊥ }
+    ensures page_and_more { AskForPage (Some Batch) (codes "help" ∷ codes "batch" ∷ codes "batch" ∷ []) → ⊥ }
 {}

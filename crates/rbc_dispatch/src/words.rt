@@ -7,15 +7,21 @@ ghost use Rattle.clap.specs.Walk.{Rule};
 ghost use Rattle.clap.specs.Words.{app_of, fault_of, kind_of, rule_of, shape_of, subcommand_rows_of};
 ghost use Rattle.clap.specs.declared.builder.command.Command.TheViews.{out-Command as fields_of};
 ghost use Rattle.rbc_dispatch.specs.NoTask.{status_of, status_of_kind};
-ghost use Rattle.rbc_dispatch.specs.Words.{AsksToCheck, AsksToDecode, AsksToDraw, AsksToExplain, AsksToLive};
-ghost use Rattle.rbc_dispatch.specs.Words.{AsksToRun, IsCheckOf, IsDecode, IsExplainOn, IsFound, IsLiveOn};
-ghost use Rattle.rbc_dispatch.specs.Words.{IsNoTask, IsPictureOn, IsRunOn, IsTakenFor, IsWantOfMemory, bare_line};
-ghost use Rattle.rbc_dispatch.specs.Words.{alarms_rule, by_train_rule, command_line, count_after, finding_in};
-ghost use Rattle.rbc_dispatch.specs.Words.{flag_after, input_after, is_set, live_shape, number_after};
-ghost use Rattle.rbc_dispatch.specs.Words.{other_keys_rule, run_shape, stats_rule, track_rule, word_after};
+ghost use Rattle.rbc_dispatch.specs.Pages.{topic_in};
+ghost use Rattle.rbc_dispatch.specs.Words.{AsksForCodes, AsksToCheck, AsksToDecode, AsksToDraw, AsksToExplain};
+ghost use Rattle.rbc_dispatch.specs.Words.{AsksToLive, AsksToRun, IsCheckOf, IsCodesOf, IsDecode, IsExplainOn};
+ghost use Rattle.rbc_dispatch.specs.Words.{IsFound, IsLiveOn, IsNoTask, IsPictureOn, IsRunOn, IsTakenFor, IsTaskOf};
+ghost use Rattle.rbc_dispatch.specs.Words.{IsWantOfMemory, alarms_rule, bare_line, by_train_rule, code_rule};
+ghost use Rattle.rbc_dispatch.specs.Words.{codes_shape, command_line, count_after, decode_shape, fault_in};
+ghost use Rattle.rbc_dispatch.specs.Words.{finding_in, flag_after, hex_rule, input_after, is_named, is_set};
+ghost use Rattle.rbc_dispatch.specs.Words.{live_shape, long_rule, number_after, other_keys_rule, run_shape};
+ghost use Rattle.rbc_dispatch.specs.Words.{stats_rule, track_rule, word_after};
+ghost use Rattle.rbc_dispatch.specs.declared.pages.Topic.{Topic as TopicOf};
+ghost use Rattle.rbc_dispatch.specs.declared.words.Task.TheVariants.{Page as PageOn};
 ghost use Rattle.rbc_live.specs.declared.wanted.Wanted.{Wanted};
 
 use crate::no_task::NoTask;
+use crate::pages::{Topic, topic_in};
 use clap::builder::ValueParser;
 use clap::error::ErrorKind;
 use clap::{Arg, ArgAction, ArgMatches, Command};
@@ -68,10 +74,18 @@ pub enum Task<'a> {
         track: &'a str,
         other_keys: bool,
     },
-    /// `dispatch decode HEX`: write the text of the message whose bytes this word is an encoding of.
-    Decode(&'a str),
-    /// `dispatch codes`: list what each code and each fault means.
-    Codes,
+    /// `dispatch decode HEX --long`: write the text of the message whose bytes this word is an encoding of, in one line
+    /// or, with the option, in a line for each variable.
+    Decode {
+        word: &'a str,
+        long: bool,
+    },
+    /// `dispatch codes CODE`: list what each code and each fault means, or this code alone.
+    Codes {
+        code: Option<u32>,
+    },
+    /// `dispatch help batch` and `dispatch help track`: print a page of help.
+    Page(Topic),
 }
 
 /// A subcommand's name, and what its help says at the top and at the end.
@@ -99,6 +113,7 @@ Then:     dispatch run --track FILE < BATCH           results and messages, as b
 Or:       dispatch live --track FILE                  the same, an answer as each line comes
 To read:  dispatch explain --track FILE < BATCH       the same run in words
           dispatch picture --track FILE < BATCH > out.svg
+Pages:    `dispatch help batch` on the lines of a batch, `dispatch help track` on track files
 More:     README.md, docs/GUIDE.md; `dispatch help COMMAND` for one command.";
 
 const RUN: &Page = &Page {
@@ -190,6 +205,9 @@ Writes one line: the message's number, then each variable with its value.
   dispatch decode 1002800000009FFFFFE2
   16 stamp 2 ack 0 lrbg 16777215 em 1
 
+With --long, writes one line for each variable, and for the bits that are none: the place of its
+first bit, its width in bits, its name in SUBSET-026, its value, and what that means.
+
 Exit status: 0 done; 1 a fault: `bad hex`, or `decode: NAME` with NAME Length, Message, Packet or
 Field; 2 bad arguments.",
 };
@@ -198,7 +216,8 @@ const CODES: &Page = &Page {
     name: "codes",
     about: "List all result codes and faults, and what to do about each",
     after_help: "\
-Writes for each its number or its line, its name, what it means and what to do. Reads nothing.
+Writes for each its number or its line, its name, what it means and what to do. With CODE, writes
+what stands there of this code alone. Reads nothing.
 
 Exit status: 0 done; 1 a fault, one line on standard error; 2 bad arguments.",
 };
@@ -243,9 +262,8 @@ fn command<'a>(alloc: Global) -> Result<Command<'a>, AllocError>
     let with_picture = with_subcommand(with_explain, with_track(alloc, PICTURE, drawn));
     let other_keys = other_keys_option(alloc);
     let with_check = with_subcommand(with_picture, with_track(alloc, CHECK, other_keys));
-    let decode = subcommand(alloc, DECODE).arg(hex_word(alloc));
-    let with_decode = with_subcommand(with_check, decode);
-    with_subcommand(with_decode, Ok(subcommand(alloc, CODES)))
+    let with_decode = with_subcommand(with_check, decode_command(alloc));
+    with_subcommand(with_decode, codes_command(alloc))
 }
 
 /// The command line with one more subcommand, where memory was had for both.
@@ -298,6 +316,24 @@ fn live_command<'a>(alloc: Global) -> Result<Command<'a>, AllocError>
 {
     let answer = number_option(alloc, FIRST_ANSWER);
     with_track(alloc, LIVE, answer)?.arg(alarms_option(alloc))
+}
+
+/// `decode`, with its word and its option.
+fn decode_command<'a>(alloc: Global) -> Result<Command<'a>, AllocError>
+    ensures shape { IfOk result (λ command. shape_of command ≡ decode_shape) }
+    ensures local { IfOk result (λ command. (fields_of command).has_globals ≡ false) }
+{
+    subcommand(alloc, DECODE)
+        .arg(hex_word(alloc))?
+        .arg(long_option(alloc))
+}
+
+/// `codes`, with its word.
+fn codes_command<'a>(alloc: Global) -> Result<Command<'a>, AllocError>
+    ensures shape { IfOk result (λ command. shape_of command ≡ codes_shape) }
+    ensures local { IfOk result (λ command. (fields_of command).has_globals ≡ false) }
+{
+    subcommand(alloc, CODES).arg(code_word(alloc))
 }
 
 /// A subcommand that takes a track and one more option.
@@ -390,8 +426,27 @@ fn other_keys_option<'a>(alloc: Global) -> Arg<'a>
         .help("Count unknown keys as notes, not as warnings")
 }
 
+fn long_option<'a>(alloc: Global) -> Arg<'a>
+    ensures rule { rule_of result ≡ long_rule }
+    ensures local { result.global ≡ false }
+{
+    Arg::new(alloc, "long")
+        .long("long")
+        .action(ArgAction::SetTrue)
+        .help("Write one line for each variable of the message")
+}
+
+fn code_word<'a>(alloc: Global) -> Arg<'a>
+    ensures rule { rule_of result ≡ code_rule }
+    ensures local { result.global ≡ false }
+{
+    Arg::new(alloc, "CODE")
+        .value_parser(ValueParser::Signed(1, 16))
+        .help("List this result code alone, 1 to 16")
+}
+
 fn hex_word<'a>(alloc: Global) -> Arg<'a>
-    ensures rule { rule_of result ≡ record (new_rule (codes "HEX")) { required = true } }
+    ensures rule { rule_of result ≡ hex_rule }
     ensures local { result.global ≡ false }
 {
     Arg::new(alloc, "HEX")
@@ -432,8 +487,10 @@ fn refusal(alloc: Global, kind: ErrorKind, message: &str) -> Result<clap::Error,
 }
 
 /// The task that the arguments ask for. The error is help, where they ask for that, what is wrong
-/// with them, or out of memory.
+/// with them, or out of memory. A page of help that belongs to no command is a task.
 pub fn parse<'a>(alloc: Global, words: &'a [String]) -> Result<Task<'a>, NoTask>
+    ensures page { (topic : TopicOf) → topic_in (map string_bytes words.now) ≡ Some topic
+        → result ≡ Ok (PageOn topic) }
     ensures run { (file : List ℕ) (workers : ℕ) (alarms : Bool)
         → AsksToRun file workers alarms (map string_bytes words.now)
         → IsTakenFor (IsRunOn file workers alarms) result }
@@ -443,10 +500,38 @@ pub fn parse<'a>(alloc: Global, words: &'a [String]) -> Result<Task<'a>, NoTask>
         → IsTakenFor (IsExplainOn file from) result }
     ensures picture { (file : List ℕ) (after : Option ℕ) → AsksToDraw file after (map string_bytes words.now)
         → IsTakenFor (IsPictureOn file after) result }
-    ensures decode { (word : List ℕ) → AsksToDecode word (map string_bytes words.now)
-        → IsTakenFor (IsDecode word) result }
+    ensures decode { (word : List ℕ) (long : Bool) → AsksToDecode word long (map string_bytes words.now)
+        → IsTakenFor (IsDecode word long) result }
     ensures check { (file : List ℕ) → AsksToCheck file (map string_bytes words.now)
         → IsTakenFor (IsCheckOf file) result }
+    ensures codes { (code : Option ℕ) → AsksForCodes code (map string_bytes words.now)
+        → IsTakenFor (IsCodesOf code) result }
+    ensures only { OnOk result (fault_in (map string_bytes words.now) ≡ []) }
+    ensures task { IfOk result (IsTaskOf (map string_bytes words.now)) }
+{
+    match topic_in(words) {
+        Some(topic) => Ok(Task::Page(topic)),
+        None => parse_command(alloc, words),
+    }
+}
+
+/// The task that arguments ask for that name a command.
+fn parse_command<'a>(alloc: Global, words: &'a [String]) -> Result<Task<'a>, NoTask>
+    ensures run { (file : List ℕ) (workers : ℕ) (alarms : Bool)
+        → AsksToRun file workers alarms (map string_bytes words.now)
+        → IsTakenFor (IsRunOn file workers alarms) result }
+    ensures live { (file : List ℕ) (wanted : Wanted) → AsksToLive file wanted (map string_bytes words.now)
+        → IsTakenFor (IsLiveOn file wanted) result }
+    ensures explain { (file : List ℕ) (from : ℕ) → AsksToExplain file from (map string_bytes words.now)
+        → IsTakenFor (IsExplainOn file from) result }
+    ensures picture { (file : List ℕ) (after : Option ℕ) → AsksToDraw file after (map string_bytes words.now)
+        → IsTakenFor (IsPictureOn file after) result }
+    ensures decode { (word : List ℕ) (long : Bool) → AsksToDecode word long (map string_bytes words.now)
+        → IsTakenFor (IsDecode word long) result }
+    ensures check { (file : List ℕ) → AsksToCheck file (map string_bytes words.now)
+        → IsTakenFor (IsCheckOf file) result }
+    ensures codes { (code : Option ℕ) → AsksForCodes code (map string_bytes words.now)
+        → IsTakenFor (IsCodesOf code) result }
     ensures only { OnOk result (fault_of command_line (map string_bytes words.now) ≡ []) }
     ensures task { IfOk result (IsFound (finding_in (map string_bytes words.now))) }
 {
@@ -493,17 +578,26 @@ fn task_of<'a>(matches: &ArgMatches<'a>) -> Option<Task<'a>>
         let after = input_after(matches, "picture", "after");
         return Some(Task::Picture { track, after });
     }
-    if let Some(hex) = word_after(matches, "decode", "HEX") {
-        return Some(Task::Decode(hex));
+    if let Some(word) = word_after(matches, "decode", "HEX") {
+        let long = has_flag_after(matches, "decode", "long");
+        return Some(Task::Decode { word, long });
     }
     if let Some(track) = word_after(matches, "check", "track") {
         let other_keys = has_flag_after(matches, "check", "other-keys");
         return Some(Task::Check { track, other_keys });
     }
-    if matches.subcommand_matches("codes").is_some() {
-        return Some(Task::Codes);
+    if is_named(matches, "codes") {
+        let code = input_after(matches, "codes", "CODE");
+        return Some(Task::Codes { code });
     }
     None
+}
+
+// Whether the subcommand of this name was named.
+fn is_named<'a>(matches: &ArgMatches<'a>, name: &str) -> bool
+    ensures { result ≡ is_named name.now (subcommand_rows_of matches.now) }
+{
+    matches.subcommand_matches(name).is_some()
 }
 
 // The word that an argument was given after the subcommand of this name, if that one was named.
@@ -535,7 +629,7 @@ fn count_after<'a>(matches: &ArgMatches<'a>, name: &str, id: &str) -> u64
     }
 }
 
-// The number of an input that an argument was given after the subcommand of this name, if it was given one.
+// The number of an input, or a code, that an argument was given after the subcommand of this name, if it was given one.
 fn input_after<'a>(matches: &ArgMatches<'a>, name: &str, id: &str) -> Option<u32>
     ensures { result ≡ input_after name.now id.now (subcommand_rows_of matches.now) }
 {

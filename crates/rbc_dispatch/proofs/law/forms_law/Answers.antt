@@ -1,4 +1,4 @@
-use Rattle.rbc_dispatch.proofs.Forms.{after_all_by_default, alarms_of_live, alarms_of_run, as_many_as_named, begin_at_one_by_default, from_one_by_default, no_figures_by_default, not_by_train_by_default, one_by_default}
+use Rattle.rbc_dispatch.proofs.Forms.{after_all_by_default, alarms_of_live, alarms_of_run, as_many_as_named, begin_at_one_by_default, from_one_by_default, long_if_asked, no_figures_by_default, not_by_train_by_default, one_by_default, one_line_by_default}
 use Rattle.rbc_dispatch.proofs.law.forms_law.Goals as goal
 
 pub returns-clause-one : goal.returns-clause-one
@@ -27,3 +27,9 @@ returns-clause-run_alarms c = alarms_of_run
 
 pub returns-clause-live_alarms : goal.returns-clause-live_alarms
 returns-clause-live_alarms c = alarms_of_live
+
+pub returns-clause-one_line : goal.returns-clause-one_line
+returns-clause-one_line c = one_line_by_default
+
+pub returns-clause-long : goal.returns-clause-long
+returns-clause-long c = long_if_asked

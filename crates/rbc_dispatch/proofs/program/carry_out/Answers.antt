@@ -1,4 +1,4 @@
-use Rattle.std.proofs.Common.{sym, subst, ◌∙◌, false, ℕ, Bool, Option}
+use Rattle.std.proofs.Common.{sym, subst, ◌∙◌, false, true, ℕ, Bool, Option}
 use Rattle.rbc_explain.specs.AccountTelling.{TooFewFor, TooLate}
 use Rattle.rbc_dispatch.specs.Words.{IsExplainOn, IsLiveOn, IsPictureOn, IsRunOn}
 use Rattle.rbc_dispatch.specs.declared.words.Task.{Task}
@@ -16,6 +16,15 @@ returns-else-alarms-clause-run g c = λ file workers alarms asked.
     (g.O.Write.contents c.args.output.now) (g.O.Write.contents c.run_file.new.output) c.run_file.result) (sym c.if-alarms.false ∙ taken.2)
     (subst (λ (n : ℕ). Runs {E = Unit {0}} n false (g.I.Read.remaining c.args.input.now) (g.I.Read.remaining c.run_file.new.input)
     (g.O.Write.contents c.args.output.now) (g.O.Write.contents c.run_file.new.output) c.run_file.result) taken.1 c.run_file.ensures.runs)
+
+-- with alarms where it asks for them
+pub returns-then-alarms-clause-run : goal.returns-then-alarms-clause-run
+returns-then-alarms-clause-run g c = λ file workers alarms asked.
+    let taken = subst (λ (task : Task). IsRunOn file workers alarms task) c.in-Run.is asked in
+    subst (λ (b : Bool). Runs {E = Unit {0}} workers b (g.I.Read.remaining c.args.input.now) (g.I.Read.remaining c.run_file_with_alarms.new.input)
+    (g.O.Write.contents c.args.output.now) (g.O.Write.contents c.run_file_with_alarms.new.output) c.run_file_with_alarms.result) (sym c.if-alarms.true ∙ taken.2)
+    (subst (λ (n : ℕ). Runs {E = Unit {0}} n true (g.I.Read.remaining c.args.input.now) (g.I.Read.remaining c.run_file_with_alarms.new.input)
+    (g.O.Write.contents c.args.output.now) (g.O.Write.contents c.run_file_with_alarms.new.output) c.run_file_with_alarms.result) taken.1 c.run_file_with_alarms.ensures.runs)
 
 -- what is written of the answers is what the task names
 pub returns-in-Live-clause-live : goal.returns-in-Live-clause-live

@@ -1,4 +1,4 @@
-use Rattle.rbc_dispatch.proofs.WitnessWords.{alarms, alarms_from_seven, alarms_of_four, alarms_twice, alarms_unasked, below_zero, by_train, by_train_of_four, by_train_twice, drawn_at_first, drawn_too_late, figures, figures_of_four, figures_twice, from_seven, from_seven_alarms, from_zero, leading_zeros, live_alarms_twice, live_alarms_unasked, log_from_last, log_from_zero, no_figures, no_number, one, one_whatever_is_named, sixteen, too_great, twice, two_by_default, zero}
+use Rattle.rbc_dispatch.proofs.WitnessWords.{all_codes, code_twelve, another_code, code_zero, code_seventeen, batch_page, track_page, help_of_run, page_and_more, alarms, alarms_from_seven, alarms_of_four, alarms_twice, alarms_unasked, below_zero, by_train, by_train_of_four, by_train_twice, drawn_at_first, drawn_too_late, figures, figures_of_four, figures_twice, from_seven, from_seven_alarms, from_zero, leading_zeros, live_alarms_twice, live_alarms_unasked, log_from_last, log_from_zero, no_figures, no_number, one, one_whatever_is_named, sixteen, too_great, twice, two_by_default, zero}
 use Rattle.rbc_dispatch.proofs.witnesses.forms_law_witnesses.Goals as goal
 
 pub returns-clause-one : goal.returns-clause-one
@@ -93,3 +93,30 @@ returns-clause-live_alarms_unasked c = live_alarms_unasked
 
 pub returns-clause-live_alarms_twice : goal.returns-clause-live_alarms_twice
 returns-clause-live_alarms_twice c = live_alarms_twice
+
+pub returns-clause-all_codes : goal.returns-clause-all_codes
+returns-clause-all_codes c = all_codes
+
+pub returns-clause-code_twelve : goal.returns-clause-code_twelve
+returns-clause-code_twelve c = code_twelve
+
+pub returns-clause-another_code : goal.returns-clause-another_code
+returns-clause-another_code c = another_code
+
+pub returns-clause-code_zero : goal.returns-clause-code_zero
+returns-clause-code_zero c = code_zero
+
+pub returns-clause-code_seventeen : goal.returns-clause-code_seventeen
+returns-clause-code_seventeen c = code_seventeen
+
+pub returns-clause-batch_page : goal.returns-clause-batch_page
+returns-clause-batch_page c = batch_page
+
+pub returns-clause-track_page : goal.returns-clause-track_page
+returns-clause-track_page c = track_page
+
+pub returns-clause-help_of_run : goal.returns-clause-help_of_run
+returns-clause-help_of_run c = help_of_run
+
+pub returns-clause-page_and_more : goal.returns-clause-page_and_more
+returns-clause-page_and_more c = page_and_more

@@ -1,8 +1,4 @@
-use Rattle.std.proofs.Common.{ap}
-use Rattle.std.proofs.lemmas.Result.{IfOk-weaker}
-use Rattle.clap.specs.Simple.{App}
 use Rattle.rbc_dispatch.specs.Words.{after_rule, begin_rule, check_shape, codes_shape, decode_shape, explain_shape, live_shape, other_keys_rule, picture_shape, run_shape}
-use Rattle.rbc_dispatch.proofs.Added.{app_with, local_with}
 use Rattle.rbc_dispatch.proofs.words.command.Goals as goal
 
 pub returns : goal.returns
@@ -15,9 +11,5 @@ returns c =
     let with_picture = c.with_subcommand-with_picture.ensures _ picture_shape with_explain picture c.with_track-2.ensures.local in
     let check = c.with_track-3.ensures.shape other_keys_rule c.other_keys_option-other_keys.ensures.rule in
     let with_check = c.with_subcommand-with_check.ensures _ check_shape with_picture check c.with_track-3.ensures.local in
-    let decode = IfOk-weaker c.arg-decode.result _ _
-    (λ command adds. ap (λ (a : App). a.top) (app_with _ _ _ command _ c.subcommand.ensures.app c.hex_word.ensures.rule c.hex_word.ensures.local adds))
-    c.arg-decode.ensures in
-    let local = IfOk-weaker c.arg-decode.result _ _ (λ command adds. local_with _ command _ c.subcommand.ensures.local c.hex_word.ensures.local adds) c.arg-decode.ensures in
-    let with_decode = c.with_subcommand-with_decode.ensures _ decode_shape with_check decode local in
-    c.with_subcommand.ensures _ codes_shape with_decode (ap (λ (a : App). a.top) c.subcommand-2.ensures.app) c.subcommand-2.ensures.local
+    let with_decode = c.with_subcommand-with_decode.ensures _ decode_shape with_check c.decode_command.ensures.shape c.decode_command.ensures.local in
+    c.with_subcommand.ensures _ codes_shape with_decode c.codes_command.ensures.shape c.codes_command.ensures.local
