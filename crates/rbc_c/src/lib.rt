@@ -23,8 +23,6 @@ mod handle;
 mod message;
 mod outstanding;
 mod reason;
-#[cfg(test)]
-mod tests;
 mod track_check;
 mod trains;
 
