@@ -25,8 +25,8 @@ returns-in-Ok-clause-answers g c =
     wrote_all c.args.track.now c.args.workers _ _ _ _ inputs held c.in_ok-desk.stats text read ran is out
 
 -- the writer failed
-pub returns-clause-answers : goal.returns-clause-answers
-returns-clause-answers g c =
+pub returns-in-Err-clause-answers : goal.returns-in-Err-clause-answers
+returns-in-Err-clause-answers g c =
     let inputs = c.in_ok-inputs.inputs.items in
     let held = c.in_ok-desk.desk in
     let text = joined c.in_ok-texts.texts.items in
