@@ -1,5 +1,5 @@
 -- Numbers in columns, and a line of them.
-use Rattle.std.proofs.Common.{refl, ◌≡◌, ℕ, List, [], ◌∷◌, ◌++◌, ◌^◌, ◌-◌, false, arith, codes, OnOk, Result}
+use Rattle.std.proofs.Common.{refl, ◌≡◌, ℕ, List, [], ◌++◌, ◌^◌, ◌-◌, false, arith, codes, OnOk, Result}
 use Rattle.std.specs.Fmt.{decimal, format_spec, padded_integral, styled_decimal}
 use Rattle.std.proofs.Padding.{padded_integral_right}
 use Rattle.rbc_dispatch.specs.Columns.{to_the_right}

@@ -1,5 +1,5 @@
 -- The rows of a message, from its first bit to its last.
-use Rattle.std.proofs.Common.{refl, sym, ap, subst, arith, ◌∙◌, ◌≡◌, ℕ, zero, suc, ◌+◌, ◌-◌, ◌<◌, ◌≤◌, List, [], ◌∷◌, ◌++◌, length, drop, min, codes, length-drop, append-nil, append_assoc}
+use Rattle.std.proofs.Common.{refl, sym, ap, subst, arith, ◌∙◌, ◌≡◌, ℕ, zero, suc, ◌+◌, ◌-◌, ◌≤◌, List, [], ◌∷◌, ◌++◌, length, drop, codes, length-drop, append-nil, append_assoc}
 use Rattle.std.specs.List.{flat_map}
 use Rattle.ertms_bits.specs.Bits.{AreBits, bits_of, bits_of_bytes, number_of}
 use Rattle.ertms_bits.proofs.Numbers.{AreBits-drop}

@@ -1,5 +1,5 @@
 -- What comes of a text that is written for people.
-use Rattle.std.specs.Prelude.{◌≡◌, ◌≤◌, ⊤, ℕ, List, Option, None, Some, Result, Ok, Err, take, length}
+use Rattle.std.specs.Prelude.{◌≤◌, ⊤, ℕ, List, Option, None, Some, Result, Ok, Err, take, length}
 use Rattle.std.specs.Io.KnownBytes.{Appends}
 use Rattle.rbc_dispatch.specs.Parts.{IsPartOn}
 use Rattle.rbc_dispatch.specs.declared.fault.Fault.{Fault}

@@ -1,5 +1,5 @@
 -- The variables of messages: their names and widths in SUBSET-026, and which stands behind which.
-use Rattle.std.specs.Prelude.{⊤, ℕ, ◌-◌, ◌+◌, Bool, true, false, not, ◌==◌, ◌||◌, ◌&&◌, if◌then◌else◌, nat_lt, List, [], ◌∷◌, length, drop, min, max, codes, zero, suc}
+use Rattle.std.specs.Prelude.{⊤, ℕ, ◌-◌, ◌+◌, true, false, ◌==◌, ◌||◌, if◌then◌else◌, nat_lt, List, [], ◌∷◌, length, drop, min, max, codes, zero, suc}
 use Rattle.ertms_bits.specs.Bits.{number_of}
 use Rattle.ertms_codec.specs.Texts.{is_number_to_train}
 use Rattle.rbc_dispatch.specs.declared.stand.Row.{Row}
