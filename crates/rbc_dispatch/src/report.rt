@@ -4,11 +4,10 @@ use crate::figures::Figures;
 use crate::replies::{accepted, messages, refused_with};
 use rbc_batch::Desk;
 use rbc_rule::Refusal;
-use std::fs;
-use std::io;
 use std::io::Write;
 use std::rt::Files;
 use std::time::{Clock, Instant};
+use std::{fs, io};
 
 /// Writes the report on a run that is done, which began at a time, if that is known. An error may leave a part of it
 /// written.
@@ -36,7 +35,11 @@ fn write_replies<E: Write>(desk: &Desk, errors: &mut E) -> io::Result<()> {
     let accepted = accepted(results);
     writeln!(errors, "inputs: {}", results.len())?;
     writeln!(errors, "accepted: {accepted}")?;
-    writeln!(errors, "refused: {}", results.len().saturating_sub(accepted))?;
+    writeln!(
+        errors,
+        "refused: {}",
+        results.len().saturating_sub(accepted)
+    )?;
     for code in 1..=Refusal::NothingToAcknowledge.code() {
         let count = refused_with(results, code);
         if count > 0 {
@@ -50,6 +53,13 @@ fn write_replies<E: Write>(desk: &Desk, errors: &mut E) -> io::Result<()> {
 /// The most memory that the process has had at once, in kB, as Linux counts it; none where that cannot be read.
 fn peak_memory<R: AllocGlobal + Files>(rt: &R) -> Option<u64> {
     let status = fs::read_to_string(rt, "/proc/self/status").ok()?;
-    let line = status.as_str().lines().find(|line| line.starts_with("VmHWM:"))?;
-    line.strip_prefix("VmHWM:")?.strip_suffix("kB")?.trim().parse::<u64>().ok()
+    let line = status
+        .as_str()
+        .lines()
+        .find(|line| line.starts_with("VmHWM:"))?;
+    line.strip_prefix("VmHWM:")?
+        .strip_suffix("kB")?
+        .trim()
+        .parse::<u64>()
+        .ok()
 }
