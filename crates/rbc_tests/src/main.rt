@@ -102,7 +102,7 @@ where
         many: usize::MAX,
         most,
     };
-    process_by_train(
+    let (stats, _) = process_by_train(
         rt,
         &case.track,
         &mut reader,
@@ -110,7 +110,8 @@ where
         workers,
         pace,
         windows,
-    )
+    )?;
+    Ok(stats)
 }
 
 /// Runs a case by so many workers, in windows of so many messages at the most, or on a locked book if that is 0, and
