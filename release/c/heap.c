@@ -3,6 +3,9 @@
 #include <stdbool.h>
 #include <stddef.h>
 #include <stdlib.h>
+#ifdef __cplusplus
+extern "C" { /* the libraries call the functions by their names in C */
+#endif
 
 /* Whether there is memory, and where it is. */
 struct tried {
@@ -31,3 +34,7 @@ struct tried rattle_realloc(void *block, size_t kept, size_t size, size_t align)
 void rattle_dealloc(void *block) {
     free(block);
 }
+
+#ifdef __cplusplus
+}
+#endif

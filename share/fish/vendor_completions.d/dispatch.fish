@@ -30,5 +30,6 @@ complete -c dispatch -n '__fish_seen_subcommand_from picture' -s h -l help -d 'P
 complete -c dispatch -n '__fish_seen_subcommand_from check' -l track -r -F -d 'The track file, a TOML document'
 complete -c dispatch -n '__fish_seen_subcommand_from check' -l other-keys -d 'Count unknown keys as notes, not as warnings'
 complete -c dispatch -n '__fish_seen_subcommand_from check' -s h -l help -d 'Print help'
+complete -c dispatch -n '__fish_seen_subcommand_from decode' -l long -d 'Write one line for each variable of the message'
 complete -c dispatch -n '__fish_seen_subcommand_from decode' -s h -l help -d 'Print help'
 complete -c dispatch -n '__fish_seen_subcommand_from codes' -s h -l help -d 'Print help'
