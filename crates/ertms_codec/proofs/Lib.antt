@@ -5,6 +5,7 @@ pub mod FirstFailing
 pub mod FromTrainAgain
 pub mod FromTrainLaws
 pub mod FromTrainSteps
+pub mod FromTrainWritten
 pub mod GeneralPackets
 pub mod GeneralReading
 pub mod PacketFields

@@ -84,7 +84,7 @@ previous_width true previous = refl
 previous_width false previous = refl
 
 -- the width of a position packet's variables
-width_of_position : (size : ℕ) (p : Position) (t : Train) → width_of (fields_of_position size p t) ≡ 96 + width_of (previous_group p.previous) + width_of (fields_of_train t)
+pub width_of_position : (size : ℕ) (p : Position) (t : Train) → width_of (fields_of_position size p t) ≡ 96 + width_of (previous_group p.previous) + width_of (fields_of_train t)
 width_of_position size p t =
     let width : Field → ℕ = λ f. f.width in
     let first : List Field = nid_packet (number_of_packet p.previous) ∷ l_packet size ∷ q_scale p.scale ∷ nid_lrbg p.lrbg ∷ [] in

@@ -1,5 +1,6 @@
 pub mod FromTrain
 pub mod FromTrainAtPlaces
+pub mod FromTrainWritten
 pub mod Layout
 pub mod PacketsToTrain
 pub mod Reading

@@ -13,6 +13,7 @@
 mod error;
 mod from_train;
 mod from_train_reader;
+mod from_train_writer;
 mod packets;
 mod position_reader;
 mod reading;
@@ -25,6 +26,7 @@ mod write;
 pub use error::{DecodeError, ReadError};
 pub use from_train::{FromTrain, Position};
 pub use from_train_reader::read_from_train;
+pub use from_train_writer::write_from_train;
 pub use packets::{MOST_PACKETS, Packets, Part};
 pub use text::{DescribeError, describe};
 pub use to_train::{Head, ToTrain};

@@ -157,7 +157,7 @@ fn put_packet(place: &mut BitWriter, buffer: &mut [u8; 1024], part: Part)
 }
 
 /// Fills the last byte up with 0, and gives the number of bytes used.
-fn put_fill_bits(place: BitWriter, buffer: &mut [u8]) -> usize
+pub(crate) fn put_fill_bits(place: BitWriter, buffer: &mut [u8]) -> usize
     requires { place ≤ 8 * length buffer.old }
     ensures used { result ≡ bytes_for place }
     ensures bytes { take result buffer.new ≡ bytes_of result (take place (bits_of_bytes buffer.old)) }
@@ -170,7 +170,7 @@ fn put_fill_bits(place: BitWriter, buffer: &mut [u8]) -> usize
 
 /// Puts one variable, in so many bits.
 #[inline(always)]
-fn put(place: &mut BitWriter, buffer: &mut [u8; 1024], width: u32, value: u64)
+pub(crate) fn put(place: &mut BitWriter, buffer: &mut [u8; 1024], width: u32, value: u64)
     requires value { value < 2 ^ width }
     requires room { place.old + width ≤ 8 * length buffer.old }
     ensures { Writes (field width value ∷ []) place.old buffer.old place.new buffer.new }
