@@ -1,8 +1,11 @@
 pub mod FromTrain
 pub mod FromTrainAtPlaces
 pub mod FromTrainWritten
+pub mod Grammar
 pub mod Layout
+pub mod Names
 pub mod PacketsToTrain
+pub mod Pieces
 pub mod Reading
 pub mod RefusalNames
 pub mod Refusals
@@ -12,4 +15,5 @@ pub mod Texts
 pub mod ToTrain
 pub mod ToTrainAtPlaces
 pub mod Variables
+pub mod Words
 pub mod Written

@@ -10,10 +10,13 @@
 //! to fields in a row.
 #![tactic(auto)]
 
+mod cutting;
 mod error;
 mod from_train;
+mod from_train_parser;
 mod from_train_reader;
 mod from_train_writer;
+mod name;
 mod packets;
 mod position_reader;
 mod reading;
@@ -21,14 +24,20 @@ mod text;
 mod to_train;
 mod to_train_reader;
 mod variable;
+mod words;
 mod write;
+mod wrong_word;
 
+pub use cutting::cut;
 pub use error::{DecodeError, ReadError};
 pub use from_train::{FromTrain, Position};
+pub use from_train_parser::parse_from_train;
 pub use from_train_reader::read_from_train;
 pub use from_train_writer::write_from_train;
+pub use name::Name;
 pub use packets::{MOST_PACKETS, Packets, Part};
 pub use text::{DescribeError, describe};
 pub use to_train::{Head, ToTrain};
 pub use to_train_reader::read_to_train;
 pub use write::{write_general, write_to_train};
+pub use wrong_word::{EncodeError, Expected, WrongWord};

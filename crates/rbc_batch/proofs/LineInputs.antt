@@ -9,7 +9,7 @@ use Rattle.std.proofs.lemmas.List.Elements.{All-cons, All-nil}
 use Rattle.rbc_rule.specs.declared.input.Input.{Input}
 use Rattle.rbc_rule.specs.Inputs.{Fits}
 use Rattle.rbc_text.specs.BatchText.{line_of, IsInput, AreInputs}
-use Rattle.rbc_text.specs.Pieces.{texts_of}
+use Rattle.ertms_codec.specs.Pieces.{texts_of}
 
 -- where no line is left, all are read
 pub all_read : (lines rest : List (Bor (List ℕ))) (inputs : List Input) → length rest ≡ 0

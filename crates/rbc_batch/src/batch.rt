@@ -5,7 +5,7 @@ ghost use Rattle.std.specs.List.{All};
 ghost use Rattle.rbc_engine.specs.Answers.{MayWork, max_inputs};
 ghost use Rattle.rbc_rule.specs.Inputs.{Fits};
 ghost use Rattle.rbc_text.specs.BatchText.{lines_of};
-ghost use Rattle.rbc_text.specs.Pieces.{texts_of};
+ghost use Rattle.ertms_codec.specs.Pieces.{texts_of};
 ghost use Rattle.rbc_batch.specs.Process.{Answers, AnswersWithDesk, AreRead, IsBeforeRun, IsRefused, IsRunOf, IsUntouched, max_batch};
 
 use crate::inputs::{first_lines, parse_lines};

@@ -4,7 +4,7 @@ ghost use Rattle.std.specs.Prelude.{◌≡◌, ◌≤◌, length, take, IfOk};
 ghost use Rattle.std.specs.List.{All};
 ghost use Rattle.rbc_rule.specs.Inputs.{Fits};
 ghost use Rattle.rbc_text.specs.BatchText.{lines_of, AreInputs, AreInputsOf};
-ghost use Rattle.rbc_text.specs.Pieces.{texts_of};
+ghost use Rattle.ertms_codec.specs.Pieces.{texts_of};
 
 use rayon::prelude::*;
 use rbc_rule::Input;

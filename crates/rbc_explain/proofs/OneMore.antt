@@ -9,7 +9,7 @@ use Rattle.rbc_records.specs.declared.record.Rec.{Rec}
 use Rattle.rbc_records.specs.Notes.{record_in}
 use Rattle.rbc_account.specs.Answers.{max_inputs}
 use Rattle.rbc_text.specs.BatchText.{line_of, lines_of, IsInput}
-use Rattle.rbc_text.specs.Pieces.{texts_of}
+use Rattle.ertms_codec.specs.Pieces.{texts_of}
 use Rattle.rbc_text.specs.OutputText.{answer_of}
 use Rattle.rbc_rule.specs.declared.outcome.Reply.{Reply}
 use Rattle.rbc_rule.specs.declared.outcome.Reply.TheVariants.{Done, Refused}

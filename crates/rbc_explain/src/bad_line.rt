@@ -1,6 +1,6 @@
 //! What is wrong with a line that is no input.
 
-use rbc_text::cut;
+use ertms_codec::cut;
 
 /// The form of each input, by its first word.
 const FORMS: &[(&str, &str)] = &[

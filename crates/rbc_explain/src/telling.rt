@@ -3,7 +3,7 @@
 ghost use Rattle.std.specs.Prelude.{◌≡◌, ◌≤◌, ◌<◌, ◌+◌, ◌^◌, ◌++◌, ◌∷◌, [], ℕ, List, length, IfOk, OnOk};
 ghost use Rattle.rbc_track.specs.Plan.{Plan};
 ghost use Rattle.rbc_account.specs.Answers.{max_inputs};
-ghost use Rattle.rbc_text.specs.Pieces.{texts_of};
+ghost use Rattle.ertms_codec.specs.Pieces.{texts_of};
 ghost use Rattle.rbc_account.specs.Sums.{no_sums};
 ghost use Rattle.rbc_account.specs.Telling.{LeavesUnread, Tells, TooLate};
 ghost use Rattle.rbc_explain.specs.Log.{IsLogOf, IsLogOfRun, IsUnderWay};

@@ -10,7 +10,7 @@ use Rattle.rbc_records.specs.declared.record.Rec.{Rec}
 use Rattle.rbc_rule.specs.declared.input.Input.TheVariants.{Bad}
 use Rattle.rbc_rule.specs.declared.outcome.Reply.{Reply}
 use Rattle.rbc_text.specs.BatchText.{Line, Spelled, is_space, words_of, message_of, line_of, IsInput}
-use Rattle.rbc_text.specs.Pieces.{pieces_behind}
+use Rattle.ertms_codec.specs.Pieces.{pieces_behind}
 use Rattle.rbc_live.specs.History.{IsFed}
 use Rattle.rbc_live.specs.GoingOn.{ActsAs, GoesOnAs}
 use Rattle.rbc_live.specs.UnderWay.{Shows, joined}

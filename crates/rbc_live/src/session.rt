@@ -15,7 +15,8 @@ use crate::outlet::Outlet;
 use crate::prompt::PromptError;
 use crate::wanted::Wanted;
 use crate::watch::{Watch, alarm_part, watch_for};
-use rbc_text::{cut, render_answer};
+use ertms_codec::cut;
+use rbc_text::render_answer;
 use std::alloc::{AllocError, Global};
 use std::io::Write;
 

@@ -9,7 +9,8 @@ ghost use Rattle.rbc_live.specs.GoingOn.{GoesOnAs, is_stop, max_kept};
 
 use memchr::{memchr, memrchr};
 use rbc_rule::Input;
-use rbc_text::{cut, parse_line};
+use ertms_codec::cut;
+use rbc_text::parse_line;
 use std::alloc::{AllocError, Global};
 
 /// So many digits are kept of a long message, and one more where their number is odd. They spell more bytes than

@@ -8,7 +8,7 @@ use Rattle.rbc_records.specs.declared.record.Key.{Key}
 use Rattle.rbc_records.specs.declared.record.Rec.{Rec}
 use Rattle.rbc_records.specs.Notes.{record_in}
 use Rattle.rbc_account.specs.Answers.{max_inputs}
-use Rattle.rbc_text.specs.Pieces.{texts_of}
+use Rattle.ertms_codec.specs.Pieces.{texts_of}
 use Rattle.rbc_account.specs.History.{IsFed, Taken, IsHistory}
 use Rattle.rbc_account.specs.declared.account.Sums.{Sums}
 use Rattle.rbc_account.specs.declared.account.Account.{Account}

@@ -4,7 +4,7 @@ ghost use Rattle.std.specs.Prelude.{◌≡◌, ◌≤◌, ◌++◌, ◌∷◌, [
 ghost use Rattle.std.specs.Prelude.{length, take, string_bytes};
 ghost use Rattle.rbc_track.specs.Plan.{Plan};
 ghost use Rattle.rbc_account.specs.Answers.{max_inputs};
-ghost use Rattle.rbc_text.specs.Pieces.{texts_of};
+ghost use Rattle.ertms_codec.specs.Pieces.{texts_of};
 ghost use Rattle.rbc_account.specs.Sums.{no_sums};
 ghost use Rattle.rbc_account.specs.Telling.{LeavesUnread, Tells, TooFewFor};
 ghost use Rattle.rbc_picture.specs.Drawn.{HasTaken, IsPictureOf, IsPictureOfRun, lines_taken, shown};

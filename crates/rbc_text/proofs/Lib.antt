@@ -1,8 +1,6 @@
-mod Cuts
 mod LineFits
 mod LineWords
 mod Texts
-pub mod FirstPlaces
 pub mod ResultLines
 pub mod HexDigits
 pub mod HexWords

@@ -4,8 +4,8 @@ use Rattle.std.specs.Option.{unwrap_or}
 use denote.Ref.{Bor}
 use Rattle.rbc_rule.specs.declared.input.Input.TheVariants.{Bad}
 use Rattle.rbc_text.specs.BatchText.{is_space, words_of, number_of, withdrawal_from, withdrawal_of, restriction_of, message_of, is_hex_word, IsInput, Spelled}
-use Rattle.rbc_text.specs.Pieces.{pieces_behind}
-use Rattle.rbc_text.proofs.Cuts.{split_is_cons}
+use Rattle.ertms_codec.specs.Pieces.{pieces_behind}
+use Rattle.ertms_codec.proofs.Cuts.{split_is_cons}
 
 -- a second word is there, where something stands behind the first one
 pub two_words : (text first : List ℕ) (behind : Option (Bor (List ℕ))) (more : Bor (List ℕ)) → words_of text ≡ first ∷ pieces_behind 32 behind → behind ≡ Some more → (second : List ℕ) × (rest : List (List ℕ)) × (words_of text ≡ first ∷ second ∷ rest)

@@ -5,7 +5,7 @@ use Rattle.std.specs.List.{slice_split}
 use Rattle.std.specs.Char.{to_ascii_uppercase}
 use Rattle.hex.specs.Hex.{encode_with, encode_lower, encode_upper, lower_digits, upper_digits}
 use Rattle.rbc_text.specs.BatchText.{is_line_feed, without_empty_end, lines_of}
-use Rattle.rbc_text.proofs.Cuts.{split_is_cons}
+use Rattle.ertms_codec.proofs.Cuts.{split_is_cons}
 
 keeps_first : (line : List ℕ) (pieces : List (List ℕ)) (first : List ℕ) (rest : List (List ℕ)) → pieces ≡ first ∷ rest → without_empty_end (line ∷ pieces) ≡ line ∷ without_empty_end pieces
 keeps_first [] [] first rest e = absurd (let bad : [] ≡ first ∷ rest = e in cc)

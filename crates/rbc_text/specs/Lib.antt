@@ -1,5 +1,4 @@
 pub mod BatchText
-pub mod Pieces
 pub mod OutputText
 pub mod Streams
 pub use Rattle.rbc_desk.specs.Held

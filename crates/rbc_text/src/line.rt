@@ -8,7 +8,8 @@ ghost use Rattle.rbc_text.specs.BatchText.{line_of, IsInput};
 ghost use Rattle.rbc_rule.specs.Inputs.{Fits};
 
 use crate::messages::message;
-use crate::words::{cut, decimal, dirs, front, number, segment, segments};
+use crate::words::{decimal, dirs, front, number, segment, segments};
+use ertms_codec::cut;
 use rbc_rule::{Input, MAX_ENGINE, MAX_LENGTH, Refusal, Segments};
 use std::alloc::{AllocError, Global};
 

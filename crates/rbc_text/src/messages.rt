@@ -9,8 +9,7 @@ ghost use Rattle.rbc_text.specs.BatchText.{Spelled, is_hex_word, line_of_hex, me
 ghost use Rattle.rbc_text.specs.BatchText.{AreHeard, IsInput};
 
 use crate::line::{bad_hex, bad_line};
-use crate::words::cut;
-use ertms_codec::{DecodeError, read_from_train};
+use ertms_codec::{DecodeError, cut, read_from_train};
 use hex::FromHexError;
 use memchr::memchr;
 use rbc_rule::{Input, Refusal};

@@ -1,7 +1,7 @@
 use Rattle.std.proofs.Common.{◌≤◌, ◌<◌, length, arith}
 use Rattle.std.proofs.lemmas.List.{length-map}
 use Rattle.rbc_text.specs.BatchText.{lines_of}
-use Rattle.rbc_text.specs.Pieces.{texts_of}
+use Rattle.ertms_codec.specs.Pieces.{texts_of}
 use Rattle.rbc_batch.proofs.TooManyLines.{too_many, all_of_them}
 use Rattle.rbc_batch.proofs.batch.admit.Goals as goal
 

@@ -3,7 +3,7 @@ use Rattle.std.specs.List.{All}
 use Rattle.rbc_rule.specs.declared.input.Input.{Input}
 use Rattle.rbc_rule.specs.Inputs.{Fits}
 use Rattle.rbc_text.specs.BatchText.{AreInputs}
-use Rattle.rbc_text.specs.Pieces.{texts_of}
+use Rattle.ertms_codec.specs.Pieces.{texts_of}
 use Rattle.rbc_batch.proofs.inputs.inputs_in_turn.Given as goal
 
 -- the inputs so far, and any inputs of the lines that are left, are inputs of all

@@ -1,6 +1,6 @@
 use Rattle.std.proofs.Common.{[], take}
 use Rattle.rbc_track.specs.Plan.{Plan}
-use Rattle.rbc_text.specs.Pieces.{texts_of}
+use Rattle.ertms_codec.specs.Pieces.{texts_of}
 use Rattle.rbc_explain.specs.Log.{IsUnderWay}
 use Rattle.rbc_explain.proofs.telling.push_inputs.Given as goal
 

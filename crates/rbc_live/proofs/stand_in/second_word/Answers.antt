@@ -1,5 +1,5 @@
 use Rattle.std.proofs.Common.{ap, ◌∙◌, ◌∷◌, List, ℕ}
-use Rattle.rbc_text.specs.Pieces.{pieces_behind}
+use Rattle.ertms_codec.specs.Pieces.{pieces_behind}
 use Rattle.rbc_live.proofs.Words.{second_is}
 use Rattle.rbc_live.proofs.stand_in.second_word.Goals as goal
 

@@ -1,7 +1,7 @@
 use Rattle.std.proofs.Common.{rules, ◌≡◌, codes, false}
 use Rattle.std.specs.Str.{bytes_eq}
 use Rattle.std.proofs.lemmas.Result.{IfOk-weaker}
-use Rattle.rbc_text.specs.Pieces.{pieces_behind}
+use Rattle.ertms_codec.specs.Pieces.{pieces_behind}
 use Rattle.rbc_live.proofs.Alike.{one_long_word, more_than_recv, other_command}
 use Rattle.rbc_live.proofs.stand_in.shortened.Goals as goal
 

@@ -1,7 +1,7 @@
 use Rattle.std.proofs.Common.{◌∙◌, ℕ, List, length, take, refl, ap, string_bytes}
 use Rattle.std.proofs.lemmas.Result.{IfOk-weaker}
 use Rattle.rbc_track.specs.Plan.{Plan}
-use Rattle.rbc_text.specs.Pieces.{texts_of}
+use Rattle.ertms_codec.specs.Pieces.{texts_of}
 use Rattle.rbc_picture.specs.Drawn.{HasTaken}
 use Rattle.rbc_picture.proofs.Taking.{takes_none, drawn_after, first_lines, few_first}
 use Rattle.rbc_picture.proofs.batch_picture.drawn.Goals as goal

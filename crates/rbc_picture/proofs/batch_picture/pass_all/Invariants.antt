@@ -1,6 +1,6 @@
 use Rattle.std.proofs.Common.{[], take}
 use Rattle.rbc_track.specs.Plan.{Plan}
-use Rattle.rbc_text.specs.Pieces.{texts_of}
+use Rattle.ertms_codec.specs.Pieces.{texts_of}
 use Rattle.rbc_picture.specs.Drawn.{HasTaken}
 use Rattle.rbc_picture.proofs.batch_picture.pass_all.Given as goal
 

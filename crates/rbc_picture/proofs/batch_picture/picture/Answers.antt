@@ -1,7 +1,7 @@
 use Rattle.std.proofs.Common.{◌≡◌, ◌∙◌, List, ℕ, length, ap, sym, subst, take, rules, string_bytes}
 use Rattle.std.proofs.lemmas.List.{length-map}
 use Rattle.rbc_text.specs.BatchText.{lines_of}
-use Rattle.rbc_text.specs.Pieces.{texts_of}
+use Rattle.ertms_codec.specs.Pieces.{texts_of}
 use Rattle.rbc_account.specs.Telling.{TooFewFor}
 use Rattle.rbc_account.proofs.Openings.{told}
 use Rattle.rbc_picture.specs.Drawn.{IsPictureOf, lines_taken}

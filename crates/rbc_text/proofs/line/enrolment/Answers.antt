@@ -1,7 +1,7 @@
 use Rattle.std.proofs.Common.{ap, sym, ◌∙◌, ◌∷◌, List, ℕ}
 use Rattle.rbc_text.specs.BatchText.{enrolment_of, is_space}
-use Rattle.rbc_text.specs.Pieces.{pieces_behind}
-use Rattle.rbc_text.proofs.Cuts.{split_is_cons}
+use Rattle.ertms_codec.specs.Pieces.{pieces_behind}
+use Rattle.ertms_codec.proofs.Cuts.{split_is_cons}
 use Rattle.rbc_text.proofs.line.enrolment.Goals as goal
 
 -- a third word is there

@@ -1,7 +1,7 @@
 use Rattle.std.proofs.Common.{ap, ap₂, sym, refl, ◌≡◌, ◌∙◌, ◌∷◌, List, ℕ}
 use Rattle.rbc_text.specs.BatchText.{stop_of, stop_from, segments_of, decimal_of, is_space}
-use Rattle.rbc_text.specs.Pieces.{pieces_behind}
-use Rattle.rbc_text.proofs.Cuts.{split_is_cons}
+use Rattle.ertms_codec.specs.Pieces.{pieces_behind}
+use Rattle.ertms_codec.proofs.Cuts.{split_is_cons}
 use Rattle.rbc_text.proofs.line.stop.Goals as goal
 
 stop_with : (number : List ℕ) (words : List (List ℕ)) (first : List ℕ) (rest : List (List ℕ)) → words ≡ first ∷ rest → stop_of (number ∷ words) ≡ stop_from (decimal_of number) (segments_of words)

@@ -1,4 +1,4 @@
-use Rattle.rbc_text.proofs.FirstPlaces.{found_nowhere}
+use Rattle.ertms_codec.proofs.FirstPlaces.{found_nowhere}
 use Rattle.rbc_text.proofs.messages.has_no_return.Goals as goal
 
 pub returns : goal.returns

@@ -1,5 +1,5 @@
 use Rattle.std.proofs.Common.{◌∙◌, ◌∷◌, List, ℕ, ap}
-use Rattle.rbc_text.specs.Pieces.{pieces_behind}
+use Rattle.ertms_codec.specs.Pieces.{pieces_behind}
 use Rattle.rbc_text.proofs.Texts.{first_of_lines}
 use Rattle.rbc_text.proofs.words.first_line.Goals as goal
 

@@ -1,6 +1,6 @@
 use Rattle.std.proofs.Common.{◌≡◌, ◌++◌, option_map}
 use Rattle.rbc_text.specs.BatchText.{segments_of, words_of}
-use Rattle.rbc_text.specs.Pieces.{pieces_behind, length_left}
+use Rattle.ertms_codec.specs.Pieces.{pieces_behind, length_left}
 use Rattle.rbc_text.proofs.words.segments.Given as goal
 
 -- the segments so far, and those of the words that are left, are those of all

@@ -1,7 +1,7 @@
 use Rattle.std.proofs.Common.{rules, ◌≡◌, ◌<◌, ◌++◌, ◌∷◌, ◌∙◌, [], List, ℕ, Option, Bor, length, sym, ap, subst, arith}
 use Rattle.std.specs.Prelude.{IfSome}
 use Rattle.rbc_text.specs.BatchText.{is_line_feed}
-use Rattle.rbc_text.specs.Pieces.{pieces_behind, text_behind}
+use Rattle.ertms_codec.specs.Pieces.{pieces_behind, text_behind}
 use Rattle.rbc_live.proofs.Pieces.{first_piece, joined_whole, line_more, last_more}
 use Rattle.rbc_live.proofs.Writing.{pending}
 use Rattle.rbc_live.proofs.Cutting.{fault_before_more, fault_at_last, piece_taken, hands_on}

@@ -2,7 +2,7 @@ use Rattle.std.proofs.Common.{◌≡◌, ◌≤◌, ◌+◌, ◌++◌, ℕ, List
 use Rattle.std.specs.List.{slice_split}
 use Rattle.rbc_track.specs.Plan.{Plan}
 use Rattle.rbc_text.specs.BatchText.{is_line_feed}
-use Rattle.rbc_text.specs.Pieces.{pieces_behind, text_behind, length_left}
+use Rattle.ertms_codec.specs.Pieces.{pieces_behind, text_behind, length_left}
 use Rattle.rbc_live.specs.declared.wanted.Wanted.{Wanted}
 use Rattle.rbc_live.specs.UnderWay.{IsUnderWay, joined}
 use Rattle.rbc_live.proofs.session.Session.take_piece.Given as goal

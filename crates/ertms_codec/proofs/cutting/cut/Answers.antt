@@ -1,8 +1,8 @@
 use Rattle.std.proofs.Common.{ℕ, Bool, List, arith, sym, ◌==◌, ◌≡◌, ap, ◌∙◌, ◌∷◌, take, drop, ◌-◌, ◌+◌, length}
 use Rattle.std.specs.List.{slice_split}
 use Rattle.std.proofs.lemmas.List.{take_all, length-drop}
-use Rattle.rbc_text.proofs.Cuts.{place_found, no_place, split_at_place, split_without_place}
-use Rattle.rbc_text.proofs.words.cut.Goals as goal
+use Rattle.ertms_codec.proofs.Cuts.{place_found, no_place, split_at_place, split_without_place}
+use Rattle.ertms_codec.proofs.cutting.cut.Goals as goal
 
 pub returns-in-Some-clause-pieces : goal.returns-in-Some-clause-pieces
 returns-in-Some-clause-pieces c =

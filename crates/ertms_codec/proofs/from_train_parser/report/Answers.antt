@@ -1,0 +1,18 @@
+use Rattle.std.proofs.Common.{sym}
+use Rattle.ertms_codec.proofs.Leads.{past_train, word_136}
+use Rattle.ertms_codec.proofs.WordsLeft.{handed_on}
+use Rattle.ertms_codec.proofs.from_train_parser.report.Goals as goal
+
+pub returns-in_err-stamp-clause-err : goal.returns-in_err-stamp-clause-err
+returns-in_err-stamp-clause-err c =
+    handed_on c.from_residual.result _ _ c.from_residual.ensures.1
+    (λ next. c.in_err-stamp.ensures.err _)
+
+pub returns-in_err-position-clause-err : goal.returns-in_err-position-clause-err
+returns-in_err-position-clause-err c =
+    handed_on c.from_residual-in_err-position.result _ _ c.from_residual-in_err-position.ensures.1
+    (λ next. past_train _ _ _ _ c.in_ok-stamp.ensures.range c.in_ok-stamp.ensures.ok
+    (c.in_err-position.ensures.err _))
+
+pub returns-clause-kind : goal.returns-clause-kind
+returns-clause-kind c = sym word_136

@@ -1,5 +1,0 @@
-use Rattle.rbc_text.proofs.FirstPlaces.{first_place}
-use Rattle.rbc_text.proofs.words.find_byte.Goals as goal
-
-pub returns : goal.returns
-returns c = first_place c.args.byte c.args.text.now c.memchr.result c.memchr.ensures
