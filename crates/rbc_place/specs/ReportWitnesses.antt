@@ -12,16 +12,21 @@ use Rattle.rbc_place.specs.Reporting.{IsReportAt, IsNoReportAt}
 abbrev pub group_5 : Group
 group_5 = record { line = 0; at = 10000; nominal = Up }
 
--- two balise groups at one place, the first with the nominal direction down
+-- the first of two balise groups at one place: its nominal direction is down
 abbrev pub group_6 : Group
 group_6 = record { line = 0; at = 60000; nominal = Down }
 
+-- the second one, whose nominal direction is up
 abbrev pub group_7 : Group
 group_7 = record { line = 0; at = 60000; nominal = Up }
 
 -- a line of 30 km with these balise groups
 abbrev pub three_groups : Plan
-three_groups = record { horizon = 100000; lines = 300000 ∷ []; groups = (5, group_5) ∷ (6, group_6) ∷ (7, group_7) ∷ [] }
+three_groups = record {
+  horizon = 100000;
+  lines = 300000 ∷ [];
+  groups = (5, group_5) ∷ (6, group_6) ∷ (7, group_7) ∷ [];
+}
 
 -- this is the report of a train at a place of the line
 abbrev pub Tells : ℕ → Way → ℕ → Position → Type 0

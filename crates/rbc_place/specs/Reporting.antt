@@ -67,8 +67,8 @@ IsNoReportAt plan line place facing NoLine = slice_get plan.lines line ≡ None
 IsNoReportAt plan line place facing (Beyond end) = (slice_get plan.lines line ≡ Some end) × (end < place)
 IsNoReportAt plan line place facing NoGroup = IsOnTrack plan line place × NoneBehind plan line place facing
 
--- The place of a train by a report is the one that was asked for: it faces that way on that line, its front may stand at
--- the place, and so the place is in the interval.
+-- The place of a train by a report is the one that was asked for: it faces that way on that line, its front may stand
+-- at the place, and so the place is in the interval.
 pub record LeadsBack (plan : Plan) (line place : ℕ) (facing : Way) (report : Position) (length : ℕ) : Type 0 where
   pub given : Place
   pub by_report : place_of_report plan report length ≡ Some given

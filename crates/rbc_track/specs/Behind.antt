@@ -29,7 +29,10 @@ pub record IsNearestBehind (plan : Plan) (line place : ℕ) (facing : Way) (foun
 
 -- no balise group of a plan stands behind
 abbrev pub NoneBehind : Plan → ℕ → ℕ → Way → Type 0
-NoneBehind plan line place facing = (nid : ℕ) (group : Group) → group_of plan nid ≡ Some group → ¬ StandsBehind line place facing group
+NoneBehind plan line place facing =
+    (nid : ℕ) (group : Group) → group_of plan nid ≡ Some group → ¬ StandsBehind line place facing group
+
+-- ---- as tests and a search, for the functions of behind.rt
 
 -- the same as LiesBehind, as a test
 abbrev pub is_behind : Way → ℕ → ℕ → Bool
@@ -46,4 +49,5 @@ nearer facing found next = if is_behind facing found.1.at next.1.at then found e
 
 -- the nearest of the balise groups that stand behind
 abbrev pub nearest_of : ℕ → ℕ → Way → List (ℕ × Group) → Option (ℕ × Group)
-nearest_of line place facing groups = reduce (nearer facing) (filter (λ entry. stands_behind line place facing entry.1) groups)
+nearest_of line place facing groups =
+    reduce (nearer facing) (filter (λ entry. stands_behind line place facing entry.1) groups)
