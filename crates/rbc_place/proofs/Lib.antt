@@ -1,2 +1,4 @@
 pub mod Holds
 pub mod WitnessPlaces
+pub mod Reports
+pub mod ReportCases

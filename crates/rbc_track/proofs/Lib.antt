@@ -5,3 +5,4 @@ pub mod Plans
 pub mod Rising
 pub mod Bounds
 pub mod Found
+pub mod Nearest

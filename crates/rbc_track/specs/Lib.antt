@@ -3,3 +3,4 @@ pub mod Document
 pub mod Reading
 pub mod Outcomes
 pub mod Inside
+pub mod Behind

@@ -6,9 +6,11 @@
 //! text is (`IsTrackOf`), the first rule that it breaks (`RefusesTrack`), or lack of memory; and on the type: each
 //! balise group lies on its line, and a line is 1 to 3,000,000 units of 10 cm long (`IsPlan` of specs/Plan.antt).
 //!
-//! Begin with track.rt, then document.rt, which reads the keys of the file.
+//! Begin with track.rt, then document.rt, which reads the keys of the file; behind.rt finds the balise group that a
+//! train has passed last.
 #![tactic(auto)]
 
+mod behind;
 mod document;
 mod error;
 mod group;

@@ -1,18 +1,21 @@
 //! The track: read from a text once, then looked up in.
 
 ghost use Rattle.std.specs.Prelude.{◌≡◌, ◌⊎◌, ◌≤◌, ◌<◌, true, false, IfOk, IfErr, OnOk, IfSome, All, slice_get};
+ghost use Rattle.std.specs.Prelude.{MatchOption};
 ghost use Rattle.rbc_track.specs.declared.error.TrackError.TheVariants.{GroupTwice, OutOfMemory};
 ghost use Rattle.rbc_track.specs.Plan.{max_group_number, group_of, IsPlan, IsPlaced, IsLength};
 ghost use Rattle.rbc_track.specs.Reading.{track_of, plan_of, is_length, is_on, are_apart, numbers_of, by_number};
 ghost use Rattle.rbc_track.specs.Reading.{IsTrackOf, FindsItsGroups, RefusesTrack, IsUnlessMemory};
+ghost use Rattle.rbc_track.specs.Behind.{IsNearestBehind, NoneBehind};
 ghost use Rattle.std.specs.BTreeMap.{IsOrdered};
 ghost use Rattle.std.specs.Ordering.{nat_cmp};
 ghost use Rattle.std.specs.List.{list_all};
 
+use crate::behind::nearest_of;
 use crate::document;
 use crate::document::Site;
 use crate::error::TrackError;
-use crate::group::Group;
+use crate::group::{Group, Way};
 use std::alloc::{AllocError, Global};
 use std::collections::BTreeMap;
 use std::marker::Model;
@@ -92,6 +95,16 @@ impl Track {
         ensures placed { IfSome result (IsPlaced self.now nid) }
     {
         rbc_maps::value_of(&self.groups, nid).copied()
+    }
+
+    /// The balise group that a train at a place of a line has passed last, with its number: the nearest one at the
+    /// place or behind it, as the train faces. Of those at one place it is the one with the least number. None if
+    /// there is none; the line need not exist. Takes no memory.
+    pub fn group_behind(&self, line: u32, place: u32, facing: Way) -> Option<(u32, Group)>
+        ensures { MatchOption result (NoneBehind self.now line place facing)
+            (IsNearestBehind self.now line place facing) }
+    {
+        nearest_of(&self.groups, line, place, facing)
     }
 
     /// The length of a line, in units of 10 cm, if the track has the line. Lines are numbered from 0. Takes no
