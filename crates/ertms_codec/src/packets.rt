@@ -87,7 +87,7 @@ impl Packets {
     ghost use Rattle.std.specs.Prelude.{◌≡◌, ◌≤◌, ◌<◌, [], ◌∷◌, ◌++◌, length, Some, slice_get, IfOk, OnOk, OnErr};
     ghost use Rattle.ertms_codec.specs.PacketsToTrain.{most_packets, ArePacketsThatFit};
 
-    /// One packet alone. Takes no memory.
+    /// One packet alone.
     pub fn of(alloc: Global, part: Part) -> Result<Packets, AllocError>
         ensures { IfOk result (λ packets. packets ≡ part ∷ []) }
     {
@@ -97,8 +97,7 @@ impl Packets {
         })
     }
 
-    /// Puts one packet more behind the others, of which there have to be fewer than 100. Fails only for lack of memory,
-    /// and then changes nothing.
+    /// Puts one packet more behind the others, of which there have to be fewer than 100. An error changes nothing.
     pub fn push(&mut self, part: Part) -> Result<(), AllocError>
         requires { length self.old < most_packets }
         ensures ok { OnOk result (self.new ≡ self.old ++ part ∷ []) }
@@ -108,7 +107,7 @@ impl Packets {
         Ok(())
     }
 
-    /// How many packets there are: 1 to 100. Takes no memory.
+    /// How many packets there are: 1 to 100.
     pub fn count(&self) -> usize
         ensures count { result ≡ length self.now }
         ensures some { 1 ≤ result }
@@ -117,7 +116,7 @@ impl Packets {
         1 + self.more.len()
     }
 
-    /// The packet at an index below `count`. Takes no memory.
+    /// The packet at an index below `count`.
     pub fn at(&self, index: usize) -> Part
         requires { index < length self.now }
         ensures { slice_get self.now index ≡ Some result }

@@ -102,8 +102,7 @@ impl Account {
         })
     }
 
-    /// Takes an input, and says only what the desk answers. Fails only for lack of memory, and then the account is of
-    /// no further use.
+    /// Takes an input, and says only what the desk answers. After an error the account is of no further use.
     fn take(&mut self, alloc: Global, input: &Input) -> Result<Answer, AllocError>
         requires { Fits input.now }
         ensures steps { IfOk result (λ answer. IsStepOf self.old.desk.track input.now self.old.desk.records
@@ -125,8 +124,7 @@ impl Account {
         Ok(answer)
     }
 
-    /// Takes a line, without its line feed, and tells nothing of it. Fails only for lack of memory, and then the
-    /// account is of no further use.
+    /// Takes a line, without its line feed, and tells nothing of it. After an error the account is of no further use.
     pub fn pass(&mut self, alloc: Global, line: &[u8]) -> Result<Answer, AllocError>
         ensures fed { IfOk result (λ answer. IsFed self.old.desk.track line.now self.old.desk.records
             self.new.desk.records answer.reply answer.messages) }
@@ -139,8 +137,7 @@ impl Account {
         self.take(alloc, &input)
     }
 
-    /// Takes a line, without its line feed, and tells what came of it. Fails only for lack of memory, and then the
-    /// account is of no further use.
+    /// Takes a line, without its line feed, and tells what came of it. After an error the account is of no further use.
     pub fn step(&mut self, alloc: Global, line: &[u8]) -> Result<Block, AllocError>
         ensures fed { IfOk result (λ block. IsFed self.old.desk.track line.now self.old.desk.records
             self.new.desk.records block.reply block.messages) }
@@ -170,7 +167,7 @@ impl Account {
         )
     }
 
-    /// A copy of the train that sent an input, if a train did. Fails only for lack of memory.
+    /// A copy of the train that sent an input, if a train did.
     fn sender(&self, alloc: Global, input: &Input) -> Result<Option<TrainRec>, AllocError>
         ensures { IfOk result (λ sender. sender ≡ sender_in self.now.desk.records input.now) }
     {
@@ -247,7 +244,7 @@ impl Account {
         self.told_places.get(engine, id, stamp)
     }
 
-    /// What stands now. Fails only for lack of memory.
+    /// What stands now.
     pub fn standing(&self, alloc: Global) -> Result<Standing, AllocError>
         ensures { IfOk result (IsStanding self.now.desk.track.horizon self.now.desk.records) }
     {

@@ -39,7 +39,7 @@ pub struct Block {
 }
 
 /// What came of an input: `number` is its number, `before` the train that sent it, as it was before, and the desk is
-/// that after it. Fails only for lack of memory.
+/// that after it.
 pub(crate) fn block_of(
     alloc: Global,
     desk: &LiveDesk,
@@ -77,7 +77,7 @@ pub(crate) fn block_of(
 }
 
 /// What has come to wait by an input, as `come_to_wait` has it, where the trains are counted: nothing where a stop or a
-/// restriction that began is untold to none of them. Fails only for lack of memory.
+/// restriction that began is untold to none of them.
 fn waiting_after(
     alloc: Global,
     desk: &LiveDesk,

@@ -22,7 +22,6 @@ use std::alloc::{AllocError, Global};
 /// What has come to wait by an input, with the engine at which it waits: engines ascending; of one engine in the order
 /// of `all_waiting`. The desk is that after the input; `before` is the train that sent it, as it was before, if one
 /// did. A stop or a restriction that begins can come to wait at any train, and all else only at the train of the input.
-/// Fails only for lack of memory.
 pub(crate) fn come_to_wait(
     alloc: Global,
     desk: &LiveDesk,

@@ -44,8 +44,7 @@ pub(crate) enum Share {
     Unconcerned,
 }
 
-/// What a stop or a restriction that an input began is to the trains. `None` of any other input. Fails only for lack of
-/// memory.
+/// What a stop or a restriction that an input began is to the trains. `None` of any other input.
 pub(crate) fn counts_after(
     alloc: Global,
     desk: &LiveDesk,

@@ -91,7 +91,7 @@ pub enum Acked {
 }
 
 /// What an input did that has this reply. `before` is the train that sent the message, as it was before the input; the
-/// desk is that after it. Fails only for lack of memory.
+/// desk is that after it.
 pub(crate) fn deed_of(
     alloc: Global,
     desk: &LiveDesk,
@@ -250,7 +250,7 @@ fn answered(
 }
 
 /// What the acknowledgement of the message with a stamp does to the identifiers of a train: stops first, each by
-/// identifier. Fails only for lack of memory.
+/// identifier.
 fn acked_by(alloc: Global, train: &TrainRec, stamp: u32) -> Result<Vec<Acked>, AllocError>
     ensures { IfOk result (λ all. all.items ≡ acked_by stamp train.now) }
 {

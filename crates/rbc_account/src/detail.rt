@@ -91,8 +91,7 @@ pub enum Detail {
     },
 }
 
-/// The figures of a refusal with this code. The records are unchanged by what is refused. Fails only for lack of
-/// memory.
+/// The figures of a refusal with this code. The records are unchanged by what is refused.
 pub(crate) fn detail_of(
     alloc: Global,
     desk: &LiveDesk,
@@ -262,7 +261,7 @@ fn of_answer(train: &TrainRec, id: u8, answer: u8) -> Detail {
     }
 }
 
-/// The numbers of a list of pairs. Fails only for lack of memory.
+/// The numbers of a list of pairs.
 fn numbers_of<V>(alloc: Global, pairs: &[(u32, V)]) -> Result<Vec<u32>, AllocError>
     ensures { IfOk result (λ numbers. numbers.items ≡ keys pairs.now) }
 {

@@ -27,7 +27,7 @@ pub(crate) enum StopReason {
     Nothing,
 }
 
-/// What a stop is to a train. `forced` says that the train stops for it at once. Takes no memory.
+/// What a stop is to a train. `forced` says that the train stops for it at once.
 pub(crate) fn stop_reason(area: &Area, forced: bool, place: Option<&Place>) -> StopReason
     ensures concern { concern_by result ≡ concern_of area.now forced (option_copied place.entry) }
     ensures is { IsStopReason area.now forced (option_copied place.entry) result }
@@ -117,7 +117,7 @@ pub(crate) enum LimitReason {
     Ahead(u32),
 }
 
-/// What a restriction is to a train at a place. Takes no memory.
+/// What a restriction is to a train at a place.
 pub(crate) fn limit_reason(limit: &Limit, place: &Place) -> LimitReason
     ensures clear { clear_by result ≡ is_clear limit.now place.now }
     ensures is { IsLimitReason limit.now place.now result }

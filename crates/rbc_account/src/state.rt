@@ -58,7 +58,7 @@ pub struct TrainStanding {
     pub waiting: Vec<Waiting>,
 }
 
-/// What stands on a desk. Fails only for lack of memory.
+/// What stands on a desk.
 pub(crate) fn standing_on(alloc: Global, desk: &LiveDesk) -> Result<Standing, AllocError>
     ensures { IfOk result (IsStanding desk.now.track.horizon desk.now.records) }
 {
@@ -154,7 +154,7 @@ fn is_again(what: Waits) -> bool
     }
 }
 
-/// What stands at each train, engines ascending. Fails only for lack of memory.
+/// What stands at each train, engines ascending.
 fn standings(alloc: Global, desk: &LiveDesk) -> Result<Vec<TrainStanding>, AllocError>
     ensures waits { IfOk result (λ all. AreStandings desk.now.track.horizon desk.now.records all.items) }
     ensures owed { IfOk result (λ all. AreOwed desk.now.records all.items) }
@@ -168,7 +168,7 @@ fn standings(alloc: Global, desk: &LiveDesk) -> Result<Vec<TrainStanding>, Alloc
     Ok(all)
 }
 
-/// What stands at the train with this engine number, if it is enrolled. Fails only for lack of memory.
+/// What stands at the train with this engine number, if it is enrolled.
 fn standing_at(
     alloc: Global,
     desk: &LiveDesk,
@@ -267,7 +267,7 @@ fn owed_stamp(slot: Slot) -> Option<u32>
     }
 }
 
-/// To how many trains each active stop is told. Fails only for lack of memory.
+/// To how many trains each active stop is told.
 fn stop_sharings(
     alloc: Global,
     records: &PlainStore,
@@ -281,7 +281,7 @@ fn stop_sharings(
         .collect(alloc)
 }
 
-/// To how many trains each active restriction is told. Fails only for lack of memory.
+/// To how many trains each active restriction is told.
 fn limit_sharings(
     alloc: Global,
     records: &PlainStore,

@@ -139,7 +139,7 @@ pub enum WhyRevoked {
 }
 
 /// What each message of an input tells. The desk is that after the input; `before` is the train that sent the input, as
-/// it was before, if one did. Fails only for lack of memory.
+/// it was before, if one did.
 pub(crate) fn told_by(
     alloc: Global,
     desk: &LiveDesk,
@@ -383,7 +383,7 @@ fn revoked_limit(input: &Input, before: Option<&TrainRec>, id: u8) -> Option<u32
     }
 }
 
-/// What the packets of message 24 tell. Fails only for lack of memory.
+/// What the packets of message 24 tell.
 fn restrictions(
     alloc: Global,
     desk: &LiveDesk,

@@ -40,7 +40,7 @@ impl Model for ToldPlaces {
 }
 
 impl ToldPlaces {
-    /// Nothing was told. Takes no memory.
+    /// Nothing was told.
     pub(crate) fn new(alloc: Global) -> Self
         ensures { result ≡ [] }
     {
@@ -61,7 +61,7 @@ impl ToldPlaces {
         }
     }
 
-    /// Notes what messages tell. Fails only for lack of memory.
+    /// Notes what messages tell.
     pub(crate) fn note(&mut self, track: &Track, messages: &SentList) -> Result<(), AllocError>
         ensures { OnOk result ((number : ℕ) → kept_at self.new number
             ≡ kept_after track.now (kept_at self.old) messages.now number) }
@@ -72,7 +72,7 @@ impl ToldPlaces {
         Ok(())
     }
 
-    /// Notes what one message tells. Fails only for lack of memory.
+    /// Notes what one message tells.
     fn note_one(&mut self, track: &Track, sent: &Sent) -> Result<(), AllocError>
         ensures { OnOk result ((number : ℕ) → kept_at self.new number
             ≡ kept_with sent.now.engine (told_by track.now sent.now.message) (kept_at self.old) number) }

@@ -32,7 +32,7 @@ fn is_plan(track: &Track)
     let _ = track.horizon();
 }
 
-/// Takes an input in on a desk, and appends its result and the alarms that change by it. Fails only for lack of memory.
+/// Takes an input in on a desk, and appends its result and the alarms that change by it.
 fn take_watched(
     alloc: Global,
     track: &Track,
@@ -69,7 +69,7 @@ fn take_watched(
 }
 
 /// Runs inputs on a track from the empty state, one after another. Returns the desk, and the lines of the results, each
-/// with the alarms that change by its input. Fails only for lack of memory.
+/// with the alarms that change by its input.
 fn run_watched(
     alloc: Global,
     track: &Track,
@@ -90,8 +90,7 @@ fn run_watched(
     Ok((desk, results))
 }
 
-/// The texts of results that were written, and of the outboxes of their desk, which stand one behind the other. Fails
-/// only for lack of memory.
+/// The texts of results that were written, and of the outboxes of their desk, which stand one behind the other.
 fn texts_with(alloc: Global, results: Vec<u8>, desk: &Desk) -> Result<Vec<Vec<u8>>, AllocError>
     ensures text { IfOk result (λ texts. joined texts.items
         ≡ results.items ++ flat_map outbox_lines desk.now.outboxes) }

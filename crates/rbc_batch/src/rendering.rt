@@ -18,7 +18,7 @@ const SHARED_FROM: usize = 2_000;
 type Part = Result<Vec<u8>, AllocError>;
 
 /// The output text of a desk, in parts that stand one behind the other. So many workers make them where there is much
-/// to write. Fails only for lack of memory.
+/// to write.
 pub(crate) fn texts_of_desk(
     rt: &(impl AllocGlobal + Threads + Sync),
     desk: &Desk,

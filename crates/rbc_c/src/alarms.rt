@@ -30,7 +30,7 @@ fn alarm_of(engine: u32, alarm: Stands) -> Alarm
     }
 }
 
-/// Alarms as C has them. Fails only for lack of memory.
+/// Alarms as C has them.
 fn alarms_of(alloc: Global, alarms: &[(u32, Stands)]) -> Result<Vec<Alarm>, AllocError>
     ensures { IfOk result (λ all. all.items ≡ map alarm_of alarms.now) }
 {

@@ -17,7 +17,7 @@ pub trait Entry: Copy + Drop {
     // Which list is that of a desk.
     ghost is_of: { declared.LiveDesk → List Self → Type 0 };
 
-    /// The list of a desk. Fails only for lack of memory.
+    /// The list of a desk.
     fn list(desk: &LiveDesk, alloc: Global) -> Result<Vec<Self>, AllocError>
         ensures { IfOk result (λ list. is_of desk.now list.items) };
 }

@@ -68,7 +68,7 @@ fn waits_under(engine: u32, revocation: u32, id: u8, slot: Slot) -> Option<Outst
     }
 }
 
-/// What waits at a train under identifiers, of which a revocation is of this kind. Fails only for lack of memory.
+/// What waits at a train under identifiers, of which a revocation is of this kind.
 fn waits_in(
     alloc: Global,
     engine: u32,
@@ -83,7 +83,7 @@ fn waits_in(
         .collect(alloc)
 }
 
-/// What waits at a train. Fails only for lack of memory.
+/// What waits at a train.
 fn waits_at(alloc: Global, engine: u32, train: &TrainRec) -> Result<Vec<Outstanding>, AllocError>
     ensures { IfOk result (λ all. all.items ≡ waits_at engine train.now) }
 {
@@ -92,7 +92,7 @@ fn waits_at(alloc: Global, engine: u32, train: &TrainRec) -> Result<Vec<Outstand
     Ok(all)
 }
 
-/// What waits at the train with an engine number, if it is enrolled. Fails only for lack of memory.
+/// What waits at the train with an engine number, if it is enrolled.
 fn waits_of(alloc: Global, desk: &LiveDesk, engine: u32) -> Result<Vec<Outstanding>, AllocError>
     ensures { IfOk result (λ all. all.items ≡ waits_of desk.now engine) }
 {
@@ -102,7 +102,7 @@ fn waits_of(alloc: Global, desk: &LiveDesk, engine: u32) -> Result<Vec<Outstandi
     }
 }
 
-/// What waits at all trains. Fails only for lack of memory.
+/// What waits at all trains.
 fn outstanding_on(alloc: Global, desk: &LiveDesk) -> Result<Vec<Outstanding>, AllocError>
     ensures { IfOk result (λ all. AreOutstanding desk.now all.items) }
 {

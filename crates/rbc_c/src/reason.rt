@@ -39,7 +39,7 @@ impl Reader for Reading<'_> {
     }
 }
 
-/// The answer to an input on a desk. Fails only for lack of memory.
+/// The answer to an input on a desk.
 fn reply_on(desk: &LiveDesk, alloc: Global, input: &Input) -> Result<Reply, AllocError>
     requires { Fits input.now }
     ensures { IfOk result (λ reply. IsReplyOn desk.now input.now reply) }
@@ -87,7 +87,7 @@ fn push_row(text: &mut Vec<u8>, row: Row) -> Result<(), AllocError>
     text.extend_from_slice(b"\n")
 }
 
-/// The words on an answer to an input. Fails only for lack of memory.
+/// The words on an answer to an input.
 fn words_on(alloc: Global, input: &Input, reply: Reply) -> Result<Vec<u8>, AllocError>
     ensures { IfOk result (λ text. AreWordsOn input.now reply text.items) }
 {
@@ -100,7 +100,7 @@ fn words_on(alloc: Global, input: &Input, reply: Reply) -> Result<Vec<u8>, Alloc
     Ok(text)
 }
 
-/// The words on the answer to a line on a desk: none where it would be accepted. Fails only for lack of memory.
+/// The words on the answer to a line on a desk: none where it would be accepted.
 fn reason_on(desk: &LiveDesk, alloc: Global, line: &[u8]) -> Result<Vec<u8>, AllocError>
     ensures { IfOk result (λ text. IsReason line.now desk.now text.items) }
 {

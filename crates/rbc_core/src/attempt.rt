@@ -60,7 +60,7 @@ impl<N: RunName> Model for Attempt<N> {
 
 impl<N: RunName> Attempt<N> {
     /// Makes an attempt at the input of a number, which counts from 1. `decide` gives an outcome that is right for the
-    /// notes of its reader, and `publish_all` the publication of its writes. Takes no memory.
+    /// notes of its reader, and `publish_all` the publication of its writes.
     pub fn of(
         track: &Track,
         number: u32,
@@ -128,7 +128,7 @@ impl<N: RunName> Attempt<N> {
         &self.published
     }
 
-    /// Raises the bounds of the keys that it writes to the number of its input. Takes no memory.
+    /// Raises the bounds of the keys that it writes to the number of its input.
     pub(crate) fn raise(&self, bounds: &mut Bounds)
         ensures raised { (k : Key) (n : ℕ) → number_for self.now.writes k ≡ Some n
             → self.now.number ≤ bound_of bounds.new k }

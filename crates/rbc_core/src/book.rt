@@ -173,8 +173,8 @@ impl<'a, N: RunName> Book<'a, N> {
 
     /// The number of the record that stands under a key as an input is to see it, or 0 if there is none: what the
     /// attempt at the latest earlier input puts there, of those that were deposited, are not committed and write the
-    /// key; and else what stands there now. It takes no memory. Where the bound of the key's bucket is not above the
-    /// number of committed inputs, nothing is searched.
+    /// key; and else what stands there now. Where the bound of the key's bucket is not above the number of committed
+    /// inputs, nothing is searched.
     pub fn present(&self, input: u32, key: Key) -> u64
         ensures event { Happens N.run (state_of self.now) (Reads input key result) (state_of self.now) }
         ensures latest { IsLatest (state_of self.now) input key result }
@@ -188,7 +188,7 @@ impl<'a, N: RunName> Book<'a, N> {
     }
 
     /// Keeps an attempt at an input that was taken, and is neither attempted nor given up. Any other attempt is handed
-    /// back, and nothing changes. Takes no memory.
+    /// back, and nothing changes.
     pub fn deposit(&mut self, attempt: Attempt<N>) -> Result<(), Attempt<N>>
         ensures event { Happens N.run (state_of self.old) (Deposits attempt (is_ok result)) (state_of self.new) }
         ensures back { IfErr result (λ back. back ≡ attempt) }
@@ -204,7 +204,7 @@ impl<'a, N: RunName> Book<'a, N> {
     }
 
     /// Gives up an input that was taken, and is neither attempted nor given up; it is then computed where it is
-    /// committed. `false` for any other number, and then nothing changes. Takes no memory.
+    /// committed. `false` for any other number, and then nothing changes.
     pub fn void(&mut self, number: u32) -> bool
         ensures { Happens N.run (state_of self.old) (Voids number result) (state_of self.new) }
     {
@@ -325,7 +325,7 @@ impl<'a, N: RunName> Book<'a, N> {
     }
 }
 
-/// The stages of so many inputs, none of which was taken. Fails only for lack of memory.
+/// The stages of so many inputs, none of which was taken.
 fn all_free<N: RunName>(alloc: Global, count: usize) -> Result<Vec<Stage<Attempt<N>>>, AllocError>
     ensures { IfOk result (λ stages. stages.items ≡ replicate count Free) }
 {
@@ -550,8 +550,7 @@ fn carry_out<N: RunName>(
     Ok(weight)
 }
 
-/// Takes an outcome and its publication over, and returns the records that it replaced. Fails only for lack of memory,
-/// and then changes nothing.
+/// Takes an outcome and its publication over, and returns the records that it replaced. An error changes nothing.
 fn hand_over(
     alloc: Global,
     outcome: Outcome,

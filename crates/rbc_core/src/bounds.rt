@@ -33,7 +33,7 @@ impl Model for Bounds {
 }
 
 impl Bounds {
-    /// Makes the bounds of a book with no attempts. Fails only for lack of memory.
+    /// Makes the bounds of a book with no attempts.
     pub fn new(alloc: Global) -> Result<Self, AllocError> {
         let all = vec![in alloc; 0u32; BUCKETS]?;
         Ok(Bounds { all })
@@ -46,7 +46,7 @@ impl Bounds {
         self.all[bucket(key)]
     }
 
-    /// Raises the bound of a key's bucket to a number, if it is lower. Takes no memory.
+    /// Raises the bound of a key's bucket to a number, if it is lower.
     fn raise(&mut self, key: Key, number: u32)
         ensures raised { number ≤ bound_of self.new key }
         ensures rises { (k : Key) → bound_of self.old k ≤ bound_of self.new k }
@@ -57,7 +57,7 @@ impl Bounds {
         }
     }
 
-    /// Raises the bounds of all keys that a publication names to the number of its input. Takes no memory.
+    /// Raises the bounds of all keys that a publication names to the number of its input.
     pub fn raise_all(&mut self, published: &Published, number: u32)
         ensures raised { (k : Key) (n : ℕ) → number_for (numbered published.now) k ≡ Some n
             → number ≤ bound_of self.new k }

@@ -53,14 +53,14 @@ pub struct Leavings {
 }
 
 impl Leavings {
-    /// Makes leavings with no room. It allocates nothing.
+    /// Makes leavings with no room.
     pub fn new(alloc: Global) -> Self {
         Leavings {
             all: Vec::new(alloc),
         }
     }
 
-    /// Makes room for what so many more commits leave. Fails only for lack of memory.
+    /// Makes room for what so many more commits leave.
     pub fn make_room(&mut self, count: usize) -> Result<(), AllocError> {
         self.all.reserve(count)
     }
@@ -94,7 +94,7 @@ impl Leavings {
         (emptied(alloc, notes), small_one(taken_over))
     }
 
-    /// Keeps what one more commit leaves if there is room, and else frees it at once. Takes no memory.
+    /// Keeps what one more commit leaves if there is room, and else frees it at once.
     pub(crate) fn keep(&mut self, leaving: Leaving) {
         if self.all.len() < self.all.capacity() {
             self.all.push_reserved(leaving);

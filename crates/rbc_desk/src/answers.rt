@@ -12,7 +12,7 @@ use rbc_rule::Reply;
 use std::alloc::{AllocError, Global};
 
 /// Moves the messages of an answer into the outboxes of their engines; what stands in their place keeps their engines.
-/// Fails only for lack of memory, and then leaves the outboxes unchanged.
+/// An error leaves the outboxes unchanged.
 fn post_answer(
     alloc: Global,
     outboxes: &mut Vec<(u32, Outbox)>,
@@ -53,8 +53,7 @@ pub(crate) fn take_back_answers(outboxes: &mut Vec<(u32, Outbox)>, answers: &[An
 }
 
 /// Moves the messages of each answer into the outboxes of their engines, those of the first under the number `first`;
-/// the results stay, and what stands in place of a message keeps its engine. Fails only for lack of memory, and then
-/// leaves the outboxes unchanged.
+/// the results stay, and what stands in place of a message keeps its engine. An error leaves the outboxes unchanged.
 pub(crate) fn post_answers(
     alloc: Global,
     outboxes: &mut Vec<(u32, Outbox)>,

@@ -47,7 +47,7 @@ impl Model for Desk {
 }
 
 impl Desk {
-    /// Makes a desk with no records, results or outboxes. It allocates nothing.
+    /// Makes a desk with no records, results or outboxes.
     pub fn new(alloc: Global) -> Self
         ensures new { (track : Plan) → Holds track (standing result) serial.new_desk }
         ensures in_order { IsInOrder result }
@@ -164,8 +164,7 @@ impl Desk {
     }
 
     /// Takes an outcome over: its messages, its result and its writes. There has to be room for one more result. Hands
-    /// back the records that its writes replaced, in their place. Fails only for lack of memory: then nothing is
-    /// changed.
+    /// back the records that its writes replaced, in their place. An error changes nothing.
     #[inline(always)]
     pub fn take_over(&mut self, alloc: Global, outcome: Outcome) -> Result<Writes, AllocError>
         requires fit { AreSendable outcome.messages }
@@ -193,7 +192,7 @@ impl Desk {
 
     /// Takes over what some inputs do, one after another: their results, their messages, and at once the records that
     /// stand after the last of them. There has to be room for the results. Hands back the records that the writes
-    /// replaced, in their place. Fails only for lack of memory: then nothing is changed.
+    /// replaced, in their place. An error changes nothing.
     pub fn take_over_all(
         &mut self,
         alloc: Global,

@@ -47,7 +47,7 @@ impl Model for Outbox {
 }
 
 impl Outbox {
-    /// Makes an empty outbox. It allocates nothing.
+    /// Makes an empty outbox.
     fn new(alloc: Global) -> Self
         ensures { result ≡ [] }
     {
@@ -71,7 +71,7 @@ impl Outbox {
         let _ = self.mails.pop();
     }
 
-    /// Adds a message at the end. Fails only for lack of memory, and then changes nothing.
+    /// Adds a message at the end. An error changes nothing.
     fn add(&mut self, mail: Mail) -> Result<(), AllocError>
         requires { Fits mail.message }
         ensures ok { OnOk result (self.new ≡ self.old ++ mail ∷ []) }
@@ -154,8 +154,7 @@ fn spells(message: &ToTrain)
 }
 
 /// Puts a message into its engine's outbox. An engine gets an outbox with its first message. It is looked for at the
-/// index `near` first, which is the index behind it from then on. Fails only for lack of memory, and then changes
-/// nothing.
+/// index `near` first, which is the index behind it from then on. An error changes nothing.
 fn post(
     alloc: Global,
     outboxes: &mut Vec<(u32, Outbox)>,
@@ -221,7 +220,7 @@ fn moved_out() -> ToTrain {
     }
 }
 
-/// Moves a message into its engine's outbox. Fails only for lack of memory, and then leaves the outboxes unchanged.
+/// Moves a message into its engine's outbox. An error leaves the outboxes unchanged.
 fn post_moved(
     alloc: Global,
     outboxes: &mut Vec<(u32, Outbox)>,
@@ -241,7 +240,7 @@ fn post_moved(
 }
 
 /// Moves the messages of an input into the outboxes of their engines, one after another; what stands in their place
-/// keeps their engines. Fails only for lack of memory, and then leaves the outboxes unchanged.
+/// keeps their engines. An error leaves the outboxes unchanged.
 pub(crate) fn post_all(
     alloc: Global,
     outboxes: &mut Vec<(u32, Outbox)>,

@@ -168,7 +168,7 @@ pub(crate) struct Hand<N: RunName> {
 }
 
 impl<N: RunName> Hand<N> {
-    /// An empty hand. Takes no memory.
+    /// An empty hand.
     pub(crate) fn new(alloc: Global) -> Self {
         Hand {
             first: 0,

@@ -44,8 +44,7 @@ impl<'a, 'b, N: RunName, G, R> Model for Recorder<'a, 'b, N, G, R> {
 }
 
 impl<'a, 'b, N: RunName, G: Gate, R: Wait> Recorder<'a, 'b, N, G, R> {
-    /// Makes a recorder for the input of a number, which has read nothing yet. The log has to be that of the run. Takes
-    /// no memory.
+    /// Makes a recorder for the input of a number, which has read nothing yet. The log has to be that of the run.
     pub fn new(
         rt: &'a R,
         alloc: Global,

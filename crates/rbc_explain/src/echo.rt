@@ -14,7 +14,7 @@ fn is_plain(byte: u8) -> bool {
     (32..=126).contains(&byte) && byte != b'\\'
 }
 
-/// The columns of bytes: a plain byte as it is, any other as `\xHH`. Fails only for lack of memory.
+/// The columns of bytes: a plain byte as it is, any other as `\xHH`.
 fn columns_of(alloc: Global, bytes: &[u8]) -> Result<String, AllocError> {
     let mut columns = String::new(alloc);
     for byte in bytes {
@@ -36,7 +36,7 @@ fn as_plain(line: &[u8]) -> Option<&str> {
 }
 
 /// Adds a line of a batch: all of its columns where they are at most 80, and else the first 60 and the number of its
-/// bytes. Fails only for lack of memory.
+/// bytes.
 pub(crate) fn push_echo(alloc: Global, text: &mut String, line: &[u8]) -> Result<(), AllocError> {
     if let Some(plain) = as_plain(line) {
         return text.push_str(plain);

@@ -13,7 +13,7 @@ use std::fmt::Write;
 /// How many reports without an answer are counted.
 const MOST_REPORTS: u8 = 3;
 
-/// What stands at the end. Fails only for lack of memory.
+/// What stands at the end.
 pub(crate) fn end(
     alloc: Global,
     account: &Account,

@@ -13,8 +13,7 @@ use rbc_settle::Sent;
 use rbc_track::Track;
 use std::alloc::{AllocError, Global};
 
-/// Adds what a message says, and why it was sent. Of one that no record accounts for this adds nothing. Fails only for
-/// lack of memory.
+/// Adds what a message says, and why it was sent. Of one that no record accounts for this adds nothing.
 pub(crate) fn push_message(
     alloc: Global,
     log: &mut Vec<u8>,
@@ -54,7 +53,7 @@ pub(crate) fn push_message(
     }
 }
 
-/// Adds the sentence on a message on a stop of this number, from what the message says. Fails only for lack of memory.
+/// Adds the sentence on a message on a stop of this number, from what the message says.
 fn push_stop_sentence(
     alloc: Global,
     log: &mut Vec<u8>,

@@ -90,7 +90,7 @@ fn names_of(alloc: Global, text: &str) -> Result<NamedTrack, AllocError> {
     }
 }
 
-/// Takes each line, and adds what came of it from an input on. Fails only for lack of memory.
+/// Takes each line, and adds what came of it from an input on.
 fn push_inputs(
     alloc: Global,
     log: &mut Vec<u8>,
@@ -109,7 +109,7 @@ fn push_inputs(
     Ok(())
 }
 
-/// Takes a line, and adds what came of it if it is told. Fails only for lack of memory.
+/// Takes a line, and adds what came of it if it is told.
 fn push_input(
     alloc: Global,
     log: &mut Vec<u8>,

@@ -74,7 +74,7 @@ pub enum Change {
     Cleared(Alarm),
 }
 
-/// The alarms of a train, by the active stops and restrictions, in their order. Fails only for lack of memory.
+/// The alarms of a train, by the active stops and restrictions, in their order.
 pub(crate) fn alarms_at(
     alloc: Global,
     horizon: u32,
@@ -93,7 +93,7 @@ pub(crate) fn alarms_at(
     Ok(alarms)
 }
 
-/// An alarm for each thing that waits. Fails only for lack of memory.
+/// An alarm for each thing that waits.
 fn untold(alloc: Global, waiting: &[Waiting]) -> Result<Vec<Alarm>, AllocError>
     ensures { IfOk result (λ alarms. alarms.items ≡ map (λ one. Untold one.what) waiting.now) }
 {

@@ -38,7 +38,7 @@ pub struct Session {
 }
 
 impl Session {
-    /// Begins at a desk that has taken no line. It takes no memory.
+    /// Begins at a desk that has taken no line.
     pub fn new(alloc: Global, desk: LiveDesk, wanted: Wanted) -> Session
         requires { desk.records ≡ [] }
         ensures under_way { (known : Option (List ℕ)) → IsUnderWay desk.track wanted result known known [] [] }
@@ -56,8 +56,8 @@ impl Session {
         }
     }
 
-    /// Takes the line to its end, which these bytes are, and puts its answer behind the text. Fails only for lack of
-    /// memory; the text is then as it was.
+    /// Takes the line to its end, which these bytes are, and puts its answer behind the text. After an error the text
+    /// is as it was.
     fn take_line(&mut self, alloc: Global, end: &[u8]) -> Result<(), AllocError>
         requires { self.old.number + 1 < 2 ^ 64 }
         ensures taken { (plan : Plan) (wanted : Wanted) (old new : Option (List ℕ)) (ended : List (List ℕ)) (rest : List ℕ)

@@ -126,7 +126,7 @@ fn stop(alloc: Global, front: &[u8], word: &[u8]) -> Result<Vec<u8>, AllocError>
     Ok(kept)
 }
 
-/// A line of few bytes that goes on as this long one does. Fails only for lack of memory.
+/// A line of few bytes that goes on as this long one does.
 ///
 /// A long line is a message that is too long, a stop of too many segments, or a line that is refused with code 1,
 /// whatever follows.

@@ -42,7 +42,7 @@ impl<V: OnLines<N>, const N: usize> Model for Numbered<V, N> {
 }
 
 impl<V: OnLines<N>, const N: usize> Numbered<V, N> {
-    /// No value is active, and the last number is 0. Takes no memory.
+    /// No value is active, and the last number is 0.
     pub fn new(alloc: Global) -> Self
         ensures { result ≡ none_numbered }
     {
@@ -80,7 +80,7 @@ impl<V: OnLines<N>, const N: usize> Numbered<V, N> {
     }
 
     /// The active values that carry the mark of a line, with their numbers, in ascending order of the number. Among
-    /// them is each that lies on the line. The others are not looked at. Takes no memory.
+    /// them is each that lies on the line. The others are not looked at.
     #[inline]
     pub fn on_line(&self, line: u32) -> OnLine<'_, V, N>
         ensures line { result ≡ marked V.marks (mark_of line) self.now.active }
@@ -119,10 +119,7 @@ impl<V: OnLines<N>, const N: usize> Numbered<V, N> {
     }
 
     /// Adds a value under a number above the last one. That number is the last one from then on.
-    ///
-    /// # Errors
-    ///
-    /// Fails only for lack of memory, and then changes nothing.
+    /// An error changes nothing.
     pub fn add(&mut self, number: u32, value: V) -> Result<(), AllocError>
     where
         V: Drop,
@@ -163,7 +160,7 @@ impl<V: OnLines<N>, const N: usize> Numbered<V, N> {
     }
 
     /// Copies all of it, with room for one value more. Takes memory for the active values and that room, and, once a
-    /// value was added, for the 128 places beside them. Fails only for lack of memory.
+    /// value was added, for the 128 places beside them.
     pub fn copy(&self, alloc: Global) -> Result<Self, AllocError>
     where
         V: Copy,

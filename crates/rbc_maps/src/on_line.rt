@@ -22,7 +22,7 @@ pub trait OnLines<const N: usize> {
     // What is true of each value of the type.
     ghost is_sound: { Self → Type 0 };
 
-    /// The marks of the value. Takes no memory.
+    /// The marks of the value.
     fn marks(&self) -> [u8; N]
         ensures marks { result ≡ marks self.now }
         ensures sound { is_sound self.now };

@@ -31,10 +31,6 @@ pub(crate) struct Mark {
 }
 
 /// The marks of the axis of a window.
-///
-/// # Errors
-///
-/// Memory was refused.
 pub(crate) fn axis_of(alloc: Global, window: Window) -> Result<Vec<Mark>, AllocError> {
     let step = window.step();
     let mut axis = Vec::new(alloc);

@@ -90,7 +90,7 @@ fn drawn(
     picture_of(alloc, &account, &named, lines.len())
 }
 
-/// Takes lines. Fails only for lack of memory.
+/// Takes lines.
 fn pass_all(alloc: Global, account: &mut Account, lines: &[&[u8]]) -> Result<(), AllocError>
     ensures { (plan : Plan) → HasTaken plan account.old []
         → OnOk result (HasTaken plan account.new (texts_of lines.now)) }
@@ -101,7 +101,7 @@ fn pass_all(alloc: Global, account: &mut Account, lines: &[&[u8]]) -> Result<(),
     Ok(())
 }
 
-/// Takes a line. Fails only for lack of memory.
+/// Takes a line.
 fn pass(alloc: Global, account: &mut Account, line: &[u8]) -> Result<(), AllocError>
     ensures { (plan : Plan) (lines : List (List ℕ)) → HasTaken plan account.old lines
         → OnOk result (HasTaken plan account.new (lines ++ line.now ∷ [])) }
@@ -134,7 +134,7 @@ fn has_lines(track: &Track, lines: usize) -> bool
     has_last && track.line_len(lines).is_none()
 }
 
-/// Draws what stands after the inputs that an account has taken, out of so many. Fails only for lack of memory.
+/// Draws what stands after the inputs that an account has taken, out of so many.
 fn picture_of(
     alloc: Global,
     account: &Account,

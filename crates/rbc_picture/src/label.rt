@@ -30,10 +30,6 @@ pub(crate) struct Label {
 }
 
 /// The label of a train whose arrow has this body.
-///
-/// # Errors
-///
-/// Memory was refused.
 pub(crate) fn label_of(alloc: Global, train: &TrainState, body: Span) -> Result<Label, AllocError> {
     let engine = engine_words(alloc, train.engine)?;
     let untold = untold_list(alloc, train)?;
@@ -57,10 +53,6 @@ pub(crate) fn label_of(alloc: Global, train: &TrainState, body: Span) -> Result<
 }
 
 /// The number of a train's on-board equipment, in words.
-///
-/// # Errors
-///
-/// Memory was refused.
 pub(crate) fn engine_words(alloc: Global, engine: u32) -> Result<String, AllocError> {
     format!(in alloc; "{engine}")
 }

@@ -137,10 +137,6 @@ impl Window {
     }
 
     /// The marks of the axis, in units of 10 cm: each multiple of the step.
-    ///
-    /// # Errors
-    ///
-    /// Memory was refused.
     pub(crate) fn marks(self, alloc: Global) -> Result<Vec<u32>, AllocError> {
         let step = self.step();
         let first = self.low.div_ceil(step).saturating_mul(step);

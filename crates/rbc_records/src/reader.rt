@@ -55,7 +55,7 @@ pub trait Reader {
 
     /// The engines of some trains, among them all that a command seeks. `None` from a reader that keeps no account of
     /// what its trains were told; also where there are many, so that it is no use. A reader that returns engines knows
-    /// every key. Fails only for lack of memory.
+    /// every key.
     fn search(&self, _alloc: Global, _sought: Sought<'_>) -> Result<Option<Numbers>, AllocError>
         ensures { IfOk result (λ found. IfSome found (AreFound (notes self.now) _sought.entry)) }
     {

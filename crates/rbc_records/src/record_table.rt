@@ -49,7 +49,7 @@ impl Model for Table {
 }
 
 impl Table {
-    /// Makes an empty table. It allocates nothing.
+    /// Makes an empty table.
     pub fn new(alloc: Global) -> Self
         ensures { result.entries ≡ [] }
     {
@@ -147,7 +147,6 @@ impl Table {
     }
 
     /// The engines of the trains that a command may seek, among them all that it does seek. `None` where they are many.
-    /// Fails only for lack of memory.
     pub fn search(&self, alloc: Global, sought: Sought<'_>) -> Result<Option<Numbers>, AllocError>
         ensures { IfOk result (λ found. IfSome found (AreFound (Whole self.now.entries) sought.entry)) }
     {

@@ -48,7 +48,7 @@ pub fn passing<T: Copy, F: Fn(T) -> bool>(
 }
 
 /// Adds the engine at an index if a train stands there, unless it is among the engines already. Returns whether there
-/// was room for it: `false` where there are as many engines as a search returns. Fails only for lack of memory.
+/// was room for it: `false` where there are as many engines as a search returns.
 fn add_train(
     entries: &IndexMap<Key, Rec>,
     index: usize,

@@ -34,7 +34,7 @@ impl Model for PlainStore {
 }
 
 impl PlainStore {
-    /// Makes an empty store. It allocates nothing.
+    /// Makes an empty store.
     pub fn new(alloc: Global) -> Self
         ensures { result ≡ [] }
     {

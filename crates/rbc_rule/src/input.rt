@@ -28,7 +28,7 @@ impl Model for Segments {
 }
 
 impl Segments {
-    /// Makes an empty list. It takes no memory.
+    /// Makes an empty list.
     pub fn new(alloc: Global) -> Self
         ensures { result ≡ [] }
     {
@@ -37,7 +37,7 @@ impl Segments {
         }
     }
 
-    /// Adds a segment at the end. Fails only for lack of memory, and then changes nothing.
+    /// Adds a segment at the end. An error changes nothing.
     pub fn push(&mut self, segment: Segment) -> Result<(), AllocError>
         ensures ok { OnOk result (self.new ≡ self.old ++ segment ∷ []) }
         ensures err { OnErr result (self.new ≡ self.old) }
@@ -96,7 +96,7 @@ pub enum Input {
 }
 
 impl Input {
-    /// Whether each number is in the range stated above and a stop has at least one segment. It takes no memory.
+    /// Whether each number is in the range stated above and a stop has at least one segment.
     pub fn fits(&self) -> bool
         ensures { IsTrue result ↔ Fits self.now }
     {

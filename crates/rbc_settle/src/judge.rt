@@ -28,7 +28,7 @@ use std::cell::Cell;
 const LAST_STAMP: u32 = 4_294_967_294;
 
 /// Returns the changes for which stamps are left, in their order (own rule). Takes memory only if there is something to
-/// revoke or to tell. Fails only for lack of memory.
+/// revoke or to tell.
 pub fn changes(
     alloc: Global,
     track: &Track,
@@ -57,8 +57,7 @@ pub fn changes(
     })
 }
 
-/// Puts changes behind others. Takes no memory where there are no others, or none to be put. Fails only for lack of
-/// memory.
+/// Puts changes behind others. Takes no memory where there are no others, or none to be put.
 #[inline(always)]
 fn put_behind<T: Drop>(changes: &mut Vec<T>, mut more: Vec<T>) -> Result<(), AllocError>
     ensures { OnOk result (changes.new.items ≡ changes.old.items ++ more.items) }

@@ -60,7 +60,7 @@ fn stop_from(number: Option<u32>, segments: Option<Segments>) -> Option<Input>
     }
 }
 
-/// The input of the words behind `stop`. Fails only for lack of memory.
+/// The input of the words behind `stop`.
 fn stop(alloc: Global, arguments: &[u8]) -> Result<Option<Input>, AllocError>
     ensures { IfOk result (λ found. found ≡ stop_of (words_of arguments.now)) }
 {
@@ -103,7 +103,7 @@ fn restriction(arguments: &[u8]) -> Option<Input>
     }
 }
 
-/// The input of a signaller's command and the words behind it. Fails only for lack of memory.
+/// The input of a signaller's command and the words behind it.
 pub fn command(alloc: Global, word: &[u8], arguments: &[u8]) -> Result<Option<Input>, AllocError>
     ensures { IfOk result (λ found. found ≡ command_of word.now (words_of arguments.now)) }
 {
@@ -125,7 +125,7 @@ pub fn command(alloc: Global, word: &[u8], arguments: &[u8]) -> Result<Option<In
 }
 
 /// The input of one line, without its line feed (own rule): what it spells, or a refusal with its code. It is one that
-/// a batch can have. Fails only for lack of memory.
+/// a batch can have.
 pub fn parse_line(alloc: Global, line: &[u8]) -> Result<Input, AllocError>
     ensures spelled { IfOk result (λ input. IsInput (line_of line.now) input) }
     ensures fits { IfOk result (λ input. Fits input) }

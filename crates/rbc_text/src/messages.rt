@@ -72,7 +72,7 @@ fn short_message(text: &[u8]) -> Option<Input>
     }
 }
 
-/// The input of a short word that is to be hexadecimal digits. Takes no memory.
+/// The input of a short word that is to be hexadecimal digits.
 fn short_word(word: &[u8]) -> Input
     requires { length word.now ≤ 128 }
     ensures { IsInput (line_of_hex (decode_of word.now)) result }
@@ -85,7 +85,7 @@ fn short_word(word: &[u8]) -> Input
     }
 }
 
-/// The input of a word of any length that is to be hexadecimal digits. Fails only for lack of memory.
+/// The input of a word of any length that is to be hexadecimal digits.
 fn long_word(alloc: Global, word: &[u8]) -> Result<Input, AllocError>
     ensures { IfOk result (λ input. IsInput (line_of_hex (decode_of word.now)) input) }
 {
@@ -96,7 +96,7 @@ fn long_word(alloc: Global, word: &[u8]) -> Result<Input, AllocError>
     }
 }
 
-/// The input of a word that is to be hexadecimal digits. A short one takes no memory. Fails only for lack of memory.
+/// The input of a word that is to be hexadecimal digits. A short one takes no memory.
 fn message_from(alloc: Global, word: &[u8]) -> Result<Input, AllocError>
     ensures { IfOk result (λ input. IsInput (line_of_hex (decode_of word.now)) input) }
 {
@@ -107,7 +107,7 @@ fn message_from(alloc: Global, word: &[u8]) -> Result<Input, AllocError>
     }
 }
 
-/// The input of the words behind `recv`, cut one by one. Fails only for lack of memory.
+/// The input of the words behind `recv`, cut one by one.
 fn message_in_words(alloc: Global, arguments: &[u8]) -> Result<Input, AllocError>
     ensures { IfOk result (λ input. IsInput (unwrap_or (message_of (words_of arguments.now)) (Spelled (Bad 1))) input) }
 {
@@ -119,7 +119,7 @@ fn message_in_words(alloc: Global, arguments: &[u8]) -> Result<Input, AllocError
     }
 }
 
-/// The input of the words behind `recv`. Fails only for lack of memory.
+/// The input of the words behind `recv`.
 pub fn message(alloc: Global, arguments: &[u8]) -> Result<Input, AllocError>
     ensures { IfOk result (λ input. IsInput (unwrap_or (message_of (words_of arguments.now)) (Spelled (Bad 1))) input) }
 {

@@ -159,7 +159,7 @@ fn push_outboxes(text: &mut Vec<u8>, desk: &Desk, from: usize, to: usize) -> Res
     Ok(())
 }
 
-/// The output text of a desk: the results from 1 on, and then the messages by engine. Fails only for lack of memory.
+/// The output text of a desk: the results from 1 on, and then the messages by engine.
 pub fn render(alloc: Global, desk: &Desk) -> Result<Vec<u8>, AllocError>
     ensures { IfOk result (λ text. text.items ≡ output_of desk.now.results desk.now.outboxes) }
 {
@@ -169,7 +169,7 @@ pub fn render(alloc: Global, desk: &Desk) -> Result<Vec<u8>, AllocError>
     Ok(text)
 }
 
-/// The lines of all results of a desk, with which its output text begins. Fails only for lack of memory.
+/// The lines of all results of a desk, with which its output text begins.
 pub fn render_results(alloc: Global, desk: &Desk) -> Result<Vec<u8>, AllocError>
     ensures { IfOk result (λ text. text.items ≡ flat_map result_line (enumerate_from 1 desk.now.results)) }
 {
@@ -178,8 +178,7 @@ pub fn render_results(alloc: Global, desk: &Desk) -> Result<Vec<u8>, AllocError>
     Ok(text)
 }
 
-/// The lines of the outboxes of a desk at the indices of a range: a part of its output text. Fails only for lack of
-/// memory.
+/// The lines of the outboxes of a desk at the indices of a range: a part of its output text.
 pub fn render_outboxes(
     alloc: Global,
     desk: &Desk,
@@ -210,7 +209,7 @@ fn push_messages(text: &mut Vec<u8>, input: u64, messages: &SentList) -> Result<
 }
 
 /// The text of the answer to one input: the line of its result, and then its messages in the order in which they are
-/// sent. Fails only for lack of memory.
+/// sent.
 pub fn render_answer(
     alloc: Global,
     input: u64,

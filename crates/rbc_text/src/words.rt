@@ -93,7 +93,7 @@ pub fn segment(word: &[u8]) -> Option<Segment>
     segment_from(decimal(line), decimal(from), decimal(to))
 }
 
-/// The segments that the words of a text spell, if every word is a segment. Fails only for lack of memory.
+/// The segments that the words of a text spell, if every word is a segment.
 pub fn segments(alloc: Global, text: &[u8]) -> Result<Option<Segments>, AllocError>
     ensures { IfOk result (λ found. found ≡ segments_of (words_of text.now)) }
 {

@@ -34,10 +34,6 @@ pub struct Report {
 }
 
 /// Checks the text of a track file. With `other_keys`, keys that nobody knows are notes and no warnings.
-///
-/// # Errors
-///
-/// Memory ran out.
 pub fn check(alloc: Global, text: &str, other_keys: bool) -> Result<Report, AllocError>
     ensures verdict { IfOk result (λ report. IsVerdictOn (track_of text.now) report.verdict) }
 {

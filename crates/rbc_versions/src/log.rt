@@ -50,7 +50,7 @@ impl Ticket {
         self.token.index() as u64 + 1
     }
 
-    /// The same ticket once more. Takes no memory.
+    /// The same ticket once more.
     pub fn again(&self) -> Ticket
         ensures { result ≡ self.now }
     {
@@ -77,8 +77,7 @@ impl Model for VersionLog {
 }
 
 impl VersionLog {
-    /// Makes an empty log. Fails only for lack of memory. No clause says that it is empty: what threads share is seen
-    /// by its tickets alone.
+    /// Makes an empty log. No clause says that it is empty: what threads share is seen by its tickets alone.
     pub fn new(alloc: Global) -> Result<Self, OutOfMemory> {
         match boxcar::Vec::new(alloc) {
             Ok(versions) => Ok(VersionLog { versions }),
@@ -124,7 +123,7 @@ impl VersionLog {
         }
     }
 
-    /// A ticket of a number, if it was given out; none for 0. Takes no memory.
+    /// A ticket of a number, if it was given out; none for 0.
     pub fn look(&self, number: u64) -> Option<Ticket>
         ensures ticket { IfSome result (λ ticket. IsOf self.now ticket × (ticket.index + 1 ≡ number)) }
         ensures zero { number ≡ 0 → result ≡ None }

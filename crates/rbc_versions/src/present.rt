@@ -75,8 +75,8 @@ fn put(tickets: &mut IndexMap<Key, Ticket>, key: Key, ticket: Option<Ticket>)
 }
 
 impl Present {
-    /// Publishes a copy of each record of a store, and takes their tickets for the present ones. Fails only for lack of
-    /// memory, and may then leave versions in the log that nothing names.
+    /// Publishes a copy of each record of a store, and takes their tickets for the present ones. An error may leave
+    /// versions in the log that nothing names.
     pub fn of_store(
         rt: &impl Wait,
         alloc: Global,
@@ -99,7 +99,7 @@ impl Present {
         Ok(Present { tickets })
     }
 
-    /// The number of the record that stands under a key now; 0 if there is none. Takes no memory.
+    /// The number of the record that stands under a key now; 0 if there is none.
     pub fn number(&self, key: Key) -> u64
         ensures { result ≡ number_of (ticket_in self.now.tickets key) }
     {
@@ -110,7 +110,7 @@ impl Present {
     }
 
     /// Whether the number of every note is the present one. Nothing but numbers is compared; where they are the same,
-    /// so are the records. Takes no memory.
+    /// so are the records.
     pub fn are_current(&self, log: &VersionLog, notes: &Notes) -> bool
         requires notes { AreOf log.now notes.now }
         requires here { StandIn log.now self.now.tickets }
@@ -128,7 +128,7 @@ impl Present {
         true
     }
 
-    /// Makes room for so many keys more. Fails only for lack of memory.
+    /// Makes room for so many keys more.
     pub fn reserve(&mut self, additional: usize) -> Result<(), OutOfMemory>
         ensures tickets { self.new.tickets ≡ self.old.tickets }
         ensures room { OnOk result (additional ≤ self.new.room) }
@@ -140,7 +140,6 @@ impl Present {
     }
 
     /// Makes the tickets of a publication the present ones, and takes away those of its removals. There has to be room.
-    /// Takes no memory.
     pub fn take_over(&mut self, published: &Published)
         requires { length published.now ≤ self.old.room }
         ensures { (k : Key) → ticket_in self.new.tickets k

@@ -10,7 +10,7 @@ use std::alloc::Global;
 /// Under each key a ticket, or none. Behind a pointer, so that what keeps it is small where it is moved.
 pub(crate) type Tickets = Box<IndexMap<Key, Option<Ticket>>>;
 
-/// Puts tickets behind a pointer. Fails only for lack of memory.
+/// Puts tickets behind a pointer.
 pub(crate) fn boxed(
     alloc: Global,
     tickets: IndexMap<Key, Option<Ticket>>,

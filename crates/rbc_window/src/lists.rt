@@ -32,7 +32,7 @@ impl Model for Lists {
 }
 
 impl Lists {
-    /// No list has changed. Takes no memory.
+    /// No list has changed.
     pub fn new(alloc: Global) -> Self
         ensures { result ≡ [] }
     {
@@ -133,7 +133,7 @@ impl Lists {
         self.all.len()
     }
 
-    /// Writes each list that has changed under its key, behind what is written already. Fails only for lack of memory.
+    /// Writes each list that has changed under its key, behind what is written already.
     pub fn write(self, writes: &mut Writes) -> Result<(), AllocError>
         ensures { OnOk result ((records : Records) (k : Key) → written writes.new records k
             ≡ list_or self (written writes.old records) k) }

@@ -47,7 +47,7 @@ pub struct Share {
 }
 
 impl Share {
-    /// A share that has taken nothing in. Takes no memory.
+    /// A share that has taken nothing in.
     pub(crate) fn new(alloc: Global, number: u32) -> Self
         ensures { result.is_done ≡ false }
     {
@@ -110,7 +110,7 @@ impl Share {
         self.kept.pop_front()
     }
 
-    /// Writes its trains under their keys, behind what is written already. Fails only for lack of memory.
+    /// Writes its trains under their keys, behind what is written already.
     pub(crate) fn write(self, writes: &mut Writes) -> Result<(), AllocError>
         ensures { OnOk result (writes.new ≡ writes.old ++ train_writes self.trains) }
     {
@@ -118,7 +118,7 @@ impl Share {
     }
 }
 
-/// Takes the messages of a share in. Fails only for lack of memory.
+/// Takes the messages of a share in.
 fn take_in_each(
     alloc: Global,
     scene: &Scene<'_>,
@@ -160,8 +160,8 @@ fn message_of(input: &Input, share: u32) -> Option<&FromTrain>
     }
 }
 
-/// Takes a message in by its train, and tells what is kept of it. The record that is replaced is spare then: the next one
-/// is made in its memory. Fails only for lack of memory.
+/// Takes a message in by its train, and tells what is kept of it. The record that is replaced is spare then: the next
+/// one is made in its memory.
 fn taken(
     alloc: Global,
     scene: &Scene<'_>,

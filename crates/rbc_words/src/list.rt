@@ -23,10 +23,6 @@ EXIT STATUS. 0: done. 1: a fault. 2: bad arguments, with a text on standard erro
 
 /// Lists each result code and each fault: its number or its line, its name, what it means and what to do. The text has
 /// lines of at most 100 columns.
-///
-/// # Errors
-///
-/// Memory ran out.
 pub fn codes_text(alloc: Global) -> Result<String, AllocError> {
     let mut text = String::from_str(alloc, BEGINNING)?;
     push_codes(&mut text)?;

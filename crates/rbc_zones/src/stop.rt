@@ -11,7 +11,7 @@ use crate::segment::Segment;
 use crate::stop_meaning::Concern;
 use rbc_place::{Place, Way};
 
-/// What a stop means for a train (own rule). Takes no memory.
+/// What a stop means for a train (own rule).
 ///
 /// - `Now` if the train has no place, if the stop is forced on it, or if a segment on its line meets the interval
 ///   in which it may stand.

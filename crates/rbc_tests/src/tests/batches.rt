@@ -78,10 +78,6 @@ recv 9203800000FA000001C000000400
 };
 
 /// So many lines of a batch, behind the first ones.
-///
-/// # Errors
-///
-/// Memory is refused.
 pub(crate) fn lines_of(
     alloc: Global,
     batch: &str,
