@@ -1,4 +1,4 @@
-//! Worked cases of the laws: right ones, of which their statements hold, and wrong ones, of which they do not.
+//! Worked cases of the laws: correct ones, which satisfy them, and wrong ones, which violate them.
 
 ghost use Rattle.std.specs.Prelude.{[], ◌∷◌};
 ghost use Rattle.rbc_track.specs.Plan.{Plan};

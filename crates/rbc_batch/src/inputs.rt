@@ -12,10 +12,10 @@ use rbc_text::{first_line, parse_line};
 use std::alloc::{AllocError, Global};
 use std::thread::Threads;
 
-/// From this number of lines on a batch is read in threads: for fewer they cost more than they give.
+/// A batch of at least this many lines is parsed in threads. For fewer lines, threads cost more time than they save.
 const PARALLEL_FROM: usize = 10_000;
 
-/// The first lines of a text, so many at most.
+/// The first lines of a text, at most `most` of them.
 pub fn first_lines(alloc: Global, text: &[u8], most: usize) -> Result<Vec<&[u8]>, AllocError>
     ensures cut { IfOk result (λ lines. texts_of lines.items ≡ take most (lines_of text.now)) }
     ensures whole { length text.now ≤ most → IfOk result (λ lines. texts_of lines.items ≡ lines_of text.now) }

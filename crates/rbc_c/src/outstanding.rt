@@ -33,7 +33,7 @@ pub struct Outstanding {
     pub stamp: u32,
 }
 
-/// The code of what told a number.
+/// The code of the kind of message that told a number.
 fn code_of_kind(kind: Kind) -> u32
     ensures { result ≡ code_of_kind kind }
 {
@@ -44,7 +44,7 @@ fn code_of_kind(kind: Kind) -> u32
     }
 }
 
-/// What waits at a train under an identifier, of which a revocation is of this kind.
+/// What waits at a train under an identifier. `revocation` is the kind that a revocation has.
 fn waits_under(engine: u32, revocation: u32, id: u8, slot: Slot) -> Option<Outstanding>
     ensures { result ≡ waits_under engine revocation (id, slot) }
 {
@@ -68,7 +68,7 @@ fn waits_under(engine: u32, revocation: u32, id: u8, slot: Slot) -> Option<Outst
     }
 }
 
-/// What waits at a train under identifiers, of which a revocation is of this kind.
+/// What waits at a train under identifiers. `revocation` is the kind that a revocation has.
 fn waits_in(
     alloc: Global,
     engine: u32,

@@ -13,7 +13,7 @@ use rbc_text::{decide, parse_line};
 use rbc_words::{Row, other_row_of, row_of_code};
 use std::alloc::{AllocError, Global};
 
-/// The records of a desk, which are read and stay as they are.
+/// The records of a desk, for reading only.
 #[derive(Drop)]
 struct Reading<'a> {
     records: &'a PlainStore,
@@ -50,7 +50,7 @@ fn reply_on(desk: &LiveDesk, alloc: Global, input: &Input) -> Result<Reply, Allo
     match decide(alloc, &desk.track, input, &mut reading) {
         Ok(outcome) => Ok(outcome.result),
         Err(RuleFault::OutOfMemory) => Err(AllocError),
-        // A desk's records are those of a world, and this reader never fails.
+        // The records of a desk are those of a world, and this reader never fails.
         Err(RuleFault::Torn) => unreachable!(),
         Err(RuleFault::Reader) => unreachable!(),
     }
