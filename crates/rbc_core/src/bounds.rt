@@ -15,7 +15,7 @@ const BUCKETS: usize = 16_384;
 
 /// A bound for each bucket of keys: the greatest number of an input whose deposited attempt writes a key of the bucket,
 /// or 0 if there is none. A bound is never lowered, since finding the next lower number would need a search. A bound
-/// that is too great costs time alone.
+/// that is too high only costs time.
 #[derive(Drop)]
 pub struct Bounds {
     all: Vec<u32>,
@@ -70,7 +70,7 @@ impl Bounds {
     }
 }
 
-/// The bucket of a key. Trains are spread by the numbers of their engines. Keys that share a bucket cost time alone.
+/// The bucket of a key. Trains are spread by the numbers of their engines. Keys that share a bucket only cost time.
 fn bucket(key: Key) -> usize
     ensures bucket { result ≡ bucket_of key }
     ensures within { result < 16384 }

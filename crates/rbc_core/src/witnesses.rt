@@ -1,4 +1,4 @@
-//! Worked cases of the laws: right ones, of which a law's statement holds, and wrong ones, of which it does not.
+//! Worked cases of the laws: correct ones, which satisfy a law, and wrong ones, which violate it.
 
 ghost use Rattle.std.specs.Prelude.{◌≡◌, [], ◌∷◌, Some, None, true};
 ghost use Rattle.std.specs.List.{All};

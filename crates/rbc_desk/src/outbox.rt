@@ -153,8 +153,8 @@ fn spells(message: &ToTrain)
     has_room(message);
 }
 
-/// Puts a message into its engine's outbox. An engine gets an outbox with its first message. It is looked for at the
-/// index `near` first, which is the index behind it from then on. An error changes nothing.
+/// Puts a message into its engine's outbox. An engine gets an outbox with its first message. The index `near` is tried
+/// first, and is then set to the index after the outbox. An error changes nothing.
 fn post(
     alloc: Global,
     outboxes: &mut Vec<(u32, Outbox)>,
@@ -181,7 +181,7 @@ fn post(
     Ok(())
 }
 
-/// Takes the last message out of an engine's outbox, and the outbox with it where it has no other.
+/// Takes the last message out of an engine's outbox, and removes the outbox if it has no other.
 fn take_back(outboxes: &mut Vec<(u32, Outbox)>, engine: u32)
     requires { AreOutboxes outboxes.old.items }
     ensures taken { outboxes.new.items ≡ taken_back engine outboxes.old.items }
@@ -195,8 +195,8 @@ fn take_back(outboxes: &mut Vec<(u32, Outbox)>, engine: u32)
     }
 }
 
-/// Takes back the first messages of an input, the last of them first. They may be gone: their engines tell the
-/// outboxes.
+/// Takes back the first messages of an input, the last of them first. Only their engines are read, so the messages may
+/// have been moved out.
 pub(crate) fn take_back_all(outboxes: &mut Vec<(u32, Outbox)>, messages: &[Sent], count: usize)
     requires outboxes { AreOutboxes outboxes.old.items }
     requires within { count ≤ length messages.now }
@@ -239,8 +239,8 @@ fn post_moved(
     post(alloc, outboxes, sent.engine, Mail { input, message }, near)
 }
 
-/// Moves the messages of an input into the outboxes of their engines, one after another; what stands in their place
-/// keeps their engines. An error leaves the outboxes unchanged.
+/// Moves the messages of an input into the outboxes of their engines, one after another; the messages left in their
+/// place keep their engines. An error leaves the outboxes unchanged.
 pub(crate) fn post_all(
     alloc: Global,
     outboxes: &mut Vec<(u32, Outbox)>,

@@ -1,4 +1,4 @@
-//! A worked case of the law on mails: right mails, of which its statement holds, and wrong ones, of which it does not.
+//! A worked case of the law on mails: correct mails, which satisfy it, and wrong ones, which violate it.
 
 ghost use Rattle.std.specs.Prelude.{false, [], ◌∷◌};
 ghost use Rattle.rbc_rule_laws.specs.Witnesses.{stop_before, stop_now, revoke, naming, stamped, asking};
