@@ -10,7 +10,7 @@ use std::marker::Model;
 #[derive(Clone, Copy, Debug, PartialEq, Eq)]
 pub struct FullBits;
 
-/// A place in a buffer that each call is lent, counted in bits from its start.
+/// A place in a buffer, counted in bits from its start. The caller lends the buffer to each call.
 #[derive(Drop)]
 pub struct BitWriter {
     /// The byte at which the next bit goes.
@@ -37,8 +37,8 @@ impl BitWriter {
         BitWriter { byte: 0, taken: 0 }
     }
 
-    /// Writes `value` in `width` bits at the place, and moves behind them. The bits before the
-    /// place stay, and so do the bytes behind the one in which the field ends.
+    /// Writes `value` in `width` bits at the place, and moves past them. The bits before the place stay, and so do the
+    /// bytes after the one in which the field ends.
     ///
     /// # Errors
     ///

@@ -43,7 +43,7 @@ fn code_of(fault: DecodeError) -> u32
     }
 }
 
-/// The code of what keeps a message to a train from being read.
+/// The code of why a message to a train is not read.
 fn read_code_of(fault: ReadError) -> u32
     ensures value { result ≡ read_code_of fault }
     ensures positive { 0 < result }

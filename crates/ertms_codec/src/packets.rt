@@ -97,7 +97,7 @@ impl Packets {
         })
     }
 
-    /// Puts one packet more behind the others, of which there have to be fewer than 100. An error changes nothing.
+    /// Appends one packet to the others, of which there must be fewer than 100. An error changes nothing.
     pub fn push(&mut self, part: Part) -> Result<(), AllocError>
         requires { length self.old < most_packets }
         ensures ok { OnOk result (self.new ≡ self.old ++ part ∷ []) }

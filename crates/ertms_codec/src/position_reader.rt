@@ -66,7 +66,7 @@ fn position_packet(bits: &mut BitReader<'_>) -> Result<Position, DecodeError>
     Ok(position)
 }
 
-/// How many bits the variable takes that packet 1 has and packet 0 has not.
+/// How many bits the variable takes that packet 1 has and packet 0 lacks.
 fn previous_width(number: u64) -> u64
     ensures { result ≡ (if number == 1 then 24 else 0) }
 {
@@ -102,7 +102,7 @@ fn variables(bits: &mut BitReader<'_>, number: u64) -> Position
     }
 }
 
-/// NID_PRVLRBG, which packet 1 has and packet 0 has not.
+/// NID_PRVLRBG, which packet 1 has and packet 0 lacks.
 fn previous_group(bits: &mut BitReader<'_>, number: u64) -> Option<u32>
     requires { (if number == 1 then 24 else 0) ≤ length bits.old }
     ensures value { (packet : List ℕ) → bits.old ≡ drop 47 packet → number ≡ value_at 0 8 packet

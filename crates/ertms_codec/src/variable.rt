@@ -1,5 +1,5 @@
-//! The variables of the messages, with their widths in bits (SUBSET-026, chapter 7.5). What the values
-//! mean is said where a message keeps them; of those that are skipped, here.
+//! The variables of the messages, with their widths in bits (SUBSET-026, chapter 7.5). What the values mean is said at
+//! the fields of the messages; for the skipped variables it is said here.
 
 pub const D_EMERGENCYSTOP: u32 = 15;
 

@@ -4,6 +4,9 @@
 //! It stands on the desk of rbc_live, which takes the inputs; rbc_explain and rbc_picture call it. What these rest on is
 //! `IsRightBlock` (specs/Blocks.antt), which `Account::step` promises of each input. Begin with account.rt; then
 //! block.rt has what came of one input, told.rt why its messages were sent, and state.rt the state.
+//!
+//! A function that cannot report a lack of memory takes none. `AllocError` means that memory was refused; what the
+//! function was changing is then of no further use, unless its docstring says what is left.
 #![tactic(auto)]
 
 mod account;

@@ -1,4 +1,7 @@
 //! A live desk for callers in C. `rbc.h` is the header.
+//!
+//! A function that cannot report a lack of memory takes none. `AllocError` means that memory was refused; what the
+//! function was changing is then of no further use, unless its docstring says what is left.
 #![tactic(auto)]
 
 ghost use Rattle.std.specs.Prelude.{◌≡◌, None, IfOk, IfErr};

@@ -3,7 +3,7 @@
 use std::alloc::{AllocError, Global};
 use std::fmt::Write;
 
-/// The most columns of a line that is shown whole. No line of more bytes has fewer columns.
+/// The most columns of a line that is shown whole. A line has at least as many columns as bytes.
 const MOST_COLUMNS: usize = 80;
 
 /// How many columns are shown of a longer line.

@@ -212,7 +212,7 @@ impl fmt::Display for WhyPacket {
                 };
                 write!(f, "{lifted}")
             }
-            // It never comes in a block.
+            // It never occurs in a block.
             RestrictionTold::Unknown => write!(f, "\n"),
         }
     }

@@ -19,11 +19,11 @@ use std::io::Read;
 
 /// Reads a batch to its end, runs its lines on the track that a text in TOML writes, one after another from the empty
 /// state, and tells the run in words: what came of each input from number `from` on, and what stands at the end. The
-/// earlier inputs are run all the same. With no input at all `from` may be 1.
+/// earlier inputs are run, but not told. For an empty batch `from` may be 1.
 ///
-/// The log is UTF-8, in lines that end with a line feed. Each line of the output of a run that is an answer to an input
-/// that is told stands in it, in its order, with `= ` before it, and no other line begins so. Before the line of a
-/// message stands what the message says.
+/// The log is UTF-8, in lines that end with a line feed. Each output line that answers a told input stands in the log,
+/// in order, with `= ` before it, and no other line begins so. What a message says stands before the line of the
+/// message.
 ///
 /// # Errors
 ///
@@ -50,8 +50,7 @@ pub fn explain<R: Read>(
     Ok(log_of(alloc, text, account, &lines, from)?)
 }
 
-/// The log of lines, on the track that a text in TOML writes. Fails only for lack of memory, and where the text is no
-/// track.
+/// The log of lines, on the track that a text in TOML writes. Fails also if the text is not a track.
 fn log_of(
     alloc: Global,
     text: &str,
@@ -82,7 +81,7 @@ fn log_of(
     Ok(log)
 }
 
-/// The names of a track. Fails only for lack of memory, and where the text is no track.
+/// The names of a track. Fails also if the text is not a track.
 fn names_of(alloc: Global, text: &str) -> Result<NamedTrack, AllocError> {
     match named_track(alloc, text) {
         Ok(named) => Ok(named),
@@ -109,7 +108,7 @@ fn push_inputs(
     Ok(())
 }
 
-/// Takes a line, and adds what came of it if it is told.
+/// Takes a line, and adds what came of it if it is to be told.
 fn push_input(
     alloc: Global,
     log: &mut Vec<u8>,

@@ -58,8 +58,8 @@ impl<const N: usize> IdTable<N> {
         Ok(IdTable { held })
     }
 
-    /// Makes the table a copy of another, with room for one more if an identifier is held. Takes memory only where this
-    /// one did not have that room. After an error every identifier is free.
+    /// Makes the table a copy of another, with room for one more if an identifier is held. Takes memory only if this
+    /// table lacked that room. After an error every identifier is free.
     pub fn copy_from(&mut self, other: &Self) -> Result<(), AllocError>
         ensures ok { OnOk result (self.new ≡ other.now) }
         ensures err { OnErr result (self.new ≡ []) }
@@ -120,8 +120,8 @@ impl<const N: usize> IdTable<N> {
     /// Whether an identifier is used by a number. A number whose slot is being revoked is not found.
     ///
     /// The search begins at the index `near` among the held identifiers, and goes round. Where it finds the number,
-    /// `near` is then the index after it. So numbers that are asked for in the order of their identifiers are found at
-    /// once; the answer is the same wherever the search begins.
+    /// `near` is then the index after it. So numbers that are sought in the order of their identifiers are found at
+    /// once. The answer is the same wherever the search begins.
     pub fn tells(&self, number: u32, near: &Cell<usize>) -> bool
         ensures { result ≡ is_told self.now number }
     {

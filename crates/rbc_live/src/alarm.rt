@@ -16,7 +16,7 @@ use rbc_text::push_decimal;
 use rbc_zones::{Area, Limit};
 use std::alloc::{AllocError, Global};
 
-/// What is not as it should be at a train.
+/// An alarm of one train: what is not as it should be.
 #[derive(Clone, Copy)]
 pub enum Alarm {
     /// The train has no place: each stop stops it, and no restriction is told to it.
@@ -49,7 +49,7 @@ impl Alarm {
         }
     }
 
-    /// Whether it is the same.
+    /// Whether it is the same as another.
     fn is(self, other: Alarm) -> bool
         ensures { result ≡ same_alarm self other }
     {
@@ -149,8 +149,8 @@ fn push_change(
     text.extend_from_slice(b"\n")
 }
 
-/// Appends what becomes of an alarm that stood, and the alarms that are raised before it. Hands back those that stand
-/// now and come later.
+/// Appends the alarms that are raised before an old alarm in order, and the old alarm if it is cleared. Returns the
+/// present alarms that come after it.
 fn push_until<'a>(
     text: &mut Vec<u8>,
     input: u64,

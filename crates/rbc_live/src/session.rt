@@ -22,7 +22,7 @@ use std::io::Write;
 /// Answers are written once there are so many bytes of them, and at the end of each piece that is read.
 const ENOUGH: usize = 65_536;
 
-/// A desk that takes lines, and what it has to say of them.
+/// A desk that takes lines, with the answers that are not written yet.
 #[derive(Drop)]
 pub struct Session {
     desk: LiveDesk,
@@ -56,8 +56,8 @@ impl Session {
         }
     }
 
-    /// Takes the line to its end, which these bytes are, and puts its answer behind the text. After an error the text
-    /// is as it was.
+    /// Ends the current line with these bytes, takes it, and appends its answer to the text. After an error the text is
+    /// as it was.
     fn take_line(&mut self, alloc: Global, end: &[u8]) -> Result<(), AllocError>
         requires { self.old.number + 1 < 2 ^ 64 }
         ensures taken { (plan : Plan) (wanted : Wanted) (old new : Option (List ℕ)) (ended : List (List ℕ)) (rest : List ℕ)
@@ -109,7 +109,7 @@ impl Session {
         self.outlet.flush(writer)
     }
 
-    /// The fault of a line to which memory was refused: the answers to the lines before it are written first.
+    /// The fault of a line for which memory was refused. The answers to the lines before it are written first.
     fn out_of_memory<W: Write>(&mut self, writer: &mut W) -> PromptError
         ensures { (plan : Plan) (wanted : Wanted) (old : Option (List ℕ)) (ended : List (List ℕ))
             → ArePending plan wanted self.old.text.items self.old.outlet.sent old (W.contents writer.old) ended
@@ -121,7 +121,7 @@ impl Session {
         }
     }
 
-    /// Takes the line to its end, which these bytes are. Its answer is written if there is enough to write.
+    /// Ends the current line with these bytes, and takes it. The answers are written once there are enough of them.
     ///
     /// # Errors
     ///
@@ -148,7 +148,7 @@ impl Session {
         self.write_out(writer)
     }
 
-    /// Adds bytes of a line that they do not end.
+    /// Adds bytes to the current line, which goes on after them.
     ///
     /// # Errors
     ///
@@ -171,7 +171,7 @@ impl Session {
         Ok(())
     }
 
-    /// Takes the lines of a piece of what is read, in which the last one may go on, and writes their answers.
+    /// Takes the lines in a piece of the input, and writes their answers. The last line may go on in the next piece.
     ///
     /// # Errors
     ///

@@ -1,4 +1,4 @@
-//! A short line that stands in for a long one that has not ended: however both go on, they lead to the same.
+//! A short line that stands in for a long one that has not ended: however both go on, they lead to the same result.
 
 ghost use Rattle.std.specs.Prelude.{◌≡◌, ◌≤◌, ◌<◌, ◌+◌, ◌==◌, ◌∷◌, ◌++◌, [], ℕ, List, codes, length};
 ghost use Rattle.std.specs.Prelude.{if◌then◌else◌, false, true, IfOk, IfSome, IfNone};
@@ -12,7 +12,7 @@ use rbc_rule::Input;
 use rbc_text::{cut, parse_line};
 use std::alloc::{AllocError, Global};
 
-/// So many digits are kept of a long message, and one more where their number is odd. They spell more bytes than
+/// How many digits are kept of a long message, and one more if their number is odd. They spell more bytes than
 /// L_MESSAGE can count, so the others do not matter.
 const DIGITS: usize = 4_096;
 
@@ -22,7 +22,7 @@ const MAX_WORD: usize = 64;
 /// One segment more than a stop may have.
 const NINE_SEGMENTS: &[u8] = b" 0:0-0 0:0-0 0:0-0 0:0-0 0:0-0 0:0-0 0:0-0 0:0-0 0:0-0 ";
 
-/// Two texts, one behind the other.
+/// Two texts, one after the other.
 fn joined(alloc: Global, front: &[u8], behind: &[u8]) -> Result<Vec<u8>, AllocError>
     ensures { IfOk result (λ text. text.items ≡ front.now ++ behind.now) }
 {
@@ -39,7 +39,7 @@ fn bad_line(alloc: Global) -> Result<Vec<u8>, AllocError>
     joined(alloc, b" ", b"")
 }
 
-/// What stands before the last space of a line, and the word behind it. Nothing where there is no space.
+/// What stands before the last space of a line, and the word after it. `None` if there is no space.
 fn last_word(line: &[u8]) -> Option<(&[u8], &[u8])>
     ensures words { IfSome result (λ parts. words_of line.now ≡ words_of parts.0.now ++ parts.1.now ∷ []) }
     ensures whole { IfSome result (λ parts. words_of parts.1.now ≡ parts.1.now ∷ []) }
@@ -52,7 +52,7 @@ fn last_word(line: &[u8]) -> Option<(&[u8], &[u8])>
     }
 }
 
-/// The second word of a line, or nothing where there is none.
+/// The second word of a line, or an empty one if there is none.
 fn second_word(line: &[u8]) -> &[u8]
     ensures word { (first second : List ℕ) (more : List (List ℕ))
         → words_of line.now ≡ first ∷ second ∷ more

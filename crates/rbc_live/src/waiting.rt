@@ -34,7 +34,7 @@ pub enum Waits {
 }
 
 impl Waits {
-    /// Whether it is the same.
+    /// Whether it is the same as another.
     pub fn is(self, other: Waits) -> bool
         ensures { result ≡ same_waits self other }
     {

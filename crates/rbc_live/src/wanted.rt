@@ -1,4 +1,4 @@
-//! What is written of the lines that are taken.
+//! What is written for the lines that are taken.
 
 /// Which answers are written, and whether alarms are.
 #[derive(Clone, Copy)]

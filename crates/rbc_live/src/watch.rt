@@ -47,8 +47,8 @@ impl AlarmList {
     }
 }
 
-/// The alarms of the trains that may have any, as the inputs that were followed left them. A train may have alarms only
-/// while it has no place, all its identifiers of a kind are held, or no stamp is left for it.
+/// The alarms of the trains that may have any, as they are after the inputs that were followed. A train may have alarms
+/// only while it has no place, all its identifiers of a kind are held, or no stamp is left for it.
 #[derive(Drop)]
 pub struct Watch {
     alarms: IndexMap<u32, AlarmList>,
@@ -109,7 +109,7 @@ fn engine_of(key: Key) -> Option<u32>
     }
 }
 
-/// Whether writes are of the active stops or restrictions.
+/// Whether the active stops or restrictions are written.
 fn are_zones_written(writes: &Writes) -> bool
     ensures { result ≡ are_zones_written writes.now }
 {
@@ -121,7 +121,7 @@ fn are_zones_written(writes: &Writes) -> bool
     false
 }
 
-/// The engine of the train that is written, where nothing else is.
+/// The engine of the train that is written, if nothing else is.
 fn only_train_written(writes: &Writes) -> Option<u32>
     ensures trains { IfSome result (λ engine. (other : ℕ) → has_number (engine ∷ []) other ≡ false
         → is_train_written writes.now other ≡ false) }
@@ -147,7 +147,7 @@ fn trains_written(alloc: Global, writes: &Writes) -> Result<Numbers, AllocError>
     Ok(engines)
 }
 
-/// Adds a number, if it is not there.
+/// Adds a number, unless it is already there.
 fn note(engines: &mut Numbers, engine: u32) -> Result<(), AllocError>
     ensures { OnOk result (engines.new ≡ and_number engine engines.old) }
 {
@@ -205,8 +205,8 @@ impl Watch {
         Ok(())
     }
 
-    /// The trains whose alarms may be others after writes: those that are written, and where the active stops or
-    /// restrictions are, all whose alarms are kept.
+    /// The trains whose alarms may have changed after writes: the trains that are written and, if the active stops or
+    /// restrictions are written, also all trains whose alarms are kept.
     fn concerned_by(&self, alloc: Global, writes: &Writes) -> Result<Numbers, AllocError>
         ensures trains { IfOk result (λ engines. (engine : ℕ) → has_number engines engine ≡ false
             → is_train_written writes.now engine ≡ false) }
@@ -220,7 +220,7 @@ impl Watch {
         Ok(engines)
     }
 
-    /// Keeps the alarms of some trains as they are by the records now, and returns the lines of those that change.
+    /// Updates the alarms of some trains to the present records, and returns the lines of those that change.
     fn see_all(
         &mut self,
         alloc: Global,
@@ -298,8 +298,8 @@ pub(crate) fn watch_for(alloc: Global, wanted: Wanted) -> Option<Watch>
     }
 }
 
-/// What is written of alarms with the answer to an input, whose writes led to the records of a desk. Where alarms are
-/// wanted, it follows the input.
+/// The alarm lines that are written with the answer to an input, whose writes led to the records of a desk. If alarms
+/// are wanted, the watch follows the input.
 pub(crate) fn alarm_part(
     alloc: Global,
     watch: &mut Option<Watch>,

@@ -1,4 +1,4 @@
-//! Worked cases of the law: right ones, of which its statement holds, and wrong ones, of which it does not.
+//! Worked cases of the laws: correct ones, which satisfy a law, and wrong ones, which violate it.
 
 ghost use Rattle.std.specs.Prelude.{◌≡◌, [], ◌∷◌};
 ghost use Rattle.rbc_track.specs.Plan.{Plan};

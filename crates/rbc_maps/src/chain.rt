@@ -84,7 +84,8 @@ pub(crate) fn hint_of(first: &[u32], number: u32) -> usize
     place.map_or(0, |place| *place as usize)
 }
 
-/// Notes behind the heads where the numbers stand, by their last six bits. Of a place the last sixteen bits are noted.
+/// Notes after the heads where the numbers stand, by their last six bits. Only the last sixteen bits of a place are
+/// noted.
 pub(crate) fn note_hints<V>(pairs: &[(u32, V)], first: &mut Vec<u32>)
     requires { length first.old.items ≡ 128 }
     ensures heads { (mark : ℕ) → mark < 64 → slice_index first.new.items mark ≡ slice_index first.old.items mark }

@@ -67,8 +67,8 @@ fn taken_of(inputs: usize, after: Option<u32>) -> Option<usize>
     }
 }
 
-/// Takes the first lines of a batch, as many as `taken`, and draws what stands after them. Fails only for lack of
-/// memory, and where the text is not the track of the account.
+/// Takes the first lines of a batch, as many as `taken`, and draws what stands after them. Fails also if the text is
+/// not the track of the account.
 fn drawn(
     alloc: Global,
     text: &str,
@@ -110,7 +110,7 @@ fn pass(alloc: Global, account: &mut Account, line: &[u8]) -> Result<(), AllocEr
     Ok(())
 }
 
-/// The names of a track, which a text writes. Fails only for lack of memory, and where the text does not write it.
+/// The names of a track, from the text of its file. Fails also if the text is not that track.
 fn names_of(alloc: Global, text: &str, track: &Track) -> Result<NamedTrack, AllocError>
     ensures { IfOk result (λ named. length named.lines.items ≡ length track.now.lines) }
 {
@@ -134,7 +134,7 @@ fn has_lines(track: &Track, lines: usize) -> bool
     has_last && track.line_len(lines).is_none()
 }
 
-/// Draws what stands after the inputs that an account has taken, out of so many.
+/// Draws the state after the inputs that an account has taken, out of this many.
 fn picture_of(
     alloc: Global,
     account: &Account,

@@ -6,7 +6,7 @@ ghost use Rattle.rbc_picture.specs.Shown.{IsShownOn};
 use crate::svg::Svg;
 use std::alloc::AllocError;
 
-/// Adds a piece. Fails only for lack of memory, here or while the piece was drawn.
+/// Adds a piece. Reports a lack of memory here or while the piece was drawn.
 #[tactic(auto, using(crate::proofs::Joining::shown_piece))]
 pub(crate) fn push_piece(document: &mut String, piece: Svg) -> Result<(), AllocError>
     ensures { OnOk result (IsShownOn [] (string_bytes document.old) (string_bytes document.new)) }

@@ -1,4 +1,4 @@
-//! Worked cases of `says_law` for each kind of message: right ones, and wrong ones that differ from them in one
+//! Worked cases of `says_law` for each kind of message: correct ones, and wrong ones that differ from them in one
 //! variable.
 //!
 //! Train 7 of 200 m stands 200 m beyond balise group 5, which lies at 10000 on line 0, and faces up, unless it is said

@@ -24,7 +24,7 @@ const UNKNOWN_GROUP: u32 = 16_777_215;
 /// Q_DIR of a revoked restriction: both directions.
 const BOTH: u8 = 2;
 
-/// Makes changes to the stops, one after another, and puts the message of each behind those of `sent`.
+/// Makes changes to the stops, one after another, and appends the message of each to `sent`.
 pub fn change_stops(
     train: &mut TrainRec,
     changes: &[StopChange],
@@ -46,8 +46,7 @@ pub fn change_stops(
     Ok(())
 }
 
-/// Makes changes to the restrictions, one after another, and puts a message for each hundred of them behind those of
-/// `sent`.
+/// Makes changes to the restrictions, one after another, and appends a message for each hundred of them to `sent`.
 pub fn change_limits(
     alloc: Global,
     train: &mut TrainRec,

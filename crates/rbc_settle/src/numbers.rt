@@ -100,7 +100,7 @@ impl Numbers {
         })
     }
 
-    /// Makes the list a copy of another. Takes memory only where the other has more numbers than this one had room for.
+    /// Makes the list a copy of another. Takes memory only if the other has more numbers than this one has room for.
     /// After an error the list is empty.
     pub fn copy_from(&mut self, other: &Self) -> Result<(), AllocError>
         ensures ok { OnOk result (self.new ≡ other.now) }
@@ -124,7 +124,7 @@ impl Numbers {
         Ok(Numbers { all })
     }
 
-    /// Copies the list without a number, which it may lack. The copy takes memory once, and only for its numbers.
+    /// Copies the list without a number, which it need not have. The copy takes memory once, and only for its numbers.
     pub fn copy_without(&self, alloc: Global, n: u32) -> Result<Self, AllocError>
         ensures { IfOk result (λ copy. copy ≡ without_number n self.now) }
     {

@@ -69,7 +69,7 @@ impl TrainRec {
         })
     }
 
-    /// Copies the record in the memory of another that nobody needs any more, if there is one.
+    /// Copies the record into the memory of one that is no longer needed, if there is one.
     pub fn copy_over(&self, alloc: Global, spare: Option<Self>) -> Result<Self, AllocError>
         ensures { IfOk result (λ copy. copy ≡ self.now) }
     {

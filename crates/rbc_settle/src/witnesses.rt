@@ -1,4 +1,4 @@
-//! Worked cases of the law.
+//! Worked cases of `settle_law` and of escalation.
 
 ghost use Rattle.rbc_settle.specs.UpToDate.{StaysAsItIs, IsUpToDate};
 ghost use Rattle.rbc_settle.specs.WellFormed.{IsWellFormedTrain};

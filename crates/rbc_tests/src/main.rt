@@ -2,11 +2,11 @@
 //! and of 256 messages, or of as many as its line in cases.txt says. It says of each batch whether every output is that
 //! of an independent model, how many windows there were, and how many messages windows lacked the memory for.
 //!
-//! `rbc_tests RUNS WORKERS MOST` runs each batch so many times, by so many workers, and in windows of so many messages at
-//! the most, or on the book alone if MOST is 0. If there are more runs than one, it says on standard error how many inputs
-//! of a batch were recomputed. Its tests (tests.rt) show what a batch cannot: a book, with inputs attempted out of turn;
-//! runs by several workers, with gates that hold a worker until another one has come by; whole batches over readers
-//! and writers that fail; and trains whose stamps end. Their values are from outside.
+//! `rbc_tests RUNS WORKERS MOST` runs each batch so many times, by so many workers, and in windows of so many messages
+//! at the most, or on the book alone if MOST is 0. If there are more runs than one, it says on standard error how many
+//! inputs of a batch were recomputed. Its tests (tests.rt) show what a batch cannot: a book, with inputs attempted out
+//! of turn; runs by several workers, with gates that hold a worker until another one has come by; whole batches over
+//! readers and writers that fail; and trains whose stamps end. Their expected values do not come from this program.
 #![tactic(auto)]
 
 #[cfg(test)]
@@ -27,8 +27,8 @@ use std::{env, fs};
 /// How many workers run each batch, where no number is named.
 const WORKERS: &str = "1 2 3 4 16";
 
-/// The most messages of a window for each way in which a batch is run, where neither its line nor a word names some. On
-/// a locked book that is 0.
+/// The most messages of a window for each way in which a batch is run, unless its line or a word names others. 0 stands
+/// for a locked book.
 const WAYS: &str = "0 7 256";
 
 /// A batch on a track, and the output that is wanted.

@@ -7,6 +7,9 @@
 //! line has, and on `render`, which gives the output text of a desk.
 //!
 //! Begin with specs/BatchText.antt (`line_of`) and specs/OutputText.antt (`output_of`), then src/line.rt.
+//!
+//! A function that cannot report a lack of memory takes none. `AllocError` means that memory was refused; what the
+//! function was changing is then of no further use, unless its docstring says what is left.
 #![tactic(auto)]
 
 mod line;

@@ -124,8 +124,8 @@ pub fn command(alloc: Global, word: &[u8], arguments: &[u8]) -> Result<Option<In
     }
 }
 
-/// The input of one line, without its line feed (own rule): what it spells, or a refusal with its code. It is one that
-/// a batch can have.
+/// The input of one line, without its line feed (own rule): what it spells, or a refusal with its code. A batch can
+/// have this input.
 pub fn parse_line(alloc: Global, line: &[u8]) -> Result<Input, AllocError>
     ensures spelled { IfOk result (λ input. IsInput (line_of line.now) input) }
     ensures fits { IfOk result (λ input. Fits input) }

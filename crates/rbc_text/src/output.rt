@@ -1,5 +1,5 @@
-//! Writing answers and messages as output text: those of a desk, or those of one input. What writes a line stands in
-//! line in both: it is a tenth of a batch that sends many messages.
+//! Writing answers and messages as output text: those of a desk, or those of one input. The functions that write a line
+//! are inlined in both: they take a tenth of the time of a batch that sends many messages.
 
 ghost use Rattle.std.specs.Prelude.{◌≡◌, ◌++◌, ◌*◌, ◌-◌, ◌≤◌, ◌<◌, ◌^◌, codes, drop, length, take, OnOk, IfOk, map};
 ghost use Rattle.std.specs.Fmt.{decimal};
@@ -42,7 +42,7 @@ fn push_reply(text: &mut Vec<u8>, reply: Reply) -> Result<(), AllocError>
     }
 }
 
-/// Appends that an input was accepted and that nothing was sent, which is so of most, and ends the line.
+/// Appends that an input was accepted and sent nothing, as most inputs do, and ends the line.
 fn push_nothing_sent(text: &mut Vec<u8>) -> Result<(), AllocError>
     ensures { OnOk result (text.new.items ≡ text.old.items ++ codes " ok 0\n") }
 {
@@ -65,7 +65,7 @@ pub fn push_result(text: &mut Vec<u8>, input: u64, reply: Reply) -> Result<(), A
     }
 }
 
-/// How many bytes are made digits at once: a message that has no more takes one step.
+/// How many bytes are turned into digits at once. A message of at most this many takes one step.
 const AT_ONCE: usize = 32;
 
 /// Appends at most 32 bytes as hexadecimal digits, in upper case.

@@ -18,7 +18,7 @@ fn find_byte(text: &[u8], byte: u8) -> Option<usize>
     memchr(byte, text)
 }
 
-/// What stands before the first separator, and what stands behind it. Without a separator: the whole text, and `None`.
+/// The text before the first separator, and the text after it. Without a separator: the whole text, and `None`.
 pub fn cut(text: &[u8], separator: u8) -> (&[u8], Option<&[u8]>)
     ensures pieces { slice_split (λ b. b == separator) text.now ≡ result.0.now ∷ pieces_behind separator result.1 }
     ensures before { result.0.now ≡ before_first (λ b. b == separator) text.now }
@@ -32,7 +32,7 @@ pub fn cut(text: &[u8], separator: u8) -> (&[u8], Option<&[u8]>)
     }
 }
 
-/// The first line of a text that is not empty, and what stands behind its line feed.
+/// The first line of a text that is not empty, and the text after its line feed.
 pub fn first_line(text: &[u8]) -> (&[u8], &[u8])
     requires { 0 < length text.now }
     ensures line { lines_of text.now ≡ result.0.now ∷ lines_of result.1.now }
@@ -45,7 +45,7 @@ pub fn first_line(text: &[u8]) -> (&[u8], &[u8])
     }
 }
 
-/// What stands before the first separator, and what stands behind it. Without a separator: the whole text, and nothing.
+/// The text before the first separator, and the text after it. Without a separator: the whole text, and an empty one.
 fn halves(text: &[u8], separator: u8) -> (&[u8], &[u8])
     ensures before { result.0.now ≡ before_first (λ b. b == separator) text.now }
     ensures behind { result.1.now ≡ after_first (λ b. b == separator) text.now }

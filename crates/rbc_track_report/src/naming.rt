@@ -1,4 +1,4 @@
-//! A good track as people know it: its name, its lines and its balise groups in order, and how many warnings there are.
+//! A valid track as people know it: its name, its lines and its balise groups in order, and the number of warnings.
 
 ghost use Rattle.std.specs.Prelude.{◌≡◌, ◌⊎◌, Some, None, option_map, option_copied, option_and_then, IfOk};
 ghost use Rattle.std.specs.Prelude.{MatchResult};
@@ -57,7 +57,8 @@ pub struct NamedTrack {
     pub warnings: usize,
 }
 
-/// Reads the text of a good track file for its names. A check of the same text has as many warnings.
+/// Reads the names in the text of a valid track file. `warnings` is the number of warnings that a check of the text
+/// gives.
 ///
 /// # Errors
 ///
@@ -73,7 +74,7 @@ pub fn named_track(alloc: Global, text: &str) -> Result<NamedTrack, TrackError>
     track_in(alloc, &document)
 }
 
-/// The track that a document writes.
+/// The track in a document.
 ///
 /// # Errors
 ///
@@ -97,7 +98,7 @@ fn track_in(alloc: Global, document: &Table) -> Result<NamedTrack, TrackError>
     }
 }
 
-/// How many warnings a document has, of which this is the draft.
+/// How many warnings the document of this draft has.
 fn warnings_of(alloc: Global, document: &Table, draft: &Draft<'_>) -> Result<usize, AllocError> {
     let mut remarks = Remarks::new(alloc, false);
     push_unknown(alloc, &mut remarks, document);

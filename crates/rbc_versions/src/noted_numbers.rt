@@ -108,7 +108,7 @@ impl Notes {
     }
 }
 
-/// How many notes there is room for at first: most inputs read three records.
+/// The initial room for notes: most inputs read three records.
 const FEW: usize = 4;
 
 /// Adds a note behind the others, under a key that none has. An error changes nothing.

@@ -42,8 +42,8 @@ impl Model for Published {
 }
 
 impl Published {
-    /// How much was published: one for each record, and one for each item of its lists. It is for whoever bounds the
-    /// memory of a log; nothing else hangs on it.
+    /// How much was published: one for each record, and one for each item of its lists. Used only to bound the memory
+    /// of a log.
     pub fn weight(&self) -> usize
         ensures all { CountsAll result (shown self.now) }
         ensures once { IsNotedOnce (shown self.now) }
@@ -170,7 +170,7 @@ pub fn publish_all(
     Ok(Published { all, weight })
 }
 
-/// Does the same in the memory of a publication that is of no more use.
+/// Does the same in the memory of a publication that is no longer needed.
 pub fn publish_all_over(
     rt: &impl Wait,
     alloc: Global,

@@ -25,7 +25,8 @@ use rbc_settle::TrainRec;
 use std::alloc::{AllocError, Global};
 use std::collections::VecDeque;
 
-/// In how many shares the trains are. There are more of them than workers, so that each worker has about as much to do.
+/// The number of shares into which the trains are divided. There are more shares than workers, so that all workers have
+/// about the same amount to do.
 pub(crate) const SHARES: u32 = 32;
 
 /// The share of the train of an engine.
@@ -73,7 +74,7 @@ impl Share {
         self.is_done
     }
 
-    /// Takes its messages in, as far as there is memory. The records stand still meanwhile.
+    /// Takes its messages in, as far as there is memory. The records do not change meanwhile.
     pub(crate) fn take_in(
         self,
         alloc: Global,
@@ -110,7 +111,7 @@ impl Share {
         self.kept.pop_front()
     }
 
-    /// Writes its trains under their keys, behind what is written already.
+    /// Appends writes of its trains under their keys.
     pub(crate) fn write(self, writes: &mut Writes) -> Result<(), AllocError>
         ensures { OnOk result (writes.new ≡ writes.old ++ train_writes self.trains) }
     {
@@ -160,7 +161,7 @@ fn message_of(input: &Input, share: u32) -> Option<&FromTrain>
     }
 }
 
-/// Takes a message in by its train, and tells what is kept of it. The record that is replaced is spare then: the next
+/// Takes a message in by its train, and tells what is kept of it. The record that is replaced is then spare: the next
 /// one is made in its memory.
 fn taken(
     alloc: Global,

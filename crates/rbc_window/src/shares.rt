@@ -17,7 +17,7 @@ use std::alloc::{AllocError, Global};
 use std::sync::Wait;
 use std::thread::{self, Threads};
 
-/// The shares, whose messages so many workers take in at the same time.
+/// The shares, after this number of workers has taken their messages in, all at the same time.
 pub fn taken_in<R: Threads + Wait + Sync>(
     rt: &R,
     alloc: Global,
@@ -38,8 +38,7 @@ pub fn taken_in<R: Threads + Wait + Sync>(
     in_order(alloc, workers)
 }
 
-/// The work of one worker: one share after another, as long as there is one that nobody has taken. It ends before that
-/// where memory is refused.
+/// The work of one worker: it takes one share after another until none is left. It ends earlier if memory is refused.
 fn work<R: Wait>(
     rt: &R,
     alloc: Global,
@@ -63,7 +62,7 @@ fn work<R: Wait>(
     done
 }
 
-/// All shares, for whoever takes them.
+/// All shares, in a queue from which the workers take them.
 fn all_shares<R: Wait>(rt: &R, alloc: Global) -> Result<ArrayQueue<Share>, AllocError> {
     let all = ArrayQueue::new(alloc, SHARES as usize)?;
     for number in 0..SHARES {
@@ -127,7 +126,7 @@ pub fn are_done(all: &[Share]) -> bool
     true
 }
 
-/// Writes the trains of all shares under their keys, behind what is written already.
+/// Appends writes of the trains of all shares under their keys.
 pub fn write_trains(all: Vec<Share>, writes: &mut Writes) -> Result<(), AllocError>
     ensures { OnOk result (writes.new ≡ writes.old ++ flat_map (λ share. train_writes share.trains) all.items) }
 {

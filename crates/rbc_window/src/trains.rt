@@ -45,8 +45,8 @@ impl Trains {
         rbc_maps::value_of(&self.all, engine)
     }
 
-    /// Puts a train under its engine, and hands back the record in whose place it comes, if there is one. An error
-    /// changes nothing.
+    /// Puts a train under its engine, and returns the record that it replaces, if there is one. An error changes
+    /// nothing.
     pub(crate) fn put(
         &mut self,
         engine: u32,
@@ -64,7 +64,7 @@ impl Trains {
         Ok(None)
     }
 
-    /// Writes each train under its key, behind what is written already.
+    /// Appends a write of each train under its key.
     pub(crate) fn write(self, writes: &mut Writes) -> Result<(), AllocError>
         ensures { OnOk result (writes.new ≡ writes.old ++ train_writes self) }
     {

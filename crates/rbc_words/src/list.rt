@@ -32,7 +32,7 @@ pub fn codes_text(alloc: Global) -> Result<String, AllocError> {
     Ok(text)
 }
 
-/// Adds the rows of all codes: each number that a code can be is tried, so none is missing.
+/// Adds the rows of all codes: each possible code is tried, so none is missing.
 fn push_codes(text: &mut String) -> Result<(), AllocError> {
     for code in 0..=u8::MAX {
         if let Some(row) = row_of_code(code) {

@@ -49,7 +49,7 @@ impl fmt::Display for Metres {
     }
 }
 
-/// So many of a thing: `1 line`, `2 lines`. The plural of the noun ends in s.
+/// A number of things: `1 line`, `2 lines`. The plural of the noun ends in s.
 #[derive(Clone, Copy)]
 pub struct Count<'a> {
     /// How many there are.

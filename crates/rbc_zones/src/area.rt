@@ -104,7 +104,7 @@ impl OnLines<8> for Area {
 
     ghost is_sound = { AreSegments };
 
-    /// The marks of the lines of the segments, one of each segment that an area can have.
+    /// The marks of the lines of the segments, one for each segment that an area can have.
     fn marks(&self) -> [u8; 8] {
         let segments = self.segments();
         array::from_fn(|at| mark_at(segments, at))

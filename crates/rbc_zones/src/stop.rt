@@ -46,7 +46,7 @@ fn concern_at(segments: &[Segment], place: &Place) -> Concern
     concern_by_edge(place, nearest)
 }
 
-/// What a stop means whose nearest edge ahead is this one.
+/// What a stop means if this is its nearest edge ahead.
 fn concern_by_edge(place: &Place, nearest: Option<u32>) -> Concern
     ensures { result ≡ concern_by_edge place.now nearest }
 {

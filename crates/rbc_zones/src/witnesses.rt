@@ -1,4 +1,4 @@
-//! Worked cases of the laws, right ones and wrong ones.
+//! Worked cases of the laws: correct ones, which satisfy them, and wrong ones, which violate them.
 
 ghost use Rattle.rbc_zones.specs.Concerns.{IsToldRightly};
 ghost use Rattle.rbc_zones.specs.Limits.{IsToldPart};

@@ -148,7 +148,7 @@ impl Write for Narrow {
     }
 }
 
-// A writer that fails once is not tried again, though it would work.
+// A writer that fails once is not tried again, even if it would work.
 #[test]
 fn counts_what_is_out_where_the_writer_fails(rt: HostRuntime) {
     let track = good_track(&rt);

@@ -1,4 +1,4 @@
-//! Runs by several workers. What they leave is given from outside.
+//! Runs by several workers. The expected results do not come from this program.
 
 ghost use Rattle.rbc_engine.specs.Answers.{IsOpening};
 
