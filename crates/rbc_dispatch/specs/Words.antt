@@ -23,7 +23,7 @@ use Rattle.rbc_dispatch.specs.declared.words.Task.TheVariants.{Run, Live, Explai
 abbrev pub track_rule : Rule
 track_rule = record (new_rule (codes "track")) { long = Some (codes "track"); value_names = 1; required = true }
 
--- the option that says how many workers there are: a number up to 255, which is 1 by default
+-- the option for the number of workers: a number up to 255, 1 by default
 abbrev pub workers_rule : Rule
 workers_rule = record (new_rule (codes "workers")) {
   long = Some (codes "workers");
@@ -48,7 +48,7 @@ alarms_rule = record (new_rule (codes "alarms")) { long = Some (codes "alarms");
 abbrev pub run_shape : Shape
 run_shape = (with_rule (with_rule (with_rule (with_rule (with_rule (new_app (codes "run")) track_rule) workers_rule) by_train_rule) stats_rule) alarms_rule).top
 
--- the option that says from which number on answers are written: a number from 1 on, which is 1 by default
+-- the option for the first answer that is written: a number from 1 on, 1 by default
 abbrev pub from_rule : Rule
 from_rule = record (new_rule (codes "from")) {
   long = Some (codes "from");
@@ -117,11 +117,11 @@ decode_shape = (with_rule (with_rule (new_app (codes "decode")) hex_rule) long_r
 abbrev pub bare_line : App
 bare_line = on_top (λ top. record top { no_binary_name = true; subcommand_required = true; has_version = true }) (new_app (codes "dispatch"))
 
--- the command line with those subcommands alone that take a track and inputs
+-- the command line with only the subcommands that take a track and inputs
 abbrev pub input_line : App
 input_line = with_subcommand (with_subcommand (with_subcommand (with_subcommand bare_line run_shape) live_shape) explain_shape) picture_shape
 
--- the command line with those subcommands alone that take a track
+-- the command line with only the subcommands that take a track
 abbrev pub track_line : App
 track_line = with_subcommand input_line check_shape
 
