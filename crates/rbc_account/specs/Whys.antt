@@ -95,7 +95,7 @@ IsPacket records train one = IsPacketOf (value_of (active_limits records) one.nu
 abbrev pub IsReasonTo : List (Key × Rec) → TrainRec → ℕ → StopReason → Type 0
 IsReasonTo records train number reason = IsReasonOf (value_of (active_stops records) number) (has_number train.forced number) train.place reason
 
--- Why a message was sent to a train. `after` is the train after the input; it may be the one that sent it.
+-- Why a message was sent to a train, which is `train` after the input. `before` is the train that sent the input, as it was before, if a train did.
 abbrev pub IsWhat : List (Key × Rec) → Option TrainRec → TrainRec → ToldWhat → Type 0
 IsWhat records before train (what.StopBefore number told edge unit) = IsReasonTo records train number (stop_reason.Before edge)
 IsWhat records before train (what.StopAtOnce number why) = IsWhyAtOnce (escalated_under before train number) (IsReasonTo records train number) why

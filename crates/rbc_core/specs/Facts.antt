@@ -39,7 +39,7 @@ KeepsNumbers s event t = (k : Key) → (t.present k ≡ s.present k) ⊎ IsTrue 
 abbrev pub KeepsClosed : State → State → Type 0
 KeepsClosed s t = s.closed ≡ true → t.closed ≡ true
 
--- each event that may come keeps all four
+-- each event that may come keeps these, one by one
 abbrev pub AttemptsStay : Type 0
 AttemptsStay = (run : Run) (s : State) (event : Event) → May run s event → KeepsAttempts s (next s event)
 

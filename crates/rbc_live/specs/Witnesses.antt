@@ -27,7 +27,7 @@ refused = line_x (Refused 1) []
 abbrev pub accepted : Taken
 accepted = line_x (Done 0) []
 
--- it is refused, and yet a stop is sent to engine 7
+-- it is refused, but a stop is sent to engine 7
 abbrev pub sending : Taken
 sending = line_x (Refused 1) (record { engine = 7; message = Stop (record { stamp = 1; ack = false; lrbg = 16777215 }) 0 } ∷ [])
 
