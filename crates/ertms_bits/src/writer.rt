@@ -65,8 +65,7 @@ impl BitWriter {
         Ok(())
     }
 
-    /// Fills the last byte that was begun with 0, and gives the number of bytes used. The bytes behind
-    /// it stay.
+    /// Fills the last byte that was begun with 0, and gives the number of bytes used. The bytes after it stay.
     pub fn finish(self, buffer: &mut [u8]) -> usize
         requires { self ≤ 8 * length buffer.old }
         ensures used { result ≡ bytes_for self }
@@ -81,7 +80,7 @@ impl BitWriter {
         self.byte + 1
     }
 
-    /// Whether so many bits fit behind the place in a buffer of `len` bytes.
+    /// Whether this many bits fit behind the place in a buffer of `len` bytes.
     fn has_room(&self, len: usize, width: u32) -> bool
         ensures { IsTrue result ↔ (self.now + width ≤ 8 * len) }
     {
@@ -89,8 +88,8 @@ impl BitWriter {
         self.byte <= len && bits.div_ceil(8) <= (len - self.byte) as u64
     }
 
-    /// Writes the first of the low `rest` bits of `value`, up to 56 of them, with 0 behind them in the
-    /// last byte, and moves behind them. Gives the number of bits that are left.
+    /// Writes the first of the low `rest` bits of `value`, up to 56 of them, with 0 after them in the last byte, and
+    /// moves past them. Gives the number of bits that are left.
     #[inline]
     fn put_some(&mut self, buffer: &mut [u8], value: u64, rest: u32) -> u32
         requires some { 0 < rest }
@@ -131,8 +130,7 @@ fn first_bits(byte: u8, kept: u32) -> u8
     (u32::from(byte) >> free << free) as u8
 }
 
-/// The first `taken` bits of a byte, with the low `count` bits of `field` behind them, and 0 behind
-/// those.
+/// The first `taken` bits of a byte, with the low `count` bits of `field` after them, and 0 after those.
 #[inline]
 fn window_of(byte: u8, taken: u32, field: u64, count: u32) -> u64
     requires within { taken ≤ 8 }

@@ -85,7 +85,7 @@ pub record IsWantOfMemory (bytes : List ℕ) (code : ℕ) : Type 0 where
   pub read : AreReadToPackets bytes
   pub is : code ≡ memory
 
--- these are the fields of a message that fits, and the first bytes, so many, are its spelling
+-- these are the fields of a message that fits, and the first bytes, this many, are its spelling
 abbrev pub AreWritten : ToTrainFields → ℕ → List ℕ → Type 0
 AreWritten fields used bytes = (m : ToTrain) × Fits m × (fields ≡ fields_of m) × (take used bytes ≡ spelling_of m)
 

@@ -27,7 +27,7 @@ const NO_PACKET: PacketFields = PacketFields {
 #[repr(C)]
 #[derive(Clone, Copy, Drop, PartialEq, Eq)]
 pub struct PacketFields {
-    /// NID_PACKET: 65 or 66; 0 where there is no packet.
+    /// NID_PACKET: 65 or 66; 0 if there is no packet.
     pub kind: u8,
     /// NID_TSR: 0 to 255.
     pub id: u8,
@@ -105,7 +105,7 @@ fn packet_fields(part: Part) -> PacketFields
     }
 }
 
-/// The fields of packets, with those of no packet behind them.
+/// The fields of packets, with those of no packet after them.
 fn packets_fields(packets: &Packets) -> [PacketFields; MOST_PACKETS]
     ensures { result ≡ packets_fields packets.now }
 {

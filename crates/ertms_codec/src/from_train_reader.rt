@@ -54,7 +54,7 @@ fn read(bytes: &[u8]) -> Result<FromTrain, DecodeError>
     body(&mut bits, number, stamp as u32, engine as u32)
 }
 
-/// Whether a message of this number can have so many bytes.
+/// Whether a message of this number can have this many bytes.
 fn check_length(number: u64, len: usize) -> Result<(), DecodeError>
     ensures ok { IfOk result (λ _. IsFromTrain number × IsLongEnough number len) }
     ensures err { IfErr result (Unless (IsFromTrain number) message_refusal
@@ -94,7 +94,7 @@ fn body(
     }
 }
 
-/// Message 136, behind its header.
+/// Message 136, after its header.
 fn report(bits: &mut BitReader<'_>, stamp: u32, engine: u32) -> Result<FromTrain, DecodeError>
     ensures ok { IfOk result (IsReport bits.old stamp engine) }
     ensures err { IfErr result (RefusesPosition bits.old) }
@@ -107,7 +107,7 @@ fn report(bits: &mut BitReader<'_>, stamp: u32, engine: u32) -> Result<FromTrain
     })
 }
 
-/// Message 146, behind its header.
+/// Message 146, after its header.
 fn acknowledgement(bits: &mut BitReader<'_>, stamp: u32, engine: u32) -> FromTrain
     requires { 32 ≤ length bits.old }
     ensures { result ≡ received.Ack stamp engine (value_at 0 32 bits.old) }
@@ -119,7 +119,7 @@ fn acknowledgement(bits: &mut BitReader<'_>, stamp: u32, engine: u32) -> FromTra
     }
 }
 
-/// Message 147, behind its header.
+/// Message 147, after its header.
 fn stop_acknowledgement(
     bits: &mut BitReader<'_>,
     stamp: u32,

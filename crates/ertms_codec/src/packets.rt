@@ -128,7 +128,7 @@ impl Packets {
         }
     }
 
-    /// The first packet, and those behind it.
+    /// The first packet, and those after it.
     pub(crate) fn parts(&self) -> (Part, &[Part])
         ensures are { self.now ≡ result.0 ∷ result.1.now }
         ensures few { length result.1.now < most_packets }

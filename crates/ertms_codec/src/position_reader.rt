@@ -25,7 +25,7 @@ const POSITION_WIDTH: u64 = 114;
 /// How many bits the variables from D_LRBG to L_DOUBTUNDER have, which are taken at once.
 const TO_UNDER_WIDTH: u32 = D_LRBG + Q_DIRLRBG + Q_DLRBG + L_DOUBTOVER + L_DOUBTUNDER;
 
-/// The position packet with which the bits begin. All packets behind it are skipped, whatever they are.
+/// The position packet with which the bits begin. All packets after it are skipped, whatever they are.
 ///
 /// # Errors
 ///
@@ -116,8 +116,8 @@ fn previous_group(bits: &mut BitReader<'_>, number: u64) -> Option<u32>
     }
 }
 
-/// The variables from Q_LENGTH to NID_NTC, and what is behind them in the packet, which is `more` bits
-/// longer than its variables without the optional ones.
+/// The variables from Q_LENGTH to NID_NTC, and what is after them in the packet, which is `more` bits longer than its
+/// variables without the optional ones.
 fn pass_over_train(bits: &mut BitReader<'_>, more: u64) -> Result<(), DecodeError>
     requires { more + 18 ≤ length bits.old }
     ensures enough { IfOk result (λ _. length_width bits.old + system_width bits.old ≤ more) }

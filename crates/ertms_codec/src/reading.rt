@@ -50,7 +50,7 @@ pub fn pass_over(bits: &mut BitReader<'_>, count: usize)
     bits.skip(count).unwrap();
 }
 
-/// NID_MESSAGE of a message of `len` bytes, behind which L_MESSAGE is read.
+/// NID_MESSAGE of a message of `len` bytes, after which L_MESSAGE is read.
 ///
 /// # Errors
 ///

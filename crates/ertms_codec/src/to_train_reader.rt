@@ -67,7 +67,7 @@ fn read(alloc: Global, bytes: &[u8]) -> Result<ToTrain, ReadError>
     }
 }
 
-/// Whether a message of this number can have so many bytes.
+/// Whether a message of this number can have this many bytes.
 fn check_length(number: u64, len: usize) -> Result<(), DecodeError>
     ensures ok { IfOk result (λ _. IsToTrain number × IsLongEnough number len) }
     ensures err { IfErr result (Unless (IsToTrain number) message_refusal
@@ -121,7 +121,7 @@ fn body(
     }
 }
 
-/// Message 15, behind its header.
+/// Message 15, after its header.
 fn stop_at(bits: &mut BitReader<'_>, head: Head) -> ToTrain
     requires { 39 ≤ length bits.old }
     ensures { (whole : List ℕ) → bits.old ≡ drop 75 whole
@@ -138,7 +138,7 @@ fn stop_at(bits: &mut BitReader<'_>, head: Head) -> ToTrain
     }
 }
 
-/// Message 16, behind its header.
+/// Message 16, after its header.
 fn stop(bits: &mut BitReader<'_>, head: Head) -> ToTrain
     requires { 4 ≤ length bits.old }
     ensures { (whole : List ℕ) → bits.old ≡ drop 75 whole → result ≡ sent.Stop head (value_at 75 4 whole) }
@@ -149,7 +149,7 @@ fn stop(bits: &mut BitReader<'_>, head: Head) -> ToTrain
     }
 }
 
-/// Message 18, behind its header.
+/// Message 18, after its header.
 fn revoke(bits: &mut BitReader<'_>, head: Head) -> ToTrain
     requires { 4 ≤ length bits.old }
     ensures { (whole : List ℕ) → bits.old ≡ drop 75 whole → result ≡ sent.Revoke head (value_at 75 4 whole) }
@@ -160,7 +160,7 @@ fn revoke(bits: &mut BitReader<'_>, head: Head) -> ToTrain
     }
 }
 
-/// Message 24, behind its header.
+/// Message 24, after its header.
 fn general(alloc: Global, bits: &mut BitReader<'_>, head: Head) -> Result<ToTrain, ReadError>
     ensures packets { IfOk result (λ _. ArePackets most_packets bits.old) }
     ensures ok { IfOk result (λ m. m ≡ sent.General head (packets_at most_packets bits.old)) }
@@ -209,7 +209,7 @@ fn packet(bits: &mut BitReader<'_>) -> Result<Part, DecodeError>
     }
 }
 
-/// Packet 65, behind L_PACKET.
+/// Packet 65, after L_PACKET.
 fn restrict(bits: &mut BitReader<'_>, dir: u8) -> Part
     requires { 48 ≤ length bits.old }
     ensures { (whole : List ℕ) → bits.old ≡ drop 23 whole
@@ -228,7 +228,7 @@ fn restrict(bits: &mut BitReader<'_>, dir: u8) -> Part
     }
 }
 
-/// Packet 66, behind L_PACKET.
+/// Packet 66, after L_PACKET.
 fn lift(bits: &mut BitReader<'_>, dir: u8) -> Part
     requires { 8 ≤ length bits.old }
     ensures { (whole : List ℕ) → bits.old ≡ drop 23 whole

@@ -33,7 +33,7 @@ is_met p segment = segment.line == p.line && meets p segment
 abbrev pub first_met : List Segment → Place → Option Segment
 first_met area p = find (is_met p) area
 
--- the edge ahead that a train reaches first, or 0 where there is none
+-- the edge ahead that a train reaches first, or 0 if there is none
 abbrev pub nearest_edge : Place → List Segment → ℕ
 nearest_edge p area = unwrap_or (nearest p.facing (edges_ahead p area)) 0
 

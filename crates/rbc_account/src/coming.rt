@@ -84,7 +84,7 @@ fn added(
         .collect(alloc)
 }
 
-/// What waited at a train before, or nothing where there was none.
+/// What waited at a train before, or nothing if there was none.
 fn waiting_before(
     alloc: Global,
     desk: &LiveDesk,

@@ -32,7 +32,7 @@ pub enum Detail {
         engine: u32,
         length: u32,
     },
-    /// Code 10: the least stop identifier that is not free, the stop by which it is used, or `None` where it is being
+    /// Code 10: the least stop identifier that is not free, the stop by which it is used, or `None` if it is being
     /// revoked, and how many more identifiers are not free.
     Held {
         id: u8,

@@ -73,7 +73,7 @@ fn is_met(place: &Place, segment: &Segment) -> bool
         && place.lo() <= segment.to
 }
 
-/// The edge ahead that a train reaches first, or 0 where there is none.
+/// The edge ahead that a train reaches first, or 0 if there is none.
 fn nearest_edge(segments: &[Segment], place: &Place) -> u32
     ensures { result ≡ nearest_edge place.now segments.now }
 {

@@ -355,8 +355,8 @@ fn waits_at(train: &TrainStanding, what: Waits) -> bool
     has(&train.waiting, what)
 }
 
-/// Whether the train with this engine number answered a stop or acknowledged a restriction. `None` where it is not told
-/// to the train.
+/// Whether the train with this engine number answered a stop or acknowledged a restriction. `None` if it is not told to
+/// the train.
 fn answer_at(records: &PlainStore, engine: u32, what: Waits) -> Option<bool>
     ensures { result ≡ answer_at records.now what engine }
 {
@@ -366,7 +366,7 @@ fn answer_at(records: &PlainStore, engine: u32, what: Waits) -> Option<bool>
     }
 }
 
-/// Whether a train answered a stop or acknowledged a restriction. `None` where it is not told to the train.
+/// Whether a train answered a stop or acknowledged a restriction. `None` if it is not told to the train.
 fn answer_of(train: &TrainRec, what: Waits) -> Option<bool>
     ensures { result ≡ answer_of what train.now }
 {
@@ -377,7 +377,7 @@ fn answer_of(train: &TrainRec, what: Waits) -> Option<bool>
     }
 }
 
-/// Whether the message that told a number is answered. `None` where no identifier tells it.
+/// Whether the message that told a number is answered. `None` if no identifier tells it.
 fn answer_in<const N: usize>(table: &IdTable<N>, number: u32) -> Option<bool>
     ensures { result ≡ answer_in table.now number }
 {
@@ -387,7 +387,7 @@ fn answer_in<const N: usize>(table: &IdTable<N>, number: u32) -> Option<bool>
     }
 }
 
-/// Whether the message that told the number of an identifier is answered. `None` where the identifier tells none.
+/// Whether the message that told the number of an identifier is answered. `None` if the identifier tells none.
 fn acked_under<const N: usize>(table: &IdTable<N>, id: u8) -> Option<bool>
     ensures { result ≡ acked_under table.now id }
 {

@@ -91,7 +91,7 @@ pub enum WhyAtOnce {
     BehindGroup { edge: u32 },
 }
 
-/// What one packet tells of a restriction. The number is 0 where the packet is `Unknown`.
+/// What one packet tells of a restriction. The number is 0 if the packet is `Unknown`.
 #[derive(Clone, Copy)]
 pub struct ToldRestriction {
     pub number: u32,

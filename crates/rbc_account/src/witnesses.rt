@@ -9,7 +9,7 @@ ghost use Rattle.rbc_account.specs.Witnesses.{one_accepted, one_refused};
 
 use rbc_live::history_law_witnesses;
 
-/// An account takes the line `x`, which is no input, on any track.
+/// An account takes the line `x`, which is not an input, on any track.
 ///
 /// Right: one input was refused.
 ///

@@ -20,7 +20,7 @@ use Rattle.rbc_text.specs.OutputText.{output_of, outbox_lines, result_line}
 use Rattle.rbc_live.specs.Alarms.{alarm_lines}
 pub use Rattle.rbc_text.specs.Streams.{IsAllRead}
 
--- a batch has at most so many bytes
+-- the most bytes of a batch
 abbrev pub max_batch : ℕ
 max_batch = 16777216
 

@@ -103,7 +103,7 @@ fn texts_with(alloc: Global, results: Vec<u8>, desk: &Desk) -> Result<Vec<Vec<u8
     Ok(texts)
 }
 
-/// Does what [`process`](crate::process) does, and writes behind each result the lines of the alarms that its input
+/// Does what [`process`](crate::process) does, and writes after each result the lines of the alarms that its input
 /// changes. One worker takes the inputs, whatever the number of workers: alarms are judged after each input.
 ///
 /// # Errors

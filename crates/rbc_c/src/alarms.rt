@@ -15,7 +15,7 @@ pub struct Alarm {
     pub engine: u32,
     /// 0 no place, 1 a stop, 2 a restriction, 3 an answer.
     pub kind: u32,
-    /// The number of the stop or the restriction; 0 where the train has no place.
+    /// The number of the stop or the restriction; 0 if the train has no place.
     pub number: u32,
 }
 

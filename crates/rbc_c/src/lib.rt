@@ -266,8 +266,8 @@ fn explain_to_handle(
     code
 }
 
-/// Checks the text of a track, as `dispatch check` does. Answers 0: `report` says what came of it, and the report stands
-/// at the front of `out`, as many bytes as there is room for. At the code of a fault both are as they were.
+/// Checks the text of a track, as `dispatch check` does. Answers 0: `report` says what came of it, and the report
+/// stands at the front of `out`, as many bytes as there is room for. At the code of a fault both are as they were.
 #[unsafe(no_mangle)]
 pub extern "C" fn rbc_check(alloc: Global, track: &[u8], out: &mut [u8], report: &mut Report) -> u32
     ensures { Checks track.now out.old report.old result out.new report.new }

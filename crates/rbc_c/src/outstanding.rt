@@ -22,10 +22,10 @@ const RESTRICTION_REVOKED: u32 = 4;
 pub struct Outstanding {
     /// NID_ENGINE of the train.
     pub engine: u32,
-    /// What the message does: 0 tells a stop conditionally, 1 unconditionally, 2 tells a restriction, 3 revokes a stop, 4
-    /// a restriction.
+    /// What the message does: 0 tells a stop conditionally, 1 unconditionally, 2 tells a restriction, 3 revokes a stop,
+    /// 4 a restriction.
     pub kind: u32,
-    /// The number of the stop or the restriction; 0 where it is being revoked.
+    /// The number of the stop or the restriction; 0 if it is being revoked.
     pub number: u32,
     /// NID_EM or NID_TSR.
     pub identifier: u32,

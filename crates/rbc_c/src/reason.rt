@@ -100,7 +100,7 @@ fn words_on(alloc: Global, input: &Input, reply: Reply) -> Result<Vec<u8>, Alloc
     Ok(text)
 }
 
-/// The words on the answer to a line on a desk: none where it would be accepted.
+/// The words on the answer to a line on a desk: none if it would be accepted.
 fn reason_on(desk: &LiveDesk, alloc: Global, line: &[u8]) -> Result<Vec<u8>, AllocError>
     ensures { IfOk result (λ text. IsReason line.now desk.now text.items) }
 {

@@ -44,7 +44,7 @@ impl<'a> Office<'a> {
         }
     }
 
-    /// Decides an input, and applies what it writes: all of it, or nothing where the call fails. The messages are to be
+    /// Decides an input, and applies what it writes: all of it, or nothing if the call fails. The messages are to be
     /// sent only then. A store that outlives the process would make the writes durable first.
     ///
     /// # Errors

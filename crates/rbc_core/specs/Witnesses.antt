@@ -22,7 +22,7 @@ use Rattle.rbc_core.specs.Events.Event.{Publishes, Takes, Reads, Deposits, Voids
 use Rattle.rbc_core.specs.Conflicts.{after, AreAnswered}
 use Rattle.rbc_core.specs.Forwards.{AreLatest, AreAfterDeposits, NoneIsVoided}
 
--- from a new desk: train 7 of 200 m is enrolled, and then comes a line that is no input
+-- from a new desk: train 7 of 200 m is enrolled, and then comes a line that is not an input
 abbrev pub two_inputs : Run
 two_inputs = record { track = track_a; opening = record { records = []; results = []; outboxes = [] }; inputs = input.Enrol 7 2000 ∷ input.Bad 1 ∷ [] }
 

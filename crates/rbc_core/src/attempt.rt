@@ -112,7 +112,7 @@ impl<N: RunName> Attempt<N> {
         self.published.weight()
     }
 
-    /// The number that it puts under a key: 0 where it removes what stands there. `None` if it does not write the key.
+    /// The number that it puts under a key: 0 if it removes what stands there. `None` if it does not write the key.
     pub fn number_for(&self, key: Key) -> Option<u64>
         ensures number { result ≡ number_for self.now.writes key }
         ensures right { IsRightTry N.run self.now }

@@ -265,8 +265,8 @@ impl<'a, N: RunName> Book<'a, N> {
         self.desk.store()
     }
 
-    /// Swaps the leavings of the book for others. A commit keeps what it leaves in the leavings that the book has then. A
-    /// new book has leavings with no room, so its commits free everything at once.
+    /// Swaps the leavings of the book for others. A commit keeps what it leaves in the leavings that the book has then.
+    /// A new book has leavings with no room, so its commits free everything at once.
     pub fn exchange_leavings(&mut self, leavings: &mut Leavings)
         ensures { self.new ≡ self.old }
     {
@@ -325,7 +325,7 @@ impl<'a, N: RunName> Book<'a, N> {
     }
 }
 
-/// The stages of so many inputs, none of which was taken.
+/// The stages of this many inputs, none of which was taken.
 fn all_free<N: RunName>(alloc: Global, count: usize) -> Result<Vec<Stage<Attempt<N>>>, AllocError>
     ensures { IfOk result (λ stages. stages.items ≡ replicate count Free) }
 {

@@ -60,7 +60,7 @@ impl Leavings {
         }
     }
 
-    /// Makes room for what so many more commits leave.
+    /// Makes room for what this many more commits leave.
     pub fn make_room(&mut self, count: usize) -> Result<(), AllocError> {
         self.all.reserve(count)
     }
@@ -70,7 +70,7 @@ impl Leavings {
         self.all.len()
     }
 
-    /// Frees what so many commits left, or all if there are fewer. The room stays.
+    /// Frees what this many commits left, or all if there are fewer. The room stays.
     pub fn free(&mut self, count: usize) {
         for _ in 0..count {
             if self.all.pop().is_none() {

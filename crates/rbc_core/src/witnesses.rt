@@ -20,8 +20,8 @@ ghost use Rattle.rbc_core.specs.Witnesses.{forwarded_try, first_tried, forwardin
 ghost use Rattle.rbc_core.specs.Witnesses.{then_again, MissesAnswers, MissesAttempts, MissesLatest, MissesDeposits};
 ghost use Rattle.rbc_core.specs.Witnesses.{started_with_4, second_misled, start_of_three, third_try, third_misled};
 
-/// From the empty state train 7 is enrolled, and then comes a line that is no input. The three records of the first are
-/// published under the numbers 1, 2 and 3.
+/// From the empty state train 7 is enrolled, and then comes a line that is not an input. The three records of the first
+/// are published under the numbers 1, 2 and 3.
 ///
 /// Right: both are attempted, the second one first, from a read that does not stand any more when its turn comes, so
 /// that it is recomputed, and once in all; both are attempted one after the other, and nothing is recomputed;

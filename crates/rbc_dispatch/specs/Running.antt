@@ -48,7 +48,7 @@ abbrev pub IsErrUnread : {E : Type 0} → Result E Fault → Type 0
 IsErrUnread (Ok done) = ⊥
 IsErrUnread (Err fault) = IsUnread fault
 
--- what comes of a batch, by so many workers and with its alarms or without, on the track in a file: the file holds some text, or it is not read
+-- what comes of a batch, by this many workers and with its alarms or without, on the track in a file: the file holds some text, or it is not read
 abbrev pub Runs : {E : Type 0} → ℕ → Bool → Option (List ℕ) → Option (List ℕ) → Option (List ℕ) → Option (List ℕ) → Result E Fault → Type 0
 Runs {E = E} workers alarms read_old read_new old new r = ((text : List ℕ) × RunsOn {E = E} text workers alarms read_old read_new old new r) ⊎ IsErrUnread r
 

@@ -155,7 +155,7 @@ is_named name (Some p) = bytes_eq p.0 name
 abbrev pub word_after : Text → Text → Finding → Option Text
 word_after name id found = option_and_then (first_of id) (found_after name found)
 
--- the number that an argument was given after the subcommand of this name, or 0 where it was given none
+-- the number that an argument was given after the subcommand of this name, or 0 if it was given none
 abbrev pub number_after : Text → Text → Finding → ℕ
 number_after name id found = option_map_or byte_or_zero (option_and_then (one_of id) (found_after name found)) 0
 
@@ -199,7 +199,7 @@ AsksForNoFigures words =
     ((word_after (codes "run") (codes "track") (finding_in words) ≡ None) ⊎ (flag_after (codes "run") (codes "stats") (finding_in words) ≡ Some (codes "false")))
     ⊎ (is_set (flag_after (codes "run") (codes "alarms") (finding_in words)) ≡ true)
 
--- words without a fault that ask for the batch, on the track in the file of this name, with so many workers, and with its alarms or without
+-- words without a fault that ask for the batch, on the track in the file of this name, with this many workers, and with its alarms or without
 abbrev pub AsksToRun : Text → ℕ → Bool → List Text → Type 0
 AsksToRun file workers alarms words = (fault_of command_line words ≡ [])
     × (word_after (codes "run") (codes "track") (finding_in words) ≡ Some file)
@@ -220,7 +220,7 @@ AsksToExplain file from words = (fault_of command_line words ≡ [])
     × (word_after (codes "explain") (codes "track") (finding_in words) ≡ Some file)
     × (unwrap_or (input_after (codes "explain") (codes "from") (finding_in words)) 1 ≡ from)
 
--- words without a fault that ask for the picture of the track in the file of this name, after so many inputs of the batch, or after all
+-- words without a fault that ask for the picture of the track in the file of this name, after this many inputs of the batch, or after all
 abbrev pub AsksToDraw : Text → Option ℕ → List Text → Type 0
 AsksToDraw file after words = (fault_of command_line words ≡ [])
     × (word_after (codes "picture") (codes "track") (finding_in words) ≡ Some file)
@@ -294,7 +294,7 @@ IsTaskOf words task = IsTaskBy (topic_in words) (finding_in words) task
 abbrev pub IsNoTask : Finding → Type 0
 IsNoTask found = IsNeither found × (word_after (codes "check") (codes "track") found ≡ None) × (is_named (codes "codes") found ≡ false)
 
--- the task is the batch, on the track in the file of this name, with so many workers, and with its alarms or without
+-- the task is the batch, on the track in the file of this name, with this many workers, and with its alarms or without
 abbrev pub IsRunOn : Text → ℕ → Bool → Task → Type 0
 IsRunOn file workers alarms (Run track number by_train stats are_asked) = (track.now ≡ file) × (number ≡ workers) × (are_asked ≡ alarms)
 IsRunOn file workers alarms (Live track from are_asked) = ⊥
@@ -327,7 +327,7 @@ IsExplainOn file from (Decode hex long) = ⊥
 IsExplainOn file from (Codes code) = ⊥
 IsExplainOn file from (Page topic) = ⊥
 
--- the task is the picture of the track in the file of this name, after so many inputs of the batch, or after all
+-- the task is the picture of the track in the file of this name, after this many inputs of the batch, or after all
 abbrev pub IsPictureOn : Text → Option ℕ → Task → Type 0
 IsPictureOn file after (Picture track count) = (track.now ≡ file) × (count ≡ after)
 IsPictureOn file after (Run track number by_train stats alarms) = ⊥

@@ -77,7 +77,7 @@ impl Fault {
     ghost use Rattle.std.specs.IoError.{error_kind};
     ghost use Rattle.rbc_dispatch.specs.Fault.{fault_of_reading, fault_of_writing};
 
-    /// The fault that an error of reading the track file is.
+    /// The fault for an error in reading the track file.
     pub fn of_reading(error: &io::Error) -> Fault
         ensures { result ≡ fault_of_reading (error_kind error.now) }
     {
@@ -87,7 +87,7 @@ impl Fault {
         }
     }
 
-    /// The fault that an error of writing a text for people is, behind its first `sent` bytes.
+    /// The fault for an error in writing a text for people, after its first `sent` bytes.
     pub fn of_writing(error: &io::Error, sent: usize) -> Fault
         ensures { result ≡ fault_of_writing (error_kind error.now) sent }
     {

@@ -23,7 +23,7 @@ pub fn long_text(alloc: Global, bytes: &[u8]) -> Result<String, AllocError>
     while bits.left() > 0 {
         let row = at.row(place, &mut bits);
         push_line(&mut text, row)?;
-        // No text that memory holds has so many lines.
+        // No text that memory holds has this many lines.
         place = place.checked_add(row.width).ok_or(AllocError)?;
         at = at.after(row);
     }

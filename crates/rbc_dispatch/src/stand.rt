@@ -278,7 +278,7 @@ fn is_to_train(message: u32) -> bool
     message == 15 || message == 16 || message == 18 || message == 24
 }
 
-/// What follows a variable that is only in the position of a train, or behind bits that are passed over.
+/// What follows a variable that is only in the position of a train, or bits that are passed over.
 fn behind_position(variable: Variable, value: u32, left: u32) -> Variable
     ensures { IsOfPosition variable → (at : StandAt) → result ≡ behind variable value left at }
 {

@@ -25,7 +25,7 @@ pub enum Variable {
     NidEm,
     /// Q_EMERGENCYSTOP: the answer to the emergency stop.
     QEmergencystop,
-    /// Q_SCALE: the unit of the distances behind it.
+    /// Q_SCALE: the unit of the distances after it.
     QScale,
     /// D_REF: from the balise group to the point from which the message measures.
     DRef,

@@ -39,7 +39,7 @@ pub enum Task<'a> {
     ///   many inputs at once, commit them in input order, and recompute the attempts that went stale.
     /// - `by_train`: several workers share runs of messages by train instead.
     /// - `stats`: report on standard error what the workers did.
-    /// - `alarms`: write the alarms too, each behind the result of its input. One worker takes the inputs then, in
+    /// - `alarms`: write the alarms too, each after the result of its input. One worker takes the inputs then, in
     ///   order, and nothing is reported.
     Run {
         track: &'a str,

@@ -29,8 +29,8 @@ MayWork workers = (1 ≤ workers) × (workers ≤ max_workers)
 abbrev pub AreFew : Run → Type 0
 AreFew run = (length run.inputs ≤ max_inputs) × (length run.opening.results + length run.inputs ≤ max_results)
 
--- what is held is the desk of the rules applied to so many first inputs, one after another, and each mail that it has more than before
--- says what the rules give its train
+-- what is held is the desk of the rules applied to the first inputs, this many, one after another, and each mail that
+-- was added says what the rules give its train
 abbrev pub IsDeskAfter : Run → ℕ → Held → Type 0
 IsDeskAfter run count held = IsSerialRun run count (standing held) × IsSaidSince run count held.outboxes
 
@@ -65,7 +65,7 @@ IsFinished run (Err (OutOfMemory committed)) new = IsDeskAfter run committed new
 IsFinished run (Err Workers) new = ⊥
 IsFinished run (Err TooManyInputs) new = ⊥
 
--- what a run by so many workers leaves, by its answer: refused for the workers, refused for the inputs, or not refused
+-- what a run by this many workers leaves, by its answer: refused because of the workers, refused because of the inputs, or not refused
 abbrev pub IsRun : Run → ℕ → Result Stats RunError → Held → Type 0
 IsRun run workers (Ok stats) new = MayWork workers × AreFew run × IsFinished run (Ok stats) new
 IsRun run workers (Err Workers) new = ¬ (MayWork workers) × (new ≡ run.opening)

@@ -92,14 +92,14 @@ struct Taken<N: RunName> {
 enum Next<N: RunName> {
     /// It attempts these inputs, or gives them up.
     Try(Taken<N>),
-    /// It comes back once so many inputs are committed.
+    /// It comes back once this many inputs are committed.
     Wait(u32),
-    /// It leaves: no input is to be taken any more, or memory was refused.
+    /// It ends: no more inputs are to be taken, or memory was refused.
     Leave,
 }
 
 impl<'a, 'b, N: RunName, G: Gate, R: Wait> Job<'a, 'b, N, G, R> {
-    /// Works until no input is to be taken any more.
+    /// Works until no more inputs are to be taken.
     fn work(&self) {
         let mut hand = Hand::new(self.alloc);
         let mut leavings = Leavings::new(self.alloc);
@@ -151,8 +151,8 @@ impl<'a, 'b, N: RunName, G: Gate, R: Wait> Job<'a, 'b, N, G, R> {
         }
     }
 
-    /// How many inputs have to be committed before more are taken: those that were given up, and so many that not too
-    /// many are ahead.
+    /// How many inputs have to be committed before more are taken: all that were given up, and enough that not too many
+    /// are ahead.
     fn awaited(&self, book: &Book<'_, N>) -> u32 {
         let given_up = self.progress.given_up.load(Ordering::SeqCst);
         let behind = book.stats().taken.saturating_sub(MOST_AHEAD);

@@ -363,10 +363,10 @@ fn run_admitted<G: Gate + Sync, R: Threads + Wait + Sync>(
     run_stretches(rt, alloc, track, desk, inputs, crew, windows)
 }
 
-/// Runs inputs on a track, from a desk on, by so many workers, of which the calling thread is one. The workers attempt
-/// many inputs at once, note the records that they read, publish what the attempts write, and commit in the order of
-/// the inputs; an input is recomputed if something that its attempt read has changed. With `Ok` the desk is the one
-/// that the rules give for the inputs one after another, whatever the workers did in between.
+/// Runs inputs on a track, from a desk on, by this many workers, of which the calling thread is one. The workers
+/// attempt many inputs at once, note the records that they read, publish what the attempts write, and commit in the
+/// order of the inputs; an input is recomputed if something that its attempt read has changed. With `Ok` the desk is
+/// the one that the rules give for the inputs one after another, whatever the workers did in between.
 ///
 /// # Errors
 ///

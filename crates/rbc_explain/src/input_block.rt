@@ -127,7 +127,7 @@ fn push_accepted(text: &mut String, sent: u32) -> Result<(), AllocError> {
     }
 }
 
-/// What a stop or a restriction that began is to the trains, and what has come to wait.
+/// What a stop or a restriction that began means for the trains, and what began to wait.
 fn afterwards(alloc: Global, block: &Block) -> Result<String, AllocError> {
     let mut text = String::new(alloc);
     if let Some(counts) = block.counts {

@@ -330,7 +330,7 @@ impl fmt::Display for PlaceSentence {
     }
 }
 
-/// That a message has so many packets, and where its train may be.
+/// That a message has this many packets, and where its train may be.
 pub(crate) fn several_text(
     alloc: Global,
     engine: u32,

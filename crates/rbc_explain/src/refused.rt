@@ -63,7 +63,7 @@ fn push_sentence(text: &mut String, sentence: &str) -> Result<(), AllocError> {
     Ok(())
 }
 
-/// Adds the line on the figures of a refusal, if it has one, where the track has so many lines.
+/// Adds the line on the figures of a refusal, if it has one. `track_lines` is the number of lines of the track.
 fn push_detail(text: &mut String, detail: &Detail, track_lines: usize) -> Result<(), AllocError> {
     match detail {
         Detail::NotEnrolled { engine } => write!(text, "  Engine {engine} is not enrolled.\n"),

@@ -27,9 +27,8 @@ use std::io::Read;
 ///
 /// # Errors
 ///
-/// `Track` where the text is no track, as `track_from_toml` has it; nothing is read then. `Batch` where the batch
-/// cannot be read or has too many inputs, or memory was refused. `OnlyInputs` with the number of inputs where it is
-/// below `from`.
+/// `Track` if the text is not a track, as `track_from_toml` says; nothing is read then. `Batch` if the batch cannot be
+/// read or has too many inputs, or memory was refused. `OnlyInputs` with the number of inputs if it is below `from`.
 pub fn explain<R: Read>(
     alloc: Global,
     text: &str,

@@ -4,7 +4,7 @@ use rbc_account::{Cause, Waiting, Waits};
 use std::alloc::AllocError;
 use std::fmt::Write;
 
-/// Adds that something has come to wait at a train.
+/// Adds that something began to wait at a train.
 pub(crate) fn push_waiting_at(
     text: &mut String,
     engine: u32,

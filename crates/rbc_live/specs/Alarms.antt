@@ -30,7 +30,7 @@ place_alarm (Some p) = []
 abbrev pub alarms_at : ℕ → List (ℕ × List Segment) → List (ℕ × Limit) → TrainRec → List Alarm
 alarms_at horizon stops limits train = place_alarm train.place ++ map (λ waiting. Untold waiting.what) (all_waiting horizon stops limits train)
 
--- the alarms of the train with an engine number; none where it is not enrolled
+-- the alarms of the train with an engine number; none if it is not enrolled
 abbrev pub alarms_of : Plan → World → ℕ → List Alarm
 alarms_of plan w engine = option_map_or (alarms_at plan.horizon w.stops.active w.limits.active) (value_of w.trains engine) []
 

@@ -43,7 +43,7 @@ AreSentAt plan input records count = (w : World) → AreRecordsOf plan (record_i
 abbrev pub AreSentBy : Plan → List ℕ → List (Key × Rec) → ℕ → Type 0
 AreSentBy plan line records count = (input : Input) × IsInput (line_of line) input × AreSentAt plan input records count
 
--- a fault for want of room says how many messages there are, and they are more than were wanted
+-- a fault for lack of room says how many messages there are, and they are more than the caller allows
 abbrev pub IsFaultFor : (ℕ → Type 0) → ℕ → LiveFault → Type 0
 IsFaultFor AreSent most Memory = Unit
 IsFaultFor AreSent most (Room count) = (most < count) × AreSent count

@@ -26,7 +26,7 @@ may_alarm train = is_none train.place || lacks_something train
 abbrev pub alarms_if_any : ℕ → List (Key × Rec) → TrainRec → Option (List Alarm)
 alarms_if_any horizon records train = if may_alarm train then Some (alarms_at horizon (active_stops records) (active_limits records) train) else None
 
--- the same of the train with an engine number, if it is enrolled
+-- the same for the train with an engine number, if it is enrolled
 abbrev pub seen_of : ℕ → List (Key × Rec) → ℕ → Option (List Alarm)
 seen_of horizon records engine = option_and_then (alarms_if_any horizon records) (train_in records engine)
 

@@ -15,7 +15,7 @@ use Rattle.rbc_rule.specs.declared.outcome.Reply.{Reply}
 use Rattle.rbc_rule.specs.declared.outcome.Reply.TheVariants.{Done, Refused}
 use Rattle.rbc_live.specs.History.{Taken}
 
--- the line `x`, which is no input, with an answer to it and messages
+-- the line `x`, which is not an input, with an answer to it and messages
 abbrev pub line_x : Reply → List Sent → Taken
 line_x reply messages = record { line = 120 ∷ []; reply = reply; messages = messages }
 

@@ -39,7 +39,7 @@ impl Alarm {
         }
     }
 
-    /// The number of the stop or the restriction; 0 where the train has no place.
+    /// The number of the stop or the restriction; 0 if the train has no place.
     pub fn number(self) -> u32
         ensures { result ≡ (rank self).1 }
     {

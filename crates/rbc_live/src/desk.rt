@@ -80,8 +80,8 @@ impl LiveDesk {
     ///
     /// # Errors
     ///
-    /// `Memory` where memory was refused; `Room` with the number of messages where there are more than `most`. The desk
-    /// is then as it was, and the line may be fed again.
+    /// `Memory` if memory was refused; `Room` with the number of messages if there are more than `most`. The desk is
+    /// then as it was, and the line may be fed again.
     pub fn feed(&mut self, alloc: Global, line: &[u8], most: usize) -> Result<Answer, LiveFault>
         ensures step { IfOk result (λ answer. IsFed self.old.track line.now self.old.records self.new.records
             answer.reply answer.messages) }

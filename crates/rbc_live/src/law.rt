@@ -18,8 +18,9 @@ pub fn waiting_law()
     ensures { EachCauseIsTrue }
 {}
 
-/// An alarm has its reason: the train has no place; or all its identifiers of that kind are held, or no stamp is left for
-/// it. And nothing is missed: an active stop or restriction that concerns a train and is not told to it has an alarm.
+/// An alarm has its reason: the train has no place; or all its identifiers of that kind are held, or no stamp is left
+/// for it. And nothing is missed: an active stop or restriction that concerns a train and is not told to it has an
+/// alarm.
 pub fn alarm_law()
     ensures reason { EachAlarmHasReason }
     ensures nothing_missed { NothingIsEverMissed }

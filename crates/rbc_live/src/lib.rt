@@ -1,8 +1,8 @@
 //! Lines that are answered one at a time: a desk that lives as long as its owner and answers each line at once, the
 //! alarms of trains that are not told what concerns them, and a session that answers lines as they come from a reader.
 //!
-//! It stands on rbc_text, which reads a line and decides its input. rbc_batch follows alarms with it; rbc_account, the C
-//! library by rbc_handle, and the program `dispatch` call it.
+//! It stands on rbc_text, which reads a line and decides its input. rbc_batch follows alarms with it; rbc_account, the
+//! C library by rbc_handle, and the program `dispatch` call it.
 //!
 //! The storey above rests on the contract of `LiveDesk::feed` (desk.rt): the answer, the messages and the records
 //! after a line are those of the rule's step, and nothing is changed where there is no answer. `history_law` says what

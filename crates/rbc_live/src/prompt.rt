@@ -45,9 +45,9 @@ impl fmt::Display for PromptError {
 
 impl Error for PromptError {}
 
-/// Reads lines to the end of the reader, and takes each on a desk that has taken none. What is wanted of them, the answers
-/// from a number on and alarms, is written and flushed before the reader is asked for more. The last line may lack its
-/// line feed. However long a line is, at most 131,072 bytes of it are kept.
+/// Reads lines to the end of the reader, and takes each on a desk that has taken none. What is wanted of them, the
+/// answers from a number on and alarms, is written and flushed before the reader is asked for more. The last line may
+/// lack its line feed. However long a line is, at most 131,072 bytes of it are kept.
 ///
 /// # Errors
 ///

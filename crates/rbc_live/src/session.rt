@@ -19,7 +19,7 @@ use rbc_text::{cut, render_answer};
 use std::alloc::{AllocError, Global};
 use std::io::Write;
 
-/// Answers are written once there are so many bytes of them, and at the end of each piece that is read.
+/// Answers are written once there are this many bytes of them, and at the end of each piece that is read.
 const ENOUGH: usize = 65_536;
 
 /// A desk that takes lines, with the answers that are not written yet.

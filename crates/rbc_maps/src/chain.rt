@@ -14,7 +14,7 @@ pub(crate) const PLACES: usize = MARKS + HINTS;
 
 /// Chains the values whose marks these are, from the last to the first. Afterwards `first` has, for each mark, the
 /// place of the first value that carries it, and `next`, for each value and each of its marks, the place of the next
-/// one; where there is none, the place behind the last value.
+/// one; where there is none, the place after the last value.
 pub(crate) fn chain<const N: usize>(
     marks: &[[u8; N]],
     first: &mut Vec<u32>,
@@ -75,7 +75,7 @@ fn head(first: &mut Vec<u32>, own: &[u8], place: u32)
     }
 }
 
-/// Where a number may stand: a hint, by its last six bits. It is 0 where there is none.
+/// Where a number may stand: a hint, by its last six bits. It is 0 if there is none.
 #[inline]
 pub(crate) fn hint_of(first: &[u32], number: u32) -> usize
     ensures { result ≡ slice_index first.now (64 + number % 64) }

@@ -56,7 +56,7 @@ impl<V: OnLines<N>, const N: usize> Numbered<V, N> {
         }
     }
 
-    /// The last number that was given, or 0 where none was.
+    /// The last number that was given, or 0 if none was.
     pub fn last(&self) -> u32
         ensures value { result ≡ self.now.last }
         ensures sound { AreNumbered self.now }

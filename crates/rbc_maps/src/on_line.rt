@@ -45,7 +45,7 @@ pub fn mark_of(line: u32) -> u8
 #[derive(Drop)]
 pub struct OnLine<'a, V: OnLines<N>, const N: usize> {
     mark: u8,
-    /// The place of the first one that is left, or the place behind the last value of the list.
+    /// The place of the first one that is left, or the place after the last value of the list.
     at: usize,
     pairs: &'a [(u32, V)],
     /// The marks of the values of the list.

@@ -26,7 +26,7 @@ const GAP: i64 = 80;
 pub(crate) struct Mark {
     /// Where it stands, in tenths of a pixel.
     pub x: i64,
-    /// Its words, or nothing where there is no room for them.
+    /// Its words, or nothing if there is no room for them.
     pub words: Option<String>,
 }
 

@@ -111,7 +111,7 @@ fn band_of(alloc: Global, window: Window, stretch: Stretch) -> Result<Band, Allo
     })
 }
 
-/// Where the words of a band stand, by the room that they need: in the band, else behind it, else before it.
+/// Where the words of a band stand, by the room that they need: in the band, else after it, else before it.
 fn room_of(body: Span, need: i64) -> (Room, Span) {
     if body.right.saturating_sub(body.left) >= need.saturating_add(200) {
         return (Room::Inside, body);

@@ -123,7 +123,7 @@ fn names_of(alloc: Global, text: &str, track: &Track) -> Result<NamedTrack, Allo
     Ok(named)
 }
 
-/// Whether a track has so many lines.
+/// Whether a track has this many lines.
 fn has_lines(track: &Track, lines: usize) -> bool
     ensures { result ≡ true → lines ≡ length track.now.lines }
 {

@@ -66,7 +66,7 @@ fn untold_list(alloc: Global, train: &TrainState) -> Result<String, AllocError> 
     short_list(alloc, "NOT TOLD ", &words, 2)
 }
 
-/// The room of a text behind another, if there is a text.
+/// The room of a text after another, if there is a text.
 fn need_of(words: &str) -> i64 {
     if words.is_empty() {
         return 0;

@@ -228,7 +228,7 @@ impl Panel<'_> {
         svg
     }
 
-    /// Writes the name and the length of the line, behind its number, and which part of it is shown.
+    /// Writes the name and the length of the line, after its number, and which part of it is shown.
     fn draw_heading(&self, svg: &mut Svg) {
         let y = self.heading_at().y;
         svg.name(&self.about.name);

@@ -34,7 +34,7 @@ impl Writes {
         }
     }
 
-    /// Adds a write behind the others: of a new record, or of a removal. An error changes nothing.
+    /// Adds a write after the others: of a new record, or of a removal. An error changes nothing.
     pub fn set(&mut self, key: Key, rec: Option<Rec>) -> Result<(), AllocError>
         ensures ok { OnOk result (self.new ≡ self.old ++ (key, rec) ∷ []) }
         ensures err { OnErr result (self.new ≡ self.old) }

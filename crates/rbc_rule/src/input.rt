@@ -91,7 +91,7 @@ pub enum Input {
     },
     /// A message from a train.
     Received(FromTrain),
-    /// A line that is no input, with its refusal code, 1 to 6 (`Refusal::code`).
+    /// A line that is not an input, with its refusal code, 1 to 6 (`Refusal::code`).
     Bad(u8),
 }
 

@@ -41,8 +41,8 @@ pub fn stop_witnesses()
     ensures at_once_for_before { IsSaidOfStop facing_up 20000 21000 (stop_at_once ∷ []) → ⊥ }
 {}
 
-/// T_TRAIN and M_ACK of each message. The last stamp of train 7 is 1000, or 0 where it is enrolled, or 1001 where it
-/// was told stop 1 or restriction 1.
+/// T_TRAIN and M_ACK of each message. The last stamp of train 7 is 1000, or 0 if it is enrolled, or 1001 if it was told
+/// stop 1 or restriction 1.
 ///
 /// Wrong: the stamp for an unknown time, also where it is the next one; the stamp of the message before; a stamp left
 /// out; two messages of one stamp, and in the other order; and an answer by the stamp asked for by messages 15 and 16,
@@ -87,8 +87,8 @@ pub fn restriction_witnesses()
 /// Right: as the restriction is lifted, its identifier is revoked both ways.
 ///
 /// Wrong: one way; the stop identifier 0 in its place; another identifier; another balise group in 18 and in 24; the
-/// restriction identifier 0 in place of the stop's; the revocation of a stop that is active; and an identifier for which
-/// the variable has no room.
+/// restriction identifier 0 in place of the stop's; the revocation of a stop that is active; and an identifier for
+/// which the variable has no room.
 pub fn revocation_witnesses()
     ensures lifted { IsSaidIn world_limited (input.Lift 1) ((7, lift 2 0 ∷ []) ∷ []) }
     ensures one_way { IsSaidIn world_limited (input.Lift 1) ((7, lift 1 0 ∷ []) ∷ []) → ⊥ }

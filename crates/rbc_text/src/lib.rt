@@ -1,7 +1,8 @@
 //! The text of a batch: a line read as an input, and the output text of a desk.
 //!
-//! It stands on ertms_codec for the bytes of messages, and on rbc_rule and rbc_desk for inputs and desks. rbc_batch reads
-//! and writes whole batches with it, rbc_live one line at a time, and rbc_caller and rbc_explain the lines of their own.
+//! It stands on ertms_codec for the bytes of messages, and on rbc_rule and rbc_desk for inputs and desks. rbc_batch
+//! reads and writes whole batches with it, rbc_live one line at a time, and rbc_caller and rbc_explain the lines of
+//! their own.
 //!
 //! They rest on `parse_line`, which gives the input that the line spells or a refusal with its code, whatever bytes the
 //! line has, and on `render`, which gives the output text of a desk.

@@ -38,7 +38,7 @@ fn enrolment_from(engine: Option<u32>, length: Option<u32>) -> Option<Input>
     }
 }
 
-/// The input of the words behind `enrol`.
+/// The input of the words after `enrol`.
 fn enrolment(arguments: &[u8]) -> Option<Input>
     ensures { result ≡ enrolment_of (words_of arguments.now) }
 {
@@ -60,7 +60,7 @@ fn stop_from(number: Option<u32>, segments: Option<Segments>) -> Option<Input>
     }
 }
 
-/// The input of the words behind `stop`.
+/// The input of the words after `stop`.
 fn stop(alloc: Global, arguments: &[u8]) -> Result<Option<Input>, AllocError>
     ensures { IfOk result (λ found. found ≡ stop_of (words_of arguments.now)) }
 {
@@ -71,7 +71,7 @@ fn stop(alloc: Global, arguments: &[u8]) -> Result<Option<Input>, AllocError>
     }
 }
 
-/// The input of the words behind `withdraw`.
+/// The input of the words after `withdraw`.
 #[tactic(auto, using(crate::proofs::LineWords::withdrawal_is))]
 fn withdrawal(arguments: &[u8]) -> Option<Input>
     ensures { result ≡ withdrawal_of (words_of arguments.now) }
@@ -82,7 +82,7 @@ fn withdrawal(arguments: &[u8]) -> Option<Input>
     }
 }
 
-/// The input of the words behind `restrict`. The speed is in km/h.
+/// The input of the words after `restrict`. The speed is in km/h.
 fn restriction(arguments: &[u8]) -> Option<Input>
     ensures { result ≡ restriction_of (words_of arguments.now) }
 {
@@ -103,7 +103,7 @@ fn restriction(arguments: &[u8]) -> Option<Input>
     }
 }
 
-/// The input of a signaller's command and the words behind it.
+/// The input of a signaller's command and the words after it.
 pub fn command(alloc: Global, word: &[u8], arguments: &[u8]) -> Result<Option<Input>, AllocError>
     ensures { IfOk result (λ found. found ≡ command_of word.now (words_of arguments.now)) }
 {

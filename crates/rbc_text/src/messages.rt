@@ -20,7 +20,7 @@ use std::alloc::{AllocError, Global};
 /// most.
 const SHORT_MESSAGE: usize = 64;
 
-/// Why bytes that are no message are refused.
+/// Why bytes that are not a message are refused.
 fn refusal_of(fault: DecodeError) -> Refusal
     ensures { result ≡ refusal_of fault }
 {
@@ -107,7 +107,7 @@ fn message_from(alloc: Global, word: &[u8]) -> Result<Input, AllocError>
     }
 }
 
-/// The input of the words behind `recv`, cut one by one.
+/// The input of the words after `recv`, cut one by one.
 fn message_in_words(alloc: Global, arguments: &[u8]) -> Result<Input, AllocError>
     ensures { IfOk result (λ input. IsInput (unwrap_or (message_of (words_of arguments.now)) (Spelled (Bad 1))) input) }
 {
@@ -119,7 +119,7 @@ fn message_in_words(alloc: Global, arguments: &[u8]) -> Result<Input, AllocError
     }
 }
 
-/// The input of the words behind `recv`.
+/// The input of the words after `recv`.
 pub fn message(alloc: Global, arguments: &[u8]) -> Result<Input, AllocError>
     ensures { IfOk result (λ input. IsInput (unwrap_or (message_of (words_of arguments.now)) (Spelled (Bad 1))) input) }
 {

@@ -1,4 +1,4 @@
-//! Cutting a text at separators, and what the words behind a command spell.
+//! Cutting a text at separators, and what the words after a command spell.
 
 ghost use Rattle.std.specs.Prelude.{◌≡◌, ◌∷◌, ◌<◌, length, IfSome, IfNone, ◌==◌, IfOk};
 ghost use Rattle.std.specs.List.{position, slice_split, before_first, after_first};

@@ -77,7 +77,7 @@ rows_or_none (Some value) = rows_of site_in value
 abbrev pub lengths_under : Members → Option (List ℕ)
 lengths_under members = option_and_then (rows_of length_in) (get_member (codes "line") members)
 
--- the balise groups, or none where the key is missing
+-- the balise groups, or none if the key is missing
 abbrev pub sites_under : Members → Option (List Site)
 sites_under members = rows_or_none (get_member (codes "group") members)
 

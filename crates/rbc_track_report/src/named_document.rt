@@ -49,7 +49,7 @@ pub enum Wanted {
 pub struct Misfit<'a> {
     /// Where its key belongs.
     pub place: Place,
-    /// Its key, or nothing where it is a whole table.
+    /// Its key, or nothing if it is a whole table.
     pub key: Option<&'static str>,
     /// The value there, if there is one.
     pub value: Option<&'a Value>,

@@ -47,7 +47,7 @@ impl Notes {
         Notes { all: None, alloc }
     }
 
-    /// Adds a note behind the others: what was read under a key that is not noted yet. An error changes nothing.
+    /// Adds a note after the others: what was read under a key that is not noted yet. An error changes nothing.
     pub fn add(&mut self, key: Key, ticket: Option<Ticket>) -> Result<(), OutOfMemory>
         requires { is_noted (shown self.old) key ≡ false }
         ensures ok { OnOk result (self.new ≡ self.old ++ (key, ticket) ∷ []) }
@@ -111,7 +111,7 @@ impl Notes {
 /// The initial room for notes: most inputs read three records.
 const FEW: usize = 4;
 
-/// Adds a note behind the others, under a key that none has. An error changes nothing.
+/// Adds a note after the others, under a key that none has. An error changes nothing.
 fn append(
     all: &mut IndexMap<Key, Option<Ticket>>,
     key: Key,

@@ -70,8 +70,8 @@ impl Published {
         (*key, ticket.as_ref())
     }
 
-    /// The number that the publication puts under a key: 0 where it removes what stands there. `None` if it names no
-    /// such key.
+    /// The number that the publication puts under a key: 0 if it removes what stands there. `None` if it names no such
+    /// key.
     pub fn number(&self, key: Key) -> Option<u64>
         ensures { result ≡ number_for (numbered self.now) key }
     {

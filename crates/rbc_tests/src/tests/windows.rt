@@ -39,8 +39,8 @@ stop 1 0:100000-110000
 ",
 };
 
-/// Runs a batch by two workers at a pace, and asserts its output, and that no input was computed twice. Returns how many
-/// windows there were, and how many messages were shared in them: all that they had.
+/// Runs a batch by two workers at a pace, and asserts its output, and that no input was computed twice. Returns how
+/// many windows there were, and how many messages were shared in them: all that they had.
 fn run_at<R>(rt: &R, worked: Worked, pace: Pace) -> (u32, u32)
 where
     R: Abort + AllocGlobal + Threads + Wait + Sync,
