@@ -46,7 +46,7 @@ impl<'a> BitReader<'a> {
     ///
     /// # Errors
     ///
-    /// `ShortBits` only where fewer bits are left: then the reader is unchanged.
+    /// `ShortBits` only if fewer bits are left; the reader is then unchanged.
     #[inline]
     pub fn take(&mut self, width: u32) -> Result<u64, ShortBits>
         requires { (1 ≤ width) × (width ≤ 64) }
@@ -72,7 +72,7 @@ impl<'a> BitReader<'a> {
     ///
     /// # Errors
     ///
-    /// `ShortBits` only where fewer bits are left: then the reader is unchanged.
+    /// `ShortBits` only if fewer bits are left; the reader is then unchanged.
     pub fn skip(&mut self, count: usize) -> Result<(), ShortBits>
         ensures fits { IsOk result ↔ (count ≤ length self.old) }
         ensures rest { OnOk result (self.new ≡ drop count self.old) }

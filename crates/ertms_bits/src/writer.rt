@@ -42,8 +42,7 @@ impl BitWriter {
     ///
     /// # Errors
     ///
-    /// `FullBits` only where the field does not fit the rest of the buffer: then nothing is written, and
-    /// the place stays.
+    /// `FullBits` only if the field does not fit the rest of the buffer. Nothing is then written, and the place stays.
     #[inline]
     pub fn put(&mut self, buffer: &mut [u8], value: u64, width: u32) -> Result<(), FullBits>
         requires { value < 2 ^ width }
@@ -112,7 +111,7 @@ impl BitWriter {
     }
 }
 
-/// `value >> by`, also where `by` is 64 or more: then 0.
+/// `value >> by`, or 0 if `by` is 64 or more.
 #[inline]
 fn shifted_right(value: u64, by: u32) -> u64
     ensures { result ≡ value / 2 ^ by }

@@ -55,7 +55,7 @@ fn read_code_of(fault: ReadError) -> u32
 }
 
 /// Decodes the bytes of one message to a train. Answers 0, and `fields` are those of the message; or the number of the
-/// first step that fails, 1 to 4, or 5 where memory ran out at message 24, and `fields` stay.
+/// first step that fails, 1 to 4, or 5 if memory ran out for message 24, and `fields` stay.
 #[unsafe(no_mangle)]
 pub extern "C" fn ertms_3_read_to_train(
     alloc: Global,

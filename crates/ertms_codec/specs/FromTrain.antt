@@ -18,11 +18,11 @@ pub record Train : Type 0 where
   pub level : ℕ  -- M_LEVEL
   pub system : ℕ  -- NID_NTC
 
--- L_TRAININT stands where Q_LENGTH is 1 or 2
+-- L_TRAININT is present if Q_LENGTH is 1 or 2
 abbrev pub has_length : ℕ → Bool
 has_length integrity = (integrity == 1) || (integrity == 2)
 
--- NID_NTC stands where M_LEVEL is 1
+-- NID_NTC is present if M_LEVEL is 1
 abbrev pub has_system : ℕ → Bool
 has_system level = level == 1
 
@@ -35,7 +35,7 @@ abbrev pub previous_group : Option ℕ → List Field
 previous_group None = []
 previous_group (Some previous) = nid_prvlrbg previous ∷ []
 
--- a field that stands there or not
+-- a field that is present or not
 abbrev pub optional : Bool → Field → List Field
 optional true f = f ∷ []
 optional false f = []

@@ -26,8 +26,7 @@ pub enum Part {
         start: u16,
         /// L_TSR: the length of the restriction, 0 to 32767 units of `scale`.
         length: u16,
-        /// Q_FRONT: false where the length of the train delays the end of the restriction, true where
-        /// it does not.
+        /// Q_FRONT: false if the length of the train delays the end of the restriction, true if it does not.
         front: bool,
         /// V_TSR: the speed, 0 to 120 in units of 5 km/h; 121 to 127 are spare.
         speed: u8,
@@ -136,7 +135,7 @@ impl Packets {
         (self.first, &self.more)
     }
 
-    /// Copies the packets. Takes memory only where there is more than one, and fails only for lack of it.
+    /// Copies the packets. Takes memory only if there is more than one.
     pub fn copy(&self, alloc: Global) -> Result<Packets, AllocError>
         ensures { IfOk result (λ copy. copy ≡ self.now) }
     {

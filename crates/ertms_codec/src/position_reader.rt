@@ -29,8 +29,8 @@ const TO_UNDER_WIDTH: u32 = D_LRBG + Q_DIRLRBG + Q_DLRBG + L_DOUBTOVER + L_DOUBT
 ///
 /// # Errors
 ///
-/// `Packet` only where the bits are not packets to their end, and `Field` only where they are, and the
-/// position has a spare value.
+/// `Packet` only if the bits are not packets to their end, and `Field` only if they are, and the position has a spare
+/// value.
 pub fn position(bits: &mut BitReader<'_>) -> Result<Position, DecodeError>
     ensures read { IfOk result (λ _. ReadsPosition bits.old) }
     ensures value { IfOk result (λ p. p ≡ position_at bits.old) }

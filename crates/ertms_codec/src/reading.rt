@@ -54,7 +54,7 @@ pub fn pass_over(bits: &mut BitReader<'_>, count: usize)
 ///
 /// # Errors
 ///
-/// `Length` only where there are fewer than 3 bytes, or L_MESSAGE is not their number.
+/// `Length` only if there are fewer than 3 bytes, or L_MESSAGE is not their number.
 pub fn message_number(bytes: &[u8], bits: &mut BitReader<'_>) -> Result<u64, DecodeError>
     requires { bits.old ≡ bits_of_bytes bytes.now }
     ensures length { IfOk result (λ _. HasItsLength bytes.now) }

@@ -60,7 +60,7 @@ impl ToTrain {
     ghost use Rattle.std.specs.Prelude.{◌≡◌, IsTrue, ◌↔◌, IfOk};
     ghost use Rattle.ertms_codec.specs.ToTrain.{Fits, BodyFits, head_of};
 
-    /// Copies the message. Takes memory only where it has more than one packet, and fails only for lack of it.
+    /// Copies the message. Takes memory only if it has more than one packet.
     pub fn copy(&self, alloc: Global) -> Result<ToTrain, AllocError>
         ensures { IfOk result (λ copy. copy ≡ self.now) }
     {

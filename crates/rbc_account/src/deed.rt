@@ -128,7 +128,7 @@ fn done(
     }
 }
 
-/// What an accepted input did, where the input itself says all of it.
+/// What an accepted input did, if the input itself says all of it.
 fn as_given(input: &Input) -> Deed
     ensures { (plan : Plan) (before : Option TrainRec) → IsDeed plan before input.now result }
 {

@@ -1,4 +1,4 @@
-//! The output text of a desk, made by several workers where there is much to write.
+//! The output text of a desk, made by several workers if there is much to write.
 
 ghost use Rattle.std.specs.Prelude.{◌≡◌, ◌<◌, ◌≤◌, ◌++◌, ◌^◌, ℕ, length, IfOk, OnOk, slice_index_or};
 ghost use Rattle.std.specs.List.{flat_map};

@@ -203,7 +203,7 @@ impl<'a, N: RunName> Book<'a, N> {
         Ok(())
     }
 
-    /// Gives up an input that was taken, and is neither attempted nor given up; it is then computed where it is
+    /// Gives up an input that was taken, and is neither attempted nor given up; it is then computed when it is
     /// committed. `false` for any other number, and then nothing changes.
     pub fn void(&mut self, number: u32) -> bool
         ensures { Happens N.run (state_of self.old) (Voids number result) (state_of self.new) }

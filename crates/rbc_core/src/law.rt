@@ -12,9 +12,9 @@ pub fn event_law()
     ensures { EventsAreSerial }
 {}
 
-/// What one event leaves: an attempt that was deposited stays until its input is committed, or lost where memory is
-/// refused, which closes the book; what stands under a key, and its number, change only where an input is committed
-/// whose writes name it; and a book that is closed stays closed.
+/// What one event leaves: an attempt that was deposited stays until its input is committed, or lost if memory is
+/// refused, which closes the book; what stands under a key, and its number, change only if an input is committed whose
+/// writes name the key; and a book that is closed stays closed.
 pub fn staying_law()
     ensures attempts { AttemptsStay }
     ensures records { RecordsStay }

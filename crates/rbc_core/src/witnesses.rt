@@ -55,7 +55,7 @@ pub fn event_numbers_witnesses()
     ensures dropped_numbers { May two_inputs second_enrols (Recomputes refused enrolled_numbers) → ⊥ }
 {}
 
-/// What may not come at its turn.
+/// Events that may not come when they do.
 ///
 /// Wrong: the second input is committed before the first; an attempt is kept at an input that was not taken; all is
 /// done before the end; the first number is taken twice; an input with an attempt is not ready; an input is computed
@@ -106,7 +106,7 @@ pub fn staying_law_witnesses()
 ///
 /// Wrong: the first is recomputed though its attempt is fresh; a note of stops is overtaken, which nobody writes; a
 /// note is overtaken that was never read; a note that was never read is answered; and the attempt at the second is
-/// misled where the first is committed by its attempt.
+/// misled though the first is committed by its attempt.
 pub fn conflict_law_witnesses()
     ensures answered { AreAnswered second_overtaken }
     ensures overtaken { IsOvertaken start second_overtaken second_try (key.Train 7, absent) }

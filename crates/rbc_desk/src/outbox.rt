@@ -208,7 +208,7 @@ pub(crate) fn take_back_all(outboxes: &mut Vec<(u32, Outbox)>, messages: &[Sent]
     }
 }
 
-/// The message that stands where one was moved out. It is never sent.
+/// The message that is left in place of one that was moved out. It is never sent.
 fn moved_out() -> ToTrain {
     ToTrain::Stop {
         head: Head {

@@ -166,7 +166,7 @@ count_or_one text =
     if nat_lt 0 (length digits) && list_all (λ digit. nat_lt (digit_value digit) 10) digits && nat_lt (digits_value 10 digits) 18446744073709551616
     then digits_value 10 digits else 1
 
--- the count that an argument was given after the subcommand of this name, or 1 where it was given none
+-- the count that an argument was given after the subcommand of this name, or 1 if it was given none
 abbrev pub count_after : Text → Text → Finding → ℕ
 count_after name id found = option_map_or count_or_one (option_and_then (one_of id) (found_after name found)) 1
 
@@ -181,7 +181,7 @@ number_in text =
 abbrev pub input_after : Text → Text → Finding → Option ℕ
 input_after name id found = option_and_then number_in (option_and_then (one_of id) (found_after name found))
 
--- the text of a flag after the subcommand of this name: "true" where the flag stands there, and else "false"
+-- the text of a flag after the subcommand of this name: "true" if the flag stands there, else "false"
 abbrev pub flag_after : Text → Text → Finding → Option Text
 flag_after name id found = option_and_then (one_of id) (found_after name found)
 

@@ -1,4 +1,4 @@
-//! How the program ends where its task was not done.
+//! How the program ends if its task was not done.
 use crate::fault::Fault;
 use crate::no_task::NoTask;
 use std::io;
@@ -19,8 +19,8 @@ impl Ending {
     ghost use Rattle.std.specs.Process.{exit_status};
     ghost use Rattle.rbc_dispatch.specs.Ending.{IsNoHelp, PrintsFault, status_of};
 
-    /// The exit status: 0 for help and the version, and where the reader went away; 2 for bad arguments; 1 for any
-    /// other fault.
+    /// The exit status: 0 for help and the version, and if the reader went away; 2 for bad arguments; 1 for any other
+    /// fault.
     pub fn exit_code(&self) -> ExitCode
         ensures { exit_status result ≡ status_of self.now }
     {

@@ -11,8 +11,8 @@ ghost use Rattle.rbc_dispatch.specs.declared.pages.Topic.TheVariants.{Batch, Tra
 /// - No word asks for one worker, and not for two. `--workers 16` asks for 16 workers, and `--workers=007` for 7.
 /// - `--workers 0` asks for none, which the run refuses. `--workers 2` does not ask for one.
 /// - `--workers 256`, `--workers -1`, `--workers x` and a number that is named twice ask for no run.
-/// - The text of the flag is "false" where no word asks for figures, and "true" with `--stats`, which leaves the number
-///   of workers as it is. `--stats` twice asks for no run.
+/// - The text of the flag is "false" if no word asks for figures, and "true" with `--stats`, which leaves the number of
+///   workers as it is. `--stats` twice asks for no run.
 /// - `--by-train` asks for sharing by train, and leaves the number of workers as it is. `--by-train` twice asks for no
 ///   run.
 /// - `--alarms` asks for alarms, and leaves the number of workers as it is. Without it none are asked for. `--alarms`

@@ -49,7 +49,7 @@ pub enum Task<'a> {
         alarms: bool,
     },
     /// `dispatch live --track FILE --from N --alarms`: answer the lines on standard input as they come, on the track in
-    /// the file of this name, and write the answers from this number on, or from 1 where the arguments name none. With
+    /// the file of this name, and write the answers from this number on, or from 1 if the arguments name none. With
     /// `alarms`, write the alarms too.
     Live {
         track: &'a str,
@@ -57,13 +57,13 @@ pub enum Task<'a> {
         alarms: bool,
     },
     /// `dispatch explain --track FILE --from N`: tell the batch on standard input in words, on the track in the file of
-    /// this name, from this input on, 1 or more, or from 1 where the arguments name none.
+    /// this name, from this input on, 1 or more, or from 1 if the arguments name none.
     Explain {
         track: &'a str,
         from: u32,
     },
     /// `dispatch picture --track FILE --after N`: draw the state after this many inputs of the batch on standard input,
-    /// on the track in the file of this name, or after all where the arguments name no number.
+    /// on the track in the file of this name, or after all if the arguments name no number.
     Picture {
         track: &'a str,
         after: Option<u32>,
@@ -101,7 +101,7 @@ struct NumberOption {
     name: &'static str,
     /// What the number has to be.
     parser: ValueParser<'static>,
-    /// The number where the option is not given, if there is one.
+    /// The number if the option is not given, if it has a default.
     default: &'static [&'static str],
     /// What help says of it.
     help: &'static str,

@@ -159,7 +159,7 @@ impl<'a, 'b, N: RunName, G: Gate, R: Wait> Job<'a, 'b, N, G, R> {
         given_up.max(behind)
     }
 
-    /// How many inputs are committed; more than there are, where memory was refused.
+    /// How many inputs are committed; more than there are, if memory was refused.
     fn committed(&self, book: &Book<'_, N>) -> u32 {
         let told = self.progress.committed.load(Ordering::SeqCst);
         told.max(book.committed())

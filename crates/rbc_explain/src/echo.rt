@@ -35,8 +35,7 @@ fn as_plain(line: &[u8]) -> Option<&str> {
     str::from_utf8(line).ok()
 }
 
-/// Adds a line of a batch: all of its columns where they are at most 80, and else the first 60 and the number of its
-/// bytes.
+/// Adds a line of a batch: all of its columns if they are at most 80, else the first 60 and the number of its bytes.
 pub(crate) fn push_echo(alloc: Global, text: &mut String, line: &[u8]) -> Result<(), AllocError> {
     if let Some(plain) = as_plain(line) {
         return text.push_str(plain);

@@ -119,9 +119,9 @@ impl<const N: usize> IdTable<N> {
 
     /// Whether an identifier is used by a number. A number whose slot is being revoked is not found.
     ///
-    /// The search begins at the index `near` among the held identifiers, and goes round. Where it finds the number,
-    /// `near` is then the index after it. So numbers that are sought in the order of their identifiers are found at
-    /// once. The answer is the same wherever the search begins.
+    /// The search begins at the index `near` among the held identifiers, and goes round. If it finds the number, `near`
+    /// is then the index after it. So numbers that are sought in the order of their identifiers are found at once. The
+    /// answer is the same wherever the search begins.
     pub fn tells(&self, number: u32, near: &Cell<usize>) -> bool
         ensures { result ≡ is_told self.now number }
     {
@@ -263,8 +263,8 @@ impl<const N: usize> IdTable<N> {
         self.held[at].1 = slot;
     }
 
-    /// Returns the index at which an identifier stands in `held`, or would stand. Where no identifier below it is free,
-    /// it stands at the index that is its own value, so that is tried first.
+    /// Returns the index at which an identifier stands in `held`, or would stand. If no identifier below it is free, it
+    /// stands at the index that is its own value, so that index is tried first.
     fn index_of(&self, id: u8) -> usize
         ensures { result ≡ index_for id self.now }
     {

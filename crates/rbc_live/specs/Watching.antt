@@ -90,7 +90,7 @@ pub record AreSeenLines (input : ℕ) (before after : ℕ → Option (List Alarm
 abbrev pub none_seen : ℕ → Option (List Alarm)
 none_seen engine = None
 
--- a watch is kept exactly where alarms are wanted
+-- a watch is kept exactly if alarms are wanted
 abbrev pub IsWatchFor : Bool → ℕ → List (Key × Rec) → Option (List (ℕ × List Alarm)) → Type 0
 IsWatchFor false horizon records None = Unit
 IsWatchFor true horizon records None = ⊥

@@ -27,7 +27,7 @@ const ENOUGH: usize = 65_536;
 pub struct Session {
     desk: LiveDesk,
     wanted: Wanted,
-    /// The alarms that stand, where they are wanted.
+    /// The alarms that stand, if they are wanted.
     watch: Option<Watch>,
     /// The number of the next line; the first has number 1.
     number: u64,

@@ -103,8 +103,8 @@ fn message(alloc: Global, word: &[u8]) -> Result<Vec<u8>, AllocError>
     joined(alloc, b"recv ", &word[..DIGITS + word.len() % 2])
 }
 
-/// Stands in for `stop` and more words, of which the last one may go on. Where there are more than eight segments, it
-/// does not matter which.
+/// Stands in for `stop` and more words, of which the last one may go on. If there are more than eight segments, it does
+/// not matter which.
 fn stop(alloc: Global, front: &[u8], word: &[u8]) -> Result<Vec<u8>, AllocError>
     requires command { (arguments : List (List ℕ)) × (words_of front.now ≡ codes "stop" ∷ arguments) }
     requires whole { words_of word.now ≡ word.now ∷ [] }

@@ -158,7 +158,7 @@ fn note(engines: &mut Numbers, engine: u32) -> Result<(), AllocError>
 }
 
 impl Watch {
-    /// Begins where no train is enrolled.
+    /// Begins with no train enrolled.
     pub fn new(alloc: Global) -> Self
         ensures { result ≡ [] }
     {
@@ -287,7 +287,7 @@ impl Watch {
     }
 }
 
-/// A watch where alarms are wanted.
+/// A watch, if alarms are wanted.
 pub(crate) fn watch_for(alloc: Global, wanted: Wanted) -> Option<Watch>
     ensures { (horizon : ℕ) → IsWatchFor wanted.alarms horizon [] result }
 {

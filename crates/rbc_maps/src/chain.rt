@@ -14,7 +14,7 @@ pub(crate) const PLACES: usize = MARKS + HINTS;
 
 /// Chains the values whose marks these are, from the last to the first. Afterwards `first` has, for each mark, the
 /// place of the first value that carries it, and `next`, for each value and each of its marks, the place of the next
-/// one; where there is none, the place after the last value.
+/// one; if there is none, the place after the last value.
 pub(crate) fn chain<const N: usize>(
     marks: &[[u8; N]],
     first: &mut Vec<u32>,

@@ -241,7 +241,7 @@ impl TrainShape<'_> {
         }
     }
 
-    /// Draws the sign of the stops that the train is told by message 16, and its words where there is room for them.
+    /// Draws the sign of the stops that the train is told by message 16, and its words if there is room for them.
     fn draw_now(&self, svg: &mut Svg, y: i64) {
         if let Some(sign) = &self.now {
             let front = front_of(self.body, self.side);

@@ -151,7 +151,7 @@ impl Window {
     }
 }
 
-/// The next multiple of the grain, or the place itself where it is one.
+/// The next multiple of the grain, or the place itself if it is one.
 fn up_to_grain(place: u32) -> u32
     ensures { place ≤ result }
 {

@@ -159,7 +159,7 @@ IsSaidOfStop place from to sent = IsSaidIn (only_train_7 place) (Stop 1 (on_line
 abbrev pub IsSaidOfLimit : Place → ℕ → ℕ → List ToTrain → Type 0
 IsSaidOfLimit place from to sent = IsSaidIn (only_train_7 place) (Restrict 1 (on_line_0 from to) dirs.Both 80 false) ((7, sent) ∷ [])
 
--- what the law says of message 18 for identifier 16, which has no room in its variable, where that is to be revoked
+-- what the law says of message 18 for identifier 16, which has no room in its variable, if that is to be revoked
 abbrev pub IsSaidOfIdentifier16 : Type 0
 IsSaidOfIdentifier16 = SaysFor track_a none_numbered none_numbered (train_7 (Some facing_up) 1001 []) (ChangesStop (stop_change.Revoke 16 None)) (revoke 16)
 

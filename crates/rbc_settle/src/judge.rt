@@ -237,7 +237,7 @@ fn line_to_judge(train: &TrainRec) -> Option<u32>
     Some(u32::from(train.place.as_ref()?.line()))
 }
 
-/// The pairs of `stops_told`, for a train that is judged by the stops on its line, where none is escalated.
+/// The pairs of `stops_told`, for a train that is judged by the stops on its line, if none is escalated.
 fn stops_told_on_line(
     alloc: Global,
     stops: &Stops,

@@ -40,7 +40,7 @@ pub record AreNoted (old new : Remarks) : Type 0 where
   pub other_keys : new.other_keys ≡ old.other_keys
   pub cut : old.is_cut ≡ true → new.is_cut ≡ true
 
--- Remarks on unknown keys were added: notes where other keys are allowed, and else warnings.
+-- Remarks on unknown keys were added: notes if other keys are allowed, else warnings.
 pub record AreOnKeys (old new : Remarks) : Type 0 where
   pub allowed : old.other_keys ≡ true → AreNoted old new
   pub forbidden : old.other_keys ≡ false → AreWarned old new

@@ -80,7 +80,7 @@ pub fn push_notes(remarks: &mut Remarks<'_>, draft: &Draft<'_>)
     push_wide_gap(remarks, draft.horizon, groups);
 }
 
-/// Adds a note where the horizon is not below the longest line.
+/// Adds a note if the horizon is not below the longest line.
 fn push_far(remarks: &mut Remarks<'_>, draft: &Draft<'_>)
     ensures { AreNoted remarks.old remarks.new }
 {
@@ -90,7 +90,7 @@ fn push_far(remarks: &mut Remarks<'_>, draft: &Draft<'_>)
     }
 }
 
-/// Adds a note where the horizon is below 2 km.
+/// Adds a note if the horizon is below 2 km.
 #[tactic(auto, using(crate::proofs::Written::noted_none, crate::proofs::Written::noted_more))]
 fn push_near(remarks: &mut Remarks<'_>, horizon: u32)
     ensures { AreNoted remarks.old remarks.new }
@@ -100,7 +100,7 @@ fn push_near(remarks: &mut Remarks<'_>, horizon: u32)
     }
 }
 
-/// Adds a note where the horizon is less than what lies between two neighbours.
+/// Adds a note if the horizon is less than a gap between two neighbours.
 #[tactic(auto, using(crate::proofs::Written::noted_none, crate::proofs::Written::noted_more))]
 fn push_wide_gap(remarks: &mut Remarks<'_>, horizon: u32, groups: &[GroupDraft<'_>])
     ensures { AreNoted remarks.old remarks.new }

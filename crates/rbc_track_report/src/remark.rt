@@ -69,7 +69,7 @@ pub enum Remark<'a> {
     FarHorizon(u32),
     /// The horizon is below 2 km.
     NearHorizon(u32),
-    /// The horizon is less than what lies between two neighbours.
+    /// The horizon is less than the gap between two neighbours.
     WideGap {
         horizon: u32,
         gap: Gap,

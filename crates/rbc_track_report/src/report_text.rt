@@ -74,7 +74,7 @@ impl Sheet {
         self.words(digits.format(number))
     }
 
-    /// Adds a number in decimal, with its sign where it is below 0.
+    /// Adds a number in decimal, with its sign if it is below 0.
     pub fn integer(&mut self, number: i64) -> &mut Self
         ensures same { result.ghost_name ≡ self.entry.ghost_name }
         ensures written { IsWrittenOn self.old result.now }
@@ -160,8 +160,8 @@ impl Sheet {
         }
     }
 
-    /// Adds a text from a file: its first 40 characters, with a dot for each one that is unruly, and two dots where it
-    /// is longer.
+    /// Adds a text from a file: its first 40 characters, with a dot for each one that is unruly, and two dots if it is
+    /// longer.
     pub fn shown(&mut self, shown: &str) -> &mut Self
         ensures same { result.ghost_name ≡ self.entry.ghost_name }
         ensures written { IsWrittenOn self.old result.now }

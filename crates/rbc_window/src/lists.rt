@@ -41,7 +41,7 @@ impl Lists {
         }
     }
 
-    /// Takes a train out of one list and puts it into another; nothing changes where both are the same. Lists that have
+    /// Takes a train out of one list and puts it into another; nothing changes if both are the same. Lists that have
     /// not changed before are copied from the store. It would also fail if the list that the engine enters already had
     /// it, or if the record under a key were not a list; neither happens.
     pub fn move_train(

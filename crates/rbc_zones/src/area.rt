@@ -14,7 +14,7 @@ use std::marker::Model;
 /// The most segments that an area has.
 const MAX_SEGMENTS: usize = 8;
 
-/// The mark where an area has no further segment. No line has it, as marks of lines are below 64.
+/// The mark for a segment that an area does not have. No line has it, since marks of lines are below 64.
 const NO_MARK: u8 = 255;
 
 /// Fills the array of an area that has fewer segments.
