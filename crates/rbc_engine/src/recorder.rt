@@ -59,7 +59,7 @@ impl<'a, 'b, N: RunName, G: Gate, R: Wait> Recorder<'a, 'b, N, G, R> {
         Recorder::knowing(rt, Notes::new(alloc), book, log, gate, input, None)
     }
 
-    /// The same for a worker that has numbers in hand, with notes in the memory of others.
+    /// Makes a recorder for a worker that has numbers in hand, with notes in the memory of others.
     pub(crate) fn knowing(
         rt: &'a R,
         notes: Notes,
@@ -138,7 +138,8 @@ impl<'a, 'b, N: RunName, G: Gate, R: Wait> Reader for Recorder<'a, 'b, N, G, R> 
 
     ghost failed = { λ recorder. recorder.failures };
 
-    /// Fails for lack of memory; and `Failed` if a number that stood in the book is not found in the log.
+    /// Fails with `OutOfMemory` for lack of memory, and with `Failed` if a number that stood in the book is not found
+    /// in the log.
     fn fetch(&mut self, key: Key) -> Result<(), ReadFault> {
         if self.notes.get(key).is_some() {
             return Ok(());
