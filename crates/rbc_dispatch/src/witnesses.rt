@@ -19,9 +19,9 @@ ghost use Rattle.rbc_dispatch.specs.declared.pages.Topic.TheVariants.{Batch, Tra
 ///   twice asks for no run.
 ///
 /// After `live --track t`, `--from 7` asks for the answers from number 7 on, and `--from 0` for none; `--alarms` asks
-/// for alarms, before `--from 7` or after it, and `--alarms` twice for no answers. After `explain --track t`, `--from
-/// 4294967295` asks for the log from that input on, and `--from 0` for none. After `picture --track t`, `--after 0`
-/// asks for the picture before all inputs, and `--after 4294967296` for none.
+/// for alarms, before `--from 7` or after it, and `--alarms` twice for no answers. After `explain --track t`,
+/// `--from 4294967295` asks for the log from that input on, and `--from 0` for none. After `picture --track t`,
+/// `--after 0` asks for the picture before all inputs, and `--after 4294967296` for none.
 ///
 /// `codes` asks for all codes, `codes 12` for code 12, and `codes 0` and `codes 17` for nothing. `help batch` and
 /// `help track` ask for a page; `help run` and `help batch batch` for none.
