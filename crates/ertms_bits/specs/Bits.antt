@@ -17,17 +17,17 @@ abbrev pub AreBits : List ℕ → Type 0
 AreBits [] = Unit {0}
 AreBits (bit ∷ bits) = (bit < 2) × AreBits bits
 
--- how many bytes so many bits take
+-- how many bytes this many bits take
 abbrev pub bytes_for : ℕ → ℕ
 bytes_for bits = (bits + 7) / 8
 
--- the number that so many bits stand for; bits that are not there are 0
+-- the number that this many bits stand for; missing bits are 0
 unfoldable pub number_of : ℕ → List ℕ → ℕ
 number_of zero bits = 0
 number_of (suc width) [] = 0
 number_of (suc width) (bit ∷ bits) = bit * 2 ^ width + number_of width bits
 
--- so many bytes, made of the bits in turn; bits that are not there are 0
+-- this many bytes, made of the bits in turn; missing bits are 0
 unfoldable pub bytes_of : ℕ → List ℕ → List ℕ
 bytes_of zero bits = []
 bytes_of (suc count) bits = number_of 8 bits ∷ bytes_of count (drop 8 bits)

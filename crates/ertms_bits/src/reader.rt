@@ -42,11 +42,11 @@ impl<'a> BitReader<'a> {
         }
     }
 
-    /// The number that the next `width` bits stand for, and moves behind them.
+    /// Returns the number that the next `width` bits stand for, and moves past them.
     ///
     /// # Errors
     ///
-    /// `ShortBits` only where fewer bits are left: then the reader is unchanged.
+    /// `ShortBits` only if fewer bits are left; the reader is then unchanged.
     #[inline]
     pub fn take(&mut self, width: u32) -> Result<u64, ShortBits>
         requires { (1 ≤ width) × (width ≤ 64) }
@@ -68,11 +68,11 @@ impl<'a> BitReader<'a> {
         Ok(high << 32 | low)
     }
 
-    /// Moves behind the next `count` bits.
+    /// Moves past the next `count` bits.
     ///
     /// # Errors
     ///
-    /// `ShortBits` only where fewer bits are left: then the reader is unchanged.
+    /// `ShortBits` only if fewer bits are left; the reader is then unchanged.
     pub fn skip(&mut self, count: usize) -> Result<(), ShortBits>
         ensures fits { IsOk result ↔ (count ≤ length self.old) }
         ensures rest { OnOk result (self.new ≡ drop count self.old) }
@@ -87,7 +87,7 @@ impl<'a> BitReader<'a> {
         Ok(())
     }
 
-    /// How many bits are left, or `usize::MAX` where they are more.
+    /// How many bits are left, or `usize::MAX` if there are more.
     #[inline]
     pub fn left(&self) -> usize
         ensures { result ≡ min (length self.now) (2 ^ 64 - 1) }
@@ -100,7 +100,7 @@ impl<'a> BitReader<'a> {
         (bytes - 1).saturating_mul(8).saturating_add(begun)
     }
 
-    /// The number that the next `width` bits stand for, up to 56 of them, and moves behind them.
+    /// Returns the number that the next `width` bits stand for, up to 56 of them, and moves past them.
     #[inline]
     fn take_some(&mut self, width: u32) -> u64
         requires some { 1 ≤ width }

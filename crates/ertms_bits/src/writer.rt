@@ -10,7 +10,7 @@ use std::marker::Model;
 #[derive(Clone, Copy, Debug, PartialEq, Eq)]
 pub struct FullBits;
 
-/// A place in a buffer that each call is lent, counted in bits from its start.
+/// A place in a buffer, counted in bits from its start. The caller lends the buffer to each call.
 #[derive(Drop)]
 pub struct BitWriter {
     /// The byte at which the next bit goes.
@@ -37,13 +37,12 @@ impl BitWriter {
         BitWriter { byte: 0, taken: 0 }
     }
 
-    /// Writes `value` in `width` bits at the place, and moves behind them. The bits before the
-    /// place stay, and so do the bytes behind the one in which the field ends.
+    /// Writes `value` in `width` bits at the place, and moves past them. The bits before the place stay, and so do the
+    /// bytes after the one in which the field ends.
     ///
     /// # Errors
     ///
-    /// `FullBits` only where the field does not fit the rest of the buffer: then nothing is written, and
-    /// the place stays.
+    /// `FullBits` only if the field does not fit the rest of the buffer. Nothing is then written, and the place stays.
     #[inline]
     pub fn put(&mut self, buffer: &mut [u8], value: u64, width: u32) -> Result<(), FullBits>
         requires { value < 2 ^ width }
@@ -65,8 +64,7 @@ impl BitWriter {
         Ok(())
     }
 
-    /// Fills the last byte that was begun with 0, and gives the number of bytes used. The bytes behind
-    /// it stay.
+    /// Fills the last byte that was begun with 0, and gives the number of bytes used. The bytes after it stay.
     pub fn finish(self, buffer: &mut [u8]) -> usize
         requires { self ≤ 8 * length buffer.old }
         ensures used { result ≡ bytes_for self }
@@ -81,7 +79,7 @@ impl BitWriter {
         self.byte + 1
     }
 
-    /// Whether so many bits fit behind the place in a buffer of `len` bytes.
+    /// Whether this many bits fit behind the place in a buffer of `len` bytes.
     fn has_room(&self, len: usize, width: u32) -> bool
         ensures { IsTrue result ↔ (self.now + width ≤ 8 * len) }
     {
@@ -89,8 +87,8 @@ impl BitWriter {
         self.byte <= len && bits.div_ceil(8) <= (len - self.byte) as u64
     }
 
-    /// Writes the first of the low `rest` bits of `value`, up to 56 of them, with 0 behind them in the
-    /// last byte, and moves behind them. Gives the number of bits that are left.
+    /// Writes the first of the low `rest` bits of `value`, up to 56 of them, with 0 after them in the last byte, and
+    /// moves past them. Gives the number of bits that are left.
     #[inline]
     fn put_some(&mut self, buffer: &mut [u8], value: u64, rest: u32) -> u32
         requires some { 0 < rest }
@@ -113,7 +111,7 @@ impl BitWriter {
     }
 }
 
-/// `value >> by`, also where `by` is 64 or more: then 0.
+/// `value >> by`, or 0 if `by` is 64 or more.
 #[inline]
 fn shifted_right(value: u64, by: u32) -> u64
     ensures { result ≡ value / 2 ^ by }
@@ -131,8 +129,7 @@ fn first_bits(byte: u8, kept: u32) -> u8
     (u32::from(byte) >> free << free) as u8
 }
 
-/// The first `taken` bits of a byte, with the low `count` bits of `field` behind them, and 0 behind
-/// those.
+/// The first `taken` bits of a byte, with the low `count` bits of `field` after them, and 0 after those.
 #[inline]
 fn window_of(byte: u8, taken: u32, field: u64, count: u32) -> u64
     requires within { taken ≤ 8 }

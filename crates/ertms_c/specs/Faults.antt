@@ -11,7 +11,7 @@ code_of Message = 2
 code_of Packet = 3
 code_of Field = 4
 
--- that of want of memory
+-- the number for a lack of memory
 abbrev pub memory : ℕ
 memory = 5
 

@@ -41,7 +41,7 @@ fields_of (Stop head id) = record (begun 16 head) { id = id }
 fields_of (Revoke head id) = record (begun 18 head) { id = id }
 fields_of (General head packets) = record (begun 24 head) { count = length packets; packets = packets_fields packets }
 
--- the message but 24 that fields name by their kind
+-- the message, other than 24, that fields name by their kind
 abbrev pub head_in : ToTrainFields → Head
 head_in fields = record { stamp = fields.stamp; ack = fields.ack == 1; lrbg = fields.lrbg }
 
@@ -85,7 +85,7 @@ pub record IsWantOfMemory (bytes : List ℕ) (code : ℕ) : Type 0 where
   pub read : AreReadToPackets bytes
   pub is : code ≡ memory
 
--- these are the fields of a message that fits, and the first bytes, so many, are its spelling
+-- these are the fields of a message that fits, and the first bytes, this many, are its spelling
 abbrev pub AreWritten : ToTrainFields → ℕ → List ℕ → Type 0
 AreWritten fields used bytes = (m : ToTrain) × Fits m × (fields ≡ fields_of m) × (take used bytes ≡ spelling_of m)
 

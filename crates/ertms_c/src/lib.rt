@@ -4,7 +4,7 @@
 //! It stands on ertms_codec, and no crate stands on it: it is built as a static library. A caller in C rests on the
 //! contract of the call: `ertms_3_read_to_train` and `ertms_read_from_train` give the fields of the message that the
 //! bytes spell, or the number of the first step that fails, and `ertms_3_write_to_train` the bytes of the message that
-//! has these fields, or 0 where none has.
+//! has these fields, or 0 if none has.
 //!
 //! Begin with `fields_of` in specs/ToTrainFields.antt, which says what fields a message has.
 #![tactic(auto)]
@@ -43,7 +43,7 @@ fn code_of(fault: DecodeError) -> u32
     }
 }
 
-/// The code of what keeps a message to a train from being read.
+/// The code of why a message to a train is not read.
 fn read_code_of(fault: ReadError) -> u32
     ensures value { result ≡ read_code_of fault }
     ensures positive { 0 < result }
@@ -55,7 +55,7 @@ fn read_code_of(fault: ReadError) -> u32
 }
 
 /// Decodes the bytes of one message to a train. Answers 0, and `fields` are those of the message; or the number of the
-/// first step that fails, 1 to 4, or 5 where memory ran out at message 24, and `fields` stay.
+/// first step that fails, 1 to 4, or 5 if memory ran out for message 24, and `fields` stay.
 #[unsafe(no_mangle)]
 pub extern "C" fn ertms_3_read_to_train(
     alloc: Global,
@@ -78,7 +78,7 @@ pub extern "C" fn ertms_3_read_to_train(
 }
 
 /// Encodes one message to a train. Answers how many bytes it has, at most 897, which stand at the front of `bytes`; or
-/// 0 where no message has these fields. What stands behind the message stays.
+/// 0 if no message has these fields. The bytes after the message stay.
 #[unsafe(no_mangle)]
 pub extern "C" fn ertms_3_write_to_train(fields: &ToTrainFields, bytes: &mut [u8; 1024]) -> u32
     ensures written { 0 < result → to_train_fields.AreWritten fields.now result bytes.new }

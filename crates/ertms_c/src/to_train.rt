@@ -27,7 +27,7 @@ const NO_PACKET: PacketFields = PacketFields {
 #[repr(C)]
 #[derive(Clone, Copy, Drop, PartialEq, Eq)]
 pub struct PacketFields {
-    /// NID_PACKET: 65 or 66; 0 where there is no packet.
+    /// NID_PACKET: 65 or 66; 0 if there is no packet.
     pub kind: u8,
     /// NID_TSR: 0 to 255.
     pub id: u8,
@@ -69,7 +69,7 @@ pub struct ToTrainFields {
     pub lrbg: u32,
     /// How many packets 24 has: 1 to 100.
     pub count: u32,
-    /// They stand at the front; behind them all is 0.
+    /// They stand at the front; all after them is 0.
     pub packets: [PacketFields; MOST_PACKETS],
 }
 
@@ -105,7 +105,7 @@ fn packet_fields(part: Part) -> PacketFields
     }
 }
 
-/// The fields of packets, with those of no packet behind them.
+/// The fields of packets, with those of no packet after them.
 fn packets_fields(packets: &Packets) -> [PacketFields; MOST_PACKETS]
     ensures { result ≡ packets_fields packets.now }
 {
@@ -182,7 +182,7 @@ pub fn head_in(fields: &ToTrainFields) -> Head
     }
 }
 
-/// The message but 24 that fields name by their kind, whether or not it fits and has all these fields.
+/// The message, other than 24, that the fields name by their kind, whether or not it fits and has all these fields.
 fn named_by(fields: &ToTrainFields) -> Option<ToTrain>
     ensures { result ≡ named_by fields.now }
 {
@@ -210,7 +210,7 @@ fn are_same(fields: &ToTrainFields, others: &ToTrainFields) -> bool
     fields == others
 }
 
-/// The message but 24 that has exactly these fields, if there is one and it fits.
+/// The message, other than 24, that has exactly these fields, if there is one and it fits.
 pub fn message_of(fields: &ToTrainFields) -> Option<ToTrain>
     requires { ¬ (fields.now.kind ≡ 24) }
     ensures fits { IfSome result (λ m. Fits m) }
@@ -266,8 +266,8 @@ fn packet_of(fields: &PacketFields) -> Option<Part>
     }
 }
 
-/// Puts the packets that have exactly these fields to the front of others, and tells whether there are such and they
-/// fit.
+/// Writes the packets that have exactly these fields to the front of `packets`, and returns whether there are such
+/// packets and they fit.
 pub fn packets_of(fields: &[PacketFields], packets: &mut [Part]) -> bool
     requires { length fields.now ≤ length packets.old }
     ensures are { IsTrue result → AreFieldsOf (take (length fields.now) packets.new) fields.now }

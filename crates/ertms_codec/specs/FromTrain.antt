@@ -18,11 +18,11 @@ pub record Train : Type 0 where
   pub level : ℕ  -- M_LEVEL
   pub system : ℕ  -- NID_NTC
 
--- L_TRAININT stands where Q_LENGTH is 1 or 2
+-- L_TRAININT is present if Q_LENGTH is 1 or 2
 abbrev pub has_length : ℕ → Bool
 has_length integrity = (integrity == 1) || (integrity == 2)
 
--- NID_NTC stands where M_LEVEL is 1
+-- NID_NTC is present if M_LEVEL is 1
 abbrev pub has_system : ℕ → Bool
 has_system level = level == 1
 
@@ -35,19 +35,19 @@ abbrev pub previous_group : Option ℕ → List Field
 previous_group None = []
 previous_group (Some previous) = nid_prvlrbg previous ∷ []
 
--- a field that stands there or not
+-- a field that is present or not
 abbrev pub optional : Bool → Field → List Field
 optional true f = f ∷ []
 optional false f = []
 
--- what stands behind L_DOUBTUNDER
+-- what follows L_DOUBTUNDER
 abbrev pub fields_of_train : Train → List Field
 fields_of_train t =
     q_length t.integrity
     ∷ optional (has_length t.integrity) (l_trainint t.length)
     ++ (v_train t.speed ∷ q_dirtrain t.moves ∷ m_mode t.mode ∷ m_level t.level ∷ optional (has_system t.level) (nid_ntc t.system))
 
--- packet 0 or 1, of so many bits
+-- packet 0 or 1, of this many bits
 abbrev pub fields_of_position : ℕ → Position → Train → List Field
 fields_of_position size p t =
     nid_packet (number_of_packet p.previous) ∷ l_packet size ∷ q_scale p.scale ∷ nid_lrbg p.lrbg
@@ -61,7 +61,7 @@ pub record IsPositionPacket (p : Position) (packet : List ℕ) : Type 0 where
   pub holds : HoldValues (fields_of_position (length packet) p train)
   pub bits : packet ≡ bits_of_fields (fields_of_position (length packet) p train) ++ extra
 
--- the bits of any packet: NID_PACKET of 8 bits, L_PACKET of 13 bits, which counts them all, and more
+-- the bits of any packet: NID_PACKET of 8 bits, L_PACKET of 13 bits, which counts all bits of the packet, and any further bits
 pub record IsPacket (packet : List ℕ) : Type 0 where
   pub long : 21 ≤ length packet
   pub counted : value_at 8 13 packet ≡ length packet
@@ -82,13 +82,13 @@ pub record StandsWithPackets (p : Position) (bits : List ℕ) : Type 0 where
   pub further : ArePackets others
   pub whole : bits ≡ packet ++ others
 
--- the variables of a message before its packets, in so many bytes
+-- the variables of a message before its packets, for a message of this many bytes
 abbrev pub fields_of : ℕ → FromTrain → List Field
 fields_of bytes (Report stamp engine position) = nid_message 136 ∷ l_message bytes ∷ t_train stamp ∷ nid_engine engine ∷ []
 fields_of bytes (Ack stamp engine acked) = nid_message 146 ∷ l_message bytes ∷ t_train stamp ∷ nid_engine engine ∷ t_train acked ∷ []
 fields_of bytes (StopAck stamp engine id answer position) = nid_message 147 ∷ l_message bytes ∷ t_train stamp ∷ nid_engine engine ∷ nid_em id ∷ q_emergencystop answer ∷ []
 
--- what stands behind them: packets, or at most 7 fill bits
+-- what follows those variables: packets, or at most 7 fill bits
 abbrev pub StandsBehind : FromTrain → List ℕ → Type 0
 StandsBehind (Report stamp engine position) bits = StandsWithPackets position bits
 StandsBehind (Ack stamp engine acked) bits = length bits < 8

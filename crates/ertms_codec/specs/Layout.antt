@@ -29,6 +29,6 @@ HoldsValue f = f.value < 2 ^ f.width
 abbrev pub HoldValues : List Field → Type 0
 HoldValues fields = AllByRecursion HoldsValue fields
 
--- the number that stands in so many bits, from a place on that is counted in bits
+-- the number in this many bits from a place on, which is counted in bits
 abbrev pub value_at : ℕ → ℕ → List ℕ → ℕ
 value_at place width bits = number_of width (drop place bits)

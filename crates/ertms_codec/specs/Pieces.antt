@@ -1,14 +1,14 @@
--- Pieces of a text, as slices: what stands behind its first separator, and all its pieces.
+-- Pieces of a text, as slices: what follows its first separator, and all its pieces.
 use Rattle.std.specs.Prelude.{ℕ, ◌+◌, List, [], ◌==◌, length, map, Option, Some, None}
 use Rattle.std.specs.List.{slice_split}
 use denote.Ref.{Bor}
 
--- what stands behind, cut at each further separator
+-- the text after the first separator, cut at each further separator
 abbrev pub pieces_behind : ℕ → Option (Bor (List ℕ)) → List (List ℕ)
 pieces_behind separator None = []
 pieces_behind separator (Some text) = slice_split (λ byte. byte == separator) text.now
 
--- what stands behind, or nothing where there is no separator
+-- the text after the first separator, or nothing if there is no separator
 abbrev pub text_behind : Option (Bor (List ℕ)) → List ℕ
 text_behind None = []
 text_behind (Some text) = text.now

@@ -17,7 +17,7 @@ use Rattle.ertms_codec.specs.RefusalsFromTrain as from_train
 use Rattle.ertms_codec.specs.ToTrainAtPlaces as to_train_at
 use Rattle.ertms_codec.specs.FromTrainAtPlaces as from_train_at
 
--- a variable of so many bits was taken from the front
+-- a variable of this many bits was taken from the front
 pub record Takes (width : ℕ) (before : List ℕ) (taken : ℕ) (after : List ℕ) : Type 0 where
   pub value : taken ≡ number_of width before
   pub small : taken < 2 ^ width
@@ -40,7 +40,7 @@ pub record IsReadToTrain (bytes : List ℕ) (m : ToTrain) : Type 0 where
   pub spare : to_train_at.HasNoSpare bytes
   pub is : m ≡ to_train_at.message_at (bits_of_bytes bytes)
 
--- the packets of message 24 are not read: the bits are none, or memory ran out
+-- the packets of message 24 are not read: the bits are not packets, or memory ran out
 abbrev pub IsPacketsFault : List ℕ → ReadError → Type 0
 IsPacketsFault bits (Decode e) = (¬ to_train.ArePackets most_packets bits) × (e ≡ Packet)
 IsPacketsFault bits OutOfMemory = Unit {0}
@@ -54,12 +54,12 @@ pub record ReadsPosition (bits : List ℕ) : Type 0 where
 abbrev pub RefusesPosition : List ℕ → DecodeError → Type 0
 RefusesPosition bits = Unless (from_train.HavePackets bits) Packet (Unless (PositionFits (from_train_at.position_at bits)) Field Never)
 
--- message 136 by the bits behind its header
+-- message 136 by the bits after its header
 pub record IsReport (bits : List ℕ) (stamp engine : ℕ) (m : FromTrain) : Type 0 where
   pub read : ReadsPosition bits
   pub is : m ≡ Report stamp engine (from_train_at.position_at bits)
 
--- message 147 by the bits behind its header
+-- message 147 by the bits after its header
 pub record IsStopAcknowledgement (bits : List ℕ) (stamp engine : ℕ) (m : FromTrain) : Type 0 where
   pub read : ReadsPosition (drop 6 bits)
   pub is : m ≡ StopAck stamp engine (value_at 0 4 bits) (value_at 4 2 bits) (from_train_at.position_at (drop 6 bits))

@@ -4,7 +4,7 @@ use Rattle.ertms_bits.specs.Bits.{bits_of_bytes}
 use Rattle.ertms_codec.specs.declared.error.DecodeError.{DecodeError}
 use Rattle.ertms_codec.specs.Layout.{value_at}
 
--- the refusal is this one where the step fails, and what comes of the next steps where it holds
+-- the refusal is this one if the step fails, and that of the next steps if it holds
 abbrev pub Unless : Type 0 → DecodeError → (DecodeError → Type 0) → DecodeError → Type 0
 Unless Step refusal Next e = (¬ Step × (e ≡ refusal)) ⊎ (Step × Next e)
 

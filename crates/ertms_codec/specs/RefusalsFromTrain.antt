@@ -13,13 +13,13 @@ use Rattle.ertms_codec.specs.Refusals.{Unless, Never, number_in, HasItsLength}
 abbrev pub IsFromTrain : ℕ → Type 0
 IsFromTrain number = (number ≡ 136) ⊎ ((number ≡ 146) ⊎ (number ≡ 147))
 
--- R-REFUSE-3: so many bytes are as many as the message has, or as its variables before the packets take
+-- R-REFUSE-3: this many bytes are as many as the message has, or at least as many as its variables before the packets take
 pub record IsLongEnough (number bytes : ℕ) : Type 0 where
   pub report : number ≡ 136 → 74 ≤ 8 * bytes
   pub acknowledgement : number ≡ 146 → bytes ≡ 14
   pub of_a_stop : number ≡ 147 → 80 ≤ 8 * bytes
 
--- packet 1 has NID_PRVLRBG of 24 bits more
+-- packet 1 has 24 more bits, for NID_PRVLRBG
 abbrev pub shift_in : List ℕ → ℕ
 shift_in packet = if value_at 0 8 packet == 1 then 24 else 0
 
@@ -41,14 +41,14 @@ position_width packet =
     let train = drop (train_place packet) packet in
     114 + shift_in packet + (length_width train + system_width train)
 
--- bits begin with packet 0 or 1, whose L_PACKET is as long as its variables at least
+-- bits begin with packet 0 or 1, whose L_PACKET counts at least its variables
 pub record BeginWithPosition (packet : List ℕ) : Type 0 where
   pub header : 21 ≤ length packet
   pub number : value_at 0 8 packet ≤ 1
   pub enough : position_width packet ≤ value_at 8 13 packet
   pub within : value_at 8 13 packet ≤ length packet
 
--- bits begin with packet 0 or 1, and behind what its L_PACKET counts are any packets and fill bits
+-- bits begin with packet 0 or 1, and after what its L_PACKET counts come any packets and fill bits
 pub record HavePackets (packet : List ℕ) : Type 0 where
   pub position : BeginWithPosition packet
   pub further : ArePackets (drop (value_at 8 13 packet) packet)

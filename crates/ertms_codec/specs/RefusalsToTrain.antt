@@ -14,7 +14,7 @@ use Rattle.ertms_codec.specs.Refusals.{Unless, Never, number_in, HasItsLength}
 abbrev pub IsToTrain : ℕ → Type 0
 IsToTrain number = (number ≡ 15) ⊎ ((number ≡ 16) ⊎ ((number ≡ 18) ⊎ (number ≡ 24)))
 
--- so many bytes are as many as the message has; message 24 has at least its header of 75 bits
+-- this many bytes are as many as the message has; message 24 has at least its header of 75 bits
 pub record IsLongEnough (number bytes : ℕ) : Type 0 where
   pub conditional : number ≡ 15 → bytes ≡ 15
   pub unconditional : number ≡ 16 → bytes ≡ 10
@@ -31,11 +31,11 @@ pub record BeginWithPacket (bits : List ℕ) : Type 0 where
   pub sized : IsSized (value_at 0 8 bits) (value_at 10 13 bits)
   pub within : value_at 10 13 bits ≤ length bits
 
--- what stands behind that packet
+-- what follows that packet
 abbrev pub behind_packet : List ℕ → List ℕ
 behind_packet bits = drop (value_at 10 13 bits) bits
 
--- Bits are packets, 1 to so many of them, with at most 7 bits behind the last: where 8 or more are left there is another packet.
+-- Bits are packets, 1 to this many of them, with at most 7 bits after the last: if 8 or more are left, there is another packet.
 abbrev pub ArePackets : ℕ → List ℕ → Type 0
 ArePackets zero bits = ⊥
 ArePackets (suc most) bits = BeginWithPacket bits × ((length (behind_packet bits) < 8) ⊎ ((8 ≤ length (behind_packet bits)) × ArePackets most (behind_packet bits)))
@@ -56,7 +56,7 @@ Refuses bytes =
     (Unless (HasItsPackets bytes) Packet
     (Unless (IsSpelled bytes) Field Never))))
 
--- The steps before the packets hold of a message 24: so its packets are read, which takes memory.
+-- The steps before the packets hold of a message 24, so its packets are read, which takes memory.
 pub record AreReadToPackets (bytes : List ℕ) : Type 0 where
   pub sized : HasItsLength bytes
   pub general : number_in bytes ≡ 24

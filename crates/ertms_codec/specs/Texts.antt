@@ -20,7 +20,7 @@ use Rattle.ertms_codec.specs.FromTrain as from_train
 use Rattle.ertms_codec.specs.RefusalsToTrain as refusals_to_train
 use Rattle.ertms_codec.specs.RefusalsFromTrain as refusals_from_train
 
--- a text, and another behind it; it groups to the right
+-- a text, and another after it; it groups to the right
 infixr 30 ◌then◌
 abbrev pub ◌then◌ : List ℕ → List ℕ → List ℕ
 text then more = text ++ more
@@ -38,7 +38,7 @@ packet_text (Restrict dir scale id start length front speed) =
     then codes " start " then decimal start then codes " length " then decimal length then codes " front " then flag_text front then codes " speed " then decimal speed
 packet_text (Lift dir id) = codes "66 dir " then decimal dir then codes " tsr " then decimal id
 
--- a packet stands behind what is before it, with a space between them
+-- a packet follows what is before it, after a space
 abbrev pub packet_behind : Part → List ℕ
 packet_behind part = codes " " then packet_text part
 
@@ -95,7 +95,7 @@ IsRefusedOf false bytes e = refusals_from_train.Refuses bytes e
 abbrev pub IsRefused : List ℕ → DecodeError → Type 0
 IsRefused bytes e = IsRefusedOf (is_to_train (slice_get bytes 0)) bytes e
 
--- want of memory, or a refusal of the bytes
+-- a lack of memory, or a refusal of the bytes
 abbrev pub IsFaultOf : Bool → List ℕ → DescribeError → Type 0
 IsFaultOf to bytes OutOfMemory = Unit {0}
 IsFaultOf to bytes (Decode e) = IsRefusedOf to bytes e

@@ -24,7 +24,7 @@ head_of (Stop head id) = head
 head_of (Revoke head id) = head
 head_of (General head packets) = head
 
--- what stands behind the header; the packets of message 24 stand one behind the other
+-- what follows the header; the packets of message 24 stand one after another
 abbrev pub body_of : ToTrain → List Field
 body_of (StopAt head id scale reference dir distance) =
     nid_em id ∷ q_scale scale ∷ d_ref reference ∷ q_dir dir ∷ d_emergencystop distance ∷ []

@@ -32,7 +32,7 @@ packet_at bits =
     if value_at 0 8 bits == 65 then Restrict (value_at 8 2 bits) (value_at 23 2 bits) (value_at 25 8 bits) (value_at 33 15 bits) (value_at 48 15 bits) (value_at 63 1 bits == 1) (value_at 64 7 bits)
     else Lift (value_at 8 2 bits) (value_at 23 8 bits)
 
--- the packets that stand one behind the other, at most so many: where 8 or more bits are left there is another
+-- the packets one after another, at most this many: if 8 or more bits are left, there is another
 abbrev pub packets_at : ℕ → List ℕ → List Part
 packets_at zero bits = []
 packets_at (suc most) bits = packet_at bits ∷ (if nat_lt (length (behind_packet bits)) 8 then [] else packets_at most (behind_packet bits))
@@ -54,7 +54,7 @@ RefusesAtPlaces bytes =
     (Unless (HasItsPackets bytes) Packet
     (Unless (HasNoSpare bytes) Field Never))))
 
--- the first step that fails by the places, or want of memory for the packets of a message 24
+-- the first step that fails by the places, or a lack of memory for the packets of a message 24
 abbrev pub IsFaultAtPlaces : List ℕ → ReadError → Type 0
 IsFaultAtPlaces bytes (Decode e) = RefusesAtPlaces bytes e
 IsFaultAtPlaces bytes OutOfMemory = AreReadToPackets bytes

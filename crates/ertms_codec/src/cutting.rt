@@ -13,7 +13,7 @@ fn find_byte(text: &[u8], byte: u8) -> Option<usize>
     memchr(byte, text)
 }
 
-/// What stands before the first separator, and what stands behind it. Without a separator: the whole text, and `None`.
+/// The text before the first separator, and the text after it. Without a separator: the whole text, and `None`.
 pub fn cut(text: &[u8], separator: u8) -> (&[u8], Option<&[u8]>)
     ensures pieces { slice_split (λ b. b == separator) text.now ≡ result.0.now ∷ pieces_behind separator result.1 }
     ensures before { result.0.now ≡ before_first (λ b. b == separator) text.now }

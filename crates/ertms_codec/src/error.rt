@@ -1,4 +1,4 @@
-//! Why bytes are no message, or are not read.
+//! Why bytes are not a message, or are not read.
 
 ghost use Rattle.std.specs.Prelude.{◌≡◌};
 ghost use Rattle.ertms_codec.specs.declared.error.ReadError.TheVariants.{Decode, OutOfMemory};
@@ -7,14 +7,14 @@ use std::alloc::AllocError;
 use std::error::Error;
 use std::fmt;
 
-/// The first step at which bytes are no message that the reader takes, in the order in which the steps are
+/// The first step that fails, if bytes are not a message that the reader takes, in the order in which the steps are
 /// taken: length, message, length of the message, packet, field (own rule).
 #[derive(Clone, Copy, Debug, PartialEq, Eq)]
 pub enum DecodeError {
     /// Fewer than 3 bytes, or L_MESSAGE is not their number; or fewer or more bytes than NID_MESSAGE
     /// can have.
     Length,
-    /// NID_MESSAGE is of no message that the reader takes.
+    /// NID_MESSAGE is not the number of a message that the reader takes.
     Message,
     /// A packet is missing, is another than the message can have, or has a wrong L_PACKET; or there are more packets
     /// than the message can have.
@@ -44,10 +44,10 @@ impl Error for DecodeError {}
 /// Why bytes are not read as a message to a train.
 #[derive(Clone, Copy, Debug, PartialEq, Eq, thiserror::Error)]
 pub enum ReadError {
-    /// They are no message that the reader takes.
+    /// They are not a message that the reader takes.
     #[error("{0}")]
     Decode(DecodeError),
-    /// Memory ran out. It may come at message 24 alone, in place of the message or of a refusal.
+    /// Memory ran out. It may come only for message 24, in place of the message or of a refusal.
     #[error("out of memory")]
     OutOfMemory,
 }

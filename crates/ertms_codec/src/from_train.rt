@@ -1,8 +1,8 @@
 //! Messages from a train.
 
-/// Where a train says that it is: packet 0, or packet 1 where it names two balise groups (SUBSET-026,
-/// 7.4.3). The speed, the direction of movement, the mode, the level and the integrity of the train, which
-/// these packets also carry, are skipped.
+/// Where a train says that it is: packet 0, or packet 1 if it names two balise groups (SUBSET-026, 7.4.3). The speed,
+/// the direction of movement, the mode, the level and the integrity of the train, which these packets also carry, are
+/// skipped.
 #[derive(Clone, Copy, Debug, PartialEq, Eq)]
 pub struct Position {
     /// NID_PRVLRBG: the balise group before the last relevant one; of packet 1 alone.

@@ -23,16 +23,16 @@ use crate::reading::{message_number, next, next_two};
 use crate::variable::{NID_EM, NID_ENGINE, Q_EMERGENCYSTOP, T_TRAIN};
 use ertms_bits::BitReader;
 
-/// The message from a train that some bytes encode, all of them; fill bits are ignored, and packets
-/// behind the position are skipped. It takes no memory (SUBSET-026, chapters 7 and 8).
+/// The message from a train that some bytes encode, all of them; fill bits are ignored, and packets after the position
+/// are skipped (SUBSET-026, chapters 7 and 8).
 ///
 /// # Errors
 ///
 /// The first step that fails: `Length`, `Message`, `Length` (of that message), `Packet`, `Field`.
 pub fn read_from_train(bytes: &[u8]) -> Result<FromTrain, DecodeError>
-    // What is read is so encoded.
+    // The bytes encode the message that is read.
     ensures found { IfOk result (λ m. Spells bytes.now m) }
-    // What is so encoded is read; so no bytes are an encoding of two messages.
+    // A message that the bytes encode is read. So no bytes encode two messages.
     ensures only { (m : Received) → Spells bytes.now m → result ≡ Ok m }
     // A refusal is the first step that fails.
     ensures refused { IfErr result (λ e. Refuses bytes.now e) }
@@ -54,7 +54,7 @@ fn read(bytes: &[u8]) -> Result<FromTrain, DecodeError>
     body(&mut bits, number, stamp as u32, engine as u32)
 }
 
-/// Whether a message of this number can have so many bytes.
+/// Whether a message of this number can have this many bytes.
 fn check_length(number: u64, len: usize) -> Result<(), DecodeError>
     ensures ok { IfOk result (λ _. IsFromTrain number × IsLongEnough number len) }
     ensures err { IfErr result (Unless (IsFromTrain number) message_refusal
@@ -72,7 +72,7 @@ fn check_length(number: u64, len: usize) -> Result<(), DecodeError>
     }
 }
 
-/// What stands behind the header of a message of this number.
+/// What follows the header of a message of this number.
 fn body(
     bits: &mut BitReader<'_>,
     number: u64,
@@ -94,7 +94,7 @@ fn body(
     }
 }
 
-/// Message 136, behind its header.
+/// Message 136, after its header.
 fn report(bits: &mut BitReader<'_>, stamp: u32, engine: u32) -> Result<FromTrain, DecodeError>
     ensures ok { IfOk result (IsReport bits.old stamp engine) }
     ensures err { IfErr result (RefusesPosition bits.old) }
@@ -107,7 +107,7 @@ fn report(bits: &mut BitReader<'_>, stamp: u32, engine: u32) -> Result<FromTrain
     })
 }
 
-/// Message 146, behind its header.
+/// Message 146, after its header.
 fn acknowledgement(bits: &mut BitReader<'_>, stamp: u32, engine: u32) -> FromTrain
     requires { 32 ≤ length bits.old }
     ensures { result ≡ received.Ack stamp engine (value_at 0 32 bits.old) }
@@ -119,7 +119,7 @@ fn acknowledgement(bits: &mut BitReader<'_>, stamp: u32, engine: u32) -> FromTra
     }
 }
 
-/// Message 147, behind its header.
+/// Message 147, after its header.
 fn stop_acknowledgement(
     bits: &mut BitReader<'_>,
     stamp: u32,

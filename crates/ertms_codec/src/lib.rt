@@ -8,6 +8,9 @@
 //! Begin with to_train.rt, from_train.rt and specs/ToTrain.antt; then write.rt has one line for each variable, and
 //! from_train_reader.rt a small function for each message. In proofs/, Fields and FieldLists lead from fields at places
 //! to fields in a row.
+//!
+//! A function that cannot report a lack of memory takes none. `AllocError` means that memory was refused; what the
+//! function was changing is then of no further use, unless its docstring says what is left.
 #![tactic(auto)]
 
 mod cutting;

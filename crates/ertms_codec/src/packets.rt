@@ -26,8 +26,7 @@ pub enum Part {
         start: u16,
         /// L_TSR: the length of the restriction, 0 to 32767 units of `scale`.
         length: u16,
-        /// Q_FRONT: false where the length of the train delays the end of the restriction, true where
-        /// it does not.
+        /// Q_FRONT: false if the length of the train delays the end of the restriction, true if it does not.
         front: bool,
         /// V_TSR: the speed, 0 to 120 in units of 5 km/h; 121 to 127 are spare.
         speed: u8,
@@ -87,7 +86,7 @@ impl Packets {
     ghost use Rattle.std.specs.Prelude.{◌≡◌, ◌≤◌, ◌<◌, [], ◌∷◌, ◌++◌, length, Some, slice_get, IfOk, OnOk, OnErr};
     ghost use Rattle.ertms_codec.specs.PacketsToTrain.{most_packets, ArePacketsThatFit};
 
-    /// One packet alone. Takes no memory.
+    /// One packet alone.
     pub fn of(alloc: Global, part: Part) -> Result<Packets, AllocError>
         ensures { IfOk result (λ packets. packets ≡ part ∷ []) }
     {
@@ -97,8 +96,7 @@ impl Packets {
         })
     }
 
-    /// Puts one packet more behind the others, of which there have to be fewer than 100. Fails only for lack of memory,
-    /// and then changes nothing.
+    /// Appends one packet to the others, of which there must be fewer than 100. An error changes nothing.
     pub fn push(&mut self, part: Part) -> Result<(), AllocError>
         requires { length self.old < most_packets }
         ensures ok { OnOk result (self.new ≡ self.old ++ part ∷ []) }
@@ -108,7 +106,7 @@ impl Packets {
         Ok(())
     }
 
-    /// How many packets there are: 1 to 100. Takes no memory.
+    /// How many packets there are: 1 to 100.
     pub fn count(&self) -> usize
         ensures count { result ≡ length self.now }
         ensures some { 1 ≤ result }
@@ -117,7 +115,7 @@ impl Packets {
         1 + self.more.len()
     }
 
-    /// The packet at an index below `count`. Takes no memory.
+    /// The packet at an index below `count`.
     pub fn at(&self, index: usize) -> Part
         requires { index < length self.now }
         ensures { slice_get self.now index ≡ Some result }
@@ -129,7 +127,7 @@ impl Packets {
         }
     }
 
-    /// The first packet, and those behind it.
+    /// The first packet, and those after it.
     pub(crate) fn parts(&self) -> (Part, &[Part])
         ensures are { self.now ≡ result.0 ∷ result.1.now }
         ensures few { length result.1.now < most_packets }
@@ -137,7 +135,7 @@ impl Packets {
         (self.first, &self.more)
     }
 
-    /// Copies the packets. Takes memory only where there is more than one, and fails only for lack of it.
+    /// Copies the packets. Takes memory only if there is more than one.
     pub fn copy(&self, alloc: Global) -> Result<Packets, AllocError>
         ensures { IfOk result (λ copy. copy ≡ self.now) }
     {

@@ -25,12 +25,12 @@ const POSITION_WIDTH: u64 = 114;
 /// How many bits the variables from D_LRBG to L_DOUBTUNDER have, which are taken at once.
 const TO_UNDER_WIDTH: u32 = D_LRBG + Q_DIRLRBG + Q_DLRBG + L_DOUBTOVER + L_DOUBTUNDER;
 
-/// The position packet with which the bits begin. All packets behind it are skipped, whatever they are.
+/// The position packet with which the bits begin. All packets after it are skipped, whatever they are.
 ///
 /// # Errors
 ///
-/// `Packet` only where the bits are not packets to their end, and `Field` only where they are, and the
-/// position has a spare value.
+/// `Packet` only if the bits are not packets to their end, and `Field` only if they are, and the position has a spare
+/// value.
 pub fn position(bits: &mut BitReader<'_>) -> Result<Position, DecodeError>
     ensures read { IfOk result (λ _. ReadsPosition bits.old) }
     ensures value { IfOk result (λ p. p ≡ position_at bits.old) }
@@ -66,7 +66,7 @@ fn position_packet(bits: &mut BitReader<'_>) -> Result<Position, DecodeError>
     Ok(position)
 }
 
-/// How many bits the variable takes that packet 1 has and packet 0 has not.
+/// How many bits the variable takes that packet 1 has and packet 0 lacks.
 fn previous_width(number: u64) -> u64
     ensures { result ≡ (if number == 1 then 24 else 0) }
 {
@@ -102,7 +102,7 @@ fn variables(bits: &mut BitReader<'_>, number: u64) -> Position
     }
 }
 
-/// NID_PRVLRBG, which packet 1 has and packet 0 has not.
+/// NID_PRVLRBG, which packet 1 has and packet 0 lacks.
 fn previous_group(bits: &mut BitReader<'_>, number: u64) -> Option<u32>
     requires { (if number == 1 then 24 else 0) ≤ length bits.old }
     ensures value { (packet : List ℕ) → bits.old ≡ drop 47 packet → number ≡ value_at 0 8 packet
@@ -116,8 +116,8 @@ fn previous_group(bits: &mut BitReader<'_>, number: u64) -> Option<u32>
     }
 }
 
-/// The variables from Q_LENGTH to NID_NTC, and what is behind them in the packet, which is `more` bits
-/// longer than its variables without the optional ones.
+/// The variables from Q_LENGTH to NID_NTC, and what is after them in the packet, which is `more` bits longer than its
+/// variables without the optional ones.
 fn pass_over_train(bits: &mut BitReader<'_>, more: u64) -> Result<(), DecodeError>
     requires { more + 18 ≤ length bits.old }
     ensures enough { IfOk result (λ _. length_width bits.old + system_width bits.old ≤ more) }

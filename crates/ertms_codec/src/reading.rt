@@ -11,7 +11,7 @@ use crate::error::DecodeError;
 use crate::variable::{L_MESSAGE, NID_MESSAGE};
 use ertms_bits::BitReader;
 
-/// The next variable of so many bits, of which the caller knows that it is there.
+/// The next variable, of `width` bits, which the caller knows to be there.
 pub fn next(bits: &mut BitReader<'_>, width: u32) -> u64
     requires some { 1 ≤ width }
     requires within { width ≤ 64 }
@@ -21,7 +21,7 @@ pub fn next(bits: &mut BitReader<'_>, width: u32) -> u64
     bits.take(width).unwrap()
 }
 
-/// The values of two variables that were taken as one, of which the second has so many bits.
+/// The values of two variables that were taken as one. The second has `second` bits.
 pub fn apart(both: u64, second: u32) -> (u64, u64)
     requires { second < 64 }
     ensures { (result.0 ≡ both / 2 ^ second) × (result.1 ≡ both % 2 ^ second) }
@@ -29,7 +29,7 @@ pub fn apart(both: u64, second: u32) -> (u64, u64)
     (both >> second, both % (1 << second))
 }
 
-/// The next two variables of so many bits, of which the caller knows that both are there. They are taken at once.
+/// The next two variables, of `first` and `second` bits, which the caller knows to be there. They are taken at once.
 pub fn next_two(bits: &mut BitReader<'_>, first: u32, second: u32) -> (u64, u64)
     requires some { (1 ≤ first) × (1 ≤ second) }
     requires within { first + second ≤ 64 }
@@ -41,7 +41,7 @@ pub fn next_two(bits: &mut BitReader<'_>, first: u32, second: u32) -> (u64, u64)
     apart(both, second)
 }
 
-/// Passes over so many bits, of which the caller knows that they are there.
+/// Passes over `count` bits, which the caller knows to be there.
 pub fn pass_over(bits: &mut BitReader<'_>, count: usize)
     requires { count ≤ length bits.old }
     ensures rest { bits.new ≡ drop count bits.old }
@@ -50,11 +50,11 @@ pub fn pass_over(bits: &mut BitReader<'_>, count: usize)
     bits.skip(count).unwrap();
 }
 
-/// NID_MESSAGE of a message of `len` bytes, behind which L_MESSAGE is read.
+/// NID_MESSAGE of a message of `len` bytes, after which L_MESSAGE is read.
 ///
 /// # Errors
 ///
-/// `Length` only where there are fewer than 3 bytes, or L_MESSAGE is not their number.
+/// `Length` only if there are fewer than 3 bytes, or L_MESSAGE is not their number.
 pub fn message_number(bytes: &[u8], bits: &mut BitReader<'_>) -> Result<u64, DecodeError>
     requires { bits.old ≡ bits_of_bytes bytes.now }
     ensures length { IfOk result (λ _. HasItsLength bytes.now) }

@@ -48,8 +48,8 @@ pub enum ToTrain {
         /// NID_EM: the identifier of the emergency stop, 0 to 15; 15 is never issued.
         id: u8,
     },
-    /// Message 24, general message (SUBSET-026, 8.4.4 and 8.7): packets one behind the other, each of which restricts
-    /// the speed or revokes a restriction. L_MESSAGE is at most 897, of 100 restrictions.
+    /// Message 24, general message (SUBSET-026, 8.4.4 and 8.7): packets one after another, each of which restricts the
+    /// speed or revokes a restriction. L_MESSAGE is at most 897, of 100 restrictions.
     General {
         head: Head,
         packets: Packets,
@@ -60,7 +60,7 @@ impl ToTrain {
     ghost use Rattle.std.specs.Prelude.{◌≡◌, IsTrue, ◌↔◌, IfOk};
     ghost use Rattle.ertms_codec.specs.ToTrain.{Fits, BodyFits, head_of};
 
-    /// Copies the message. Takes memory only where it has more than one packet, and fails only for lack of it.
+    /// Copies the message. Takes memory only if it has more than one packet.
     pub fn copy(&self, alloc: Global) -> Result<ToTrain, AllocError>
         ensures { IfOk result (λ copy. copy ≡ self.now) }
     {
@@ -103,7 +103,7 @@ impl ToTrain {
         self.head().lrbg <= 16_777_215 && self.body_fits()
     }
 
-    /// Whether each variable behind the header is in its range, and no spare value.
+    /// Whether each variable after the header is in its range, and no spare value.
     fn body_fits(&self) -> bool
         ensures { IsTrue result ↔ BodyFits self.now }
     {

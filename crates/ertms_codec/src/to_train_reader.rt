@@ -30,17 +30,17 @@ use crate::variable::{
 use ertms_bits::BitReader;
 use std::alloc::Global;
 
-/// The message to a train that some bytes encode, all of them; fill bits are ignored. It takes memory only
-/// for the packets of message 24 behind the first (SUBSET-026, chapters 7 and 8).
+/// The message to a train that some bytes encode, all of them; fill bits are ignored. It takes memory only for the
+/// packets of message 24 after the first (SUBSET-026, chapters 7 and 8).
 ///
 /// # Errors
 ///
-/// The first step that fails: `Length`, `Message`, `Length` (of that message), `Packet`, `Field`. At message
-/// 24 memory may run out in place of any answer behind the first three.
+/// The first step that fails: `Length`, `Message`, `Length` (of that message), `Packet`, `Field`. For message 24 a lack
+/// of memory may take the place of any answer after the first three steps.
 pub fn read_to_train(alloc: Global, bytes: &[u8]) -> Result<ToTrain, ReadError>
-    // What is read is so encoded.
+    // The bytes encode the message that is read.
     ensures found { IfOk result (λ m. Spells bytes.now m) }
-    // What is so encoded is read, unless memory runs out; so no bytes are an encoding of two messages.
+    // A message that the bytes encode is read, unless memory runs out. So no bytes encode two messages.
     ensures only { (m : Sent) → Spells bytes.now m → (result ≡ Ok m) ⊎ IsWantOfMemory bytes.now result }
     // A refusal is the first step that fails.
     ensures refused { IfErr result (λ fault. IsReadFault bytes.now fault) }
@@ -67,7 +67,7 @@ fn read(alloc: Global, bytes: &[u8]) -> Result<ToTrain, ReadError>
     }
 }
 
-/// Whether a message of this number can have so many bytes.
+/// Whether a message of this number can have this many bytes.
 fn check_length(number: u64, len: usize) -> Result<(), DecodeError>
     ensures ok { IfOk result (λ _. IsToTrain number × IsLongEnough number len) }
     ensures err { IfErr result (Unless (IsToTrain number) message_refusal
@@ -86,7 +86,7 @@ fn check_length(number: u64, len: usize) -> Result<(), DecodeError>
     }
 }
 
-/// What stands behind L_MESSAGE in every message to a train.
+/// What follows L_MESSAGE in every message to a train.
 fn head(bits: &mut BitReader<'_>) -> Head
     requires { 57 ≤ length bits.old }
     ensures { (whole : List ℕ) → bits.old ≡ drop 18 whole → (result ≡ head_at whole) × (bits.new ≡ drop 75 whole) }
@@ -98,7 +98,7 @@ fn head(bits: &mut BitReader<'_>) -> Head
     }
 }
 
-/// What stands behind the header of a message of this number.
+/// What follows the header of a message of this number.
 fn body(
     alloc: Global,
     bits: &mut BitReader<'_>,
@@ -121,7 +121,7 @@ fn body(
     }
 }
 
-/// Message 15, behind its header.
+/// Message 15, after its header.
 fn stop_at(bits: &mut BitReader<'_>, head: Head) -> ToTrain
     requires { 39 ≤ length bits.old }
     ensures { (whole : List ℕ) → bits.old ≡ drop 75 whole
@@ -138,7 +138,7 @@ fn stop_at(bits: &mut BitReader<'_>, head: Head) -> ToTrain
     }
 }
 
-/// Message 16, behind its header.
+/// Message 16, after its header.
 fn stop(bits: &mut BitReader<'_>, head: Head) -> ToTrain
     requires { 4 ≤ length bits.old }
     ensures { (whole : List ℕ) → bits.old ≡ drop 75 whole → result ≡ sent.Stop head (value_at 75 4 whole) }
@@ -149,7 +149,7 @@ fn stop(bits: &mut BitReader<'_>, head: Head) -> ToTrain
     }
 }
 
-/// Message 18, behind its header.
+/// Message 18, after its header.
 fn revoke(bits: &mut BitReader<'_>, head: Head) -> ToTrain
     requires { 4 ≤ length bits.old }
     ensures { (whole : List ℕ) → bits.old ≡ drop 75 whole → result ≡ sent.Revoke head (value_at 75 4 whole) }
@@ -160,7 +160,7 @@ fn revoke(bits: &mut BitReader<'_>, head: Head) -> ToTrain
     }
 }
 
-/// Message 24, behind its header.
+/// Message 24, after its header.
 fn general(alloc: Global, bits: &mut BitReader<'_>, head: Head) -> Result<ToTrain, ReadError>
     ensures packets { IfOk result (λ _. ArePackets most_packets bits.old) }
     ensures ok { IfOk result (λ m. m ≡ sent.General head (packets_at most_packets bits.old)) }
@@ -209,7 +209,7 @@ fn packet(bits: &mut BitReader<'_>) -> Result<Part, DecodeError>
     }
 }
 
-/// Packet 65, behind L_PACKET.
+/// Packet 65, after L_PACKET.
 fn restrict(bits: &mut BitReader<'_>, dir: u8) -> Part
     requires { 48 ≤ length bits.old }
     ensures { (whole : List ℕ) → bits.old ≡ drop 23 whole
@@ -228,7 +228,7 @@ fn restrict(bits: &mut BitReader<'_>, dir: u8) -> Part
     }
 }
 
-/// Packet 66, behind L_PACKET.
+/// Packet 66, after L_PACKET.
 fn lift(bits: &mut BitReader<'_>, dir: u8) -> Part
     requires { 8 ≤ length bits.old }
     ensures { (whole : List ℕ) → bits.old ≡ drop 23 whole

@@ -1,5 +1,5 @@
-//! The variables of the messages, with their widths in bits (SUBSET-026, chapter 7.5). What the values
-//! mean is said where a message keeps them; of those that are skipped, here.
+//! The variables of the messages, with their widths in bits (SUBSET-026, chapter 7.5). What the values mean is said at
+//! the fields of the messages; for the skipped variables it is said here.
 
 pub const D_EMERGENCYSTOP: u32 = 15;
 
@@ -16,7 +16,7 @@ pub const L_DOUBTUNDER: u32 = 15;
 pub const L_MESSAGE: u32 = 10;
 /// The bits of the whole packet.
 pub const L_PACKET: u32 = 13;
-/// The length of the train, in units of 1 m; it stands where Q_LENGTH is 1 or 2.
+/// The length of the train, in units of 1 m; present if Q_LENGTH is 1 or 2.
 pub const L_TRAININT: u32 = 15;
 
 pub const L_TSR: u32 = 15;
@@ -34,7 +34,7 @@ pub const NID_ENGINE: u32 = 24;
 pub const NID_LRBG: u32 = 24;
 /// The kind of message.
 pub const NID_MESSAGE: u32 = 8;
-/// The national system; it stands where M_LEVEL is 1.
+/// The national system; present if M_LEVEL is 1.
 pub const NID_NTC: u32 = 8;
 /// The kind of packet.
 pub const NID_PACKET: u32 = 8;

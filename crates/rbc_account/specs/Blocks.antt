@@ -10,8 +10,9 @@ use Rattle.rbc_account.specs.Counting.{counts_after, AddUp}
 use Rattle.rbc_account.specs.Coming.{come_to_wait}
 use Rattle.rbc_account.specs.Subjects.{ArePaired, IsToldOf}
 
--- A block tells what the input did; of each message, in order, to which train it is sent, of what it tells and why; of a stop or a restriction that began what it is to the
--- trains; and of all that has come to wait. The records are those after the input, and a train may have sent it, which was this before.
+-- A block tells what the input did; for each message, in order, to which train it is sent, what it tells and why; what
+-- a stop or a restriction that began means for the trains; and all that began to wait. The records are those after the
+-- input; `before` is the train that sent it, as it was before, if a train did.
 pub record IsRightBlock (plan : Plan) (records : List (Key × Rec)) (before : Option TrainRec) (block : Block) : Type 0 where
   pub did : IsDeed plan before block.input block.deed
   pub told : ArePaired (IsToldOf records block.input before) block.messages block.told.items

@@ -1,4 +1,4 @@
--- What has come to wait by an input: what waits after it, and did not wait before.
+-- What began to wait through an input: what waits after it, and did not wait before.
 use Rattle.std.specs.Prelude.{ℕ, not, if◌then◌else◌, List, [], map, Option, Some, None, option_and_then}
 use Rattle.std.specs.List.{filter, filter_map}
 use Rattle.std.specs.Option.{option_map_or}
@@ -33,7 +33,7 @@ abbrev pub newly : ℕ → List (Key × Rec) → Option TrainRec → TrainRec �
 newly horizon records before train =
     filter (λ waiting. not (waits_in (option_map_or (waiting_at horizon records) before []) waiting.what)) (waiting_at horizon records train)
 
--- the same with the engine, if that is enrolled
+-- the same with the engine, if it is enrolled
 abbrev pub come_at : ℕ → List (Key × Rec) → ℕ → Option TrainRec → List (ℕ × Waiting)
 come_at horizon records engine before = option_map_or (λ train. map (λ waiting. (engine, waiting)) (newly horizon records before train)) (train_in records engine) []
 
@@ -44,7 +44,7 @@ stop_at stop engine train = if stop_waits train stop then Some (engine, waiting_
 abbrev pub limit_at : ℕ → ℕ × Limit → ℕ → TrainRec → Option (ℕ × Waiting)
 limit_at horizon limit engine train = if limit_waits horizon train limit then Some (engine, waiting_limit train limit.0) else None
 
--- the same of an engine, if that is enrolled
+-- the same for an engine, if it is enrolled
 abbrev pub stop_come_at : List (Key × Rec) → ℕ × List Segment → ℕ → Option (ℕ × Waiting)
 stop_come_at records stop engine = option_and_then (stop_at stop engine) (train_in records engine)
 
@@ -58,7 +58,7 @@ stop_come records number = option_map_or (λ area. filter_map (stop_come_at reco
 abbrev pub limit_come : List (Key × Rec) → ℕ → ℕ → List (ℕ × Waiting)
 limit_come records horizon number = option_map_or (λ limit. filter_map (limit_come_at records horizon (number, limit)) (engines_in records)) (value_of (active_limits records) number) []
 
--- What has come to wait by an input that was accepted: at its own train, or at any train where a stop or a restriction began.
+-- What began to wait through an accepted input: at its own train, or at any train if a stop or a restriction began.
 abbrev pub come_by : ℕ → List (Key × Rec) → Option TrainRec → Input → List (ℕ × Waiting)
 come_by horizon records before (input.Received message) = come_at horizon records (engine_of message) before
 come_by horizon records before (input.Enrol engine length) = come_at horizon records engine None

@@ -1,4 +1,4 @@
--- What a stop or a restriction is to the trains, counted.
+-- What a stop or a restriction means for the trains, counted.
 use Rattle.std.specs.Prelude.{◌≡◌, ℕ, ◌+◌, Bool, ◌==◌, if◌then◌else◌, List, length, Option, None, option_map, is_none}
 use Rattle.std.specs.List.{filter, filter_map}
 use Rattle.rbc_maps.specs.Maps.{value_of}
@@ -18,31 +18,31 @@ use Rattle.rbc_account.specs.declared.counts.Counts.{Counts}
 use Rattle.rbc_account.specs.declared.counts.Share.{Share}
 use Rattle.rbc_account.specs.declared.counts.Share.TheVariants.{Told, Untold, Unplaced, Unconcerned}
 
--- what a stop is to a train
+-- what a stop means for a train
 abbrev pub stop_share : ℕ × List Segment → TrainRec → Share
 stop_share stop train = if is_told train.stops stop.0 then Told else (if stop_waits train stop then Untold else Unconcerned)
 
--- what a restriction is to a train
+-- what a restriction means for a train
 abbrev pub limit_share : ℕ → ℕ × Limit → TrainRec → Share
 limit_share horizon limit train =
     if is_told train.limits limit.0 then Told
     else (if is_none train.place then Unplaced else (if limit_waits horizon train limit then Untold else Unconcerned))
 
--- what a stop or a restriction is to the train with an engine number, if it is enrolled
+-- what a stop or a restriction means for the train with an engine number, if it is enrolled
 abbrev pub stop_share_at : List (Key × Rec) → ℕ × List Segment → ℕ → Option Share
 stop_share_at records stop engine = option_map (stop_share stop) (train_in records engine)
 
 abbrev pub limit_share_at : List (Key × Rec) → ℕ → ℕ × Limit → ℕ → Option Share
 limit_share_at records horizon limit engine = option_map (limit_share horizon limit) (train_in records engine)
 
--- what it is to each train
+-- what a stop or a restriction means for each train
 abbrev pub stop_shares : List (Key × Rec) → ℕ × List Segment → List Share
 stop_shares records stop = filter_map (stop_share_at records stop) (engines_in records)
 
 abbrev pub limit_shares : List (Key × Rec) → ℕ → ℕ × Limit → List Share
 limit_shares records horizon limit = filter_map (limit_share_at records horizon limit) (engines_in records)
 
--- the place of a share among all
+-- the position of a share among all kinds
 abbrev pub place_of : Share → ℕ
 place_of Told = 0
 place_of Untold = 1
@@ -53,7 +53,7 @@ place_of Unconcerned = 3
 abbrev pub is_share : Share → Share → Bool
 is_share one other = place_of one == place_of other
 
--- how many shares are this one
+-- how many of the shares are this one
 abbrev pub how_many : Share → List Share → ℕ
 how_many wanted shares = length (filter (is_share wanted) shares)
 
@@ -71,14 +71,14 @@ counts_of shares = record {
 abbrev pub AddUp : Counts → Type 0
 AddUp counts = counts.told + counts.untold + counts.unplaced + counts.unconcerned ≡ counts.trains
 
--- what an active stop or restriction is to the trains, counted
+-- what an active stop or restriction means for the trains, counted
 abbrev pub stop_counts : List (Key × Rec) → ℕ → Option Counts
 stop_counts records number = option_map (λ area. counts_of (stop_shares records (number, area))) (value_of (active_stops records) number)
 
 abbrev pub limit_counts : List (Key × Rec) → ℕ → ℕ → Option Counts
 limit_counts records horizon number = option_map (λ limit. counts_of (limit_shares records horizon (number, limit))) (value_of (active_limits records) number)
 
--- the counts after an input that was accepted: where a stop or a restriction began
+-- the counts after an accepted input, if a stop or a restriction began
 abbrev pub counts_by : ℕ → List (Key × Rec) → Input → Option Counts
 counts_by horizon records (input.Stop number segments) = stop_counts records number
 counts_by horizon records (input.Restrict number segment dirs speed front) = limit_counts records horizon number

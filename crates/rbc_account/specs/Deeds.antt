@@ -22,20 +22,20 @@ abbrev pub stop_acked : ℕ → ℕ × Slot → Option Acked
 stop_acked stamp (id, Used used) = None
 stop_acked stamp (id, Revoking own) = if own == stamp then Some (acked.StopFreed id) else None
 
--- what it does to a restriction identifier
+-- what that acknowledgement does to a restriction identifier
 abbrev pub limit_acked : ℕ → ℕ × Slot → Option Acked
 limit_acked stamp (id, Used used) = if used.stamp == stamp then Some (acked.Restriction id used.number) else None
 limit_acked stamp (id, Revoking own) = if own == stamp then Some (acked.RestrictionFreed id) else None
 
--- what it does to all identifiers of a train
+-- what that acknowledgement does to all identifiers of a train
 abbrev pub acked_by : ℕ → TrainRec → List Acked
 acked_by stamp train = filter_map (stop_acked stamp) train.stops ++ filter_map (limit_acked stamp) train.limits
 
--- the report of a train of this length, as it was before, places it so
+-- this is where the report places the train, by its length before the input
 abbrev pub IsPlacedBy : Plan → Option TrainRec → Position → Placing → Type 0
 IsPlacedBy plan before position placing = (train : TrainRec) × (before ≡ Some train) × IsPlacing plan position train.length placing
 
--- An input did this. A train may have sent it, which was this before.
+-- An input did this. `before` is the train that sent it, as it was before, if a train did.
 abbrev pub IsDeed : Plan → Option TrainRec → Input → Deed → Type 0
 IsDeed plan before one (deed.Enrolled engine train_length) = one ≡ input.Enrol engine train_length
 IsDeed plan before one (deed.Withdrawn engine) = one ≡ input.Withdraw engine

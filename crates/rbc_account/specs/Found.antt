@@ -1,4 +1,4 @@
--- What the records after an input have for each message: its stop or its restrictions, with what they are to the train.
+-- What the records after an input have for each message: its stop or its restrictions, with what they mean for the train.
 use Rattle.std.specs.Prelude.{◌≡◌, ℕ, Bool, true, false, List, Option, Some, None}
 use Rattle.std.specs.List.{list_any, AllByRecursion}
 use Rattle.std.specs.Option.{option_map_or}
@@ -51,19 +51,19 @@ abbrev pub HasLimit : List (ℕ × Limit) → TrainRec → ℕ → Type 0
 HasLimit active train id =
     (number : ℕ) × (number_under train.limits id ≡ Some number) × ((limit : Limit) × (value_of active number ≡ Some limit) × IsNotClear train.place limit)
 
--- so for a packet, where this holds of what is revoked
+-- the same for a packet, if this holds of what is revoked
 abbrev pub PacketHasSubject : List (ℕ × Limit) → TrainRec → (ℕ → Type 0) → Packet → Type 0
 PacketHasSubject active train Revoked (packet.Restrict dir scale id start length front speed) = HasLimit active train id
 PacketHasSubject active train Revoked (packet.Lift dir id) = Revoked id
 
--- and for a message
+-- the same for a message
 abbrev pub HasSubject : List (ℕ × List Segment) → List (ℕ × Limit) → TrainRec → (ℕ → Type 0) → (ℕ → Type 0) → ToTrain → Type 0
 HasSubject stops limits train Revoked Lifted (message.StopAt head id scale reference dir distance) = HasStop stops train id MeansBefore
 HasSubject stops limits train Revoked Lifted (message.Stop head id) = HasStop stops train id MeansNow
 HasSubject stops limits train Revoked Lifted (message.Revoke head id) = Revoked id
 HasSubject stops limits train Revoked Lifted (message.General head packets) = AllByRecursion (PacketHasSubject limits train Lifted) packets
 
--- a stop is revoked under an identifier by an input, which that train sent, if one did
+-- a stop is revoked under an identifier by an input, which this train sent, if a train did
 abbrev pub IsRevokedBy : Input → Option TrainRec → ℕ → Type 0
 IsRevokedBy input before id = (number : ℕ) × (revoked_stop input before id ≡ Some number)
 
@@ -78,12 +78,12 @@ IsFound records input before engine m =
     (train : TrainRec) × (train_in records engine ≡ Some train)
     × HasSubject (active_stops records) (active_limits records) train (IsRevokedBy input before) (IsLiftedBy input before (active_limits records) train.place) m
 
--- The reason of a stop is one of those by which it means this to a train.
+-- A stop has a reason that gives it this meaning for a train.
 abbrev pub IsOfConcern : Concern → Option StopReason → Type 0
 IsOfConcern c None = ⊥
 IsOfConcern c (Some reason) = concern_by reason ≡ c
 
--- no record accounts for what a packet tells, or a message
+-- no record accounts for what a packet or a message tells
 abbrev pub is_unknown_packet : RestrictionTold → Bool
 is_unknown_packet (told.Told segment begin end unit why) = false
 is_unknown_packet (told.Revoked why) = false
@@ -96,12 +96,12 @@ is_unknown (what.StopRevoked number unanswered) = false
 is_unknown (what.Restrictions all) = list_any (λ one. is_unknown_packet one.what) all.items
 is_unknown what.Unknown = true
 
--- what a packet tells is accounted for where its restriction is found
+-- what a packet tells is accounted for if its restriction is found
 abbrev pub IsKnownPacket : List (Key × Rec) → Input → Option TrainRec → TrainRec → Packet → ToldRestriction → Type 0
 IsKnownPacket records input before train part one =
     PacketHasSubject (active_limits records) train (IsLiftedBy input before (active_limits records) train.place) part → is_unknown_packet one.what ≡ false
 
--- and what a message tells
+-- what a message tells is accounted for if its subject is found
 abbrev pub IsKnown : List (Key × Rec) → Input → Option TrainRec → Sent → Told → Type 0
 IsKnown records input before sent one = IsFound records input before sent.engine sent.message → is_unknown one.what ≡ false
 

@@ -7,7 +7,7 @@ use Rattle.rbc_ids.specs.declared.slot.Slot.TheVariants.{Used, Revoking}
 use Rattle.rbc_ids.specs.Table.{Slots}
 use Rattle.rbc_settle.specs.declared.train.TrainRec.{TrainRec}
 
--- the stamp of the message to a slot, if that message waits
+-- the stamp of the message of a slot, if that message waits
 abbrev pub owed_stamp : Slot → Option ℕ
 owed_stamp (Used used) = if used.acked then None else Some used.stamp
 owed_stamp (Revoking stamp) = Some stamp
@@ -20,7 +20,7 @@ is_owed_under stamp slot = option_map_or (nat_eq stamp) (owed_stamp slot) false
 abbrev pub stamps_owed : Slots → List ℕ
 stamps_owed slots = filter_map (λ held. owed_stamp held.1) slots
 
--- the different ones of some numbers, each once
+-- the numbers of a list, each once
 abbrev pub different : List ℕ → List ℕ
 different [] = []
 different (n ∷ more) = if list_any (nat_eq n) more then different more else n ∷ different more

@@ -24,7 +24,7 @@ IsWhyNowhere plan position (OffLine line) = (group : Group) × (group_of plan po
 abbrev pub nominal_of : Place → Way
 nominal_of place = if place.same then Up else Down
 
--- The estimated front of a train that a report places so: so far from the balise group, on the side of it, that the report gives.
+-- The estimated front of a train at the place of a report: at the distance from the balise group, and on the side, that the report gives.
 abbrev pub estimated_front : Place → Position → ℕ
 estimated_front place position = onward (way_of (nominal_of place) position.side) place.at (position.distance * unit_of position.scale)
 

@@ -1,4 +1,4 @@
--- What a stop and a restriction are to a train, case by case.
+-- What a stop and a restriction mean for a train, case by case.
 use Rattle.std.specs.Prelude.{◌≡◌, ℕ, ◌-◌, Bool, true, false, ◌==◌, ◌&&◌, if◌then◌else◌, List, Option, Some, None}
 use Rattle.std.specs.List.{find}
 use Rattle.std.specs.Option.{unwrap_or}
@@ -16,7 +16,7 @@ use Rattle.rbc_account.specs.declared.reason.StopReason.TheVariants.{NoPlace, Fo
 use Rattle.rbc_account.specs.declared.reason.LimitReason.{LimitReason}
 use Rattle.rbc_account.specs.declared.reason.LimitReason.TheVariants as limit_reason
 
--- what a stop means for a train to which it is this
+-- what a stop means for a train, by its case
 abbrev pub concern_by : StopReason → Concern
 concern_by NoPlace = concern.Now
 concern_by Forced = concern.Now
@@ -33,7 +33,7 @@ is_met p segment = segment.line == p.line && meets p segment
 abbrev pub first_met : List Segment → Place → Option Segment
 first_met area p = find (is_met p) area
 
--- the edge ahead that a train reaches first, or 0 where there is none
+-- the edge ahead that a train reaches first, or 0 if there is none
 abbrev pub nearest_edge : Place → List Segment → ℕ
 nearest_edge p area = unwrap_or (nearest p.facing (edges_ahead p area)) 0
 
@@ -41,8 +41,8 @@ nearest_edge p area = unwrap_or (nearest p.facing (edges_ahead p area)) 0
 abbrev pub nearer_on_line : Place → Option ℕ → Segment → Option ℕ
 nearer_on_line p found segment = if segment.line == p.line then nearer p found segment else found
 
--- A stop is this to a train. A train without a place is told it for no other reason, nor is one that stops for it at once; else only a
--- stretch that meets its place comes before the nearest edge ahead.
+-- This case of a stop applies to a train. If the train has no place, or stops for it at once, that is the case; else a
+-- stretch that meets its place is the case before the nearest edge ahead.
 abbrev pub IsStopReason : List Segment → Bool → Option Place → StopReason → Type 0
 IsStopReason area forced place NoPlace = place ≡ None
 IsStopReason area forced place Forced = (p : Place) × (place ≡ Some p) × (forced ≡ true)
@@ -56,7 +56,7 @@ IsStopReason area forced place (Before edge) =
 IsStopReason area forced place Nothing =
     (p : Place) × (place ≡ Some p) × (forced ≡ false) × (first_met area p ≡ None) × (nearest p.facing (edges_ahead p area) ≡ None)
 
--- whether a restriction is clear of a train to which it is this
+-- whether a restriction is clear of a train, by its case
 abbrev pub clear_by : LimitReason → Bool
 clear_by limit_reason.OtherLine = true
 clear_by limit_reason.OtherWay = true
@@ -69,8 +69,8 @@ abbrev pub distance_ahead : Way → Segment → Place → ℕ
 distance_ahead Up segment p = segment.from - p.hi
 distance_ahead Down segment p = p.lo - segment.to
 
--- A restriction is this to a train, the first that is so: it is on another line; it is for trains that face the other way; it lies wholly behind the
--- train; it overlaps the place of the train; or it begins so far ahead of it.
+-- This case of a restriction applies to a train, as the first one: it is on another line; it is for trains that face
+-- the other way; it lies wholly behind the train; it overlaps the place of the train; or it begins so far ahead of it.
 abbrev pub IsLimitReason : Limit → Place → LimitReason → Type 0
 IsLimitReason limit p limit_reason.OtherLine = (limit.segment.line == p.line) ≡ false
 IsLimitReason limit p limit_reason.OtherWay = ((limit.segment.line == p.line) ≡ true) × (is_for limit.dirs p.facing ≡ false)

@@ -12,18 +12,18 @@ use Rattle.rbc_account.specs.Sums.{no_sums, counted}
 abbrev pub sums_after : Sums → List Taken → Sums
 sums_after sums taken = fold (λ sums one. counted one.reply sums) sums taken
 
--- Lines were taken from the opening of an account on, each by a step of the rules, and counted.
+-- Lines were taken since an account was opened, each by a step of the rules, and counted.
 pub record IsAccount (plan : Plan) (taken : List Taken) (records : List (Key × Rec)) (sums : Sums) : Type 0 where
   pub history : IsHistory plan [] taken records
   pub counts : sums ≡ sums_after no_sums taken
 
--- The records, the replies and the messages are those of the serial run of the lines' inputs, and what was accepted and what was
--- refused add up to the lines.
+-- The records, the replies and the messages are those of the serial run of the lines' inputs, and the accepted and the
+-- refused inputs add up to the lines.
 pub record IsTrueAccount (plan : Plan) (taken : List Taken) (records : List (Key × Rec)) (sums : Sums) : Type 0 where
   pub serial : IsSerialRunOf plan taken records
   pub all_counted : sums.accepted + sums.refused ≡ length taken
 
--- on each track, for all lines, each told or not
+-- this holds on each track, for all lines, each told or not
 abbrev pub EachAccountIsTrue : Type 0
 EachAccountIsTrue =
     (plan : Plan) (taken : List Taken) (records : List (Key × Rec)) (sums : Sums) → length taken < 2 ^ 64

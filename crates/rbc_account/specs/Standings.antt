@@ -1,4 +1,4 @@
--- What stands at the trains.
+-- The state of the trains.
 use Rattle.std.specs.Prelude.{◌≡◌, ℕ, Bool, false, List, length, map, Option, Some, None, is_some, option_map, option_and_then}
 use Rattle.std.specs.List.{filter, filter_map}
 use Rattle.std.specs.Option.{unwrap_or}
@@ -29,7 +29,7 @@ waiting_of horizon records engine = option_map (λ train. (engine, waiting_at ho
 abbrev pub waiting_everywhere : ℕ → List (Key × Rec) → List (ℕ × List Waiting)
 waiting_everywhere horizon records = filter_map (waiting_of horizon records) (engines_in records)
 
--- the engine of a train, and what waits there, as it is told
+-- the engine of a train, and what is told to wait there
 abbrev pub waiting_told : TrainStanding → ℕ × List Waiting
 waiting_told standing = (standing.engine, standing.waiting.items)
 
@@ -37,11 +37,11 @@ waiting_told standing = (standing.engine, standing.waiting.items)
 abbrev pub AreStandings : ℕ → List (Key × Rec) → List TrainStanding → Type 0
 AreStandings horizon records standings = map waiting_told standings ≡ waiting_everywhere horizon records
 
--- how many messages the train with an engine number owes an answer, if it is enrolled
+-- how many messages the train with an engine number has not answered, if it is enrolled
 abbrev pub owed_by : List (Key × Rec) → ℕ → Option ℕ
 owed_by records engine = option_map messages_owed (train_in records engine)
 
--- what is told to be owed by the trains is what each of them owes, engines ascending
+-- what the trains are told to owe is what each of them owes, engines ascending
 abbrev pub AreOwed : List (Key × Rec) → List TrainStanding → Type 0
 AreOwed records standings = map owed_told standings ≡ filter_map (owed_by records) (engines_in records)
 
@@ -52,14 +52,14 @@ abbrev pub acked_in : Slot → Option Bool
 acked_in (Used used) = Some used.acked
 acked_in (Revoking stamp) = None
 
--- the same of an identifier, and of a number
+-- the same for an identifier, and for a number
 abbrev pub acked_under : Slots → ℕ → Option Bool
 acked_under slots id = option_and_then (λ slot. acked_in slot) (value_of slots id)
 
 abbrev pub answer_in : Slots → ℕ → Option Bool
 answer_in slots number = option_and_then (acked_under slots) (identifier_of slots number)
 
--- whether a train answered a stop or acknowledged a restriction, if that is told to it
+-- whether a train answered a stop or acknowledged a restriction, if it is told to the train
 abbrev pub answer_of : Waits → TrainRec → Option Bool
 answer_of (Stop number) train = answer_in train.stops number
 answer_of (Restriction number) train = answer_in train.limits number
@@ -74,11 +74,11 @@ is_told_at records what standing = is_some (answer_at records what standing.engi
 abbrev pub is_answered_at : List (Key × Rec) → Waits → TrainStanding → Bool
 is_answered_at records what standing = unwrap_or (answer_at records what standing.engine) false
 
--- whether it waits at a train
+-- whether a stop or a restriction waits at a train
 abbrev pub waits_at : Waits → TrainStanding → Bool
 waits_at what standing = waits_in standing.waiting.items what
 
--- to how many of the trains it is told, how many of them answered it, and at how many it waits
+-- to how many of the trains a stop or a restriction is told, how many of them answered it, and at how many it waits
 abbrev pub sharing_of : List (Key × Rec) → List TrainStanding → Waits → Sharing
 sharing_of records standings what = record {
   number = (kind_and_number what).1;
@@ -87,14 +87,15 @@ sharing_of records standings what = record {
   untold = length (filter (waits_at what) standings);
 }
 
--- of each active stop, and of each active restriction
+-- the same for each active stop, and for each active restriction
 abbrev pub stop_sharings : List (Key × Rec) → List TrainStanding → List Sharing
 stop_sharings records standings = map (λ stop. sharing_of records standings (Stop stop.0)) (active_stops records)
 
 abbrev pub limit_sharings : List (Key × Rec) → List TrainStanding → List Sharing
 limit_sharings records standings = map (λ limit. sharing_of records standings (Restriction limit.0)) (active_limits records)
 
--- What stands: what waits at each train and what it owes, to how many trains each active stop and restriction is told, and the totals over all trains.
+-- The state: what waits at each train and what the train owes, to how many trains each active stop and restriction is
+-- told, and the totals over all trains.
 pub record IsStanding (horizon : ℕ) (records : List (Key × Rec)) (standing : Standing) : Type 0 where
   pub waits : AreStandings horizon records standing.trains.items
   pub of_stops : standing.stops.items ≡ stop_sharings records standing.trains.items

@@ -1,4 +1,4 @@
--- Of which stop and which restrictions a message tells.
+-- The stop or the restrictions that a message is about.
 use Rattle.std.specs.Prelude.{◌≡◌, ℕ, List, [], ◌∷◌, Option, Some, option_and_then}
 use Rattle.ertms_codec.specs.declared.packets.Part.{Part}
 use Rattle.ertms_codec.specs.declared.packets.Part.TheVariants as part
@@ -21,7 +21,7 @@ use Rattle.rbc_live.specs.Known.{train_in, number_under}
 use Rattle.rbc_account.specs.Places.{TellsPlace, TellsAtOnce, TellsRevocation, TellsPart}
 use Rattle.rbc_account.specs.Whys.{IsTold}
 
--- two lists go together, one by one
+-- the items of two lists match, one by one
 abbrev pub ArePaired : {A B : Type 0} → (A → B → Type 0) → List A → List B → Type 0
 ArePaired Is [] [] = Unit
 ArePaired Is (x ∷ xs) (y ∷ ys) = Is x y × ArePaired Is xs ys
@@ -57,7 +57,7 @@ revoked_limit (input.Restrict number segment dirs speed front) before id = limit
 revoked_limit (input.Received message) before id = limit_before before id
 revoked_limit (input.Bad code) before id = limit_before before id
 
--- what is told is of the stop with this number
+-- what is told is about the stop with this number
 abbrev pub IsOfStop : Option ℕ → ToldWhat → Type 0
 IsOfStop number (what.StopBefore n told edge unit) = number ≡ Some n
 IsOfStop number (what.StopAtOnce n why) = number ≡ Some n
@@ -65,7 +65,7 @@ IsOfStop number (what.StopRevoked n unanswered) = number ≡ Some n
 IsOfStop number (what.Restrictions all) = ⊥
 IsOfStop number what.Unknown = Unit
 
--- what a packet tells is of the restriction with this number
+-- what a packet tells is about the restriction with this number
 abbrev pub IsOfNumber : Option ℕ → ℕ → RestrictionTold → Type 0
 IsOfNumber number n (packet.Told segment begin end unit why) = number ≡ Some n
 IsOfNumber number n (packet.Revoked why) = number ≡ Some n
@@ -79,7 +79,7 @@ limit_of one before train (part.Lift dir id) = revoked_limit one before id
 abbrev pub IsOfLimit : Input → Option TrainRec → TrainRec → Part → ToldRestriction → Type 0
 IsOfLimit one before train part told = IsOfNumber (limit_of one before train part) told.number told.what
 
--- what a message 24 tells is of the restrictions of its packets, one by one
+-- what a message 24 tells is about the restrictions of its packets, one by one
 abbrev pub IsOfLimits : Input → Option TrainRec → TrainRec → List Part → ToldWhat → Type 0
 IsOfLimits one before train parts (what.Restrictions all) = ArePaired (IsOfLimit one before train) parts all.items
 IsOfLimits one before train parts (what.StopBefore n told edge unit) = ⊥
@@ -87,14 +87,14 @@ IsOfLimits one before train parts (what.StopAtOnce n why) = ⊥
 IsOfLimits one before train parts (what.StopRevoked n unanswered) = ⊥
 IsOfLimits one before train parts what.Unknown = Unit
 
--- What is told of a message is of its own stop or restrictions: those that its identifiers tell after the input, or that are revoked.
+-- What is told about a message is about its own stop or restrictions: those that its identifiers tell after the input, or that are revoked.
 abbrev pub IsOf : Input → Option TrainRec → TrainRec → ToTrain → ToldWhat → Type 0
 IsOf one before train (message.StopAt head id scale reference dir distance) told = IsOfStop (number_under train.stops id) told
 IsOf one before train (message.Stop head id) told = IsOfStop (number_under train.stops id) told
 IsOf one before train (message.Revoke head id) told = IsOfStop (revoked_stop one before id) told
 IsOf one before train (message.General head packets) told = IsOfLimits one before train packets told
 
--- what a message 24 is told as: each packet as what it is
+-- a message 24 is told with each packet as what it is
 abbrev pub TellsParts : List Part → ToldWhat → Type 0
 TellsParts parts (what.Restrictions all) = ArePaired TellsPart parts all.items
 TellsParts parts (what.StopBefore n told edge unit) = ⊥

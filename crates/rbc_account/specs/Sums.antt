@@ -8,7 +8,7 @@ use Rattle.rbc_account.specs.declared.account.Sums.{Sums}
 abbrev pub no_sums : Sums
 no_sums = record { accepted = 0; refused = 0; messages = 0 }
 
--- a sum, which ends at 2 ^ 64 - 1
+-- a sum, which stays at 2 ^ 64 - 1 once it is there
 abbrev pub added : ℕ → ℕ → ℕ
 added sum more = min (sum + more) (2 ^ 64 - 1)
 

@@ -1,4 +1,4 @@
--- The totals of what stands, over all enrolled trains (own rule).
+-- The totals of the state, over all enrolled trains (own rule).
 use Rattle.std.specs.Prelude.{ℕ, ◌+◌, Bool, true, false, not, nat_lt, List, [], ◌∷◌, length}
 use Rattle.std.specs.List.{filter, filter_map}
 use Rattle.rbc_settle.specs.declared.train.TrainRec.{TrainRec}
@@ -13,7 +13,7 @@ use Rattle.rbc_account.specs.Owed.{messages_owed, is_owing}
 use Rattle.rbc_account.specs.Sums.{added}
 use Rattle.rbc_live.specs.Waits.{stop_waits, limit_waits, is_due}
 
--- what a count gives of each of a list, added up; as each sum, it ends at 2 ^ 64 - 1
+-- the sum of a count over a list; like each sum, it stays at 2 ^ 64 - 1 once it is there
 abbrev pub total : {A : Type 0} → (A → ℕ) → List A → ℕ
 total count [] = 0
 total count (one ∷ more) = added (count one) (total count more)
@@ -46,20 +46,20 @@ again_total records = total (again_at records) (enrolled_trains records)
 
 -- ---- the same by what is told of each train
 
--- whether it is a stop that is due
+-- whether the entry is a stop that is due
 abbrev pub is_again : Waits → Bool
 is_again (Again number) = true
 is_again (Stop number) = false
 is_again (Restriction number) = false
 
--- how many of what waits at a train are such stops, and how many are not
+-- how many of the entries that wait at a train are such stops, and how many are not
 abbrev pub again_in : List Waiting → ℕ
 again_in all = length (filter (λ waiting. is_again waiting.what) all)
 
 abbrev pub untold_in : List Waiting → ℕ
 untold_in all = length (filter (λ waiting. not (is_again waiting.what)) all)
 
--- what stands at one train, as numbers
+-- the state of one train, as numbers
 abbrev pub owed_told : TrainStanding → ℕ
 owed_told standing = standing.acknowledgements
 

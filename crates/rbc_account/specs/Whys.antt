@@ -31,7 +31,7 @@ use Rattle.rbc_account.specs.declared.told.WhyRevoked.TheVariants as why_revoked
 use Rattle.rbc_live.specs.Known.{train_in, active_stops, active_limits}
 use Rattle.rbc_account.specs.Reasons.{IsStopReason, IsLimitReason}
 
--- an active stop is this to a train
+-- this case of an active stop applies to a train
 abbrev pub IsReasonOf : Option (List Segment) → Bool → Option Place → StopReason → Type 0
 IsReasonOf area forced place reason = (segments : List Segment) × (area ≡ Some segments) × IsStopReason segments forced place reason
 
@@ -40,7 +40,7 @@ abbrev pub is_revoked : Slot → Bool
 is_revoked (Used used) = false
 is_revoked (Revoking stamp) = true
 
--- whether an identifier is
+-- whether an identifier is being revoked
 abbrev pub is_revoking : Slots → ℕ → Bool
 is_revoking slots id = option_map_or is_revoked (value_of slots id) false
 
@@ -55,7 +55,8 @@ revoked_from old new number = option_and_then (revoked_now new) (identifier_of o
 abbrev pub escalated_under : Option TrainRec → TrainRec → ℕ → Option ℕ
 escalated_under before train number = option_and_then (λ old. revoked_from old.stops train.stops number) before
 
--- Why a train stops at once for a stop: it left the stop unanswered under this identifier; and only if it did not, the first reason that the stop is to it.
+-- Why a train stops at once for a stop: it left the stop unanswered under this identifier; or, only if it did not, the
+-- first case of the stop that applies to it.
 abbrev pub IsWhyAtOnce : Option ℕ → (StopReason → Type 0) → WhyAtOnce → Type 0
 IsWhyAtOnce escalated IsReason (at_once.Unanswered id) = escalated ≡ Some id
 IsWhyAtOnce escalated IsReason at_once.NoPlace = (escalated ≡ None) × IsReason stop_reason.NoPlace
@@ -63,7 +64,7 @@ IsWhyAtOnce escalated IsReason at_once.Rejected = (escalated ≡ None) × IsReas
 IsWhyAtOnce escalated IsReason (at_once.Overlaps segment) = (escalated ≡ None) × IsReason (stop_reason.Overlaps segment)
 IsWhyAtOnce escalated IsReason (at_once.BehindGroup edge) = (escalated ≡ None) × IsReason (stop_reason.BehindGroup edge)
 
--- a restriction is this to a train at a place
+-- this case of a restriction applies to a train at a place
 abbrev pub IsLimitReasonOf : Option Limit → Option Place → (Limit → Place → Type 0) → Type 0
 IsLimitReasonOf limit place Is = (l : Limit) × (limit ≡ Some l) × ((p : Place) × (place ≡ Some p) × Is l p)
 
@@ -90,11 +91,11 @@ IsPacketOf limit place packet.Unknown = Unit
 abbrev pub IsPacket : List (Key × Rec) → TrainRec → ToldRestriction → Type 0
 IsPacket records train one = IsPacketOf (value_of (active_limits records) one.number) train.place one.what
 
--- the stop of a number is this to a train
+-- this case of the stop with a number applies to a train
 abbrev pub IsReasonTo : List (Key × Rec) → TrainRec → ℕ → StopReason → Type 0
 IsReasonTo records train number reason = IsReasonOf (value_of (active_stops records) number) (has_number train.forced number) train.place reason
 
--- Why a message was sent to a train, which is this after the input and may have sent it.
+-- Why a message was sent to a train, which is `train` after the input. `before` is the train that sent the input, as it was before, if a train did.
 abbrev pub IsWhat : List (Key × Rec) → Option TrainRec → TrainRec → ToldWhat → Type 0
 IsWhat records before train (what.StopBefore number told edge unit) = IsReasonTo records train number (stop_reason.Before edge)
 IsWhat records before train (what.StopAtOnce number why) = IsWhyAtOnce (escalated_under before train number) (IsReasonTo records train number) why
@@ -102,6 +103,6 @@ IsWhat records before train (what.StopRevoked number unanswered) = unanswered �
 IsWhat records before train (what.Restrictions all) = All (IsPacket records train) all.items
 IsWhat records before train what.Unknown = Unit
 
--- A message tells this to its train, as that is after the input.
+-- A message tells this to its train, as the train is after the input.
 abbrev pub IsTold : List (Key × Rec) → Option TrainRec → Told → Type 0
 IsTold records before told = (train : TrainRec) → train_in records told.engine ≡ Some train → (told.place ≡ train.place) × IsWhat records before train told.what

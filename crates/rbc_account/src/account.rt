@@ -27,8 +27,8 @@ use rbc_track::{Track, TrackError};
 use rbc_zones::{Area, Limit};
 use std::alloc::{AllocError, Global};
 
-/// How many inputs were taken, and how many messages they sent. Each sum stays at 2^64 - 1 where it has come there,
-/// which none does in a batch.
+/// How many inputs were taken, and how many messages they sent. A sum that reaches 2^64 - 1 stays there; in a batch
+/// none does.
 #[derive(Clone, Copy)]
 pub struct Sums {
     /// The inputs that were accepted.
@@ -59,7 +59,8 @@ impl Sums {
     }
 }
 
-/// A run under way: lines are taken one after another, from the empty state, and what each led to is told or not.
+/// A run under way, from the empty state. It takes lines one after another: `step` tells what came of a line, `pass`
+/// does not.
 #[derive(Drop)]
 pub struct Account {
     pub desk: LiveDesk,
@@ -68,7 +69,7 @@ pub struct Account {
     pub told_places: ToldPlaces,
 }
 
-/// What each track keeps: what each message tells rests on it.
+/// Says in its contract what holds of every track, because what a message tells depends on it.
 fn is_plan(track: &Track)
     ensures { IsPlan track.now }
 {
@@ -102,8 +103,7 @@ impl Account {
         })
     }
 
-    /// Takes an input, and says only what the desk answers. Fails only for lack of memory, and then the account is of
-    /// no further use.
+    /// Takes an input, and returns only the answer of the desk. After an error the account is of no further use.
     fn take(&mut self, alloc: Global, input: &Input) -> Result<Answer, AllocError>
         requires { Fits input.now }
         ensures steps { IfOk result (λ answer. IsStepOf self.old.desk.track input.now self.old.desk.records
@@ -125,8 +125,8 @@ impl Account {
         Ok(answer)
     }
 
-    /// Takes a line, without its line feed, and tells nothing of it. Fails only for lack of memory, and then the
-    /// account is of no further use.
+    /// Takes a line, without its line feed, and returns only the answer of the desk. After an error the account is of
+    /// no further use.
     pub fn pass(&mut self, alloc: Global, line: &[u8]) -> Result<Answer, AllocError>
         ensures fed { IfOk result (λ answer. IsFed self.old.desk.track line.now self.old.desk.records
             self.new.desk.records answer.reply answer.messages) }
@@ -139,8 +139,8 @@ impl Account {
         self.take(alloc, &input)
     }
 
-    /// Takes a line, without its line feed, and tells what came of it. Fails only for lack of memory, and then the
-    /// account is of no further use.
+    /// Takes a line, without its line feed, and returns what came of it. After an error the account is of no further
+    /// use.
     pub fn step(&mut self, alloc: Global, line: &[u8]) -> Result<Block, AllocError>
         ensures fed { IfOk result (λ block. IsFed self.old.desk.track line.now self.old.desk.records
             self.new.desk.records block.reply block.messages) }
@@ -170,7 +170,7 @@ impl Account {
         )
     }
 
-    /// A copy of the train that sent an input, if a train did. Fails only for lack of memory.
+    /// A copy of the train that sent an input, if a train did.
     fn sender(&self, alloc: Global, input: &Input) -> Result<Option<TrainRec>, AllocError>
         ensures { IfOk result (λ sender. sender ≡ sender_in self.now.desk.records input.now) }
     {
@@ -225,14 +225,14 @@ impl Account {
         rbc_live::active_limits(&self.desk.records)
     }
 
-    /// The last number that was given to a stop, or 0 where none was.
+    /// The last number that was given to a stop, or 0 if none was.
     pub fn last_stop(&self) -> u32
         ensures { result ≡ last_stop self.now.desk.records }
     {
         rbc_live::last_stop(&self.desk.records)
     }
 
-    /// The last number that was given to a restriction, or 0 where none was.
+    /// The last number that was given to a restriction, or 0 if none was.
     pub fn last_limit(&self) -> u32
         ensures { result ≡ last_limit self.now.desk.records }
     {
@@ -247,7 +247,7 @@ impl Account {
         self.told_places.get(engine, id, stamp)
     }
 
-    /// What stands now. Fails only for lack of memory.
+    /// The state now.
     pub fn standing(&self, alloc: Global) -> Result<Standing, AllocError>
         ensures { IfOk result (IsStanding self.now.desk.track.horizon self.now.desk.records) }
     {

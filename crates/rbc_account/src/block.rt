@@ -31,15 +31,15 @@ pub struct Block {
     pub deed: Deed,
     /// What each message tells, in the order of the messages.
     pub told: Vec<Told>,
-    /// What a stop or a restriction that began is to the trains.
+    /// What a stop or a restriction that began means for the trains.
     pub counts: Option<Counts>,
-    /// What has come to wait, with the engine at which it waits: engines ascending; of one engine stops, restrictions,
-    /// and stops that are due, each by number.
+    /// What began to wait, each entry with the engine of its train. Engines ascend; for one engine the stops come
+    /// first, then the restrictions, then the stops that are due, each by number.
     pub waiting: Vec<(u32, Waiting)>,
 }
 
-/// What came of an input: `number` is its number, `before` the train that sent it, as it was before, and the desk is
-/// that after it. Fails only for lack of memory.
+/// What came of an input. `number` is its number, `before` is the train that sent it, as it was before the input, and
+/// `desk` is the desk after the input.
 pub(crate) fn block_of(
     alloc: Global,
     desk: &LiveDesk,
@@ -76,8 +76,8 @@ pub(crate) fn block_of(
     })
 }
 
-/// What has come to wait by an input, as `come_to_wait` has it, where the trains are counted: nothing where a stop or a
-/// restriction that began is untold to none of them. Fails only for lack of memory.
+/// What began to wait through an input, as `come_to_wait` gives it. If a stop or a restriction began and the counts
+/// show that no train lacks it, nothing began to wait.
 fn waiting_after(
     alloc: Global,
     desk: &LiveDesk,

@@ -1,4 +1,4 @@
-//! What has come to wait by an input.
+//! What began to wait through an input.
 
 ghost use Rattle.std.specs.Prelude.{◌≡◌, [], map, not, Some, IfOk, option_copied};
 ghost use Rattle.std.specs.List.{filter, filter_map};
@@ -19,10 +19,10 @@ use rbc_settle::TrainRec;
 use rbc_zones::{Area, Limit};
 use std::alloc::{AllocError, Global};
 
-/// What has come to wait by an input, with the engine at which it waits: engines ascending; of one engine in the order
-/// of `all_waiting`. The desk is that after the input; `before` is the train that sent it, as it was before, if one
-/// did. A stop or a restriction that begins can come to wait at any train, and all else only at the train of the input.
-/// Fails only for lack of memory.
+/// What began to wait through an input, each entry with the engine of its train. Engines ascend; for one engine the
+/// order is that of `all_waiting`. `desk` is the desk after the input; `before` is the train that sent it, as it was
+/// before, if a train sent it. A stop or a restriction that begins can wait at any train, everything else only at the
+/// train of the input.
 pub(crate) fn come_to_wait(
     alloc: Global,
     desk: &LiveDesk,
@@ -84,7 +84,7 @@ fn added(
         .collect(alloc)
 }
 
-/// What waited at a train before, or nothing where there was none.
+/// What waited at a train before, or nothing if there was none.
 fn waiting_before(
     alloc: Global,
     desk: &LiveDesk,
@@ -99,8 +99,8 @@ fn waiting_before(
     }
 }
 
-/// What waits at a train of the desk, which has this engine number. Nothing does where the train lacks nothing
-/// (`waiting_law`), and then no stop and no restriction is looked at.
+/// What waits at the train with this engine number. If the train lacks nothing, nothing waits (`waiting_law`), and no
+/// stop or restriction is searched.
 pub(crate) fn waiting_now(
     alloc: Global,
     desk: &LiveDesk,

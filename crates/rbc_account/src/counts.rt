@@ -1,4 +1,4 @@
-//! What a stop or a restriction that began is to the trains.
+//! What a stop or a restriction that began means for the trains.
 
 ghost use Rattle.std.specs.Prelude.{◌≡◌, IfOk, IfSome};
 ghost use Rattle.rbc_account.specs.Counting.{stop_share, stop_share_at, stop_shares, limit_share, limit_share_at};
@@ -15,7 +15,7 @@ use rbc_zones::{Area, Limit};
 use std::alloc::{AllocError, Global};
 use std::cell::Cell;
 
-/// How many trains are enrolled after a stop or a restriction began, and what it is to them: `told`, `untold`,
+/// How many trains are enrolled after a stop or a restriction began, and what it means for them: `told`, `untold`,
 /// `unplaced` and `unconcerned` add up to `trains`.
 #[derive(Clone, Copy)]
 pub struct Counts {
@@ -31,7 +31,7 @@ pub struct Counts {
     pub unconcerned: usize,
 }
 
-/// What a stop or a restriction is to one train.
+/// What a stop or a restriction means for one train.
 #[derive(Clone, Copy)]
 pub(crate) enum Share {
     /// It is told to the train.
@@ -44,8 +44,7 @@ pub(crate) enum Share {
     Unconcerned,
 }
 
-/// What a stop or a restriction that an input began is to the trains. `None` of any other input. Fails only for lack of
-/// memory.
+/// What a stop or a restriction that an input began means for the trains. `None` for any other input.
 pub(crate) fn counts_after(
     alloc: Global,
     desk: &LiveDesk,
@@ -73,7 +72,7 @@ pub(crate) fn counts_after(
     }
 }
 
-/// What an active stop is to the trains. `None` if the stop is not active.
+/// What an active stop means for the trains. `None` if the stop is not active.
 fn stop_counts(
     alloc: Global,
     records: &PlainStore,
@@ -89,7 +88,7 @@ fn stop_counts(
     Ok(Some(tally(&shares)))
 }
 
-/// What an active restriction is to the trains. `None` if the restriction is not active.
+/// What an active restriction means for the trains. `None` if the restriction is not active.
 fn limit_counts(
     alloc: Global,
     records: &PlainStore,
@@ -106,7 +105,7 @@ fn limit_counts(
     Ok(Some(tally(&shares)))
 }
 
-/// What a stop is to each train, engines ascending.
+/// What a stop means for each train, engines ascending.
 fn stop_shares(
     alloc: Global,
     records: &PlainStore,
@@ -121,7 +120,7 @@ fn stop_shares(
         .collect(alloc)
 }
 
-/// What a stop is to the train with this engine number, if it is enrolled.
+/// What a stop means for the train with this engine number, if it is enrolled.
 fn stop_share_at(records: &PlainStore, engine: u32, number: u32, area: &Area) -> Option<Share>
     ensures { result ≡ stop_share_at records.now (number, area.now) engine }
 {
@@ -131,7 +130,7 @@ fn stop_share_at(records: &PlainStore, engine: u32, number: u32, area: &Area) ->
     }
 }
 
-/// What a restriction is to each train, engines ascending.
+/// What a restriction means for each train, engines ascending.
 fn limit_shares(
     alloc: Global,
     records: &PlainStore,
@@ -147,7 +146,7 @@ fn limit_shares(
         .collect(alloc)
 }
 
-/// What a restriction is to the train with this engine number, if it is enrolled.
+/// What a restriction means for the train with this engine number, if it is enrolled.
 fn limit_share_at(
     records: &PlainStore,
     engine: u32,
@@ -163,7 +162,7 @@ fn limit_share_at(
     }
 }
 
-/// What a stop is to a train.
+/// What a stop means for a train.
 fn stop_share(train: &TrainRec, number: u32, area: &Area) -> Share
     ensures { result ≡ stop_share (number, area.now) train.now }
 {
@@ -177,7 +176,7 @@ fn stop_share(train: &TrainRec, number: u32, area: &Area) -> Share
     }
 }
 
-/// What a restriction is to a train.
+/// What a restriction means for a train.
 fn limit_share(horizon: u32, train: &TrainRec, number: u32, limit: &Limit) -> Share
     ensures { result ≡ limit_share horizon (number, limit.now) train.now }
 {
@@ -207,7 +206,7 @@ fn tally(shares: &[Share]) -> Counts
     }
 }
 
-/// How many shares are this one.
+/// How many of the shares are the wanted one.
 fn how_many(shares: &[Share], wanted: Share) -> usize
     ensures { result ≡ how_many wanted shares.now }
 {
@@ -224,7 +223,7 @@ fn is_share(one: Share, other: Share) -> bool
     place_of(one) == place_of(other)
 }
 
-/// The place of a share among all.
+/// The position of a share among all kinds.
 fn place_of(share: Share) -> u8
     ensures { result ≡ place_of share }
 {

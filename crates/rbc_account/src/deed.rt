@@ -90,8 +90,8 @@ pub enum Acked {
     Restriction { id: u8, number: u32 },
 }
 
-/// What an input did that has this reply. `before` is the train that sent the message, as it was before the input; the
-/// desk is that after it. Fails only for lack of memory.
+/// What an input with this reply did. `before` is the train that sent the message, as it was before the input; `desk`
+/// is the desk after the input.
 pub(crate) fn deed_of(
     alloc: Global,
     desk: &LiveDesk,
@@ -128,7 +128,7 @@ fn done(
     }
 }
 
-/// What an accepted input did that says it all.
+/// What an accepted input did, if the input itself says all of it.
 fn as_given(input: &Input) -> Deed
     ensures { (plan : Plan) (before : Option TrainRec) → IsDeed plan before input.now result }
 {
@@ -166,7 +166,7 @@ fn stopped(alloc: Global, number: u32, segments: &Segments) -> Result<Deed, Allo
     Ok(Deed::Stopped { number, segments })
 }
 
-/// What a message did that was accepted, by the train as it was before it, if there was one.
+/// What an accepted message did, judged by its train as it was before, if there was one.
 fn heard(
     alloc: Global,
     track: &Track,
@@ -184,7 +184,7 @@ fn heard(
     }
 }
 
-/// What a message did that was accepted, by the train as it was before it.
+/// What an accepted message did, judged by its train as it was before.
 fn heard_from(
     alloc: Global,
     track: &Track,
@@ -250,7 +250,7 @@ fn answered(
 }
 
 /// What the acknowledgement of the message with a stamp does to the identifiers of a train: stops first, each by
-/// identifier. Fails only for lack of memory.
+/// identifier.
 fn acked_by(alloc: Global, train: &TrainRec, stamp: u32) -> Result<Vec<Acked>, AllocError>
     ensures { IfOk result (λ all. all.items ≡ acked_by stamp train.now) }
 {
@@ -259,7 +259,7 @@ fn acked_by(alloc: Global, train: &TrainRec, stamp: u32) -> Result<Vec<Acked>, A
     Ok(all)
 }
 
-/// What it does to the stop identifiers.
+/// What the acknowledgement does to the stop identifiers.
 fn stops_acked(alloc: Global, slots: &[(u8, Slot)], stamp: u32) -> Result<Vec<Acked>, AllocError>
     ensures { IfOk result (λ all. all.items ≡ filter_map (stop_acked stamp) slots.now) }
 {
@@ -269,7 +269,7 @@ fn stops_acked(alloc: Global, slots: &[(u8, Slot)], stamp: u32) -> Result<Vec<Ac
         .collect(alloc)
 }
 
-/// What it does to the restriction identifiers.
+/// What the acknowledgement does to the restriction identifiers.
 fn limits_acked(alloc: Global, slots: &[(u8, Slot)], stamp: u32) -> Result<Vec<Acked>, AllocError>
     ensures { IfOk result (λ all. all.items ≡ filter_map (limit_acked stamp) slots.now) }
 {
@@ -279,7 +279,7 @@ fn limits_acked(alloc: Global, slots: &[(u8, Slot)], stamp: u32) -> Result<Vec<A
         .collect(alloc)
 }
 
-/// What it does to a stop identifier: the identifier is free if the message revoked it.
+/// What the acknowledgement does to a stop identifier: the identifier is free if the message revoked it.
 fn stop_acked(id: u8, slot: Slot, stamp: u32) -> Option<Acked>
     ensures { result ≡ stop_acked stamp (id, slot) }
 {
@@ -289,8 +289,8 @@ fn stop_acked(id: u8, slot: Slot, stamp: u32) -> Option<Acked>
     }
 }
 
-/// What it does to a restriction identifier: the identifier is free if the message revoked it, and the restriction is
-/// acknowledged if the message told it.
+/// What the acknowledgement does to a restriction identifier: the identifier is free if the message revoked it, and the
+/// restriction is acknowledged if the message told it.
 fn limit_acked(id: u8, slot: Slot, stamp: u32) -> Option<Acked>
     ensures { result ≡ limit_acked stamp (id, slot) }
 {

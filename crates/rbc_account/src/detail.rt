@@ -32,7 +32,7 @@ pub enum Detail {
         engine: u32,
         length: u32,
     },
-    /// Code 10: the least stop identifier that is not free, the stop by which it is used, or `None` where it is being
+    /// Code 10: the least stop identifier that is not free, the stop by which it is used, or `None` if it is being
     /// revoked, and how many more identifiers are not free.
     Held {
         id: u8,
@@ -43,7 +43,7 @@ pub enum Detail {
     LastStop(u32),
     /// Code 11: the last number that was given to a restriction.
     LastRestriction(u32),
-    /// Code 12: a stop has so many stretches, more than are taken.
+    /// Code 12: a stop has this many stretches, more than are allowed.
     TooManyStretches(usize),
     /// Code 12: the line of this stretch, the first bad one, is not in the track.
     NoLine(Segment),
@@ -53,7 +53,7 @@ pub enum Detail {
     BeyondEnd(Segment, u32),
     /// Code 12: a restriction begins and ends at this place.
     NoLength(u32),
-    /// Code 12: the speed in km/h is none that a restriction can have.
+    /// Code 12: no restriction can have this speed, in km/h.
     Speed(u32),
     /// Code 14: the numbers of all active stops, ascending.
     ActiveStops(Vec<u32>),
@@ -91,8 +91,7 @@ pub enum Detail {
     },
 }
 
-/// The figures of a refusal with this code. The records are unchanged by what is refused. Fails only for lack of
-/// memory.
+/// The figures of a refusal with this code. A refusal leaves the records unchanged.
 pub(crate) fn detail_of(
     alloc: Global,
     desk: &LiveDesk,
@@ -126,7 +125,8 @@ pub(crate) fn detail_of(
     }
 }
 
-/// Of an enrolment: the train that has the engine number. There is none where too many trains are enrolled.
+/// For an enrolment: the train that has the engine number. There is none if the cause is that too many trains are
+/// enrolled.
 fn of_enrolment(records: &PlainStore, engine: u32) -> Detail {
     match train_in(records, engine) {
         Some(train) => Detail::Enrolled {
@@ -137,7 +137,7 @@ fn of_enrolment(records: &PlainStore, engine: u32) -> Detail {
     }
 }
 
-/// Of a withdrawal: that there is no such train, or the first identifier that it holds.
+/// For a withdrawal: that there is no such train, or the first identifier that it holds.
 fn of_withdrawal(records: &PlainStore, engine: u32) -> Detail {
     let Some(train) = train_in(records, engine) else {
         return Detail::NotEnrolled { engine };
@@ -162,7 +162,7 @@ fn number_in(slot: Slot) -> Option<u32>
     }
 }
 
-/// Of a stop.
+/// For a stop.
 fn of_stop(track: &Track, last: u32, segments: &[Segment], code: u8) -> Detail {
     if code == Refusal::NumberUsed.code() {
         return Detail::LastStop(last);
@@ -186,8 +186,8 @@ fn first_bad(track: &Track, segments: &[Segment]) -> Detail {
     Detail::Nothing
 }
 
-/// What is wrong with a stretch, if anything is: its line is not there, its first place is above its second, or this
-/// is beyond the end of the line.
+/// What is wrong with a stretch, if anything is: its line is not there, its first place is above its second, or its
+/// second place is beyond the end of the line.
 fn bad_stretch(track: &Track, segment: Segment) -> Option<Detail> {
     match track.line_len(segment.line) {
         None => Some(Detail::NoLine(segment)),
@@ -197,7 +197,7 @@ fn bad_stretch(track: &Track, segment: Segment) -> Option<Detail> {
     }
 }
 
-/// Of a restriction.
+/// For a restriction.
 fn of_restriction(track: &Track, last: u32, segment: Segment, speed: u32, code: u8) -> Detail {
     if code == Refusal::NumberUsed.code() {
         return Detail::LastRestriction(last);
@@ -215,7 +215,7 @@ fn of_restriction(track: &Track, last: u32, segment: Segment, speed: u32, code: 
     }
 }
 
-/// Of a message: that there is no such train, its stamp, or what it does not answer.
+/// For a message: that there is no such train, its stamp, or what it does not answer.
 fn of_message(records: &PlainStore, message: &FromTrain, code: u8) -> Detail {
     let engine = engine_of(message);
     let Some(train) = train_in(records, engine) else {
@@ -230,7 +230,7 @@ fn of_message(records: &PlainStore, message: &FromTrain, code: u8) -> Detail {
     }
 }
 
-/// Of an acknowledgement: the stop whose stamp it names, if there is one.
+/// For an acknowledgement: the stop whose stamp it names, if there is one.
 fn of_acknowledgement(train: &TrainRec, stamp: u32) -> Detail {
     let engine = train.engine;
     for (_, slot) in train.stops.slots() {
@@ -247,7 +247,7 @@ fn of_acknowledgement(train: &TrainRec, stamp: u32) -> Detail {
     Detail::AckOfNothing { engine, stamp }
 }
 
-/// Of an answer: what the identifier is held for.
+/// For an answer: what the identifier is held for.
 fn of_answer(train: &TrainRec, id: u8, answer: u8) -> Detail {
     let engine = train.engine;
     match train.stops.slot(id) {
@@ -262,7 +262,7 @@ fn of_answer(train: &TrainRec, id: u8, answer: u8) -> Detail {
     }
 }
 
-/// The numbers of a list of pairs. Fails only for lack of memory.
+/// The numbers of a list of pairs.
 fn numbers_of<V>(alloc: Global, pairs: &[(u32, V)]) -> Result<Vec<u32>, AllocError>
     ensures { IfOk result (λ numbers. numbers.items ≡ keys pairs.now) }
 {

@@ -5,7 +5,7 @@ ghost use Rattle.rbc_rule.specs.Saying.{way_told, unit_told};
 
 use rbc_track::Way;
 
-/// The direction that a Q_DIR gives at a balise group. `None` of a Q_DIR that gives none.
+/// The direction that a Q_DIR gives at a balise group. `None` for a Q_DIR that gives no direction.
 pub fn way_told(nominal: Way, dir: u8) -> Option<Way>
     ensures { result ≡ way_told nominal dir }
 {
@@ -17,7 +17,7 @@ pub fn way_told(nominal: Way, dir: u8) -> Option<Way>
     }
 }
 
-/// The unit that a Q_SCALE gives, in units of 10 cm. `None` of a spare Q_SCALE.
+/// The unit that a Q_SCALE gives, in units of 10 cm. `None` for a spare Q_SCALE.
 pub fn unit_told(scale: u8) -> Option<u32>
     ensures unit { result ≡ unit_told scale }
     ensures few { IfSome result (λ unit. unit ≤ 100) }

@@ -11,7 +11,7 @@ pub enum TellError {
     Track(TrackError),
     /// The batch could not be read, is too long or has too many inputs, or memory was refused.
     Batch(ProcessError),
-    /// The batch has only so many inputs, fewer than are asked for.
+    /// The batch has only this many inputs, fewer than are asked for.
     OnlyInputs { count: usize },
 }
 

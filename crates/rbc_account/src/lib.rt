@@ -1,9 +1,12 @@
 //! A run told as values: what each input did, why each message was sent, what waits at which trains, and the state
 //! after the last input. Places and lengths are in units of 10 cm, stamps (T_TRAIN) in units of 10 ms.
 //!
-//! It stands on the desk of rbc_live, which takes the inputs; rbc_explain and rbc_picture call it. What these rest on is
-//! `IsRightBlock` (specs/Blocks.antt), which `Account::step` promises of each input. Begin with account.rt; then
+//! It stands on the desk of rbc_live, which takes the inputs; rbc_explain and rbc_picture call it. What these rest on
+//! is `IsRightBlock` (specs/Blocks.antt), which `Account::step` promises of each input. Begin with account.rt; then
 //! block.rt has what came of one input, told.rt why its messages were sent, and state.rt the state.
+//!
+//! A function that cannot report a lack of memory takes none. `AllocError` means that memory was refused; what the
+//! function was changing is then of no further use, unless its docstring says what is left.
 #![tactic(auto)]
 
 mod account;

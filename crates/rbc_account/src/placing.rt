@@ -21,7 +21,7 @@ pub enum Placing {
 /// Why a report gives no place: the first reason that applies.
 #[derive(Clone, Copy)]
 pub enum NoPlace {
-    /// It is by two balise groups (packet 1).
+    /// It names two balise groups (packet 1).
     TwoGroups,
     /// The train's direction, or the side of the balise group on which it is, is unknown.
     Direction,
@@ -36,7 +36,7 @@ pub enum NoPlace {
 /// The least value of a distance that is unknown.
 const UNKNOWN: u16 = 32_767;
 
-/// Where a report places a train of this length, as the rules have it (own rule; see `place_of` of rbc_place).
+/// Where a report places a train of this length by the rules (own rule; see `place_of` of rbc_place).
 pub(crate) fn placing_of(track: &Track, position: &Position, length: u32) -> Placing
     ensures { IsPlacing track.now position.now length result }
 {
@@ -83,7 +83,7 @@ pub(crate) fn unit_of(scale: u8) -> u32
     }
 }
 
-/// Why a report gives no place, where it gives none.
+/// Why a report gives no place. Only for a report that gives none.
 fn why_nowhere(track: &Track, position: &Position) -> NoPlace
     ensures { IsWhyNowhere track.now position.now result }
 {

@@ -1,4 +1,4 @@
-//! What a stop and a restriction are to a train, case by case.
+//! What a stop and a restriction mean for a train, case by case.
 
 ghost use Rattle.std.specs.Prelude.{◌≡◌, ◌==◌, Some, false, option_copied};
 ghost use Rattle.rbc_zones.specs.Concerns.{concern_of};
@@ -10,7 +10,7 @@ use rbc_place::Place;
 use rbc_track::Way;
 use rbc_zones::{Area, Concern, Dirs, Limit, Segment, concern};
 
-/// What a stop is to a train: the first case that applies.
+/// What a stop means for a train: the first case that applies.
 #[derive(Clone, Copy)]
 pub(crate) enum StopReason {
     /// The train has no place.
@@ -27,7 +27,7 @@ pub(crate) enum StopReason {
     Nothing,
 }
 
-/// What a stop is to a train. `forced` says that the train stops for it at once. Takes no memory.
+/// What a stop means for a train. `forced` says that the train stops for it at once.
 pub(crate) fn stop_reason(area: &Area, forced: bool, place: Option<&Place>) -> StopReason
     ensures concern { concern_by result ≡ concern_of area.now forced (option_copied place.entry) }
     ensures is { IsStopReason area.now forced (option_copied place.entry) result }
@@ -39,7 +39,7 @@ pub(crate) fn stop_reason(area: &Area, forced: bool, place: Option<&Place>) -> S
     }
 }
 
-/// What a stop that is not forced on a train is to it at its place.
+/// What a stop that is not forced on a train means for it at its place.
 fn reason_at(area: &Area, place: &Place) -> StopReason
     ensures concern { concern_by result ≡ concern_of area.now false (Some place.now) }
     ensures is { IsStopReason area.now false (Some place.now) result }
@@ -73,7 +73,7 @@ fn is_met(place: &Place, segment: &Segment) -> bool
         && place.lo() <= segment.to
 }
 
-/// The edge ahead that a train reaches first, or 0 where there is none.
+/// The edge ahead that a train reaches first, or 0 if there is none.
 fn nearest_edge(segments: &[Segment], place: &Place) -> u32
     ensures { result ≡ nearest_edge place.now segments.now }
 {
@@ -102,7 +102,7 @@ fn nearer(place: &Place, found: Option<u32>, segment: &Segment) -> Option<u32>
     }
 }
 
-/// What a restriction is to a train at a place: the first case that applies.
+/// What a restriction means for a train at a place: the first case that applies.
 #[derive(Clone, Copy)]
 pub(crate) enum LimitReason {
     /// The restriction is on another line.
@@ -117,7 +117,7 @@ pub(crate) enum LimitReason {
     Ahead(u32),
 }
 
-/// What a restriction is to a train at a place. Takes no memory.
+/// What a restriction means for a train at a place.
 pub(crate) fn limit_reason(limit: &Limit, place: &Place) -> LimitReason
     ensures clear { clear_by result ≡ is_clear limit.now place.now }
     ensures is { IsLimitReason limit.now place.now result }

@@ -17,18 +17,18 @@ use rbc_records::PlainStore;
 use rbc_settle::TrainRec;
 use std::alloc::{AllocError, Global};
 
-/// What stands, beside the records themselves.
+/// The state, without the records themselves.
 #[derive(Drop)]
 pub struct Standing {
     /// To how many trains each active stop is told, in ascending order of the numbers.
     pub stops: Vec<Sharing>,
-    /// The same of each active restriction.
+    /// The same for each active restriction.
     pub limits: Vec<Sharing>,
-    /// What stands at each train, in ascending order of the engines.
+    /// The state of each train, in ascending order of the engines.
     pub trains: Vec<TrainStanding>,
     /// How many messages wait for an answer or an acknowledgement.
     pub acknowledgements: usize,
-    /// To how many trains these were sent.
+    /// How many trains owe an answer or an acknowledgement.
     pub owing: usize,
     /// How many stops and restrictions are not told to a train that they concern, over all trains.
     pub untold: usize,
@@ -48,7 +48,7 @@ pub struct Sharing {
     pub untold: usize,
 }
 
-/// What stands at one train.
+/// The state of one train.
 #[derive(Drop)]
 pub struct TrainStanding {
     pub engine: u32,
@@ -58,7 +58,7 @@ pub struct TrainStanding {
     pub waiting: Vec<Waiting>,
 }
 
-/// What stands on a desk. Fails only for lack of memory.
+/// The state of a desk.
 pub(crate) fn standing_on(alloc: Global, desk: &LiveDesk) -> Result<Standing, AllocError>
     ensures { IfOk result (IsStanding desk.now.track.horizon desk.now.records) }
 {
@@ -78,7 +78,7 @@ pub(crate) fn standing_on(alloc: Global, desk: &LiveDesk) -> Result<Standing, Al
     })
 }
 
-/// Sums over trains. Each stays at 2^64 - 1 where it has come there.
+/// Sums over trains. A sum that reaches 2^64 - 1 stays there.
 #[derive(Clone, Copy)]
 struct Totals {
     acknowledgements: usize,
@@ -104,7 +104,7 @@ fn totals_of(trains: &[TrainStanding]) -> Totals
 }
 
 impl Totals {
-    /// Adds to the sums what stands at a train.
+    /// Adds the state of a train to the sums.
     fn add(&mut self, train: &TrainStanding)
         ensures owed { self.new.acknowledgements ≡ added self.old.acknowledgements (owed_told train.now) }
         ensures untold { self.new.untold ≡ added self.old.untold (untold_told train.now) }
@@ -130,21 +130,21 @@ fn is_owing(train: &TrainStanding) -> bool
     train.acknowledgements > 0
 }
 
-/// How many of what waits are stops that are due.
+/// How many of the waiting entries are stops that are due.
 fn again_in(all: &[Waiting]) -> usize
     ensures { result ≡ again_in all.now }
 {
     all.iter().filter(|waiting| is_again(waiting.what)).count()
 }
 
-/// How many of what waits are not told.
+/// How many of the waiting entries are stops or restrictions that are not told.
 fn untold_in(all: &[Waiting]) -> usize
     ensures { result ≡ untold_in all.now }
 {
     all.iter().filter(|waiting| !is_again(waiting.what)).count()
 }
 
-/// Whether it is a stop that is due.
+/// Whether the entry is a stop that is due.
 fn is_again(what: Waits) -> bool
     ensures { result ≡ is_again what }
 {
@@ -154,7 +154,7 @@ fn is_again(what: Waits) -> bool
     }
 }
 
-/// What stands at each train, engines ascending. Fails only for lack of memory.
+/// The state of each train, engines ascending.
 fn standings(alloc: Global, desk: &LiveDesk) -> Result<Vec<TrainStanding>, AllocError>
     ensures waits { IfOk result (λ all. AreStandings desk.now.track.horizon desk.now.records all.items) }
     ensures owed { IfOk result (λ all. AreOwed desk.now.records all.items) }
@@ -168,7 +168,7 @@ fn standings(alloc: Global, desk: &LiveDesk) -> Result<Vec<TrainStanding>, Alloc
     Ok(all)
 }
 
-/// What stands at the train with this engine number, if it is enrolled. Fails only for lack of memory.
+/// The state of the train with this engine number, if it is enrolled.
 fn standing_at(
     alloc: Global,
     desk: &LiveDesk,
@@ -188,8 +188,8 @@ fn standing_at(
     }
 }
 
-/// How many messages to a train wait for an answer or an acknowledgement. Of those to its stops each has a stamp of its
-/// own; one to its restrictions counts once, however many packets it has.
+/// How many messages to a train wait for an answer or an acknowledgement. Each message on a stop has a stamp of its
+/// own; a message on restrictions counts once, however many packets it has.
 fn owed_by(train: &TrainRec) -> usize
     ensures { result ≡ messages_owed train.now }
 {
@@ -198,7 +198,7 @@ fn owed_by(train: &TrainRec) -> usize
     to_stops + to_limits
 }
 
-/// How many different stamps the slots have that are not answered.
+/// How many different stamps the unanswered slots have.
 fn owed_in(slots: &[(u8, Slot)]) -> usize
     ensures owed { result ≡ length (different (stamps_owed slots.now)) }
     ensures few { result ≤ length slots.now }
@@ -218,7 +218,7 @@ fn held_at(slots: &[(u8, Slot)], index: usize) -> &(u8, Slot)
     &slots[index]
 }
 
-/// The slots behind an index.
+/// The slots after an index.
 fn behind(slots: &[(u8, Slot)], index: usize) -> &[(u8, Slot)]
     requires { index < length slots.now }
     ensures { result.now ≡ drop (index + 1) slots.now }
@@ -226,7 +226,7 @@ fn behind(slots: &[(u8, Slot)], index: usize) -> &[(u8, Slot)]
     &slots[index + 1..]
 }
 
-/// 1 where the message to a slot is not answered and none of the slots behind it has that message, and else 0.
+/// 1 if the message of a slot is not answered and no later slot has the same message, else 0.
 fn owed_once(slot: Slot, behind: &[(u8, Slot)]) -> usize
     ensures once { length (different (cons_option (owed_stamp slot) (stamps_owed behind.now)))
         ≡ result + length (different (stamps_owed behind.now)) }
@@ -239,14 +239,14 @@ fn owed_once(slot: Slot, behind: &[(u8, Slot)]) -> usize
     }
 }
 
-/// Whether a message with a stamp is not answered, by the slots.
+/// Whether the slots show that the message with a stamp is not answered.
 fn is_owed_in(slots: &[(u8, Slot)], stamp: u32) -> bool
     ensures { result ≡ list_any (λ held. is_owed_under stamp held.1) slots.now }
 {
     slots.iter().any(|held| is_owed_under(held.1, stamp))
 }
 
-/// Whether the message with a stamp is to a slot, and is not answered.
+/// Whether a slot has the message with a stamp, and it is not answered.
 fn is_owed_under(slot: Slot, stamp: u32) -> bool
     ensures { result ≡ is_owed_under stamp slot }
 {
@@ -256,7 +256,7 @@ fn is_owed_under(slot: Slot, stamp: u32) -> bool
     }
 }
 
-/// The stamp of the message to a slot, if that is not answered or acknowledged.
+/// The stamp of the message of a slot, if it is not answered or acknowledged.
 fn owed_stamp(slot: Slot) -> Option<u32>
     ensures { result ≡ owed_stamp slot }
 {
@@ -267,7 +267,7 @@ fn owed_stamp(slot: Slot) -> Option<u32>
     }
 }
 
-/// To how many trains each active stop is told. Fails only for lack of memory.
+/// To how many trains each active stop is told.
 fn stop_sharings(
     alloc: Global,
     records: &PlainStore,
@@ -281,7 +281,7 @@ fn stop_sharings(
         .collect(alloc)
 }
 
-/// To how many trains each active restriction is told. Fails only for lack of memory.
+/// To how many trains each active restriction is told.
 fn limit_sharings(
     alloc: Global,
     records: &PlainStore,
@@ -307,7 +307,7 @@ fn sharing_of(records: &PlainStore, trains: &[TrainStanding], what: Waits) -> Sh
     }
 }
 
-/// To how many trains it is told.
+/// To how many trains a stop or a restriction is told.
 fn told_to(records: &PlainStore, trains: &[TrainStanding], what: Waits) -> usize
     ensures { result ≡ length (filter (is_told_at records.now what) trains.now) }
 {
@@ -317,7 +317,7 @@ fn told_to(records: &PlainStore, trains: &[TrainStanding], what: Waits) -> usize
         .count()
 }
 
-/// How many trains answered or acknowledged it.
+/// How many trains answered a stop or acknowledged a restriction.
 fn answered_by(records: &PlainStore, trains: &[TrainStanding], what: Waits) -> usize
     ensures { result ≡ length (filter (is_answered_at records.now what) trains.now) }
 {
@@ -327,36 +327,36 @@ fn answered_by(records: &PlainStore, trains: &[TrainStanding], what: Waits) -> u
         .count()
 }
 
-/// At how many trains it waits.
+/// At how many trains a stop or a restriction waits.
 fn untold_to(trains: &[TrainStanding], what: Waits) -> usize
     ensures { result ≡ length (filter (waits_at what) trains.now) }
 {
     trains.iter().filter(|train| waits_at(train, what)).count()
 }
 
-/// Whether it is told to a train.
+/// Whether a stop or a restriction is told to a train.
 fn is_told_at(records: &PlainStore, train: &TrainStanding, what: Waits) -> bool
     ensures { result ≡ is_told_at records.now what train.now }
 {
     answer_at(records, train.engine, what).is_some()
 }
 
-/// Whether a train answered or acknowledged it.
+/// Whether a train answered a stop or acknowledged a restriction.
 fn is_answered_at(records: &PlainStore, train: &TrainStanding, what: Waits) -> bool
     ensures { result ≡ is_answered_at records.now what train.now }
 {
     answer_at(records, train.engine, what).unwrap_or(false)
 }
 
-/// Whether it waits at a train.
+/// Whether a stop or a restriction waits at a train.
 fn waits_at(train: &TrainStanding, what: Waits) -> bool
     ensures { result ≡ waits_at what train.now }
 {
     has(&train.waiting, what)
 }
 
-/// Whether the train with this engine number answered a stop or acknowledged a restriction. `None` where it is not told
-/// to the train.
+/// Whether the train with this engine number answered a stop or acknowledged a restriction. `None` if it is not told to
+/// the train.
 fn answer_at(records: &PlainStore, engine: u32, what: Waits) -> Option<bool>
     ensures { result ≡ answer_at records.now what engine }
 {
@@ -366,7 +366,7 @@ fn answer_at(records: &PlainStore, engine: u32, what: Waits) -> Option<bool>
     }
 }
 
-/// Whether a train answered a stop or acknowledged a restriction. `None` where it is not told to the train.
+/// Whether a train answered a stop or acknowledged a restriction. `None` if it is not told to the train.
 fn answer_of(train: &TrainRec, what: Waits) -> Option<bool>
     ensures { result ≡ answer_of what train.now }
 {
@@ -377,7 +377,7 @@ fn answer_of(train: &TrainRec, what: Waits) -> Option<bool>
     }
 }
 
-/// Whether the message that told a number is answered. `None` where no identifier tells it.
+/// Whether the message that told a number is answered. `None` if no identifier tells it.
 fn answer_in<const N: usize>(table: &IdTable<N>, number: u32) -> Option<bool>
     ensures { result ≡ answer_in table.now number }
 {
@@ -387,7 +387,7 @@ fn answer_in<const N: usize>(table: &IdTable<N>, number: u32) -> Option<bool>
     }
 }
 
-/// Whether the message that told the number of an identifier is answered. `None` where the identifier tells none.
+/// Whether the message that told the number of an identifier is answered. `None` if the identifier tells none.
 fn acked_under<const N: usize>(table: &IdTable<N>, id: u8) -> Option<bool>
     ensures { result ≡ acked_under table.now id }
 {

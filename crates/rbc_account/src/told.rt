@@ -64,15 +64,15 @@ pub enum ToldWhat {
         number: u32,
         why: WhyAtOnce,
     },
-    /// Message 18: a stop is revoked, since it is released, or where `unanswered` since it was left unanswered in three
-    /// reports, and is told again.
+    /// Message 18: a stop is revoked, because it is released or, if `unanswered`, because the train left it unanswered
+    /// in three reports; it is then told again.
     StopRevoked {
         number: u32,
         unanswered: bool,
     },
     /// Message 24: what each packet tells, in their order.
     Restrictions(Vec<ToldRestriction>),
-    /// What no record accounts for. It never comes in a block (`step` of `Account`).
+    /// No record accounts for it. It never occurs in a block (`step` of `Account`).
     Unknown,
 }
 
@@ -91,7 +91,7 @@ pub enum WhyAtOnce {
     BehindGroup { edge: u32 },
 }
 
-/// What one packet tells of a restriction. The number is 0 where the packet is `Unknown`.
+/// What one packet tells of a restriction. The number is 0 if the packet is `Unknown`.
 #[derive(Clone, Copy)]
 pub struct ToldRestriction {
     pub number: u32,
@@ -112,7 +112,7 @@ pub enum RestrictionTold {
     },
     /// Packet 66: it is revoked.
     Revoked(WhyRevoked),
-    /// What no record accounts for. It never comes in a block (`step` of `Account`).
+    /// No record accounts for it. It never occurs in a block (`step` of `Account`).
     Unknown,
 }
 
@@ -138,8 +138,8 @@ pub enum WhyRevoked {
     Passed,
 }
 
-/// What each message of an input tells. The desk is that after the input; `before` is the train that sent the input, as
-/// it was before, if one did. Fails only for lack of memory.
+/// What each message of an input tells. `desk` is the desk after the input; `before` is the train that sent the input,
+/// as it was before, if a train sent it.
 pub(crate) fn told_by(
     alloc: Global,
     desk: &LiveDesk,
@@ -219,7 +219,7 @@ fn what_of(
     }
 }
 
-/// What message 15 tells, whose distance has this scale.
+/// What message 15 tells. `scale` is the scale of its distance.
 fn stop_before(desk: &LiveDesk, train: &TrainRec, id: u8, scale: u8, distance: u16) -> ToldWhat
     ensures why { (before : Option TrainRec) → IsWhat desk.now.records before train.now result }
     ensures about { IsOfStop (number_under train.now.stops id) result }
@@ -249,7 +249,7 @@ fn stop_before(desk: &LiveDesk, train: &TrainRec, id: u8, scale: u8, distance: u
     }
 }
 
-/// What a stop is to a train. `None` if the stop is not active.
+/// What a stop means for a train. `None` if the stop is not active.
 fn reason_of(records: &PlainStore, train: &TrainRec, number: u32) -> Option<StopReason>
     ensures is { IfSome result (IsReasonTo records.now train.now number) }
     ensures means { (area : List Segment) → value_of (active_stops records.now) number ≡ Some area
@@ -259,7 +259,7 @@ fn reason_of(records: &PlainStore, train: &TrainRec, number: u32) -> Option<Stop
     Some(stop_reason(area, train.forced.has(number), train.place.as_ref()))
 }
 
-/// The place that lies so many units ahead of the balise group of a place, as the train faces.
+/// The place that lies this many units ahead of the balise group of a place, in the direction in which the train faces.
 fn onward(place: &Place, distance: u32, unit: u32) -> u32
     requires { (distance ≤ 65535) × (unit ≤ 100) }
     ensures { result ≡ onward place.now.facing place.now.at (distance * unit) }
@@ -383,7 +383,7 @@ fn revoked_limit(input: &Input, before: Option<&TrainRec>, id: u8) -> Option<u32
     }
 }
 
-/// What the packets of message 24 tell. Fails only for lack of memory.
+/// What the packets of message 24 tell.
 fn restrictions(
     alloc: Global,
     desk: &LiveDesk,
@@ -431,13 +431,13 @@ fn restriction(
     }
 }
 
-/// What no record accounts for.
+/// The entry for a packet that no record accounts for.
 const UNKNOWN: ToldRestriction = ToldRestriction {
     number: 0,
     what: RestrictionTold::Unknown,
 };
 
-/// What packet 65 tells, whose start and length have this scale.
+/// What packet 65 tells. `scale` is the scale of its start and length.
 fn limit_told(
     desk: &LiveDesk,
     train: &TrainRec,
@@ -507,7 +507,7 @@ fn limit_revoked(
     }
 }
 
-/// Why a restriction is revoked: it is not active, or is clear of the train. `None` where neither is so.
+/// Why a restriction is revoked: it is not active, or is clear of the train. `None` if neither applies.
 fn why_revoked(limit: Option<&Limit>, place: Option<&Place>) -> Option<WhyRevoked>
     ensures why { IfSome result (IsWhyRevoked (option_copied limit.entry) (option_copied place.entry)) }
     ensures known { option_map_or (is_clear_of (option_copied place.entry)) (option_copied limit.entry) true ≡ true

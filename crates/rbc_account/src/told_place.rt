@@ -23,8 +23,8 @@ pub struct ToldPlace {
     pub at: u32,
 }
 
-/// For each stop identifier of each train the place that the last message 15 told under it. In contracts a list of
-/// pairs of a number of engine and identifier and a place, of which the first with a number counts.
+/// For each stop identifier of each train, the place that the last message 15 under it told. In contracts a list of
+/// pairs of a number, which stands for an engine and an identifier, and a place; the first pair with a number counts.
 #[derive(Drop)]
 pub struct ToldPlaces {
     last: IndexMap<u64, ToldPlace>,
@@ -40,7 +40,7 @@ impl Model for ToldPlaces {
 }
 
 impl ToldPlaces {
-    /// Nothing was told. Takes no memory.
+    /// Nothing was told.
     pub(crate) fn new(alloc: Global) -> Self
         ensures { result ≡ [] }
     {
@@ -61,7 +61,7 @@ impl ToldPlaces {
         }
     }
 
-    /// Notes what messages tell. Fails only for lack of memory.
+    /// Notes what messages tell.
     pub(crate) fn note(&mut self, track: &Track, messages: &SentList) -> Result<(), AllocError>
         ensures { OnOk result ((number : ℕ) → kept_at self.new number
             ≡ kept_after track.now (kept_at self.old) messages.now number) }
@@ -72,7 +72,7 @@ impl ToldPlaces {
         Ok(())
     }
 
-    /// Notes what one message tells. Fails only for lack of memory.
+    /// Notes what one message tells.
     fn note_one(&mut self, track: &Track, sent: &Sent) -> Result<(), AllocError>
         ensures { OnOk result ((number : ℕ) → kept_at self.new number
             ≡ kept_with sent.now.engine (told_by track.now sent.now.message) (kept_at self.old) number) }
@@ -84,15 +84,15 @@ impl ToldPlaces {
     }
 }
 
-/// The number of a stop identifier of an engine, which no other one has.
+/// The number that stands for a stop identifier of an engine. No other identifier has it.
 fn number_of(engine: u32, id: u8) -> u64
     ensures { result ≡ number_of engine id }
 {
     u64::from(engine) * 256 + u64::from(id)
 }
 
-/// The stop identifier of a message 15, and the place that it tells. `None` of any other message, and where the track
-/// lacks its balise group or no place is told.
+/// The stop identifier of a message 15, and the place that it tells. `None` for any other message, and if the track
+/// lacks its balise group or it tells no place.
 fn told_by(track: &Track, message: &ToTrain) -> Option<(u8, ToldPlace)>
     ensures { result ≡ told_by track.now message.now }
 {
@@ -113,7 +113,7 @@ fn told_by(track: &Track, message: &ToTrain) -> Option<(u8, ToldPlace)>
     }
 }
 
-/// The place that a message tells, so many units ahead of its balise group.
+/// The place that a message tells, this many units ahead of its balise group.
 fn told_from(stamp: u32, scale: u8, dir: u8, distance: u16, group: &Group) -> Option<ToldPlace>
     ensures { result ≡ told_from stamp scale dir distance group.now }
 {
@@ -127,7 +127,7 @@ fn told_from(stamp: u32, scale: u8, dir: u8, distance: u16, group: &Group) -> Op
     })
 }
 
-/// A place so far on from another one, if it is not before the line's beginning and 32 bits can count it.
+/// The place this far ahead of another, if it is not before the beginning of the line and fits in 32 bits.
 fn place_ahead(way: Way, from: u32, by: u32) -> Option<u32>
     ensures { result ≡ place_ahead way from by }
 {

@@ -1,4 +1,4 @@
-//! Worked cases of the laws: right ones, of which their statements hold, and wrong ones, of which they do not.
+//! Worked cases of the laws: correct ones, which satisfy them, and wrong ones, which violate them.
 
 ghost use Rattle.std.specs.Prelude.{[], ◌∷◌};
 ghost use Rattle.rbc_track.specs.Plan.{Plan};
@@ -9,7 +9,7 @@ ghost use Rattle.rbc_account.specs.Witnesses.{one_accepted, one_refused};
 
 use rbc_live::history_law_witnesses;
 
-/// An account takes the line `x`, which is no input, on any track.
+/// An account takes the line `x`, which is not an input, on any track.
 ///
 /// Right: one input was refused.
 ///

@@ -1,4 +1,4 @@
--- The outboxes of a desk in parts, of which each is written by itself.
+-- The outboxes of a desk in parts, each of which is written by itself.
 use Rattle.std.specs.Prelude.{ℕ, ◌+◌, ◌-◌, ◌*◌, ◌/◌, List, [], ◌∷◌, length, take, drop, Result, Ok, Err, ⊤}
 use Rattle.std.specs.List.{flat_map}
 use Rattle.std.specs.declared.vec.Vec.{Vec}
@@ -7,17 +7,17 @@ use Rattle.std.specs.declared.alloc.Global.{Global}
 use Rattle.rbc_engine.specs.Mail.{Mail}
 use Rattle.rbc_text.specs.OutputText.{outbox_lines}
 
--- the index of the outbox with which one of so many parts begins
+-- the index of the first outbox of a part, of this many parts
 abbrev pub part_start : ℕ → ℕ → ℕ → ℕ
 part_start outboxes parts part = outboxes * part / parts
 
--- the lines of one of so many parts
+-- the lines of a part, of this many parts
 abbrev pub lines_of_part : List (ℕ × List Mail) → ℕ → ℕ → List ℕ
 lines_of_part outboxes parts part =
     let from = part_start (length outboxes) parts part in
     flat_map outbox_lines (take (part_start (length outboxes) parts (part + 1) - from) (drop from outboxes))
 
--- texts, one behind the other
+-- texts, one after another
 abbrev pub joined : List (Vec ℕ Global) → List ℕ
 joined texts = flat_map (λ text. text.items) texts
 

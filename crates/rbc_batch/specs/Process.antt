@@ -20,7 +20,7 @@ use Rattle.rbc_text.specs.OutputText.{output_of, outbox_lines, result_line}
 use Rattle.rbc_live.specs.Alarms.{alarm_lines}
 pub use Rattle.rbc_text.specs.Streams.{IsAllRead}
 
--- a batch has at most so many bytes
+-- the most bytes of a batch
 abbrev pub max_batch : ℕ
 max_batch = 16777216
 
@@ -54,9 +54,9 @@ IsRunOf plan inputs workers (Err Workers) = ¬ (MayWork workers)
 IsRunOf plan inputs workers (Err TooManyInputs) = MayWork workers × ¬ (AreFew inputs)
 IsRunOf plan inputs workers (Err (OutOfMemory committed)) = MayWork workers × AreFew inputs × (committed ≤ length inputs)
 
--- What is out where a text of the inputs is written. At Ok the text of all that was read has been written, and nothing else; at a write
--- fault exactly its first bytes; at any other fault nothing. A run is refused for the number of workers first, and then for the number of
--- inputs.
+-- What was written, for a text that is made of the inputs. At Ok the text of all that was read, and nothing else; at a
+-- write fault exactly its first bytes; at any other fault nothing. The number of workers is checked first, then the
+-- number of inputs.
 abbrev pub AnswersBy : {E : Type 0} → (List Input → List ℕ) → (List Input → E → Type 0) → Plan → ℕ → Option (List ℕ) → Option (List ℕ) → Option (List ℕ) → Option (List ℕ) → Result E ProcessError → Type 0
 AnswersBy text Counted plan workers read_old read_new old new (Ok counts) =
     (inputs : List Input) × AreRead read_old read_new inputs × MayWork workers × AreFew inputs × Appends old new (text inputs) × AreSaid plan inputs × Counted inputs counts
@@ -87,13 +87,13 @@ AnswersWithDesk plan workers read_old read_new old new result = AnswersBy (text_
 
 -- ---- with alarms
 
--- what is written of an input that a desk takes: its result, and then the alarms that change
+-- what is written for an input that a desk takes: its result, and then the alarms that change
 abbrev pub watched_result : Plan → Desk → Input → List ℕ
 watched_result plan desk input =
     let number = length desk.results + 1 in
     result_line (number, (rule.step plan desk.world input).reply) ++ alarm_lines plan number desk.world (step plan desk input).world
 
--- the same of inputs, which a desk takes one after another
+-- the same for inputs, which a desk takes one after another
 abbrev pub watched_results : Plan → Desk → List Input → List ℕ
 watched_results plan desk [] = []
 watched_results plan desk (input ∷ inputs) = watched_result plan desk input ++ watched_results plan (step plan desk input) inputs
@@ -116,7 +116,7 @@ pub record IsWatchedRun (plan : Plan) (inputs : List Input) (held : Held) (resul
   pub said : AreSaid plan inputs
   pub spelled : results ≡ watched_results plan new_desk inputs
 
--- where nothing is written the writer is as it was
+-- a fault that is no write fault leaves the writer as it was
 abbrev pub IsUntouched : {E W : Type 0} → Result E ProcessError → W → W → Type 0
 IsUntouched (Ok done) old new = ⊤
 IsUntouched (Err (fault.Write sent)) old new = ⊤
@@ -125,7 +125,7 @@ IsUntouched (Err fault.TooLong) old new = new ≡ old
 IsUntouched (Err (fault.Run error)) old new = new ≡ old
 IsUntouched (Err fault.Memory) old new = new ≡ old
 
--- a fault of reading a batch
+-- a fault of reading a batch: the reader failed, the batch is too long, or memory ran out
 abbrev pub IsBeforeWriting : ProcessError → Type 0
 IsBeforeWriting (fault.Write sent) = ⊥
 IsBeforeWriting fault.Read = ⊤
@@ -133,13 +133,13 @@ IsBeforeWriting fault.TooLong = ⊤
 IsBeforeWriting (fault.Run error) = ⊥
 IsBeforeWriting fault.Memory = ⊤
 
--- a batch is refused before its lines are read: for the number of workers first, and then for the number of its lines
+-- a batch that was read is refused before its lines are parsed: for the number of workers, or else for the number of its lines
 abbrev pub IsRefusal : ℕ → List ℕ → RunError → Type 0
 IsRefusal workers batch Workers = ¬ (MayWork workers)
 IsRefusal workers batch TooManyInputs = MayWork workers × (max_inputs < length (lines_of batch))
 IsRefusal workers batch (OutOfMemory committed) = ⊥
 
--- a fault of a batch that was read: it is refused, or memory is
+-- a fault between the reading of a batch and its run: the batch is refused, for the workers or for its lines, or memory ran out
 abbrev pub IsRefused : ℕ → List ℕ → ProcessError → Type 0
 IsRefused workers batch (fault.Run error) = IsRefusal workers batch error
 IsRefused workers batch (fault.Write sent) = ⊥
@@ -147,7 +147,7 @@ IsRefused workers batch fault.Read = ⊥
 IsRefused workers batch fault.TooLong = ⊥
 IsRefused workers batch fault.Memory = ⊤
 
--- a fault before the run: one of reading, or the batch that was read is refused
+-- a fault before the run: reading failed, the batch is too long, memory ran out, or the batch that was read is refused
 abbrev pub IsBeforeRun : ℕ → Option (List ℕ) → Option (List ℕ) → ProcessError → Type 0
 IsBeforeRun workers old new (fault.Run error) = (batch : List ℕ) × IsAllRead old new batch × (length batch ≤ max_batch) × IsRefusal workers batch error
 IsBeforeRun workers old new (fault.Write sent) = ⊥

@@ -25,14 +25,14 @@ use std::alloc::{AllocError, Global};
 use std::io::{Read, Write};
 use std::thread::Threads;
 
-/// What each track keeps: a step rests on it.
+/// Says in its contract what holds of every track, because a step depends on it.
 fn is_plan(track: &Track)
     ensures { IsPlan track.now }
 {
     let _ = track.horizon();
 }
 
-/// Takes an input in on a desk, and appends its result and the alarms that change by it. Fails only for lack of memory.
+/// Takes an input on a desk, and appends its result and the alarms that it changes.
 fn take_watched(
     alloc: Global,
     track: &Track,
@@ -56,7 +56,7 @@ fn take_watched(
     is_plan(track);
     let outcome = match desk.decide(alloc, track, input) {
         Ok(outcome) => outcome,
-        // A desk of the rules gives no other fault than a lack of memory.
+        // On a desk that follows the rules, the only fault is a lack of memory.
         Err(_) => return Err(AllocError),
     };
     let reply = outcome.result;
@@ -69,7 +69,7 @@ fn take_watched(
 }
 
 /// Runs inputs on a track from the empty state, one after another. Returns the desk, and the lines of the results, each
-/// with the alarms that change by its input. Fails only for lack of memory.
+/// followed by the alarms that its input changes.
 fn run_watched(
     alloc: Global,
     track: &Track,
@@ -90,8 +90,7 @@ fn run_watched(
     Ok((desk, results))
 }
 
-/// The texts of results that were written, and of the outboxes of their desk, which stand one behind the other. Fails
-/// only for lack of memory.
+/// The output text in parts: the results as they were written, and then the outboxes of the desk.
 fn texts_with(alloc: Global, results: Vec<u8>, desk: &Desk) -> Result<Vec<Vec<u8>>, AllocError>
     ensures text { IfOk result (λ texts. joined texts.items
         ≡ results.items ++ flat_map outbox_lines desk.now.outboxes) }
@@ -104,7 +103,7 @@ fn texts_with(alloc: Global, results: Vec<u8>, desk: &Desk) -> Result<Vec<Vec<u8
     Ok(texts)
 }
 
-/// Does what [`process`](crate::process) does, and writes behind each result the lines of the alarms that its input
+/// Does what [`process`](crate::process) does, and writes after each result the lines of the alarms that its input
 /// changes. One worker takes the inputs, whatever the number of workers: alarms are judged after each input.
 ///
 /// # Errors

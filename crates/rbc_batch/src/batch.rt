@@ -80,8 +80,8 @@ impl From<RunError> for ProcessError {
     }
 }
 
-/// The lines of a batch, if so many workers can run them. It is refused for the number of workers first, and then for
-/// the number of its lines.
+/// The lines of a batch, if this number of workers may run them. The number of workers is checked first, then the
+/// number of lines.
 fn admit(alloc: Global, batch: &[u8], workers: u8) -> Result<Vec<&[u8]>, ProcessError>
     ensures lines { IfOk result (λ lines. texts_of lines.items ≡ lines_of batch.now) }
     ensures few { IfOk result (λ lines. length lines.items ≤ max_inputs) }
@@ -111,8 +111,8 @@ pub fn lines_of_batch(alloc: Global, batch: &[u8]) -> Result<Vec<&[u8]>, Process
     admit(alloc, batch, 1)
 }
 
-/// Reads a batch to its end, and returns the inputs of its lines, if so many workers can run them: what is refused is
-/// not parsed. The bytes of the batch are freed.
+/// Reads a batch to its end, and returns the inputs of its lines, if this number of workers may run them. A batch that
+/// is refused is not parsed. The bytes of the batch are freed.
 pub(crate) fn read_inputs<R: Read>(
     rt: &(impl AllocGlobal + Threads + Sync),
     reader: &mut R,
@@ -169,15 +169,16 @@ fn run_all_by_train(
     }
 }
 
-/// Reads a batch to its end, runs its lines on a track, from the empty state, by so many workers (1 to 16), and writes
-/// the output text: that of the lines run one after another. Nothing is written before the whole output is known. The
-/// workers attempt many inputs at once, and recompute what went stale (`run` of rbc_engine).
+/// Reads a batch to its end, runs its lines on a track from the empty state with this number of workers (1 to 16), and
+/// writes the output text. The text is the same as if the lines were run one after another. Nothing is written before
+/// the whole output is known. The workers attempt many inputs at once, and recompute what went stale (`run` of
+/// rbc_engine).
 ///
 /// # Errors
 ///
 /// See [`ProcessError`]. If the bytes that the reader has left are known, `TooLong` means that there were more than
-/// 16,777,216 of them. The whole batch is read before the number of workers is looked at, and this before the number of
-/// its lines; no line of a batch that is refused for either is parsed.
+/// 16,777,216 of them. Checks run in this order: the length of the batch, the number of workers, the number of lines. A
+/// batch that is refused is not parsed.
 pub fn process<R: Read, W: Write, G: Gate + Sync>(
     rt: &(impl AllocGlobal + Threads + Wait + Sync),
     track: &Track,
@@ -228,8 +229,8 @@ pub fn process_with_desk<R: Read, W: Write, G: Gate + Sync>(
     }
 }
 
-/// Does the same, with the same output, without attempts: one worker takes the inputs in order, and long runs of messages
-/// are shared by train among all workers, at a pace (`run_by_train` of rbc_engine). Counts the windows of messages, and
+/// Does the same without attempts, with the same output: one worker takes the inputs in order, and all workers share
+/// long runs of messages by train, at a pace (`run_by_train` of rbc_engine). Counts the windows of messages, and
 /// returns the desk with the counts of the run.
 ///
 /// # Errors

@@ -12,10 +12,10 @@ use rbc_text::{first_line, parse_line};
 use std::alloc::{AllocError, Global};
 use std::thread::Threads;
 
-/// From this number of lines on a batch is read in threads: for fewer they cost more than they give.
+/// A batch of at least this many lines is parsed in threads. For fewer lines, threads cost more time than they save.
 const PARALLEL_FROM: usize = 10_000;
 
-/// The first lines of a text, so many at most. Fails only for lack of memory.
+/// The first lines of a text, at most `most` of them.
 pub fn first_lines(alloc: Global, text: &[u8], most: usize) -> Result<Vec<&[u8]>, AllocError>
     ensures cut { IfOk result (λ lines. texts_of lines.items ≡ take most (lines_of text.now)) }
     ensures whole { length text.now ≤ most → IfOk result (λ lines. texts_of lines.items ≡ lines_of text.now) }
@@ -31,7 +31,7 @@ pub fn first_lines(alloc: Global, text: &[u8], most: usize) -> Result<Vec<&[u8]>
     Ok(lines)
 }
 
-/// The inputs of lines, read one after another. Fails only for lack of memory.
+/// The inputs of lines, read one after another.
 fn inputs_in_turn(alloc: Global, lines: &[&[u8]]) -> Result<Vec<Input>, AllocError>
     ensures inputs { IfOk result (λ inputs. AreInputs (texts_of lines.now) inputs.items) }
     ensures fit { IfOk result (λ inputs. All Fits inputs.items) }
@@ -43,7 +43,7 @@ fn inputs_in_turn(alloc: Global, lines: &[&[u8]]) -> Result<Vec<Input>, AllocErr
     Ok(inputs)
 }
 
-/// The inputs of lines, read in threads, in the order of the lines. Fails only for lack of memory.
+/// The inputs of lines, read in threads, in the order of the lines.
 fn inputs_in_threads(
     rt: &(impl Threads + Sync),
     alloc: Global,
@@ -58,7 +58,7 @@ fn inputs_in_threads(
         .collect::<Result<Vec<_>, AllocError>>(rt, alloc)?
 }
 
-/// The inputs of lines, in their order. Many lines are read in threads, each by itself. Fails only for lack of memory.
+/// The inputs of lines, in their order. Many lines are read in threads, each by itself.
 pub fn parse_lines(
     rt: &(impl AllocGlobal + Threads + Sync),
     lines: &[&[u8]],
@@ -74,8 +74,7 @@ pub fn parse_lines(
     }
 }
 
-/// Parses a batch into its inputs, one for each line. An empty line is an input too, a refusal. Fails only for lack of
-/// memory.
+/// Parses a batch into its inputs, one for each line. An empty line is an input too, a refusal.
 pub fn parse_batch(
     rt: &(impl AllocGlobal + Threads + Sync),
     text: &[u8],

@@ -6,6 +6,9 @@
 //!
 //! The storey above rests on the contract of `process` (batch.rt), whose clause `answers` (specs/Process.antt) says
 //! what is out at `Ok`, the output text of the serial run and nothing else, and at each fault. Begin there.
+//!
+//! A function that cannot report a lack of memory takes none. `AllocError` means that memory was refused; what the
+//! function was changing is then of no further use, unless its docstring says what is left.
 #![tactic(auto)]
 
 mod alarms;

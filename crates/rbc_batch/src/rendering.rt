@@ -1,4 +1,4 @@
-//! The output text of a desk, made by several workers where there is much to write.
+//! The output text of a desk, made by several workers if there is much to write.
 
 ghost use Rattle.std.specs.Prelude.{◌≡◌, ◌<◌, ◌≤◌, ◌++◌, ◌^◌, ℕ, length, IfOk, OnOk, slice_index_or};
 ghost use Rattle.std.specs.List.{flat_map};
@@ -11,14 +11,14 @@ use std::alloc::{AllocError, Global};
 use std::thread;
 use std::thread::Threads;
 
-/// From this number of messages on the text is made in threads: for fewer they cost more than they give.
+/// The text of at least this many messages is made in threads. For fewer messages, threads cost more time than they
+/// save.
 const SHARED_FROM: usize = 2_000;
 
-/// The text of one part of the outboxes, or that memory was refused to it.
+/// The text of one part of the outboxes, unless memory was refused.
 type Part = Result<Vec<u8>, AllocError>;
 
-/// The output text of a desk, in parts that stand one behind the other. So many workers make them where there is much
-/// to write. Fails only for lack of memory.
+/// The output text of a desk, in consecutive parts. If there is much to write, this number of workers makes them.
 pub(crate) fn texts_of_desk(
     rt: &(impl AllocGlobal + Threads + Sync),
     desk: &Desk,
@@ -46,7 +46,7 @@ fn text_in_turn(alloc: Global, desk: &Desk) -> Result<Vec<Vec<u8>>, AllocError>
     Ok(texts)
 }
 
-/// Whether a desk has so many messages that its text is made in threads.
+/// Whether a desk has enough messages for its text to be made in threads.
 fn sends_many(desk: &Desk) -> bool {
     let mut messages = 0usize;
     for index in 0..desk.outboxes() {
@@ -107,7 +107,7 @@ fn render_part(alloc: Global, desk: &Desk, part: usize, parts: usize) -> Part
     render_outboxes(alloc, desk, from, to)
 }
 
-/// The index of the outbox with which a part begins; behind the last part, the number of outboxes.
+/// The index of the first outbox of a part; for the index after the last part, the number of outboxes.
 fn start_of(outboxes: usize, parts: usize, part: usize) -> usize
     requires some { 0 < parts }
     requires within { part ≤ parts }
@@ -116,7 +116,7 @@ fn start_of(outboxes: usize, parts: usize, part: usize) -> usize
     (outboxes as u128 * part as u128 / parts as u128) as usize
 }
 
-/// Fails where no number says how many bytes some texts have in all: no memory holds such texts.
+/// Fails if the texts together have more bytes than a number can count; no memory holds such texts.
 pub(crate) fn check_length(texts: &[Vec<u8>]) -> Result<(), AllocError>
     ensures { OnOk result (length (joined texts.now) < 2 ^ 64) }
 {
@@ -127,7 +127,7 @@ pub(crate) fn check_length(texts: &[Vec<u8>]) -> Result<(), AllocError>
     Ok(())
 }
 
-/// Appends the texts of parts. Fails if memory was refused to one of them.
+/// Appends the texts of parts. Fails if memory was refused for one of them.
 fn append_parts(texts: &mut Vec<Vec<u8>>, parts: Vec<Part>) -> Result<(), AllocError>
     ensures appended { OnOk result (joined texts.new.items ≡ joined texts.old.items ++ flat_map bytes_of parts.items) }
     ensures made { OnOk result (AreMade parts.items) }

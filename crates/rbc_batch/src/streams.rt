@@ -49,7 +49,7 @@ pub fn read_batch<R: Read>(alloc: Global, reader: &mut R) -> Result<Vec<u8>, Pro
     Err(ProcessError::Read)
 }
 
-/// Writes texts one behind the other, as `write_text` does one text.
+/// Writes texts one after another, as `write_text` writes one.
 pub(crate) fn write_texts<W: Write>(writer: &mut W, texts: &[Vec<u8>]) -> Result<(), usize>
     requires { length (joined texts.now) < 2 ^ 64 }
     ensures ok { OnOk result (Appends (W.contents writer.old) (W.contents writer.new) (joined texts.now)) }

@@ -14,7 +14,7 @@ use Rattle.rbc_c.specs.declared.active.Restriction.{Restriction}
 abbrev pub stop_of : ℕ → Segment → Stop
 stop_of number segment = record { number = number; line = segment.line; from = segment.from; to = segment.to }
 
--- these are the active stops of a desk, numbers ascending: of each its segments, in the order in which they were given
+-- these are the segments of the active stops of a desk: numbers ascending, and those of one stop in the order in which they were given
 abbrev pub AreStops : LiveDesk → List Stop → Type 0
 AreStops desk given = given ≡ flat_map (λ stop. map (stop_of stop.0) stop.1) (active_stops desk.records)
 

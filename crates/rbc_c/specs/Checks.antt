@@ -9,7 +9,7 @@ use Rattle.rbc_c.specs.declared.track_check.Report.{Report}
 use Rattle.rbc_c.specs.Given.{fronted}
 use Rattle.rbc_c.specs.Opens.{code_of}
 
--- what came of a check, as C has it, with a report of so many bytes
+-- what came of a check, as C has it, with a report of this many bytes
 abbrev pub report_of : Verdict → ℕ → Report
 report_of (Good warnings) count = record { refused = 0; warnings = warnings; count = count }
 report_of (Refused rule) count = record { refused = code_of rule; warnings = 0; count = count }
@@ -22,7 +22,7 @@ pub record IsReported (text : List ℕ) (out written : List ℕ) (report : Repor
   pub reported : report ≡ report_of verdict (length bytes)
   pub front : written ≡ fronted bytes out
 
--- what room for a report leads to, at a code: 0 done, 1 memory was refused, 5 the text is not UTF-8
+-- what a check leaves, by its code: 0 done, 1 memory was refused, 5 the text is not UTF-8
 pub record Checks (text : List ℕ) (out : List ℕ) (before : Report) (code : ℕ) (written : List ℕ) (report : Report) : Type 0 where
   pub codes : (code ≡ 0) ⊎ ((code ≡ 1) ⊎ ((code ≡ 5) × ¬ (IsUtf8 text)))
   pub done : code ≡ 0 → IsReported text out written report

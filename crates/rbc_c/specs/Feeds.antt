@@ -9,12 +9,12 @@ use Rattle.rbc_c.specs.declared.feed.Answer.{Answer}
 use Rattle.rbc_c.specs.declared.message.Message.{Message}
 use Rattle.rbc_c.specs.Messages.{AreWritten, StaysBehind}
 
--- the code that refuses an input, 0 where it is accepted
+-- the code with which an input is refused, or 0 if it is accepted
 abbrev pub refusal_of : Reply → ℕ
 refusal_of (Done sent) = 0
 refusal_of (Refused code) = code
 
--- the line was taken, by the rule's step: its answer and its messages are given, and stand where they have to
+-- the line was taken by the step of the rules: its answer is given, and its messages stand at the front
 pub record IsDone (desk : LiveDesk) (line : List ℕ) (out : List Message) (after : LiveDesk) (written : List Message) (answer : Answer) : Type 0 where
   pub reply : Reply
   pub sent : List Sent
@@ -25,11 +25,11 @@ pub record IsDone (desk : LiveDesk) (line : List ℕ) (out : List Message) (afte
   pub messages : AreWritten sent written
   pub behind : StaysBehind (length sent) out written
 
--- there are more messages than room for them, and the answer says how many
+-- there are more messages than there is room for, and the answer says how many
 abbrev pub IsShort : LiveDesk → List ℕ → ℕ → Answer → Type 0
 IsShort desk line room answer = (answer.refused ≡ 0) × (room < answer.count) × live.AreSentBy desk.track line desk.records answer.count
 
--- what a line, and room for messages, lead to, from a desk, at a code: 0 done, 1 memory was refused, 3 there is no room
+-- what a line leaves of a desk and of the room for messages, by the code: 0 done, 1 memory was refused, 3 there is too little room
 pub record IsFed (desk : LiveDesk) (line : List ℕ) (out : List Message) (before : Answer) (code : ℕ) (after : LiveDesk) (written : List Message) (answer : Answer) : Type 0 where
   pub track : after.track ≡ desk.track
   pub codes : (code ≡ 0) ⊎ (code ≡ 1) ⊎ (code ≡ 3)

@@ -2,11 +2,12 @@
 use Rattle.std.specs.Prelude.{◌≡◌, ℕ, ◌<◌, ◌⊎◌, List, ◌++◌, take, drop, length, Option, Some, None}
 use Rattle.rbc_live.specs.declared.desk.LiveDesk.{LiveDesk}
 
--- a list written over the front of another, as far as there is room; behind it stands what stood there before
+-- a list written over the front of another, as far as there is room; the rest of the other stays
 abbrev pub fronted : {A : Type 0} → List A → List A → List A
 fronted given out = take (length out) given ++ drop (length given) out
 
--- What room for a list leads to, on a desk, which stays as it is, at a code: 0 done, 1 memory was refused. `IsOf desk list` says which list that is.
+-- What a call that asks for a list leaves, by its code: 0 done, 1 memory was refused. The desk stays as it is. `IsOf
+-- desk list` says which list it is.
 pub record GivesOf {A : Type 0} (IsOf : LiveDesk → List A → Type 0) (desk : LiveDesk) (out : List A) (before code : ℕ) (after : LiveDesk) (written : List A) (count : ℕ) : Type 0 where
   pub same : after ≡ desk
   pub codes : (code ≡ 0) ⊎ (code ≡ 1)

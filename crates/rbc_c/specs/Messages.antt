@@ -14,6 +14,6 @@ pub record IsWritten (sent : Sent) (message : Message) : Type 0 where
 abbrev pub AreWritten : List Sent → List Message → Type 0
 AreWritten sent out = (k : ℕ) (one : Sent) → slice_get sent k ≡ Some one → (message : Message) × (slice_get out k ≡ Some message) × IsWritten one message
 
--- what stands behind the first ones stays
+-- the messages after the first ones stay
 abbrev pub StaysBehind : ℕ → List Message → List Message → Type 0
 StaysBehind count old new = (k : ℕ) → count ≤ k → slice_get new k ≡ slice_get old k

@@ -21,11 +21,11 @@ code_of error.GroupTwice = 16
 abbrev pub IsNew : List ℕ → LiveDesk → Type 0
 IsNew text desk = IsTrackOf text desk.track × (desk.records ≡ [])
 
--- a code that says why there is none: memory was refused, the text is not UTF-8, or it is not a track
+-- the code says why no desk was opened: memory was refused, the text is not UTF-8, or it is not a track
 abbrev pub IsWhyNot : List ℕ → ℕ → Type 0
 IsWhyNot text code = (0 < code) × ((code ≡ 1) ⊎ (((code ≡ 5) × ¬ (IsUtf8 text)) ⊎ ((e : TrackError) × RefusesTrack text e × (code ≡ code_of e))))
 
--- from the desk of a handle to its desk after the call: one that is there stays, and the code is 2
+-- from the desk of a handle to its desk after the call: if there is a desk already, it stays, and the code is 2
 abbrev pub Opens : Option LiveDesk → List ℕ → ℕ → Option LiveDesk → Type 0
 Opens (Some desk) text code after = (code ≡ 2) × (after ≡ Some desk)
 Opens None text code (Some desk) = (code ≡ 0) × IsNew text desk

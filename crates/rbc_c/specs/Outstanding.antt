@@ -11,13 +11,13 @@ use Rattle.rbc_live.specs.declared.desk.LiveDesk.{LiveDesk}
 use Rattle.rbc_live.specs.Known.{engines_in, train_in}
 use Rattle.rbc_c.specs.declared.outstanding.Outstanding.{Outstanding}
 
--- what told a number: 0 message 15, 1 message 16, 2 message 24
+-- the kind of message that told a number: 0 message 15, 1 message 16, 2 message 24
 abbrev pub code_of_kind : Kind → ℕ
 code_of_kind Conditional = 0
 code_of_kind Unconditional = 1
 code_of_kind Restriction = 2
 
--- what waits at a train under an identifier, of which a revocation is of this kind: nothing where it tells a number and that was answered
+-- what waits at a train under an identifier, with the kind that a revocation has: nothing if it tells a number and that was answered
 abbrev pub waits_under : ℕ → ℕ → ℕ × Slot → Option Outstanding
 waits_under engine revocation (id, Used used) =
     if used.acked then None

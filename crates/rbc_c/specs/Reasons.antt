@@ -20,7 +20,7 @@ use Rattle.rbc_live.specs.declared.desk.LiveDesk.{LiveDesk}
 abbrev pub IsReplyOn : LiveDesk → Input → Reply → Type 0
 IsReplyOn desk input reply = (w : World) → AreRecordsOf desk.track (record_in desk.records) w → reply ≡ (step desk.track w input).reply
 
--- a restriction that is refused since its stretch or its speed is bad: its code means another thing of a stop
+-- a restriction that is refused because its stretch or its speed is bad: for a stop the same code means something else
 abbrev pub is_bad_restriction : Input → ℕ → Bool
 is_bad_restriction (Restrict number segment dirs speed front) code = code == code_of BadArea
 is_bad_restriction (Enrol engine train_length) code = false
@@ -31,8 +31,8 @@ is_bad_restriction (Lift number) code = false
 is_bad_restriction (Received message) code = false
 is_bad_restriction (Bad fault) code = false
 
--- a row for an input that is refused with a code: it has that code, there is one for the code of each reason, and it is the one of that reason, but for
--- such a restriction
+-- a row for an input that is refused with a code. It has that code; there is a row for the code of each reason, and it
+-- is the row of that reason, except for such a restriction.
 pub record IsRowFor (input : Input) (code : ℕ) (row : Option Row) : Type 0 where
   pub coded : IfSome row (λ one. one.code ≡ code)
   pub there : (refusal : Refusal) → code ≡ code_of refusal → IsSome row
@@ -43,7 +43,7 @@ abbrev pub words_of : Option Row → List ℕ
 words_of None = []
 words_of (Some row) = row.name.now ++ (codes ": " ++ (row.sentence.now ++ codes "\n"))
 
--- the words on an answer to an input: none where it was accepted
+-- the words on an answer to an input: none if it was accepted
 abbrev pub AreWordsOn : Input → Reply → List ℕ → Type 0
 AreWordsOn input (Done sent) text = text ≡ []
 AreWordsOn input (Refused code) text = (row : Option Row) × IsRowFor input code row × (text ≡ words_of row)

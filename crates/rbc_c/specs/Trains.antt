@@ -14,7 +14,7 @@ abbrev pub code_of_way : Way → ℕ
 code_of_way Down = 0
 code_of_way Up = 1
 
--- a train with the number of its engine, by its place: fields of 0 where it has none
+-- a train with its engine number, by its place: fields of 0 if it has no place
 abbrev pub train_at : ℕ → TrainRec → Option Place → Train
 train_at engine train (Some place) = record {
   engine = engine;

@@ -55,7 +55,7 @@ fn stop_of(number: u32, segment: Segment) -> Stop
     }
 }
 
-/// The segments of a stop. Fails only for lack of memory.
+/// The segments of a stop.
 fn segments_of(alloc: Global, number: u32, area: &Area) -> Result<Vec<Stop>, AllocError>
     ensures { IfOk result (λ all. all.items ≡ map (stop_of number) area.now) }
 {
@@ -65,7 +65,7 @@ fn segments_of(alloc: Global, number: u32, area: &Area) -> Result<Vec<Stop>, All
         .collect(alloc)
 }
 
-/// The segments of all active stops. Fails only for lack of memory.
+/// The segments of all active stops.
 fn stops_of(alloc: Global, desk: &LiveDesk) -> Result<Vec<Stop>, AllocError>
     ensures { IfOk result (λ all. AreStops desk.now all.items) }
 {

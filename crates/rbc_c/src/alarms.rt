@@ -15,7 +15,7 @@ pub struct Alarm {
     pub engine: u32,
     /// 0 no place, 1 a stop, 2 a restriction, 3 an answer.
     pub kind: u32,
-    /// The number of the stop or the restriction; 0 where the train has no place.
+    /// The number of the stop or the restriction; 0 if the train has no place.
     pub number: u32,
 }
 
@@ -30,7 +30,7 @@ fn alarm_of(engine: u32, alarm: Stands) -> Alarm
     }
 }
 
-/// Alarms as C has them. Fails only for lack of memory.
+/// Alarms as C has them.
 fn alarms_of(alloc: Global, alarms: &[(u32, Stands)]) -> Result<Vec<Alarm>, AllocError>
     ensures { IfOk result (λ all. all.items ≡ map alarm_of alarms.now) }
 {

@@ -5,13 +5,13 @@ ghost use Rattle.rbc_c.specs.Opens.{code_of};
 
 use rbc_track::TrackError;
 
-/// All is done.
+/// The call succeeded.
 pub const DONE: u32 = 0;
 
 /// Memory was refused.
 pub const MEMORY: u32 = 1;
 
-/// The handle has no desk; or, where one is to be opened, it has one.
+/// The handle has no desk or, when a desk is to be opened, already has one.
 pub const NOT_NOW: u32 = 2;
 
 /// There are more messages than room for them.

@@ -20,7 +20,7 @@ pub struct Answer {
     pub count: usize,
 }
 
-/// The code that refuses an input, 0 where it is accepted.
+/// The code with which an input is refused, or 0 if it is accepted.
 fn refusal_of(reply: Reply) -> u32
     ensures { result ≡ refusal_of reply }
 {

@@ -1,4 +1,4 @@
-//! Lists that a desk is asked for.
+//! The lists that a caller can ask of a desk.
 
 ghost use Rattle.std.specs.Prelude.{◌≡◌, ◌<◌, ◌⊎◌, List, length, IsOkAnd};
 ghost use Rattle.rbc_c.specs.Given.{Gives, fronted};
@@ -14,10 +14,10 @@ pub trait Entry: Copy + Drop {
     ghost use Rattle.std.specs.Prelude.{List, IfOk};
     ghost use Rattle.rbc_live.specs.declared.desk.LiveDesk as declared;
 
-    // Which list is that of a desk.
+    // The list that belongs to a desk.
     ghost is_of: { declared.LiveDesk → List Self → Type 0 };
 
-    /// The list of a desk. Fails only for lack of memory.
+    /// The list of a desk.
     fn list(desk: &LiveDesk, alloc: Global) -> Result<Vec<Self>, AllocError>
         ensures { IfOk result (λ list. is_of desk.now list.items) };
 }
@@ -30,8 +30,8 @@ pub fn write_front<T: Copy + Drop>(list: &[T], out: &mut [T])
     out[..count].copy_from_slice(&list[..count]);
 }
 
-/// Writes a list that there was memory for to the front of `out`, as far as there is room, and says how long it is. Answers
-/// 0, or the code of a fault.
+/// Writes a list to the front of `out`, as far as there is room, and sets `count` to its length. Answers 0; or the code
+/// of a fault, with both unchanged, if memory was refused for the list.
 pub fn give<T: Copy + Drop>(
     made: Result<Vec<T>, AllocError>,
     out: &mut [T],
@@ -50,8 +50,8 @@ pub fn give<T: Copy + Drop>(
     DONE
 }
 
-/// Writes the list of a desk to the front of `out`, as far as there is room, and says how long it is. Answers 0, or the
-/// code of a fault.
+/// Writes the list of a desk to the front of `out`, as far as there is room, and sets `count` to its length. Answers 0,
+/// or the code of a fault.
 fn list_of_desk<T: Entry>(desk: &LiveDesk, alloc: Global, out: &mut [T], count: &mut usize) -> u32
     ensures codes { (result ≡ 0) ⊎ (result ≡ 1) }
     ensures given { result ≡ 0 → (list : List T) × T.is_of desk.now list × (out.new ≡ fronted list out.old)
@@ -81,8 +81,8 @@ fn list_of_this_version<T: Entry>(
 }
 
 /// Writes the list of a handle's desk to the front of `out`, as far as there is room. Answers 0, and `count` says how
-/// long it is. At the code of a fault `out` and `count` are as they were. A handle with no desk is refused, and so is
-/// that of a caller that was compiled with another rbc.h.
+/// long it is. At the code of a fault `out` and `count` are as they were. The call is refused if the handle has no
+/// desk, or if the caller was compiled with another rbc.h.
 pub fn list_of_handle<T: Entry>(
     handle: &mut Handle,
     alloc: Global,

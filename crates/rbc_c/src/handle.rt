@@ -15,7 +15,7 @@ const VERSION: u8 = 3;
 #[repr(C)]
 #[derive(Drop)]
 pub struct Handle {
-    /// RBC_VERSION of the rbc.h that the caller was compiled with. It stands first: there a caller of an older rbc.h
+    /// RBC_VERSION of the rbc.h that the caller was compiled with. It stands first, where a caller of an older rbc.h
     /// has 0 or 1.
     pub version: u8,
     is_open: bool,
@@ -55,7 +55,7 @@ impl Handle {
         self.version == VERSION
     }
 
-    /// Takes the desk out, if one is open. The handle has none then.
+    /// Takes the desk out, if one is open. The handle has no desk afterwards.
     pub fn take(&mut self, alloc: Global) -> Option<Box<LiveDesk>>
         ensures desk { MatchOption result (self.old.memory.live ≡ None)
             (λ desk. self.old.memory.live ≡ Some desk.value) }

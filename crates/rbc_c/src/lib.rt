@@ -1,4 +1,7 @@
 //! A live desk for callers in C. `rbc.h` is the header.
+//!
+//! A function that cannot report a lack of memory takes none. `AllocError` means that memory was refused; what the
+//! function was changing is then of no further use, unless its docstring says what is left.
 #![tactic(auto)]
 
 ghost use Rattle.std.specs.Prelude.{◌≡◌, None, IfOk, IfErr};
@@ -44,7 +47,8 @@ use trains::Train;
 /// The number of the rules by which a desk decides, as `dispatch --version` tells it.
 const RULES: u32 = 3;
 
-/// The number of the rules by which a desk decides. A log that was written by other rules may be answered otherwise.
+/// The number of the rules by which a desk decides. A log that was written under other rules may be answered
+/// differently.
 #[unsafe(no_mangle)]
 pub extern "C" fn rbc_rules() -> u32
     ensures { result ≡ rules_number }
@@ -70,8 +74,8 @@ fn desk_on(alloc: Global, track: &[u8]) -> Result<Box<LiveDesk>, u32>
 }
 
 /// Opens a desk on the track that a text in TOML writes. Answers 0, and the handle has the desk; or the code of a
-/// fault, and the handle is unchanged. A handle that has a desk keeps it, and the call is refused. So is that of a
-/// caller that was compiled with another rbc.h.
+/// fault, and the handle is unchanged. The call is refused if the handle already has a desk, or if the caller was
+/// compiled with another rbc.h.
 #[unsafe(no_mangle)]
 pub extern "C" fn rbc_open(handle: &mut Handle, alloc: Global, track: &[u8]) -> u32
     ensures { Versioned handle.old.version handle.new.version result
@@ -103,8 +107,8 @@ fn open_handle(handle: &mut Handle, alloc: Global, track: &[u8]) -> u32
 }
 
 /// Gives one line to the desk of a handle. Answers 0: `answer` says what it led to, and its messages stand at the front
-/// of `out`. At the code of a fault the desk and `out` are as they were; where `out` has no room `answer` says for how
-/// many messages. A handle with no desk is refused, and so is that of a caller that was compiled with another rbc.h.
+/// of `out`. At the code of a fault the desk and `out` are as they were; if `out` is too small, `answer` says how many
+/// messages there are. The call is refused if the handle has no desk, or if the caller was compiled with another rbc.h.
 #[unsafe(no_mangle)]
 pub extern "C" fn rbc_feed(
     handle: &mut Handle,
@@ -221,8 +225,8 @@ pub extern "C" fn rbc_outstanding(
     list_of_handle(handle, alloc, out, count)
 }
 
-/// Gives the words on the answer that a line would have on the desk of a handle, as `list_of_handle` does: the name of its
-/// refusal and what that means, or nothing where it would be accepted.
+/// Explains how the desk of a handle would answer a line, in words that are given as `list_of_handle` does: the name of
+/// the refusal and what it means, or nothing if the line would be accepted.
 #[unsafe(no_mangle)]
 pub extern "C" fn rbc_explain_line(
     handle: &mut Handle,
@@ -262,8 +266,8 @@ fn explain_to_handle(
     code
 }
 
-/// Checks the text of a track, as `dispatch check` does. Answers 0: `report` says what came of it, and the report stands
-/// at the front of `out`, as many bytes as there is room for. At the code of a fault both are as they were.
+/// Checks the text of a track, as `dispatch check` does. Answers 0: `report` says what came of it, and the report
+/// stands at the front of `out`, as many bytes as there is room for. At the code of a fault both are as they were.
 #[unsafe(no_mangle)]
 pub extern "C" fn rbc_check(alloc: Global, track: &[u8], out: &mut [u8], report: &mut Report) -> u32
     ensures { Checks track.now out.old report.old result out.new report.new }
@@ -271,8 +275,8 @@ pub extern "C" fn rbc_check(alloc: Global, track: &[u8], out: &mut [u8], report:
     check_text(alloc, track, out, report)
 }
 
-/// Gives back the memory of a handle's desk, which has none then. A handle with no desk is refused, and so is that of a
-/// caller that was compiled with another rbc.h, which stays as it is.
+/// Frees the desk of a handle, which has no desk afterwards. The call is refused, and the handle unchanged, if the
+/// handle has no desk or the caller was compiled with another rbc.h.
 #[unsafe(no_mangle)]
 pub extern "C" fn rbc_close(handle: &mut Handle, alloc: Global) -> u32
     ensures { Versioned handle.old.version handle.new.version result
@@ -285,7 +289,7 @@ pub extern "C" fn rbc_close(handle: &mut Handle, alloc: Global) -> u32
     close_handle(handle, alloc)
 }
 
-/// Gives back memory, as `rbc_close` does for a caller of this version.
+/// Frees the desk, as `rbc_close` does for a caller of this version.
 fn close_handle(handle: &mut Handle, alloc: Global) -> u32
     ensures closes { Closes handle.old.memory.live result handle.new.memory.live }
     ensures version { handle.new.version ≡ this_version }
@@ -298,7 +302,7 @@ fn close_handle(handle: &mut Handle, alloc: Global) -> u32
 
 fn sends<T: Send>(_: &T) {}
 
-/// A handle may go from thread to thread.
+/// A handle may move from thread to thread.
 fn handle_sends(handle: &Handle) {
     sends(handle);
 }

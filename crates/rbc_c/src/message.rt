@@ -29,7 +29,7 @@ fn write_one(sent: &Sent, out: &mut Message)
     out.length = write_to_train(&sent.message, &mut out.bytes) as u32;
 }
 
-/// Writes messages to the front of those that are there.
+/// Writes messages to the front of `out`.
 pub fn write_all(sent: &SentList, out: &mut [Message])
     requires fit { AreSendable sent.now }
     requires room { length sent.now ≤ length out.old }

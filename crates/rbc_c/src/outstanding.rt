@@ -22,10 +22,10 @@ const RESTRICTION_REVOKED: u32 = 4;
 pub struct Outstanding {
     /// NID_ENGINE of the train.
     pub engine: u32,
-    /// What the message does: 0 tells a stop conditionally, 1 unconditionally, 2 tells a restriction, 3 revokes a stop, 4
-    /// a restriction.
+    /// What the message does: 0 tells a stop conditionally, 1 unconditionally, 2 tells a restriction, 3 revokes a stop,
+    /// 4 a restriction.
     pub kind: u32,
-    /// The number of the stop or the restriction; 0 where it is being revoked.
+    /// The number of the stop or the restriction; 0 if it is being revoked.
     pub number: u32,
     /// NID_EM or NID_TSR.
     pub identifier: u32,
@@ -33,7 +33,7 @@ pub struct Outstanding {
     pub stamp: u32,
 }
 
-/// The code of what told a number.
+/// The code of the kind of message that told a number.
 fn code_of_kind(kind: Kind) -> u32
     ensures { result ≡ code_of_kind kind }
 {
@@ -44,7 +44,7 @@ fn code_of_kind(kind: Kind) -> u32
     }
 }
 
-/// What waits at a train under an identifier, of which a revocation is of this kind.
+/// What waits at a train under an identifier. `revocation` is the kind that a revocation has.
 fn waits_under(engine: u32, revocation: u32, id: u8, slot: Slot) -> Option<Outstanding>
     ensures { result ≡ waits_under engine revocation (id, slot) }
 {
@@ -68,7 +68,7 @@ fn waits_under(engine: u32, revocation: u32, id: u8, slot: Slot) -> Option<Outst
     }
 }
 
-/// What waits at a train under identifiers, of which a revocation is of this kind. Fails only for lack of memory.
+/// What waits at a train under identifiers. `revocation` is the kind that a revocation has.
 fn waits_in(
     alloc: Global,
     engine: u32,
@@ -83,7 +83,7 @@ fn waits_in(
         .collect(alloc)
 }
 
-/// What waits at a train. Fails only for lack of memory.
+/// What waits at a train.
 fn waits_at(alloc: Global, engine: u32, train: &TrainRec) -> Result<Vec<Outstanding>, AllocError>
     ensures { IfOk result (λ all. all.items ≡ waits_at engine train.now) }
 {
@@ -92,7 +92,7 @@ fn waits_at(alloc: Global, engine: u32, train: &TrainRec) -> Result<Vec<Outstand
     Ok(all)
 }
 
-/// What waits at the train with an engine number, if it is enrolled. Fails only for lack of memory.
+/// What waits at the train with an engine number, if it is enrolled.
 fn waits_of(alloc: Global, desk: &LiveDesk, engine: u32) -> Result<Vec<Outstanding>, AllocError>
     ensures { IfOk result (λ all. all.items ≡ waits_of desk.now engine) }
 {
@@ -102,7 +102,7 @@ fn waits_of(alloc: Global, desk: &LiveDesk, engine: u32) -> Result<Vec<Outstandi
     }
 }
 
-/// What waits at all trains. Fails only for lack of memory.
+/// What waits at all trains.
 fn outstanding_on(alloc: Global, desk: &LiveDesk) -> Result<Vec<Outstanding>, AllocError>
     ensures { IfOk result (λ all. AreOutstanding desk.now all.items) }
 {

@@ -13,7 +13,7 @@ use rbc_text::{decide, parse_line};
 use rbc_words::{Row, other_row_of, row_of_code};
 use std::alloc::{AllocError, Global};
 
-/// The records of a desk, which are read and stay as they are.
+/// The records of a desk, for reading only.
 #[derive(Drop)]
 struct Reading<'a> {
     records: &'a PlainStore,
@@ -39,7 +39,7 @@ impl Reader for Reading<'_> {
     }
 }
 
-/// The answer to an input on a desk. Fails only for lack of memory.
+/// The answer to an input on a desk.
 fn reply_on(desk: &LiveDesk, alloc: Global, input: &Input) -> Result<Reply, AllocError>
     requires { Fits input.now }
     ensures { IfOk result (λ reply. IsReplyOn desk.now input.now reply) }
@@ -50,7 +50,7 @@ fn reply_on(desk: &LiveDesk, alloc: Global, input: &Input) -> Result<Reply, Allo
     match decide(alloc, &desk.track, input, &mut reading) {
         Ok(outcome) => Ok(outcome.result),
         Err(RuleFault::OutOfMemory) => Err(AllocError),
-        // A desk's records are those of a world, and this reader never fails.
+        // The records of a desk are those of a world, and this reader never fails.
         Err(RuleFault::Torn) => unreachable!(),
         Err(RuleFault::Reader) => unreachable!(),
     }
@@ -87,7 +87,7 @@ fn push_row(text: &mut Vec<u8>, row: Row) -> Result<(), AllocError>
     text.extend_from_slice(b"\n")
 }
 
-/// The words on an answer to an input. Fails only for lack of memory.
+/// The words on an answer to an input.
 fn words_on(alloc: Global, input: &Input, reply: Reply) -> Result<Vec<u8>, AllocError>
     ensures { IfOk result (λ text. AreWordsOn input.now reply text.items) }
 {
@@ -100,7 +100,7 @@ fn words_on(alloc: Global, input: &Input, reply: Reply) -> Result<Vec<u8>, Alloc
     Ok(text)
 }
 
-/// The words on the answer to a line on a desk: none where it would be accepted. Fails only for lack of memory.
+/// The words on the answer to a line on a desk: none if it would be accepted.
 fn reason_on(desk: &LiveDesk, alloc: Global, line: &[u8]) -> Result<Vec<u8>, AllocError>
     ensures { IfOk result (λ text. IsReason line.now desk.now text.items) }
 {

@@ -37,7 +37,7 @@ pub fn check_text(alloc: Global, track: &[u8], out: &mut [u8], report: &mut Repo
     DONE
 }
 
-/// What came of a check, as C has it, with a report of so many bytes.
+/// What came of a check, as C has it, with a report of this many bytes.
 fn report_of(verdict: Verdict, count: usize) -> Report
     ensures { result ≡ report_of verdict count }
 {

@@ -19,7 +19,7 @@ pub struct Train {
     pub length: u32,
     /// The later of T_TRAIN of the last message to it and T_TRAIN of its own messages, in units of 10 ms.
     pub stamp: u32,
-    /// 1 where its place is known; where it is 0, so are the next four.
+    /// 1 if its place is known; if it is 0, so are the next four fields.
     pub placed: u32,
     /// The number of its line.
     pub line: u32,

@@ -3,7 +3,7 @@
 //! It reads a batch from standard input and takes the first half of it, sends what comes of each input at once, and
 //! then loses everything but its log. It replays the log without sending anything a second time, and goes on with the
 //! other half. Each input is answered by its result, as `dispatch run` writes it, and its messages, in the order in
-//! which they are sent. It stands on rbc_text and rbc_rule alone, and rests on the contract of `decide`; nobody calls
+//! which they are sent. It stands on rbc_text and rbc_rule alone, and rests on the contract of `decide`; no crate calls
 //! it. Begin with office.rt.
 #![tactic(auto)]
 
@@ -25,7 +25,7 @@ use std::rt::Files;
 /// The track file of this example.
 const TRACK: &str = "main_line.toml";
 
-/// The lines of a batch, of which there are no more than bytes.
+/// The lines of a batch. There are no more lines than bytes.
 fn lines_of(alloc: Global, batch: &[u8]) -> Result<Vec<&[u8]>, AllocError> {
     let mut lines = Vec::new(alloc);
     let mut rest = batch;

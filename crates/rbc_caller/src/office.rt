@@ -13,7 +13,7 @@ use rbc_settle::Sent;
 use rbc_track::Track;
 use std::alloc::{AllocError, Global};
 
-/// How often an input is tried where memory is refused.
+/// How often an input is tried if memory is refused.
 const TRIES: u32 = 10;
 
 /// The state of a dispatcher on a track.
@@ -44,7 +44,7 @@ impl<'a> Office<'a> {
         }
     }
 
-    /// Decides an input, and applies what it writes: all of it, or nothing where the call fails. The messages are to be
+    /// Decides an input, and applies what it writes: all of it, or nothing if the call fails. The messages are to be
     /// sent only then. A store that outlives the process would make the writes durable first.
     ///
     /// # Errors
@@ -64,7 +64,7 @@ impl<'a> Office<'a> {
         }
     }
 
-    /// Takes an input, and tries again where memory is refused.
+    /// Takes an input, and tries again if memory is refused.
     ///
     /// # Errors
     ///

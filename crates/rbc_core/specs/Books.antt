@@ -35,7 +35,7 @@ record_now tickets k = option_map record_of (ticket_in tickets k)
 abbrev pub state_of : BookValue → State
 state_of b = record { desk = standing b.desk; present = number_now b.present; stages = b.stages; committed = b.committed; taken = b.taken; recomputed = b.recomputed; closed = b.closed }
 
--- the stages that the input at an index may have, with so many inputs committed and taken
+-- the stages that the input at an index may have, by how many inputs are committed and taken
 abbrev pub IsStage : ℕ → ℕ → ℕ → Stage Try → Type 0
 IsStage committed taken k Free = (k < committed) ⊎ (taken ≤ k)
 IsStage committed taken k Out = (committed ≤ k) × (k < taken)
@@ -57,8 +57,8 @@ pub record IsKept (run : Run) (s : State) : Type 0 where
   pub counted : s.recomputed ≤ s.committed
   pub stages : AreStages s.committed s.taken s.stages
 
--- The present tickets show what stands under each key: each is of the log, its version was published under that key and has the record that
--- stands there; where there is none, there is no ticket, and so the number is 0.
+-- The present tickets show what stands under each key: each is of the log, its version was published under that key and
+-- has the record that stands there. Without a record there is no ticket, so the number is 0.
 pub record ArePresent (log : LogName) (tickets : List (Key × Shown)) (records : Key → Option Rec) : Type 0 where
   pub stand : StandIn log tickets
   pub show : (k : Key) → record_now tickets k ≡ records k
@@ -68,12 +68,12 @@ pub record IsBook (run : Run) (log : LogName) (b : BookValue) : Type 0 where
   pub kept : IsKept run (state_of b)
   pub present : ArePresent log b.present (record_in b.desk.records)
 
--- the input of this number is out
+-- the input of this number is taken, and neither attempted nor given up
 abbrev pub IsOutIn : List (Stage Try) → ℕ → Type 0
 IsOutIn stages number = (1 ≤ number) × (slice_get stages (number - 1) ≡ Some Out)
 
--- Whether an input at this stage can be committed, and then whether by its attempt: just where the number of each note is the present one.
--- Then so is its record.
+-- Whether an input at this stage can be committed and, if so, whether by its attempt: exactly if the number of each
+-- note is the present one. Then its record is too.
 abbrev pub Judges : List (Key × Shown) → Stage Try → Option Bool → Type 0
 Judges tickets (Tried a) (Some true) = AreCurrent a.notes (number_now tickets) × AreNow (records_of a.notes) (record_now tickets)
 Judges tickets (Tried a) (Some false) = ¬ (AreCurrent a.notes (number_now tickets))
@@ -89,7 +89,7 @@ Judges tickets Out (Some fresh) = ⊥
 abbrev pub IsJudged : List (Stage Try) → ℕ → List (Key × Shown) → Option Bool → Type 0
 IsJudged stages index tickets answer = (g : Stage Try) × (slice_get stages index ≡ Some g) × Judges tickets g answer
 
--- an outcome of the input at an index, with its publication: right for the records, and that of the attempt where it is fresh
+-- an outcome of the input at an index, with its publication: right for the records, and that of the attempt if the attempt is fresh
 pub record IsOutcomeAt (run : Run) (log : LogName) (index : ℕ) (stage : Stage Try) (is_fresh : Bool) (records : Key → Option Rec) (outcome : Outcome) (entries : List (Key × Option Shown)) : Type 0 where
   pub input : Input
   pub is_input : IsInput run (index + 1) input

@@ -38,8 +38,8 @@ Writes s events number k =
     (before : List Event) × (event : Event) × (behind : List Event)
     × (events ≡ before ++ event ∷ behind) × (front (after s before) ≡ number) × IsTrue (names (writes_by event) k)
 
--- before its deposit a note of an attempt was read for its input under its key, and answered by its number: what was before the read, and
--- what came after it
+-- before its deposit, a note of an attempt was read for its input under its key, and its number was the answer: the
+-- events before the read, and those after it
 abbrev pub IsReadOf : List Event → Try → Key × NumberedRec → (List Event → List Event → Type 0) → Type 0
 IsReadOf events a note P =
     (before : List Event) × (between : List Event) × (behind : List Event)
@@ -85,7 +85,7 @@ IsExplained s events =
     × ((note : Key × NumberedRec) × Contains a.notes note × (IsOvertaken s events a note ⊎ IsMisled s events a note))
     )
 
--- where what was noted was read, an input is recomputed for one of these reasons alone
+-- if what was noted was read, an input is recomputed only for one of these reasons
 abbrev pub EachIsExplained : Type 0
 EachIsExplained =
     (run : Run) (numbers : Key → ℕ) (events more : List Event) (outcome : Outcome) (writes : List (Key × NumberedRec))

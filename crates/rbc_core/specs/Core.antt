@@ -12,8 +12,9 @@ use Rattle.rbc_core.specs.declared.stage.Stage.{Stage}
 use Rattle.rbc_core.specs.declared.stage.Stage.TheVariants.{Free, Tried, Void}
 use Rattle.rbc_core.specs.Runs.{Run, IsInput}
 
--- An attempt: the number of an input; under each key that was read the number that was answered, with the record that it means; what the
--- input does where these stand; and under each key that it writes the number of what it puts there, with the record that it means.
+-- An attempt: the number of an input; under each key that was read the number that was answered, with the record that
+-- it means; what the input does if these still stand; and under each key that it writes the number of what it puts
+-- there, with the record that it means.
 pub record Try : Type 0 where
   pub number : ℕ
   pub notes : List (Key × NumberedRec)
@@ -29,8 +30,8 @@ pub record IsRightTry (run : Run) (a : Try) : Type 0 where
   pub fit : AreSendable a.outcome.messages
   pub writes : AreOfWrites a.writes a.outcome.writes
 
--- the desk now, the number of what stands under each key (0 where nothing does), how far each input is, how many inputs are committed,
--- taken and recomputed, and whether it is closed to `take`
+-- the desk now, the number of what stands under each key (0 if nothing does), how far each input is, how many inputs
+-- are committed, taken and recomputed, and whether it is closed to `take`
 pub record State : Type 0 where
   pub desk : Standing
   pub present : Key → ℕ
@@ -40,11 +41,11 @@ pub record State : Type 0 where
   pub recomputed : ℕ
   pub closed : Bool
 
--- a book that was just opened: whichever numbers its records were published under
+-- a book that was just opened, whatever numbers its records were published under
 abbrev pub opening : Run → (Key → ℕ) → State
 opening run numbers = record { desk = standing run.opening; present = numbers; stages = replicate (length run.inputs) Free; committed = 0; taken = 0; recomputed = 0; closed = false }
 
--- the input of this number is taken, not committed, and so far
+-- the input of this number is taken, not committed, and at this stage
 pub record IsAt (s : State) (number : ℕ) (stage : Stage Try) : Type 0 where
   pub uncommitted : s.committed < number
   pub taken : number ≤ s.taken
@@ -58,7 +59,7 @@ front s = s.committed + 1
 abbrev pub IsReady : State → Type 0
 IsReady s = ((a : Try) × IsAt s (front s) (Tried a)) ⊎ IsAt s (front s) Void
 
--- it was given up, or the number of something that was read for its attempt is not the present one
+-- the next input was given up, or a number that was read for its attempt is not the present one
 abbrev pub IsStale : State → Type 0
 IsStale s = IsAt s (front s) Void ⊎ ((a : Try) × IsAt s (front s) (Tried a) × ¬ (AreCurrent a.notes s.present))
 

@@ -35,7 +35,7 @@ pub data Event : Type 0 where
 abbrev pub IsForwarded : State → ℕ → Key → ℕ → Type 0
 IsForwarded s number k answer = (earlier : ℕ) × (a : Try) × (earlier < number) × IsAt s earlier (Tried a) × (number_for a.writes k ≡ Some answer)
 
--- the event may come: to take an attempt over, nothing but numbers is compared
+-- the event may come: to take an attempt over, only numbers are compared
 abbrev pub May : Run → State → Event → Type 0
 May run s (Publishes number version) = Unit
 May run s (Takes None) = (s.taken ≡ length run.inputs) ⊎ (s.closed ≡ true)
@@ -89,7 +89,7 @@ Commits run s NotReady t = Happens run s Waits t
 Commits run s Done t = Happens run s Ends t
 Commits run s Failed t = (keeps : Bool) × Happens run s (Fails keeps) t
 
--- each event may come where it does
+-- each event may come when it comes
 abbrev pub Follow : Run → State → List Event → Type 0
 Follow run s [] = Unit
 Follow run s (event ∷ events) = May run s event × Follow run (next s event) events
@@ -109,7 +109,7 @@ record_at means (suc n) = option_map (λ version. version.rec) (means (suc n))
 abbrev pub AreMeant : Meaning → List (Key × NumberedRec) → Type 0
 AreMeant means entries = All (λ entry. record_at means entry.1.number ≡ entry.1.rec) entries
 
--- what an event says of numbers is what they mean
+-- what an event says about numbers is what they mean
 abbrev pub IsMeant : Meaning → Event → Type 0
 IsMeant means (Publishes number version) = (0 < number) × (means number ≡ Some version)
 IsMeant means (Takes answer) = Unit
@@ -126,8 +126,9 @@ IsMeant means (Fails keeps) = Unit
 abbrev pub IsOpeningIn : Meaning → Run → (Key → ℕ) → Type 0
 IsOpeningIn means run numbers = (k : Key) → record_at means (numbers k) ≡ (standing run.opening).records k
 
--- After any events, in any order, what is held is the desk of the rules applied to the inputs that are committed, one after another,
--- although an attempt is taken over by its numbers alone: for a number means one record for good.
+-- After any events, in any order, what is held is the desk of the rules applied to the committed inputs, one after
+-- another. This holds although an attempt is taken over by its numbers alone, because a number means one record for
+-- good.
 abbrev pub EventsAreSerial : Type 0
 EventsAreSerial = (run : Run) (means : Meaning) (numbers : Key → ℕ) (events : List Event) → IsGoodRun run → IsOpeningIn means run numbers → All (IsMeant means) events
     → Follow run (opening run numbers) events

@@ -21,17 +21,17 @@ WritesTo Waits k = ⊥
 WritesTo Ends k = ⊥
 WritesTo (Fails keeps) k = ⊥
 
--- each attempt stays; or its input, the next one, is committed; or that is lost as the book is closed
+-- each attempt stays, unless its input, the next one, is committed, or the attempt at the next input is lost as the book is closed
 abbrev pub KeepsAttempts : State → State → Type 0
 KeepsAttempts s t =
     (number : ℕ) (a : Try) → IsAt s number (Tried a)
     → IsAt t number (Tried a) ⊎ ((number ≡ front s) × ((t.committed ≡ number) ⊎ ((s.closed ≡ false) × (t.closed ≡ true))))
 
--- what stands under a key changes only where an input is committed whose writes name the key
+-- what stands under a key changes only if an input is committed whose writes name the key
 abbrev pub KeepsRecords : State → Event → State → Type 0
 KeepsRecords s event t = (k : Key) → (t.desk.records k ≡ s.desk.records k) ⊎ WritesTo event k
 
--- the number of what stands under a key changes only where an input is committed whose numbers name the key
+-- the number of what stands under a key changes only if an input is committed whose numbers name the key
 abbrev pub KeepsNumbers : State → Event → State → Type 0
 KeepsNumbers s event t = (k : Key) → (t.present k ≡ s.present k) ⊎ IsTrue (names (writes_by event) k)
 
@@ -39,7 +39,7 @@ KeepsNumbers s event t = (k : Key) → (t.present k ≡ s.present k) ⊎ IsTrue 
 abbrev pub KeepsClosed : State → State → Type 0
 KeepsClosed s t = s.closed ≡ true → t.closed ≡ true
 
--- each event that may come keeps these
+-- each event that may come keeps these, one by one
 abbrev pub AttemptsStay : Type 0
 AttemptsStay = (run : Run) (s : State) (event : Event) → May run s event → KeepsAttempts s (next s event)
 

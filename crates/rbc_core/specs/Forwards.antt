@@ -1,4 +1,4 @@
--- Where nothing is recomputed: reads that give the latest of what is written before an input (own rule).
+-- When nothing is recomputed: reads that give the latest of what is written before an input (own rule).
 use Rattle.std.specs.Prelude.{◌≡◌, ◌⊎◌, ℕ, ◌+◌, ◌<◌, ◌≤◌, true, List, ◌∷◌, ◌++◌, Some, None}
 use Rattle.rbc_records.specs.declared.record.Key.{Key}
 use Rattle.rbc_versions.specs.Entries.{NumberedRec, number_for}
@@ -10,12 +10,12 @@ use Rattle.rbc_core.specs.Events.{Event, Follow}
 use Rattle.rbc_core.specs.Events.Event.{Reads, Deposits, Voids, Recomputes}
 use Rattle.rbc_core.specs.Conflicts.{after, AreAnswered}
 
--- of the kept attempts at inputs that are not committed, from one number on and below another, none writes the key
+-- no kept attempt at an uncommitted input, from one number on and below another, writes the key
 abbrev pub NoneWrites : State → ℕ → ℕ → Key → Type 0
 NoneWrites s first number k = (other : ℕ) (a : Try) → first ≤ other → other < number → IsAt s other (Tried a) → number_for a.writes k ≡ None
 
--- the number of what stands under a key as an input is to see it: what the attempt at the latest input before it puts there, of those that
--- are kept, are not committed and write the key; and the present number where there is none
+-- the number under a key as an input is to see it: the one that the latest earlier attempt puts there, among those that
+-- are kept, not committed and write the key; or the present number if there is no such attempt
 abbrev pub IsLatest : State → ℕ → Key → ℕ → Type 0
 IsLatest s number k answer =
     ((earlier : ℕ) × (a : Try) × (earlier < number) × IsAt s earlier (Tried a) × (number_for a.writes k ≡ Some answer) × NoneWrites s (earlier + 1) number k)
@@ -39,11 +39,11 @@ AreAfterDeposits events =
 abbrev pub NoneIsVoided : List Event → Type 0
 NoneIsVoided events = (before behind : List Event) (number : ℕ) → events ≡ before ++ Voids number true ∷ behind → ⊥
 
--- where what was noted was read, no input is given up, and each read gives the latest and comes after attempts at all inputs before
+-- what was noted was read, no input is given up, and each read gives the latest and comes after attempts at all inputs before
 abbrev pub IsForwarding : State → List Event → Type 0
 IsForwarding s events = AreAnswered events × NoneIsVoided events × AreLatest s events × AreAfterDeposits events
 
--- there no input is recomputed
+-- then no input is recomputed
 abbrev pub NoneIsComputedAgain : Type 0
 NoneIsComputedAgain =
     (run : Run) (numbers : Key → ℕ) (events more : List Event) (outcome : Outcome) (writes : List (Key × NumberedRec))

@@ -15,7 +15,7 @@ pub record Run : Type 0 where
   pub opening : Held
   pub inputs : List Input
 
--- nothing at all
+-- a run of no inputs, from a new desk on an empty track
 abbrev pub empty_run : Run
 empty_run = record { track = record { horizon = 0; lines = []; groups = [] }; opening = record { records = []; results = []; outboxes = [] }; inputs = [] }
 
@@ -38,7 +38,7 @@ pub record IsInput (run : Run) (number : ℕ) (input : Input) : Type 0 where
 abbrev pub IsSerialRun : Run → ℕ → Standing → Type 0
 IsSerialRun run count held = (desk : Desk) → Holds run.track (standing run.opening) desk → Holds run.track held (serial run.track desk (take count run.inputs))
 
--- what is held after the first inputs of a run has, more than what was held before, such mails alone
+-- what is held after the first inputs of a run adds only such mails to what was held before
 abbrev pub IsSaidSince : Run → ℕ → List (ℕ × List Mail) → Type 0
 IsSaidSince run count outboxes =
     (desk : Desk) → Holds run.track (standing run.opening) desk → AreSaidMails run.track desk (take count run.inputs) run.opening.outboxes outboxes

@@ -14,11 +14,11 @@ number_put Out k = None
 number_put (Tried a) k = number_for a.writes k
 number_put Void k = None
 
--- of the inputs from one index on and below another, none has an attempt that writes the key
+-- no input from one index on and below another has an attempt that writes the key
 abbrev pub NoneWritesIn : List (Stage Try) → ℕ → ℕ → Key → Type 0
 NoneWritesIn stages first last k = (i : ℕ) (g : Stage Try) → first ≤ i → i < last → slice_get stages i ≡ Some g → number_put g k ≡ None
 
--- it is the number that the attempt at the latest of them puts there
+-- this is the number that the latest attempt among them puts under the key
 abbrev pub IsLatestIn : List (Stage Try) → ℕ → ℕ → Key → ℕ → Type 0
 IsLatestIn stages first last k number =
     (i : ℕ) × (g : Stage Try) × (first ≤ i) × (i < last) × (slice_get stages i ≡ Some g) × (number_put g k ≡ Some number) × NoneWritesIn stages (i + 1) last k

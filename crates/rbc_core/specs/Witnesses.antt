@@ -22,7 +22,7 @@ use Rattle.rbc_core.specs.Events.Event.{Publishes, Takes, Reads, Deposits, Voids
 use Rattle.rbc_core.specs.Conflicts.{after, AreAnswered}
 use Rattle.rbc_core.specs.Forwards.{AreLatest, AreAfterDeposits, NoneIsVoided}
 
--- from a new desk: train 7 of 200 m is enrolled, and then comes a line that is no input
+-- from a new desk: train 7 of 200 m is enrolled, and then comes a line that is not an input
 abbrev pub two_inputs : Run
 two_inputs = record { track = track_a; opening = record { records = []; results = []; outboxes = [] }; inputs = input.Enrol 7 2000 ∷ input.Bad 1 ∷ [] }
 
@@ -33,7 +33,7 @@ engines = rec.Engines (7 ∷ [])
 abbrev pub train_7 : Rec
 train_7 = rec.Train (new_train 7 2000 0)
 
--- what the first does where nobody is enrolled and nothing was ever active, and what the second does
+-- what the first does if nobody is enrolled and nothing was ever active, and what the second does
 abbrev pub enrolled : Outcome
 enrolled = record { result = Done 0; writes = (key.Roster, Some engines) ∷ (key.Train 7, Some train_7) ∷ (key.Unplaced, Some engines) ∷ []; messages = [] }
 
@@ -80,7 +80,7 @@ start = opening two_inputs no_numbers
 
 -- ---- attempts and events
 
--- that was read for the first: there is no record of engines, of stops or of restrictions
+-- what was read for the first: there is no record of engines, of stops or of restrictions
 abbrev pub nothing_there : List (Key × NumberedRec)
 nothing_there = (key.Roster, absent) ∷ (key.Stops, absent) ∷ (key.Limits, absent) ∷ []
 
@@ -90,7 +90,7 @@ first_try = record { number = 1; notes = nothing_there; outcome = enrolled; writ
 abbrev pub reading_first : List Event
 reading_first = Reads 1 key.Roster 0 ∷ Reads 1 key.Stops 0 ∷ Reads 1 key.Limits 0 ∷ []
 
--- it is read for, attempted and committed
+-- the first is read for, attempted and committed
 abbrev pub committing_first : List Event
 committing_first = reading_first ++ Deposits first_try true ∷ Applies enrolled enrolled_numbers ∷ []
 
@@ -170,8 +170,8 @@ passing_over = first_tried ++ Reads 2 (key.Train 7) 0 ∷ Deposits second_try tr
 abbrev pub then_again : List Event → List Event
 then_again events = events ++ Recomputes refused [] ∷ Ends ∷ []
 
--- all but one of what has to hold, for nothing to be recomputed: a note was not read, an input was given up, a read does not give the
--- latest, or it comes too early
+-- all conditions but one for nothing to be recomputed: a note was not read, an input was given up, a read does not give
+-- the latest, or it comes too early
 abbrev pub MissesAnswers : List Event → Type 0
 MissesAnswers events = ¬ (AreAnswered events) × NoneIsVoided events × AreLatest start events × AreAfterDeposits events
 

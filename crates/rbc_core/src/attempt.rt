@@ -22,9 +22,9 @@ use rbc_track::Track;
 use rbc_versions::{Notes, Present, Published, VersionLog};
 use std::marker::{Model, PhantomData};
 
-/// An attempt at an input of a run: the numbers that were read, what the input does where these stand, and the numbers
-/// of what it writes. Each attempt is right: in every valid state that has the records that were read, its outcome is
-/// that of the input's step, and its numbers mean what the outcome writes.
+/// An attempt at an input of a run: the numbers that were read, what the input does if they still stand, and the
+/// numbers of what it writes. Each attempt is right: in every valid state that has the records that were read, its
+/// outcome is that of the input's step, and its numbers mean what the outcome writes.
 #[derive(Drop)]
 pub struct Attempt<N: RunName> {
     number: u32,
@@ -60,7 +60,7 @@ impl<N: RunName> Model for Attempt<N> {
 
 impl<N: RunName> Attempt<N> {
     /// Makes an attempt at the input of a number, which counts from 1. `decide` gives an outcome that is right for the
-    /// notes of its reader, and `publish_all` the publication of its writes. Takes no memory.
+    /// notes of its reader, and `publish_all` the publication of its writes.
     pub fn of(
         track: &Track,
         number: u32,
@@ -112,7 +112,7 @@ impl<N: RunName> Attempt<N> {
         self.published.weight()
     }
 
-    /// The number that it puts under a key: 0 where it removes what stands there. `None` if it does not write the key.
+    /// The number that it puts under a key: 0 if it removes what stands there. `None` if it does not write the key.
     pub fn number_for(&self, key: Key) -> Option<u64>
         ensures number { result ≡ number_for self.now.writes key }
         ensures right { IsRightTry N.run self.now }
@@ -128,7 +128,7 @@ impl<N: RunName> Attempt<N> {
         &self.published
     }
 
-    /// Raises the bounds of the keys that it writes to the number of its input. Takes no memory.
+    /// Raises the bounds of the keys that it writes to the number of its input.
     pub(crate) fn raise(&self, bounds: &mut Bounds)
         ensures raised { (k : Key) (n : ℕ) → number_for self.now.writes k ≡ Some n
             → self.now.number ≤ bound_of bounds.new k }
@@ -137,7 +137,7 @@ impl<N: RunName> Attempt<N> {
         bounds.raise_all(&self.published, self.number);
     }
 
-    /// Whether the numbers of all that was read, also of absent records, are the present ones. Nothing but numbers is
+    /// Whether every number that was read, also for absent records, is still the present one. Only numbers are
     /// compared.
     pub(crate) fn is_fresh(&self, log: &VersionLog, present: &Present) -> bool
         requires log { log.now ≡ N.log }
@@ -149,7 +149,7 @@ impl<N: RunName> Attempt<N> {
         present.are_current(log, &self.notes)
     }
 
-    /// What the input does where what was read stands, the publication of what it writes, and what was read.
+    /// What the input does if what was read still stands, the publication of what it writes, and what was read.
     pub(crate) fn into_parts(self) -> (Outcome, Published, Notes)
         ensures outcome { result.0 ≡ self.outcome }
         ensures writes { numbered result.1 ≡ self.writes }

@@ -1,4 +1,4 @@
-//! The book of a run: its inputs are taken and attempted in any order, and committed in their own.
+//! The book of a run: its inputs are taken and attempted in any order, and committed in input order.
 //!
 //! The definitions speak of what stands under each key, whatever the order in the store (`standing` of rbc_desk). A
 //! book is generic over the name of its run and its log, so all that it is handed is of that run and log.
@@ -48,9 +48,9 @@ pub struct Stats {
 /// What a call of `commit` did.
 #[derive(Clone, Copy, Debug, PartialEq, Eq)]
 pub enum Commit {
-    /// The outcome of the attempt was taken over: the number of all that was read for it is the present one.
+    /// The outcome of the attempt was taken over: every number that was read for it is still the present one.
     Applied,
-    /// The input was computed here: it was given up, or the number of something that was read is not the present one.
+    /// The input was computed here: it was given up, or a number that was read for it is no longer the present one.
     Recomputed,
     /// The input is neither attempted nor given up. Nothing changed.
     NotReady,
@@ -158,8 +158,8 @@ impl<'a, N: RunName> Book<'a, N> {
         })
     }
 
-    /// Takes the next input that was not taken yet, and returns its number; `None` if all are taken, or the book is
-    /// closed to this.
+    /// Takes the next input that was not taken yet, and returns its number; `None` if all are taken, or if the book
+    /// takes no more inputs.
     pub fn take(&mut self) -> Option<u32>
         ensures event { Happens N.run (state_of self.old) (Takes result) (state_of self.new) }
     {
@@ -171,10 +171,10 @@ impl<'a, N: RunName> Book<'a, N> {
         Some(self.taken)
     }
 
-    /// The number of the record that stands under a key as an input is to see it, or 0 if there is none: what the
-    /// attempt at the latest earlier input puts there, of those that were deposited, are not committed and write the
-    /// key; and else what stands there now. It takes no memory. Where the bound of the key's bucket is not above the
-    /// number of committed inputs, nothing is searched.
+    /// The number of the record under a key as an input is to see it, or 0 if there is none. Among the attempts at
+    /// earlier inputs that are deposited, not committed and write the key, the latest one gives it; if there is none,
+    /// it is the number that stands there now. If the bound of the key's bucket is not above the number of committed
+    /// inputs, nothing is searched.
     pub fn present(&self, input: u32, key: Key) -> u64
         ensures event { Happens N.run (state_of self.now) (Reads input key result) (state_of self.now) }
         ensures latest { IsLatest (state_of self.now) input key result }
@@ -188,7 +188,7 @@ impl<'a, N: RunName> Book<'a, N> {
     }
 
     /// Keeps an attempt at an input that was taken, and is neither attempted nor given up. Any other attempt is handed
-    /// back, and nothing changes. Takes no memory.
+    /// back, and nothing changes.
     pub fn deposit(&mut self, attempt: Attempt<N>) -> Result<(), Attempt<N>>
         ensures event { Happens N.run (state_of self.old) (Deposits attempt (is_ok result)) (state_of self.new) }
         ensures back { IfErr result (λ back. back ≡ attempt) }
@@ -203,8 +203,8 @@ impl<'a, N: RunName> Book<'a, N> {
         Ok(())
     }
 
-    /// Gives up an input that was taken, and is neither attempted nor given up; it is then computed where it is
-    /// committed. `false` for any other number, and then nothing changes. Takes no memory.
+    /// Gives up an input that was taken, and is neither attempted nor given up; it is then computed when it is
+    /// committed. `false` for any other number, and then nothing changes.
     pub fn void(&mut self, number: u32) -> bool
         ensures { Happens N.run (state_of self.old) (Voids number result) (state_of self.new) }
     {
@@ -215,9 +215,9 @@ impl<'a, N: RunName> Book<'a, N> {
         true
     }
 
-    /// Commits the next input, in the order of the inputs: by its attempt if the number of all that was read for it is
-    /// the present one, and else by computing it here and publishing what it writes. Where an attempt is taken over,
-    /// nothing but numbers is compared. The track has to be that of the run.
+    /// Commits the next input, in input order: by its attempt if every number that was read for it is still the present
+    /// one, else by computing it here and publishing what it writes. Only numbers are compared to take over an attempt.
+    /// `track` must be the track of the run.
     pub fn commit(&mut self, rt: &impl Wait, alloc: Global, track: &Track) -> Commit
         requires { track.now ≡ N.run.track }
         ensures event { Commits N.run (state_of self.old) result (state_of self.new) }
@@ -265,8 +265,8 @@ impl<'a, N: RunName> Book<'a, N> {
         self.desk.store()
     }
 
-    /// Swaps the leavings of the book for others. A commit keeps what it leaves in the leavings that the book has then. A
-    /// new book has leavings with no room, so its commits free everything at once.
+    /// Swaps the leavings of the book for others. A commit keeps what it leaves in the leavings that the book has then.
+    /// A new book has leavings with no room, so its commits free everything at once.
     pub fn exchange_leavings(&mut self, leavings: &mut Leavings)
         ensures { self.new ≡ self.old }
     {
@@ -281,8 +281,8 @@ impl<'a, N: RunName> Book<'a, N> {
         self.committed
     }
 
-    /// How much was published for attempts and commits: one for each record, and one for each item of its lists. It is
-    /// for whoever bounds the memory of the log; nothing else hangs on it.
+    /// How much was published for attempts and commits: one for each record, and one for each item of its lists. Used
+    /// only to bound the memory of the log.
     pub fn weight(&self) -> usize
         ensures book { IsBook N.run N.log self.now }
     {
@@ -301,7 +301,7 @@ impl<'a, N: RunName> Book<'a, N> {
     }
 
     /// Closes the book, and returns the desk: that of the rules applied to the inputs that are committed, one after
-    /// another. Each mail that it has more than the desk before says what the rules give its train.
+    /// another. Each mail that the run added says what the rules give its train.
     pub fn close(self) -> Desk
         ensures desk { result ≡ self.entry.desk }
         ensures serial { IsSerialRun N.run self.entry.committed (standing result) }
@@ -325,7 +325,7 @@ impl<'a, N: RunName> Book<'a, N> {
     }
 }
 
-/// The stages of so many inputs, none of which was taken. Fails only for lack of memory.
+/// The stages of this many inputs, none of which was taken.
 fn all_free<N: RunName>(alloc: Global, count: usize) -> Result<Vec<Stage<Attempt<N>>>, AllocError>
     ensures { IfOk result (λ stages. stages.items ≡ replicate count Free) }
 {
@@ -356,7 +356,7 @@ fn is_out<N: RunName>(stages: &Vec<Stage<Attempt<N>>>, number: u32) -> bool
     number > 0 && matches!(stages.get(number as usize - 1), Some(Stage::Out))
 }
 
-/// The number of the last input before one, of so many that are taken; 0 where there is none.
+/// The number of the last of the taken inputs before one, or 0 if there is none.
 fn last_before(input: u32, taken: u32) -> u32
     ensures before { result ≤ input - 1 }
     ensures taken { result ≤ taken }
@@ -376,8 +376,7 @@ fn put_by<N: RunName>(stage: &Stage<Attempt<N>>, key: Key) -> Option<u64>
     }
 }
 
-/// The number that the attempt at the latest input puts under a key, of those above the ones that are committed and up
-/// to the last one.
+/// The number that the latest attempt puts under a key, among the inputs after the committed ones, up to the last one.
 fn forwarded<N: RunName>(
     stages: &Vec<Stage<Attempt<N>>>,
     committed: u32,
@@ -416,7 +415,7 @@ fn latest_put<N: RunName>(
     forwarded(stages, committed, highest, key)
 }
 
-/// Whether the next input is ready to be committed, and then whether by its attempt.
+/// Whether the next input is ready to be committed and, if so, whether by its attempt.
 fn judge<N: RunName>(
     stages: &Vec<Stage<Attempt<N>>>,
     front: usize,
@@ -453,8 +452,8 @@ struct Turn<N: RunName> {
     is_fresh: bool,
 }
 
-/// The outcome of the next input and its publication: those of its attempt if it is fresh, and else as they are
-/// computed here. Keeps what was read for the attempt, and the rest of it if it is stale. Fails only for lack of memory.
+/// The outcome of the next input and its publication: those of its attempt if it is fresh, else as they are computed
+/// here. Keeps what was read for the attempt, and the rest of the attempt if it is stale.
 fn outcome_of<N: RunName>(
     rt: &impl Wait,
     alloc: Global,
@@ -492,7 +491,7 @@ fn outcome_of<N: RunName>(
     computed(rt, alloc, track, &inputs[front], log, desk)
 }
 
-/// The outcome of an input as it is computed here, and its publication. Fails only for lack of memory.
+/// The outcome of an input as it is computed here, and its publication.
 fn computed(
     rt: &impl Wait,
     alloc: Global,
@@ -516,8 +515,8 @@ fn computed(
     }
 }
 
-/// Does what the next input does, keeps what is left of it, and tells how much is published for it. Fails only for lack
-/// of memory, and then changes nothing.
+/// Does what the next input does, keeps what is left of it, and returns how much is published for it. Fails only for
+/// lack of memory, and then changes neither the desk nor the present numbers.
 fn carry_out<N: RunName>(
     rt: &impl Wait,
     alloc: Global,
@@ -550,8 +549,7 @@ fn carry_out<N: RunName>(
     Ok(weight)
 }
 
-/// Takes an outcome and its publication over, and returns the records that it replaced. Fails only for lack of memory,
-/// and then changes nothing.
+/// Takes an outcome and its publication over, and returns the records that it replaced. An error changes nothing.
 fn hand_over(
     alloc: Global,
     outcome: Outcome,

@@ -15,7 +15,7 @@ const BUCKETS: usize = 16_384;
 
 /// A bound for each bucket of keys: the greatest number of an input whose deposited attempt writes a key of the bucket,
 /// or 0 if there is none. A bound is never lowered, since finding the next lower number would need a search. A bound
-/// that is too great costs time alone.
+/// that is too high only costs time.
 #[derive(Drop)]
 pub struct Bounds {
     all: Vec<u32>,
@@ -33,7 +33,7 @@ impl Model for Bounds {
 }
 
 impl Bounds {
-    /// Makes the bounds of a book with no attempts. Fails only for lack of memory.
+    /// Makes the bounds of a book with no attempts.
     pub fn new(alloc: Global) -> Result<Self, AllocError> {
         let all = vec![in alloc; 0u32; BUCKETS]?;
         Ok(Bounds { all })
@@ -46,7 +46,7 @@ impl Bounds {
         self.all[bucket(key)]
     }
 
-    /// Raises the bound of a key's bucket to a number, if it is lower. Takes no memory.
+    /// Raises the bound of a key's bucket to a number, if it is lower.
     fn raise(&mut self, key: Key, number: u32)
         ensures raised { number ≤ bound_of self.new key }
         ensures rises { (k : Key) → bound_of self.old k ≤ bound_of self.new k }
@@ -57,7 +57,7 @@ impl Bounds {
         }
     }
 
-    /// Raises the bounds of all keys that a publication names to the number of its input. Takes no memory.
+    /// Raises the bounds of all keys that a publication names to the number of its input.
     pub fn raise_all(&mut self, published: &Published, number: u32)
         ensures raised { (k : Key) (n : ℕ) → number_for (numbered published.now) k ≡ Some n
             → number ≤ bound_of self.new k }
@@ -70,7 +70,7 @@ impl Bounds {
     }
 }
 
-/// The bucket of a key. Trains are spread by the numbers of their engines. Keys that share a bucket cost time alone.
+/// The bucket of a key. Trains are spread by the numbers of their engines. Keys that share a bucket only cost time.
 fn bucket(key: Key) -> usize
     ensures bucket { result ≡ bucket_of key }
     ensures within { result < 16384 }

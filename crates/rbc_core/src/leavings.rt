@@ -7,7 +7,7 @@ use rbc_rule::Outcome;
 use rbc_versions::{Notes, Published};
 use std::alloc::{AllocError, Global};
 
-/// The memory of so few notes, or of so small a publication, is used again.
+/// The memory of at most this many notes, or of a publication with at most this many entries, is reused.
 const FEW: usize = 8;
 
 /// What the commit of one input leaves: what was read for its attempt, the rest of an attempt that was stale, and the
@@ -45,22 +45,22 @@ impl Leaving {
     }
 }
 
-/// What commits leave. A worker lends leavings with room to the book for a section of the lock, and frees them after
-/// the section, so that no other worker waits while memory is freed.
+/// What commits leave. A worker lends leavings with room to the book while it holds the lock, and frees them
+/// afterwards, so that no other worker waits while memory is freed.
 #[derive(Drop)]
 pub struct Leavings {
     all: Vec<Leaving>,
 }
 
 impl Leavings {
-    /// Makes leavings with no room. It allocates nothing.
+    /// Makes leavings with no room.
     pub fn new(alloc: Global) -> Self {
         Leavings {
             all: Vec::new(alloc),
         }
     }
 
-    /// Makes room for what so many more commits leave. Fails only for lack of memory.
+    /// Makes room for what this many more commits leave.
     pub fn make_room(&mut self, count: usize) -> Result<(), AllocError> {
         self.all.reserve(count)
     }
@@ -70,7 +70,7 @@ impl Leavings {
         self.all.len()
     }
 
-    /// Frees what so many commits left, or all if there are fewer. The room stays.
+    /// Frees what this many commits left, or all if there are fewer. The room stays.
     pub fn free(&mut self, count: usize) {
         for _ in 0..count {
             if self.all.pop().is_none() {
@@ -79,7 +79,8 @@ impl Leavings {
         }
     }
 
-    /// Frees what one commit left, but for the memory of its notes and of its publication: the next attempt is made in it.
+    /// Frees what one commit left, except the memory of its notes and of its publication, which it returns for the next
+    /// attempt.
     pub fn reuse(&mut self, alloc: Global) -> (Notes, Option<Published>)
         ensures { result.0 ≡ [] }
     {
@@ -94,7 +95,7 @@ impl Leavings {
         (emptied(alloc, notes), small_one(taken_over))
     }
 
-    /// Keeps what one more commit leaves if there is room, and else frees it at once. Takes no memory.
+    /// Keeps what one more commit leaves if there is room, and else frees it at once.
     pub(crate) fn keep(&mut self, leaving: Leaving) {
         if self.all.len() < self.all.capacity() {
             self.all.push_reserved(leaving);
@@ -102,7 +103,7 @@ impl Leavings {
     }
 }
 
-/// Notes without any, in the memory of these, if they are few.
+/// Empty notes, in the memory of these if they are few.
 fn emptied(alloc: Global, notes: Option<Notes>) -> Notes
     ensures { result ≡ [] }
 {

@@ -4,6 +4,9 @@
 //! Stands on rbc_desk and rbc_versions. The workers of rbc_engine share one [`Book`] under a lock, and rest on this:
 //! each call is one event, and the desk is always the serial run of the inputs that are committed (`Happens` of
 //! specs/Events.antt; kept by the book's type). Begin with attempt.rt and book.rt; the laws are in law.rt.
+//!
+//! A function that cannot report a lack of memory takes none. `AllocError` means that memory was refused; what the
+//! function was changing is then of no further use, unless its docstring says what is left.
 #![tactic(auto)]
 
 mod attempt;

@@ -9,6 +9,6 @@ pub enum Stage<A> {
     Out,
     /// An attempt at it was deposited.
     Tried(A),
-    /// It was given up: it is computed where it is committed.
+    /// It was given up: it is computed when it is committed.
     Void,
 }

@@ -1,4 +1,4 @@
-//! Worked cases of the laws: right ones, of which a law's statement holds, and wrong ones, of which it does not.
+//! Worked cases of the laws: correct ones, which satisfy a law, and wrong ones, which violate it.
 
 ghost use Rattle.std.specs.Prelude.{◌≡◌, [], ◌∷◌, Some, None, true};
 ghost use Rattle.std.specs.List.{All};
@@ -20,8 +20,8 @@ ghost use Rattle.rbc_core.specs.Witnesses.{forwarded_try, first_tried, forwardin
 ghost use Rattle.rbc_core.specs.Witnesses.{then_again, MissesAnswers, MissesAttempts, MissesLatest, MissesDeposits};
 ghost use Rattle.rbc_core.specs.Witnesses.{started_with_4, second_misled, start_of_three, third_try, third_misled};
 
-/// From the empty state train 7 is enrolled, and then comes a line that is no input. The three records of the first are
-/// published under the numbers 1, 2 and 3.
+/// From the empty state train 7 is enrolled, and then comes a line that is not an input. The three records of the first
+/// are published under the numbers 1, 2 and 3.
 ///
 /// Right: both are attempted, the second one first, from a read that does not stand any more when its turn comes, so
 /// that it is recomputed, and once in all; both are attempted one after the other, and nothing is recomputed;
@@ -55,7 +55,7 @@ pub fn event_numbers_witnesses()
     ensures dropped_numbers { May two_inputs second_enrols (Recomputes refused enrolled_numbers) → ⊥ }
 {}
 
-/// What may not come at its turn.
+/// Events that may not come when they do.
 ///
 /// Wrong: the second input is committed before the first; an attempt is kept at an input that was not taken; all is
 /// done before the end; the first number is taken twice; an input with an attempt is not ready; an input is computed
@@ -106,7 +106,7 @@ pub fn staying_law_witnesses()
 ///
 /// Wrong: the first is recomputed though its attempt is fresh; a note of stops is overtaken, which nobody writes; a
 /// note is overtaken that was never read; a note that was never read is answered; and the attempt at the second is
-/// misled where the first is committed by its attempt.
+/// misled though the first is committed by its attempt.
 pub fn conflict_law_witnesses()
     ensures answered { AreAnswered second_overtaken }
     ensures overtaken { IsOvertaken start second_overtaken second_try (key.Train 7, absent) }

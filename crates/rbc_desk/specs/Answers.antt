@@ -21,7 +21,7 @@ after_answer held answer = record held {
 abbrev pub after_each : Standing → List Answer → Standing
 after_each held answers = fold after_answer held answers
 
--- and at once the records are what the writes leave
+-- and the records are then what the writes leave
 abbrev pub after_answers : Standing → List Answer → List (Key × Option Rec) → Standing
 after_answers held answers writes = record (after_each held answers) { records = written writes held.records }
 
@@ -35,15 +35,15 @@ post_answers number outboxes (answer ∷ answers) = post_answers (number + 1) (p
 abbrev pub result_of : Answer → Reply
 result_of answer = answer.result
 
--- what stays of an answer whose messages are moved out: its result, and the engines of its messages
+-- what is left of an answer whose messages are moved out: its result, and the engines of its messages
 abbrev pub left_of : Answer → Reply × List ℕ
 left_of answer = (answer.result, map (λ (sent : Sent). sent.engine) answer.messages.items)
 
--- that of each of some answers stays
+-- this is left of each answer
 abbrev pub AreLeftOf : List Answer → List Answer → Type 0
 AreLeftOf answers others = map left_of others ≡ map left_of answers
 
--- Outboxes into which the messages of the first answers were put are what they were before. The messages may be gone.
+-- The messages of the first answers are taken back out of the outboxes, which are then as they were before. The messages may have been moved out.
 abbrev pub AreUnanswered : List Answer → ℕ → List (ℕ × List Mail) → List (ℕ × List Mail) → Type 0
 AreUnanswered answers count old new = (number : ℕ) (boxes : List (ℕ × List Mail)) (given : List Answer)
     → AreOutboxes boxes → AreLeftOf given answers → old ≡ post_answers number boxes (take count given) → new ≡ boxes

@@ -27,7 +27,7 @@ pub record Held : Type 0 where
   pub results : List Reply
   pub outboxes : List (ℕ × List Mail)
 
--- what stands there, in whatever order the records are kept: the record under each key, if there is one, the results and the mails
+-- what a desk holds, in whatever order its records are kept: the record under each key, if there is one, the results and the mails
 pub record Standing : Type 0 where
   pub records : Key → Option Rec
   pub results : List Reply
@@ -52,7 +52,7 @@ pub record AreOutboxes (outboxes : List (ℕ × List Mail)) : Type 0 where
   pub ascending : IsMap outboxes
   pub filled : All (λ outbox. 1 ≤ length outbox.1) outboxes
 
--- a desk has at most so many results
+-- the most results of a desk
 abbrev pub max_results : ℕ
 max_results = 4000000000
 
@@ -72,13 +72,13 @@ post_each input outboxes messages = fold (post_one input) outboxes messages
 abbrev pub AreToTheEnginesOf : List Sent → List Sent → Type 0
 AreToTheEnginesOf messages others = map (λ (sent : Sent). sent.engine) others ≡ map (λ (sent : Sent). sent.engine) messages
 
--- the last message of an engine is taken back, and its outbox with it where it has no other
+-- the last message of an engine is taken back, and the outbox too if it has no other
 abbrev pub taken_back : ℕ → List (ℕ × List Mail) → List (ℕ × List Mail)
 taken_back engine outboxes =
     let mails = value_or [] outboxes engine in
     if nat_lt 1 (length mails) then with_value engine (take (length mails - 1) mails) outboxes else without engine outboxes
 
--- Outboxes into which the first messages were put are what they were before. The messages may be gone: their engines tell the outboxes.
+-- The first messages are taken back out of the outboxes, which are then as they were before. Only the engines of the messages matter.
 abbrev pub AreTakenBack : List Sent → ℕ → List (ℕ × List Mail) → List (ℕ × List Mail) → Type 0
 AreTakenBack messages count old new = (input : ℕ) (boxes : List (ℕ × List Mail)) (sent : List Sent)
     → AreOutboxes boxes → AreToTheEnginesOf sent messages → old ≡ post_each input boxes (take count sent) → new ≡ boxes

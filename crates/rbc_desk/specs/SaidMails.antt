@@ -17,8 +17,8 @@ use Rattle.rbc_rule.specs.WellFormed.{IsWellFormed}
 use Rattle.rbc_desk.specs.declared.outbox.Mail.{Mail}
 use Rattle.rbc_desk.specs.Serial.{Desk, mail, step, serial}
 
--- a message says what the rules give the train of an engine in a world, for one thing that settling it does, behind the messages for what
--- settling does before
+-- a message says what the rules give the train of an engine in a world, for one thing that settling it does, after the
+-- messages for what settling does before
 pub record IsSaidTo (track : Plan) (w : World) (engine : ℕ) (message : ToTrain) : Type 0 where
   pub train : TrainRec
   pub is_train : Contains w.trains (engine, train)
@@ -40,8 +40,8 @@ pub record IsSaidMail (track : Plan) (desk : Desk) (inputs : List Input) (engine
   pub fits : codec.Fits mail.message
   pub spelled : codec.Spells (codec.spelling_of mail.message) mail.message
 
--- all messages to one engine after an input: none where the input is refused, or the engine has no train, and else one for each action that
--- settling its train carries out, in order
+-- all messages to one engine after an input: none if the input is refused or the engine has no train, else one for each
+-- action that settling its train carries out, in order
 abbrev pub AreSaidTo : Plan → World → Option TrainRec → List ToTrain → Type 0
 AreSaidTo track w None messages = messages ≡ []
 AreSaidTo track w (Some train) messages = AllSay track w.stops w.limits (as_told w.stops train) (actions_with_stamp track w.stops w.limits train) messages
@@ -59,13 +59,13 @@ AreSaidInTurn track engine desk (input ∷ inputs) mails =
     × AreSaidAfter track engine (effect track input desk.world) messages
     × AreSaidInTurn track engine (step track desk input) inputs more
 
--- Mails to one engine are those of a run: each says what the rules give its train, and they are those of each input, in order. None is
--- lost, none is doubled, and none stands before an elder one.
+-- Mails to one engine are those of a run: each says what the rules give its train, and they are those of each input, in
+-- order. None is lost, none is duplicated, and none stands before an earlier one.
 pub record AreMailsOf (track : Plan) (desk : Desk) (inputs : List Input) (engine : ℕ) (mails : List Mail) : Type 0 where
   pub each : All (IsSaidMail track desk inputs engine) mails
   pub in_turn : AreSaidInTurn track engine desk inputs mails
 
--- to each engine the old mails, and behind them those of the run
+-- to each engine the old mails, and after them those of the run
 abbrev pub AreSaidMails : Plan → Desk → List Input → List (ℕ × List Mail) → List (ℕ × List Mail) → Type 0
 AreSaidMails track desk inputs old new =
     (engine : ℕ) → (more : List Mail) × (value_or [] new engine ≡ value_or [] old engine ++ more) × AreMailsOf track desk inputs engine more

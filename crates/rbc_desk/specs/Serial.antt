@@ -16,7 +16,7 @@ pub record Desk : Type 0 where
   pub results : List Reply
   pub outboxes : List (ℕ × List Mail)
 
--- a desk at which nothing has happened
+-- a desk on which nothing has happened
 abbrev pub new_desk : Desk
 new_desk = record { world = new_world; results = []; outboxes = [] }
 

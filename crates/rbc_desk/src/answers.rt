@@ -11,8 +11,8 @@ use crate::outbox::{self, Outbox};
 use rbc_rule::Reply;
 use std::alloc::{AllocError, Global};
 
-/// Moves the messages of an answer into the outboxes of their engines; what stands in their place keeps their engines.
-/// Fails only for lack of memory, and then leaves the outboxes unchanged.
+/// Moves the messages of an answer into the outboxes of their engines; the messages left in their place keep their
+/// engines. An error leaves the outboxes unchanged.
 fn post_answer(
     alloc: Global,
     outboxes: &mut Vec<(u32, Outbox)>,
@@ -30,7 +30,7 @@ fn post_answer(
     outbox::post_all(alloc, outboxes, input, &mut answer.messages)
 }
 
-/// Takes back the messages of an answer. They may be gone: their engines tell the outboxes.
+/// Takes back the messages of an answer. Only their engines are read, so the messages may have been moved out.
 fn take_back_answer(outboxes: &mut Vec<(u32, Outbox)>, answer: &Answer)
     requires outboxes { AreOutboxes outboxes.old.items }
     ensures back { AreTakenBack answer.now.messages.items (length answer.now.messages.items)
@@ -41,7 +41,7 @@ fn take_back_answer(outboxes: &mut Vec<(u32, Outbox)>, answer: &Answer)
     outbox::take_back_all(outboxes, messages, messages.len());
 }
 
-/// Takes back the messages of the first answers, those of the last of them first.
+/// Takes back the messages of the first answers, beginning with the last of them.
 pub(crate) fn take_back_answers(outboxes: &mut Vec<(u32, Outbox)>, answers: &[Answer], count: usize)
     requires outboxes { AreOutboxes outboxes.old.items }
     requires within { count ≤ length answers.now }
@@ -53,8 +53,7 @@ pub(crate) fn take_back_answers(outboxes: &mut Vec<(u32, Outbox)>, answers: &[An
 }
 
 /// Moves the messages of each answer into the outboxes of their engines, those of the first under the number `first`;
-/// the results stay, and what stands in place of a message keeps its engine. Fails only for lack of memory, and then
-/// leaves the outboxes unchanged.
+/// the results stay, and the message left in its place keeps its engine. An error leaves the outboxes unchanged.
 pub(crate) fn post_answers(
     alloc: Global,
     outboxes: &mut Vec<(u32, Outbox)>,

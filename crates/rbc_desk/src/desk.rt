@@ -47,7 +47,7 @@ impl Model for Desk {
 }
 
 impl Desk {
-    /// Makes a desk with no records, results or outboxes. It allocates nothing.
+    /// Makes a desk with no records, results or outboxes.
     pub fn new(alloc: Global) -> Self
         ensures new { (track : Plan) → Holds track (standing result) serial.new_desk }
         ensures in_order { IsInOrder result }
@@ -123,13 +123,13 @@ impl Desk {
     }
 
     /// Takes an input in: decides it by the records, and takes its messages, its result and its writes over. There has
-    /// to be room for one more result. If the desk is one of the rules, it is then the one that they give after this
-    /// input.
+    /// to be room for one more result. If the desk was reached by the rules, it is then the desk that the rules give
+    /// after this input.
     ///
     /// # Errors
     ///
-    /// If the desk is one of the rules, this fails only for lack of memory. After an error nothing is changed, and the
-    /// same input can be taken in again.
+    /// If the desk was reached by the rules, this fails only for lack of memory. An error changes nothing, and the same
+    /// input can be taken in again.
     pub fn take_in(&mut self, alloc: Global, track: &Track, input: &Input) -> Result<(), RuleFault>
         requires fits { Fits input.now }
         requires room { length self.old.results < MAX_RESULTS }
@@ -143,7 +143,8 @@ impl Desk {
         Ok(())
     }
 
-    /// Takes an outcome over, and keeps what it replaced for the memory of the next one.
+    /// Takes an outcome over, and keeps the replaced records, so that the next outcome can reuse their memory. An error
+    /// changes nothing.
     #[inline(always)]
     fn take_over_alone(&mut self, alloc: Global, outcome: Outcome) -> Result<(), AllocError>
         requires fit { AreSendable outcome.messages }
@@ -156,16 +157,15 @@ impl Desk {
         Ok(())
     }
 
-    /// Keeps the records that an outcome replaced for the memory of the next one.
+    /// Keeps the records that an outcome replaced, so that the next outcome can reuse their memory.
     pub fn keep_spare(&mut self, replaced: Writes)
         ensures { self.new ≡ self.old }
     {
         self.records.keep_spare(replaced);
     }
 
-    /// Takes an outcome over: its messages, its result and its writes. There has to be room for one more result. Hands
-    /// back the records that its writes replaced, in their place. Fails only for lack of memory: then nothing is
-    /// changed.
+    /// Takes an outcome over: its messages, its result and its writes. There has to be room for one more result.
+    /// Returns its writes, with the records that they replaced in place of the new ones. An error changes nothing.
     #[inline(always)]
     pub fn take_over(&mut self, alloc: Global, outcome: Outcome) -> Result<Writes, AllocError>
         requires fit { AreSendable outcome.messages }
@@ -191,9 +191,9 @@ impl Desk {
         Ok(old)
     }
 
-    /// Takes over what some inputs do, one after another: their results, their messages, and at once the records that
-    /// stand after the last of them. There has to be room for the results. Hands back the records that the writes
-    /// replaced, in their place. Fails only for lack of memory: then nothing is changed.
+    /// Takes over what several inputs do, one after another: their results and messages, and in one step the records
+    /// after the last of them. There has to be room for the results. Returns the writes, with the records that they
+    /// replaced in place of the new ones. An error changes nothing.
     pub fn take_over_all(
         &mut self,
         alloc: Global,

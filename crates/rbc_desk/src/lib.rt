@@ -4,6 +4,9 @@
 //! [`Desk::take_in`] leaves the desk that the rules give after the input, or changes nothing (`serial` of
 //! specs/Serial.antt). rbc_text writes its output. Begin with desk.rt; `mails_law` says that each mail says what the
 //! rules give its train.
+//!
+//! A function that cannot report a lack of memory takes none. `AllocError` means that memory was refused; what the
+//! function was changing is then of no further use, unless its docstring says what is left.
 #![tactic(auto)]
 
 mod answer;

@@ -47,7 +47,7 @@ impl Model for Outbox {
 }
 
 impl Outbox {
-    /// Makes an empty outbox. It allocates nothing.
+    /// Makes an empty outbox.
     fn new(alloc: Global) -> Self
         ensures { result ≡ [] }
     {
@@ -71,7 +71,7 @@ impl Outbox {
         let _ = self.mails.pop();
     }
 
-    /// Adds a message at the end. Fails only for lack of memory, and then changes nothing.
+    /// Adds a message at the end. An error changes nothing.
     fn add(&mut self, mail: Mail) -> Result<(), AllocError>
         requires { Fits mail.message }
         ensures ok { OnOk result (self.new ≡ self.old ++ mail ∷ []) }
@@ -153,9 +153,8 @@ fn spells(message: &ToTrain)
     has_room(message);
 }
 
-/// Puts a message into its engine's outbox. An engine gets an outbox with its first message. It is looked for at the
-/// index `near` first, which is the index behind it from then on. Fails only for lack of memory, and then changes
-/// nothing.
+/// Puts a message into its engine's outbox. An engine gets an outbox with its first message. The index `near` is tried
+/// first, and is then set to the index after the outbox. An error changes nothing.
 fn post(
     alloc: Global,
     outboxes: &mut Vec<(u32, Outbox)>,
@@ -182,7 +181,7 @@ fn post(
     Ok(())
 }
 
-/// Takes the last message out of an engine's outbox, and the outbox with it where it has no other.
+/// Takes the last message out of an engine's outbox, and removes the outbox if it has no other.
 fn take_back(outboxes: &mut Vec<(u32, Outbox)>, engine: u32)
     requires { AreOutboxes outboxes.old.items }
     ensures taken { outboxes.new.items ≡ taken_back engine outboxes.old.items }
@@ -196,8 +195,8 @@ fn take_back(outboxes: &mut Vec<(u32, Outbox)>, engine: u32)
     }
 }
 
-/// Takes back the first messages of an input, the last of them first. They may be gone: their engines tell the
-/// outboxes.
+/// Takes back the first messages of an input, the last of them first. Only their engines are read, so the messages may
+/// have been moved out.
 pub(crate) fn take_back_all(outboxes: &mut Vec<(u32, Outbox)>, messages: &[Sent], count: usize)
     requires outboxes { AreOutboxes outboxes.old.items }
     requires within { count ≤ length messages.now }
@@ -209,7 +208,7 @@ pub(crate) fn take_back_all(outboxes: &mut Vec<(u32, Outbox)>, messages: &[Sent]
     }
 }
 
-/// The message that stands where one was moved out. It is never sent.
+/// The message that is left in place of one that was moved out. It is never sent.
 fn moved_out() -> ToTrain {
     ToTrain::Stop {
         head: Head {
@@ -221,7 +220,7 @@ fn moved_out() -> ToTrain {
     }
 }
 
-/// Moves a message into its engine's outbox. Fails only for lack of memory, and then leaves the outboxes unchanged.
+/// Moves a message into its engine's outbox. An error leaves the outboxes unchanged.
 fn post_moved(
     alloc: Global,
     outboxes: &mut Vec<(u32, Outbox)>,
@@ -240,8 +239,8 @@ fn post_moved(
     post(alloc, outboxes, sent.engine, Mail { input, message }, near)
 }
 
-/// Moves the messages of an input into the outboxes of their engines, one after another; what stands in their place
-/// keeps their engines. Fails only for lack of memory, and then leaves the outboxes unchanged.
+/// Moves the messages of an input into the outboxes of their engines, one after another; the messages left in their
+/// place keep their engines. An error leaves the outboxes unchanged.
 pub(crate) fn post_all(
     alloc: Global,
     outboxes: &mut Vec<(u32, Outbox)>,

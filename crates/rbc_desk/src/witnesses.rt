@@ -1,4 +1,4 @@
-//! A worked case of the law on mails: right mails, of which its statement holds, and wrong ones, of which it does not.
+//! A worked case of the law on mails: correct mails, which satisfy it, and wrong ones, which violate it.
 
 ghost use Rattle.std.specs.Prelude.{false, [], ◌∷◌};
 ghost use Rattle.rbc_rule_laws.specs.Witnesses.{stop_before, stop_now, revoke, naming, stamped, asking};
@@ -11,8 +11,8 @@ ghost use Rattle.rbc_desk.specs.Witnesses.{stop_told, stop_revoked, IsSaidThere,
 ///
 /// Wrong: the stop is told by mail 2, or by mail 3; it is told to engine 8; the train is told to stop at once; the
 /// message names balise group 6; another identifier is revoked, among them 16, which the four bits of its variable
-/// would cut to 0; the stop is told with the stamp for an unknown time; its revocation asks for no answer; behind the
-/// two right mails is one that revokes another identifier; engine 8 has a mail; a mail of before is gone; the
+/// would cut to 0; the stop is told with the stamp for an unknown time; its revocation asks for no answer; after the
+/// two correct mails comes one that revokes another identifier; engine 8 has a mail; a mail of before is gone; the
 /// revocation is lost; the stop is told twice; and the revocation stands before what it revokes.
 pub fn mails_law_witnesses()
     ensures told { IsSaidThere 7 stop_told }

@@ -10,7 +10,7 @@ use Rattle.rbc_dispatch.specs.declared.fault.Fault.TheVariants.{Batch, OnlyInput
 abbrev pub IsSomeTrack : List ℕ → Type 0
 IsSomeTrack text = (plan : Plan) × IsTrackOf text plan
 
--- A text is refused exactly by the rule for which it is no track, and good, with warnings or without, exactly where it is one.
+-- A text is refused by a rule exactly if it is not a track because of that rule; it is good, with warnings or without, exactly if it is a track.
 abbrev pub ChecksText : {E : Type 0} → List ℕ → Result E Fault → Type 0
 ChecksText text (Ok done) = IsSomeTrack text
 ChecksText text (Err (TrackWarnings count)) = IsSomeTrack text

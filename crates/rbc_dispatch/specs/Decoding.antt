@@ -12,9 +12,8 @@ use Rattle.rbc_dispatch.specs.declared.fault.Fault.TheVariants.{Batch, OnlyInput
 abbrev pub SpellsText : List ℕ → List ℕ → Type 0
 SpellsText word text = (bytes : List ℕ) × (decode_of word ≡ Ok bytes) × HasText bytes text
 
--- At Ok the output holds the text of the word's bytes more, and nothing else; at a write fault, or where the reader
--- went away, exactly the first bytes of that text. A bad word is no hexadecimal text of whole bytes, and bytes are refused
--- only by the codec.
+-- At Ok the text of the word's bytes is added to the output, and nothing else; at a write fault, or if the reader went
+-- away, exactly its first bytes. A bad word is not hexadecimal text of whole bytes, and only the codec refuses bytes.
 abbrev pub Decodes : {E : Type 0} → List ℕ → Option (List ℕ) → Option (List ℕ) → Result E Fault → Type 0
 Decodes word old new (Ok done) = (text : List ℕ) × SpellsText word text × Appends old new text
 Decodes word old new (Err (Write sent)) = (text : List ℕ) × SpellsText word text × (sent ≤ length text) × Appends old new (take sent text)
@@ -33,7 +32,7 @@ Decodes word old new (Err (TrackWarnings count)) = ⊥
 abbrev pub SpellsLongText : List ℕ → List ℕ → Type 0
 SpellsLongText word text = (bytes : List ℕ) × (decode_of word ≡ Ok bytes) × ((line : List ℕ) × HasText bytes line) × (text ≡ long_text bytes)
 
--- The same with a line for each variable. What is refused is refused as for one line.
+-- The same with a line for each variable. Refusals are the same as for one line.
 abbrev pub DecodesLong : {E : Type 0} → List ℕ → Option (List ℕ) → Option (List ℕ) → Result E Fault → Type 0
 DecodesLong word old new (Ok done) = (text : List ℕ) × SpellsLongText word text × Appends old new text
 DecodesLong word old new (Err (Write sent)) = (text : List ℕ) × SpellsLongText word text × (sent ≤ length text) × Appends old new (take sent text)

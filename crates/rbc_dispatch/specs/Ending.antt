@@ -1,4 +1,4 @@
--- How the program ends where its task was not done.
+-- How the program ends if its task was not done.
 use Rattle.std.specs.Prelude.{◌≢◌, ℕ, List, [], ◌∷◌, ◌++◌, Option, Result, Ok, Err}
 use Rattle.std.specs.Io.KnownBytes.{Appends}
 use Rattle.clap.specs.Words.{kind_of}
@@ -11,7 +11,7 @@ use Rattle.rbc_dispatch.specs.declared.ending.Ending.TheVariants.{Words, Fault}
 use Rattle.rbc_dispatch.specs.declared.fault.Fault.{Fault as AnyFault}
 use Rattle.rbc_dispatch.specs.declared.fault.Fault.TheVariants.{OutOfMemory, ReaderGone}
 
--- the exit status of a fault: that a reader of a text for people went away is none
+-- the exit status of a fault; it is 0 if the reader of a text for people went away
 abbrev pub status_of_fault : AnyFault → ℕ
 status_of_fault (ReaderGone sent) = 0
 status_of_fault _ = 1
@@ -21,7 +21,7 @@ abbrev pub status_of : Ending → ℕ
 status_of (Words error) = status_of_kind (kind_of error)
 status_of (Fault fault) = status_of_fault fault
 
--- the ending where the words ask for no task: want of memory is a fault
+-- the ending if the words ask for no task: lack of memory is a fault
 abbrev pub ending_of : NoTask → Ending
 ending_of (no_task.Words error) = Words error
 ending_of no_task.OutOfMemory = Fault OutOfMemory
@@ -35,7 +35,7 @@ abbrev pub PrintsFault : Ending → Option (List ℕ) → Option (List ℕ) → 
 PrintsFault (Words error) old new = Unit {0}
 PrintsFault (Fault fault) old new = PrintsLine fault old new
 
--- the ending is no help, which is printed on standard output
+-- the ending is not help, which is printed on standard output
 abbrev pub IsNoHelp : Ending → Type 0
 IsNoHelp (Words error) = status_of_kind (kind_of error) ≢ 0
 IsNoHelp (Fault fault) = Unit {0}

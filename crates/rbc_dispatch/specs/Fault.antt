@@ -1,4 +1,4 @@
--- What faults come of, and the line that each one prints.
+-- The causes of faults, and the line that each fault prints.
 use Rattle.std.specs.Prelude.{ℕ, List, ◌++◌, codes}
 use Rattle.std.specs.Fmt.{decimal}
 use Rattle.std.specs.declared.io.ErrorKind.{ErrorKind}
@@ -47,7 +47,7 @@ abbrev pub fault_of_describing : DescribeError → Fault
 fault_of_describing (describing.Decode error) = Decode error
 fault_of_describing describing.OutOfMemory = OutOfMemory
 
--- the fault by what writing a text for people answers, behind its first bytes: where its reader went away, that is told apart
+-- the fault by what writing a text for people answers, after its first bytes: a reader that went away is a fault of its own
 abbrev pub fault_of_writing : ErrorKind → ℕ → Fault
 fault_of_writing reading.BrokenPipe sent = ReaderGone sent
 fault_of_writing _ sent = Write sent

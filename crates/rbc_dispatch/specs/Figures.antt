@@ -15,7 +15,7 @@ report_of figures =
     ++ codes "\nshared by train: " ++ decimal figures.shared ++ codes " messages in " ++ decimal figures.windows ++ codes " windows\nin order: " ++ decimal figures.in_order
     ++ codes "\nworkers: " ++ decimal figures.workers
 
--- the task is none that reports figures on standard error
+-- the task does not report figures on standard error
 abbrev pub IsQuiet : Task → Type 0
 IsQuiet (Run track workers by_train stats alarms) = (stats ≡ false) ⊎ (alarms ≡ true)
 IsQuiet (Live track from alarms) = ⊤

@@ -14,7 +14,7 @@ IsPlain (c ∷ rest) = c ≢ 45
 abbrev pub WritesByte : Text → ℕ → Type 0
 WritesByte word number = IsNumeral 10 word × (digits_value 10 word ≡ number) × (number < 256)
 
--- `run` with a track, and with a number of workers: in two words or in one, before the track or behind it
+-- `run` with a track, and with a number of workers: in two words or in one, before the track or after it
 abbrev pub forms_of : Text → Text → List (List Text)
 forms_of file word =
     (codes "run" ∷ codes "--track" ∷ file ∷ codes "--workers" ∷ word ∷ [])
@@ -46,11 +46,11 @@ BeginAtOneByDefault = (file : Text) → IsPlain file → AsksToExplain file 1 (c
 abbrev pub AfterAllByDefault : Type 0
 AfterAllByDefault = (file : Text) → IsPlain file → AsksToDraw file None (codes "picture" ∷ codes "--track" ∷ file ∷ [])
 
--- with a number there are so many workers, and without `--alarms` no alarms are asked for
+-- with a number there are as many workers, and without `--alarms` no alarms are asked for
 abbrev pub AsManyAsNamed : Type 0
 AsManyAsNamed = (file word : Text) (number : ℕ) → IsPlain file → WritesByte word number → AllByRecursion (AsksToRun file number false) (forms_of file word)
 
--- a command with a track and `--alarms`: before the track or behind it
+-- a command with a track and `--alarms`: before the track or after it
 abbrev pub alarmed_forms_of : Text → Text → List (List Text)
 alarmed_forms_of command file =
     (command ∷ codes "--track" ∷ file ∷ codes "--alarms" ∷ [])
@@ -68,7 +68,7 @@ AlarmsOfLive = (file : Text) → IsPlain file → AllByRecursion (AsksToLive fil
 abbrev pub OneLineByDefault : Type 0
 OneLineByDefault = (word : Text) → IsPlain word → AsksToDecode word false (codes "decode" ∷ word ∷ [])
 
--- with `--long`, before the message or behind it, it has a line for each variable
+-- with `--long`, before the message or after it, it has a line for each variable
 abbrev pub LongIfAsked : Type 0
 LongIfAsked = (word : Text) → IsPlain word
     → AllByRecursion (AsksToDecode word true) ((codes "decode" ∷ codes "--long" ∷ word ∷ []) ∷ (codes "decode" ∷ word ∷ codes "--long" ∷ []) ∷ [])

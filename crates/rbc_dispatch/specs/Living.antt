@@ -13,7 +13,7 @@ use Rattle.rbc_dispatch.specs.declared.fault.Fault.TheVariants.{Batch, OnlyInput
 abbrev pub AnswersOn : {E : Type 0} → List ℕ → Wanted → Option (List ℕ) → Option (List ℕ) → Option (List ℕ) → Option (List ℕ) → Result E PromptError → Type 0
 AnswersOn {E = E} text wanted read_old read_new old new r = (plan : Plan) × IsTrackOf text plan × Answers {E = E} plan wanted read_old read_new old new r
 
--- What comes of lines, on the track that a text is to be. A text that is no track is all that keeps the lines from being answered.
+-- What comes of lines, on the track in a text. The lines are not answered only if the text is not a track.
 abbrev pub LivesOn : {E : Type 0} → List ℕ → Wanted → Option (List ℕ) → Option (List ℕ) → Option (List ℕ) → Option (List ℕ) → Result E Fault → Type 0
 LivesOn {E = E} text wanted read_old read_new old new (Ok done) = AnswersOn {E = E} text wanted read_old read_new old new (Ok done)
 LivesOn {E = E} text wanted read_old read_new old new (Err (Live error)) = AnswersOn {E = E} text wanted read_old read_new old new (Err error)

@@ -18,6 +18,6 @@ line_of row =
 abbrev pub long_text : List ℕ → List ℕ
 long_text bytes = codes "  bit width  variable             value  meaning\n" ++ flat_map line_of (rows_of (bits_of_bytes bytes))
 
--- the rows of a message show each of its bits: their values at their widths are its bits, one behind the other
+-- the rows of a message show each of its bits: their values at their widths are its bits, one after another
 abbrev pub AllBitsAreShown : Type 0
 AllBitsAreShown = (bytes : List ℕ) → flat_map (λ row. bits_of row.width row.value) (rows_of (bits_of_bytes bytes)) ≡ bits_of_bytes bytes

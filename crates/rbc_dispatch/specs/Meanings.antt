@@ -75,7 +75,7 @@ time_text stamp = if stamp == 4294967295 then codes "unknown" else seconds stamp
 abbrev pub group_text : ℕ → List ℕ
 group_text number = if number == 16777215 then codes "unknown" else country_and_number number
 
--- so many units of Q_SCALE, in units of 10 cm
+-- this many units of Q_SCALE, in units of 10 cm
 abbrev pub length_in : ℕ → ℕ → ℕ
 length_in scale value = if scale == 1 then value * 10 else (if scale == 2 then value * 100 else value)
 

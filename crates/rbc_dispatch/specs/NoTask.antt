@@ -13,7 +13,7 @@ status_of_kind kind.DisplayHelp = 0
 status_of_kind kind.DisplayVersion = 0
 status_of_kind _ = 2
 
--- the exit status where there is no task
+-- the exit status if there is no task
 abbrev pub status_of : NoTask → ℕ
 status_of (Words error) = status_of_kind (kind_of error)
 status_of OutOfMemory = 1

@@ -14,7 +14,7 @@ abbrev pub row_text : Row → List ℕ
 row_text row =
     to_the_right 4 (decimal row.code) ++ (codes "  " ++ (row.name.now ++ (codes "\n      " ++ (row.sentence.now ++ (codes "\n      To do: " ++ (row.to_do.now ++ codes "\n"))))))
 
--- the row of this refusal, and behind it that for restrictions, which one code has
+-- the row of this refusal, and after it that for restrictions, which one code has
 abbrev pub AreRowsOf : Refusal → Row × Option Row → Type 0
 AreRowsOf refusal rows = IsRowOf refusal rows.0 × (IsSome rows.1 ↔ (refusal ≡ BadArea)) × IfSome rows.1 (λ other. other.code ≡ code_of refusal)
 

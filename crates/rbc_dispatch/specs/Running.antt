@@ -10,7 +10,7 @@ use Rattle.rbc_track.specs.declared.error.TrackError.TheVariants as track
 use Rattle.rbc_dispatch.specs.declared.fault.Fault.{Fault}
 use Rattle.rbc_dispatch.specs.declared.fault.Fault.TheVariants.{Batch, OnlyInputs, Live, BadHex, Decode, Write, ReaderGone, OutOfMemory, Track, TrackUnreadable, TrackWarnings}
 
--- the batch is answered by so many workers, with its alarms or without; nothing is told of the counts of a run
+-- the batch is answered by this many workers, with its alarms or without; the counts of the run are not described
 abbrev pub AnswersBatch : Plan → ℕ → Bool → Option (List ℕ) → Option (List ℕ) → Option (List ℕ) → Option (List ℕ) → Result (Unit {0}) ProcessError → Type 0
 AnswersBatch plan workers true read_old read_new old new r = AnswersWithAlarms plan workers read_old read_new old new r
 AnswersBatch plan workers false read_old read_new old new (Ok done) = (stats : Stats) × Answers plan workers read_old read_new old new (Ok stats)
@@ -24,8 +24,8 @@ AnswersOn text workers alarms read_old read_new old new r = (plan : Plan) × IsT
 abbrev pub IsNoTrack : List ℕ → TrackError → Type 0
 IsNoTrack text error = (error ≡ track.OutOfMemory) ⊎ RefusesTrack text error
 
--- What comes of a batch, by so many workers and with its alarms or without, on the track that a text is to be. A text that is no track is all
--- that keeps the batch from being answered.
+-- What comes of a batch, by this many workers and with its alarms or without, on the track in a text. The batch is not
+-- answered only if the text is not a track.
 abbrev pub RunsOn : {E : Type 0} → List ℕ → ℕ → Bool → Option (List ℕ) → Option (List ℕ) → Option (List ℕ) → Option (List ℕ) → Result E Fault → Type 0
 RunsOn text workers alarms read_old read_new old new (Ok done) = AnswersOn text workers alarms read_old read_new old new (Ok tt)
 RunsOn text workers alarms read_old read_new old new (Err (Batch error)) = AnswersOn text workers alarms read_old read_new old new (Err error)
@@ -48,11 +48,11 @@ abbrev pub IsErrUnread : {E : Type 0} → Result E Fault → Type 0
 IsErrUnread (Ok done) = ⊥
 IsErrUnread (Err fault) = IsUnread fault
 
--- what comes of a batch, by so many workers and with its alarms or without, on the track in a file: the file holds some text, or it is not read
+-- what comes of a batch, by this many workers and with its alarms or without, on the track in a file: the file holds some text, or it is not read
 abbrev pub Runs : {E : Type 0} → ℕ → Bool → Option (List ℕ) → Option (List ℕ) → Option (List ℕ) → Option (List ℕ) → Result E Fault → Type 0
 Runs {E = E} workers alarms read_old read_new old new r = ((text : List ℕ) × RunsOn {E = E} text workers alarms read_old read_new old new r) ⊎ IsErrUnread r
 
--- Before the track is known nothing is read, and before there is something to write nothing is written.
+-- Nothing is read before the track is known, and nothing is written before there is a text to write.
 abbrev pub Keeps : {E I O : Type 0} → Result E Fault → I → I → O → O → Type 0
 Keeps (Ok done) read_old read_new old new = ⊤
 Keeps {E = E} (Err (Batch error)) read_old read_new old new = IsUnwritten {E = E} (Err error) old new

@@ -5,7 +5,7 @@ use Rattle.rbc_dispatch.specs.Parts.{IsPartOn}
 use Rattle.rbc_dispatch.specs.declared.fault.Fault.{Fault}
 use Rattle.rbc_dispatch.specs.declared.fault.Fault.TheVariants.{Batch, OnlyInputs, Live, BadHex, Decode, Write, ReaderGone, OutOfMemory, Track, TrackUnreadable, TrackWarnings}
 
--- the text is cut short, at a write fault or where its reader went away: exactly its first bytes are out
+-- the text is cut short, at a write fault or because its reader went away: exactly its first bytes are out
 abbrev pub IsCutShort : Fault → Option (List ℕ) → Option (List ℕ) → List ℕ → Type 0
 IsCutShort (Write sent) old new text = (sent ≤ length text) × Appends old new (take sent text)
 IsCutShort (ReaderGone sent) old new text = (sent ≤ length text) × Appends old new (take sent text)
@@ -19,17 +19,17 @@ IsCutShort (Track e) old new text = ⊥
 IsCutShort TrackUnreadable old new text = ⊥
 IsCutShort (TrackWarnings count) old new text = ⊥
 
--- At Ok the output holds this text more, and nothing else; otherwise the text is cut short.
+-- At Ok this text is added to the output, and nothing else; otherwise the text is cut short.
 abbrev pub TellsPage : {E : Type 0} → List ℕ → Option (List ℕ) → Option (List ℕ) → Result E Fault → Type 0
 TellsPage page old new (Ok done) = Appends old new page
 TellsPage page old new (Err fault) = IsCutShort fault old new page
 
--- what is listed of the codes: of one code the part on it
+-- the list of the codes, or the part on one code
 abbrev pub IsListOf : Option ℕ → List ℕ → Type 0
 IsListOf None text = ⊤
 IsListOf (Some code) text = IsPartOn code text
 
--- At Ok the output holds the list more, and nothing else; otherwise the list is cut short, or memory ran out.
+-- At Ok the list is added to the output, and nothing else; otherwise the list is cut short, or memory ran out.
 abbrev pub TellsCodes : {E : Type 0} → Option ℕ → Option (List ℕ) → Option (List ℕ) → Result E Fault → Type 0
 TellsCodes code old new (Ok done) = (text : List ℕ) × IsListOf code text × Appends old new text
 TellsCodes code old new (Err (Write sent)) = (text : List ℕ) × IsListOf code text × (sent ≤ length text) × Appends old new (take sent text)

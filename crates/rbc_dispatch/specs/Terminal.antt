@@ -1,10 +1,10 @@
--- What is said on standard error where a batch is typed.
+-- The notice on standard error for a batch that is typed.
 use Rattle.std.specs.Prelude.{⊤, ℕ, List, Option, take}
 use Rattle.std.specs.Io.KnownBytes.{Appends}
 use Rattle.rbc_dispatch.specs.declared.words.Task.{Task}
 use Rattle.rbc_dispatch.specs.declared.words.Task.TheVariants.{Run, Live, Explain, Picture, Check, Decode, Codes, Page}
 
--- the task is none that says that it reads a batch from a terminal
+-- the task does not say that it reads a batch from a terminal
 abbrev pub IsSilent : Task → Type 0
 IsSilent (Run track workers by_train stats alarms) = ⊥
 IsSilent (Live track from alarms) = ⊥

@@ -1,4 +1,4 @@
--- The variables of messages: their names and widths in SUBSET-026, and which stands behind which.
+-- The variables of messages: their names and widths in SUBSET-026, and which follows which.
 use Rattle.std.specs.Prelude.{⊤, ℕ, ◌-◌, ◌+◌, true, false, ◌==◌, ◌||◌, if◌then◌else◌, nat_lt, List, [], ◌∷◌, length, drop, min, max, codes, zero, suc}
 use Rattle.ertms_bits.specs.Bits.{number_of}
 use Rattle.ertms_codec.specs.Texts.{is_number_to_train}
@@ -7,7 +7,7 @@ use Rattle.rbc_dispatch.specs.declared.stand.Stand.{Stand}
 use Rattle.rbc_dispatch.specs.declared.variable.Variable.{Variable}
 use Rattle.rbc_dispatch.specs.declared.variable.Variable.TheVariants.{NidMessage, LMessage, TTrain, MAck, NidLrbg, NidEngine, TTrainAcked, NidEm, QEmergencystop, QScale, DRef, QDir, DEmergencystop, NidPacket, LPacket, NidTsr, DTsr, LTsr, QFront, VTsr, NidPrvlrbg, DLrbg, QDirlrbg, QDlrbg, LDoubtover, LDoubtunder, QLength, LTrainint, VTrain, QDirtrain, MMode, MLevel, NidNtc, Passed, Fill}
 
--- the name of a variable in SUBSET-026; bits that are none have a hyphen
+-- the name of a variable in SUBSET-026; bits that belong to no variable have a hyphen
 abbrev pub name_of : Variable → List ℕ
 name_of NidMessage = codes "NID_MESSAGE"
 name_of LMessage = codes "L_MESSAGE"
@@ -45,7 +45,7 @@ name_of NidNtc = codes "NID_NTC"
 name_of Passed = codes "-"
 name_of Fill = codes "-"
 
--- how many bits it takes; further bits of a packet are passed over by 32 at most, where so many bits of the packet are left
+-- how many bits it takes, by how many bits of the packet are left: further bits of a packet are passed over at most 32 at a time
 abbrev pub width_of : Variable → ℕ → ℕ
 width_of NidMessage left = 8
 width_of LMessage left = 10
@@ -83,11 +83,11 @@ width_of NidNtc left = 8
 width_of Passed left = max 1 (min left 32)
 width_of Fill left = 32
 
--- what stands behind a packet's last variable: its further bits, or the next packet
+-- what follows the last variable of a packet: its further bits, or the next packet
 abbrev pub behind_variables : ℕ → Variable
 behind_variables left = if left == 0 then NidPacket else Passed
 
--- What stands behind a variable with this value, where so many bits of its packet are left.
+-- What follows a variable with this value, by how many bits of its packet are left.
 abbrev pub behind : Variable → ℕ → ℕ → Stand → Variable
 behind NidMessage value left at = LMessage
 behind LMessage value left at = TTrain
@@ -147,7 +147,7 @@ IsOfPosition NidNtc = ⊤
 IsOfPosition Passed = ⊤
 IsOfPosition variable = ⊥
 
--- what stands at a place where so many bits of the message are left: fewer than 8 where a packet could begin fill the message up
+-- what stands at a place, by how many bits of the message are left: where a packet could begin, fewer than 8 bits fill the message up
 abbrev pub due : Variable → ℕ → Variable
 due NidPacket count = if nat_lt count 8 then Fill else NidPacket
 due variable count = variable
@@ -159,12 +159,12 @@ row_at place at bits =
     let width = min (width_of variable at.left) (length bits) in
     record { place = place; width = width; variable = variable; scale = at.scale; value = number_of width bits }
 
--- how many bits of the packet are left behind a variable: L_PACKET counts them, from the packet's first bit on
+-- how many bits of the packet are left after a variable: L_PACKET counts them, from the packet's first bit on
 abbrev pub left_behind : Variable → ℕ → ℕ → ℕ → ℕ
 left_behind LPacket value width left = value - 21
 left_behind variable value width left = left - width
 
--- a value is kept for what stands behind it
+-- a value is kept for the variables after it
 abbrev pub keeping : Variable → ℕ → Stand → Stand
 keeping NidMessage value at = record at { message = value }
 keeping NidPacket value at = record at { packet = value }
@@ -172,7 +172,7 @@ keeping QScale value at = record at { scale = value }
 keeping LPacket value at = record at { is_first = false }
 keeping variable value at = at
 
--- what is known behind a row
+-- what is known after a row
 abbrev pub after : Stand → Row → Stand
 after at row =
     let left = left_behind row.variable row.value row.width at.left in
@@ -182,7 +182,7 @@ after at row =
 abbrev pub beginning : Stand
 beginning = record { next = NidMessage; message = 0; packet = 0; is_first = true; left = 0; scale = 0 }
 
--- the rows of so many bits at most, the first of which stands at this place
+-- the rows of at most this many bits, the first of which stands at this place
 unfoldable pub rows_from : ℕ → ℕ → Stand → List ℕ → List Row
 rows_from zero place at bits = []
 rows_from (suc most) place at [] = []

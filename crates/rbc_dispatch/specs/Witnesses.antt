@@ -11,11 +11,11 @@ use Rattle.rbc_dispatch.specs.Words.{AsksForCodes, AsksToDraw, AsksToExplain, As
 abbrev pub run_with : List Text → List Text
 run_with more = codes "run" ∷ codes "--track" ∷ codes "t" ∷ more
 
--- they ask for so many workers, and for no alarms
+-- they ask for this many workers, and for no alarms
 abbrev pub AskFor : ℕ → List Text → Type 0
 AskFor workers more = AsksToRun (codes "t") workers false (run_with more)
 
--- they ask for so many workers, and for alarms
+-- they ask for this many workers, and for alarms
 abbrev pub AskForAlarms : ℕ → List Text → Type 0
 AskForAlarms workers more = AsksToRun (codes "t") workers true (run_with more)
 
@@ -31,7 +31,7 @@ AskByFlag text more = (fault_of command_line (run_with more) ≡ []) × (flag_af
 abbrev pub AskByTrain : Text → List Text → Type 0
 AskByTrain text more = (fault_of command_line (run_with more) ≡ []) × (flag_after (codes "run") (codes "by-train") (finding_in (run_with more)) ≡ Some text)
 
--- the same behind `live`: what is wanted of the answers
+-- the same after `live`: what is wanted of the answers
 abbrev pub AskLive : Wanted → List Text → Type 0
 AskLive wanted more = AsksToLive (codes "t") wanted (codes "live" ∷ codes "--track" ∷ codes "t" ∷ more)
 
@@ -47,7 +47,7 @@ AskFromWithAlarms from more = AskLive (record { from = from; alarms = true }) mo
 abbrev pub AskFromNone : List Text → Type 0
 AskFromNone more = (wanted : Wanted) → AskLive wanted more → ⊥
 
--- the same behind `explain`: they ask for the log from this input on
+-- the same after `explain`: they ask for the log from this input on
 abbrev pub AskToExplain : ℕ → List Text → Type 0
 AskToExplain from more = AsksToExplain (codes "t") from (codes "explain" ∷ codes "--track" ∷ codes "t" ∷ more)
 
@@ -55,11 +55,11 @@ AskToExplain from more = AsksToExplain (codes "t") from (codes "explain" ∷ cod
 abbrev pub AskToExplainNone : List Text → Type 0
 AskToExplainNone more = (from : ℕ) → AskToExplain from more → ⊥
 
--- the same behind `picture`: they ask for the picture after so many inputs
+-- the same after `picture`: they ask for the picture after this many inputs
 abbrev pub AskToDraw : Option ℕ → List Text → Type 0
 AskToDraw after more = AsksToDraw (codes "t") after (codes "picture" ∷ codes "--track" ∷ codes "t" ∷ more)
 
--- the same behind `codes`: they ask what this code means
+-- the same after `codes`: they ask what this code means
 abbrev pub AskForCode : Option ℕ → List Text → Type 0
 AskForCode code more = AsksForCodes code (codes "codes" ∷ more)
 

@@ -23,7 +23,7 @@ use Rattle.rbc_dispatch.specs.declared.words.Task.TheVariants.{Run, Live, Explai
 abbrev pub track_rule : Rule
 track_rule = record (new_rule (codes "track")) { long = Some (codes "track"); value_names = 1; required = true }
 
--- the option that says how many workers there are: a number up to 255, which is 1 by default
+-- the option for the number of workers: a number up to 255, 1 by default
 abbrev pub workers_rule : Rule
 workers_rule = record (new_rule (codes "workers")) {
   long = Some (codes "workers");
@@ -48,7 +48,7 @@ alarms_rule = record (new_rule (codes "alarms")) { long = Some (codes "alarms");
 abbrev pub run_shape : Shape
 run_shape = (with_rule (with_rule (with_rule (with_rule (with_rule (new_app (codes "run")) track_rule) workers_rule) by_train_rule) stats_rule) alarms_rule).top
 
--- the option that says from which number on answers are written: a number from 1 on, which is 1 by default
+-- the option for the first answer that is written: a number from 1 on, 1 by default
 abbrev pub from_rule : Rule
 from_rule = record (new_rule (codes "from")) {
   long = Some (codes "from");
@@ -117,11 +117,11 @@ decode_shape = (with_rule (with_rule (new_app (codes "decode")) hex_rule) long_r
 abbrev pub bare_line : App
 bare_line = on_top (λ top. record top { no_binary_name = true; subcommand_required = true; has_version = true }) (new_app (codes "dispatch"))
 
--- the command line with those subcommands alone that take a track and inputs
+-- the command line with only the subcommands that take a track and inputs
 abbrev pub input_line : App
 input_line = with_subcommand (with_subcommand (with_subcommand (with_subcommand bare_line run_shape) live_shape) explain_shape) picture_shape
 
--- the command line with those subcommands alone that take a track
+-- the command line with only the subcommands that take a track
 abbrev pub track_line : App
 track_line = with_subcommand input_line check_shape
 
@@ -155,7 +155,7 @@ is_named name (Some p) = bytes_eq p.0 name
 abbrev pub word_after : Text → Text → Finding → Option Text
 word_after name id found = option_and_then (first_of id) (found_after name found)
 
--- the number that an argument was given after the subcommand of this name, or 0 where it was given none
+-- the number that an argument was given after the subcommand of this name, or 0 if it was given none
 abbrev pub number_after : Text → Text → Finding → ℕ
 number_after name id found = option_map_or byte_or_zero (option_and_then (one_of id) (found_after name found)) 0
 
@@ -166,7 +166,7 @@ count_or_one text =
     if nat_lt 0 (length digits) && list_all (λ digit. nat_lt (digit_value digit) 10) digits && nat_lt (digits_value 10 digits) 18446744073709551616
     then digits_value 10 digits else 1
 
--- the count that an argument was given after the subcommand of this name, or 1 where it was given none
+-- the count that an argument was given after the subcommand of this name, or 1 if it was given none
 abbrev pub count_after : Text → Text → Finding → ℕ
 count_after name id found = option_map_or count_or_one (option_and_then (one_of id) (found_after name found)) 1
 
@@ -181,7 +181,7 @@ number_in text =
 abbrev pub input_after : Text → Text → Finding → Option ℕ
 input_after name id found = option_and_then number_in (option_and_then (one_of id) (found_after name found))
 
--- the text of a flag after the subcommand of this name: "true" where the flag stands there, and else "false"
+-- the text of a flag after the subcommand of this name: "true" if the flag stands there, else "false"
 abbrev pub flag_after : Text → Text → Finding → Option Text
 flag_after name id found = option_and_then (one_of id) (found_after name found)
 
@@ -199,7 +199,7 @@ AsksForNoFigures words =
     ((word_after (codes "run") (codes "track") (finding_in words) ≡ None) ⊎ (flag_after (codes "run") (codes "stats") (finding_in words) ≡ Some (codes "false")))
     ⊎ (is_set (flag_after (codes "run") (codes "alarms") (finding_in words)) ≡ true)
 
--- words without a fault that ask for the batch, on the track in the file of this name, with so many workers, and with its alarms or without
+-- words without a fault that ask for the batch, on the track in the file of this name, with this many workers, and with its alarms or without
 abbrev pub AsksToRun : Text → ℕ → Bool → List Text → Type 0
 AsksToRun file workers alarms words = (fault_of command_line words ≡ [])
     × (word_after (codes "run") (codes "track") (finding_in words) ≡ Some file)
@@ -220,7 +220,7 @@ AsksToExplain file from words = (fault_of command_line words ≡ [])
     × (word_after (codes "explain") (codes "track") (finding_in words) ≡ Some file)
     × (unwrap_or (input_after (codes "explain") (codes "from") (finding_in words)) 1 ≡ from)
 
--- words without a fault that ask for the picture of the track in the file of this name, after so many inputs of the batch, or after all
+-- words without a fault that ask for the picture of the track in the file of this name, after this many inputs of the batch, or after all
 abbrev pub AsksToDraw : Text → Option ℕ → List Text → Type 0
 AsksToDraw file after words = (fault_of command_line words ≡ [])
     × (word_after (codes "picture") (codes "track") (finding_in words) ≡ Some file)
@@ -294,7 +294,7 @@ IsTaskOf words task = IsTaskBy (topic_in words) (finding_in words) task
 abbrev pub IsNoTask : Finding → Type 0
 IsNoTask found = IsNeither found × (word_after (codes "check") (codes "track") found ≡ None) × (is_named (codes "codes") found ≡ false)
 
--- the task is the batch, on the track in the file of this name, with so many workers, and with its alarms or without
+-- the task is the batch, on the track in the file of this name, with this many workers, and with its alarms or without
 abbrev pub IsRunOn : Text → ℕ → Bool → Task → Type 0
 IsRunOn file workers alarms (Run track number by_train stats are_asked) = (track.now ≡ file) × (number ≡ workers) × (are_asked ≡ alarms)
 IsRunOn file workers alarms (Live track from are_asked) = ⊥
@@ -327,7 +327,7 @@ IsExplainOn file from (Decode hex long) = ⊥
 IsExplainOn file from (Codes code) = ⊥
 IsExplainOn file from (Page topic) = ⊥
 
--- the task is the picture of the track in the file of this name, after so many inputs of the batch, or after all
+-- the task is the picture of the track in the file of this name, after this many inputs of the batch, or after all
 abbrev pub IsPictureOn : Text → Option ℕ → Task → Type 0
 IsPictureOn file after (Picture track count) = (track.now ≡ file) × (count ≡ after)
 IsPictureOn file after (Run track number by_train stats alarms) = ⊥

@@ -8,11 +8,11 @@ use rbc_track_report::{Verdict, check};
 use std::alloc::Global;
 use std::io::Write;
 
-/// Writes the report on the text of a track file. With `other_keys`, unknown keys are notes and no warnings.
+/// Writes the report on the text of a track file. With `other_keys`, unknown keys are notes, not warnings.
 ///
 /// # Errors
 ///
-/// `Track` if the text is no track and `TrackWarnings` if it is one with warnings, both with the report written;
+/// `Track` if the text is not a track and `TrackWarnings` if it is one with warnings, both with the report written;
 /// `Write`; or `OutOfMemory`, with nothing written.
 pub fn check_text<O: Write>(
     alloc: Global,

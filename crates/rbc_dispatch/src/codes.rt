@@ -15,7 +15,7 @@ use std::alloc::{AllocError, Global};
 use std::fmt;
 use std::io::Write;
 
-/// Writes the list of all codes and faults, or what stands there of one code, 1 to 16.
+/// Writes the list of all codes and faults, or its part on one code, 1 to 16.
 ///
 /// # Errors
 ///
@@ -28,7 +28,7 @@ pub fn write_codes<O: Write>(alloc: Global, code: Option<u32>, output: &mut O) -
     show(output, text.as_bytes())
 }
 
-/// The list of all codes and faults, or what stands there of one code.
+/// The list of all codes and faults, or its part on one code.
 fn list_of(alloc: Global, code: Option<u32>) -> Result<String, AllocError>
     ensures { IfOk result (λ text. IsListOf code (string_bytes text)) }
 {
@@ -38,14 +38,14 @@ fn list_of(alloc: Global, code: Option<u32>) -> Result<String, AllocError>
     }
 }
 
-/// What stands in the list of a code: its row, and behind that the row for restrictions, which one code has.
+/// The part of the list on a code: its row, and after it the row for restrictions, which one code has.
 fn part_on(alloc: Global, code: u32) -> Result<String, AllocError>
     ensures { IfOk result (λ text. IsPartOn code (string_bytes text)) }
 {
     match rows_on(code) {
         Some((row, Some(more))) => format!(in alloc; "{}{}", Lines(row), Lines(more)),
         Some((row, None)) => format!(in alloc; "{}", Lines(row)),
-        // Not met: clap takes 1 to 16 alone.
+        // Never reached: clap accepts only 1 to 16.
         None => Ok(String::new(alloc)),
     }
 }

@@ -13,7 +13,7 @@ use ertms_codec::describe;
 use std::alloc::Global;
 use std::io::Write;
 
-/// Writes the text of the message whose bytes a hexadecimal word is an encoding of.
+/// Writes the text of the message whose bytes a hexadecimal word gives.
 ///
 /// # Errors
 ///

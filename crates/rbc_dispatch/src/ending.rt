@@ -1,4 +1,4 @@
-//! How the program ends where its task was not done.
+//! How the program ends if its task was not done.
 use crate::fault::Fault;
 use crate::no_task::NoTask;
 use std::io;
@@ -8,7 +8,7 @@ use std::process::ExitCode;
 /// Why the program ends with its task not done, or not all of its text written.
 #[derive(Drop)]
 pub enum Ending {
-    /// The words ask for help, or are no words of the program's.
+    /// The words ask for help, or are not words that the program takes.
     Words(clap::Error),
     /// The task that the arguments name met a fault.
     Fault(Fault),
@@ -19,8 +19,8 @@ impl Ending {
     ghost use Rattle.std.specs.Process.{exit_status};
     ghost use Rattle.rbc_dispatch.specs.Ending.{IsNoHelp, PrintsFault, status_of};
 
-    /// The exit status: 0 for help and the version, and where the reader went away; 2 for bad arguments; 1 for any
-    /// other fault.
+    /// The exit status: 0 for help and the version, and if the reader went away; 2 for bad arguments; 1 for any other
+    /// fault.
     pub fn exit_code(&self) -> ExitCode
         ensures { exit_status result ≡ status_of self.now }
     {
@@ -32,8 +32,8 @@ impl Ending {
         }
     }
 
-    /// Prints help on `output`, and on `errors` the text on bad arguments or the line of the fault. Where the reader
-    /// went away, prints nothing. An error may leave a part of it printed.
+    /// Prints help on `output`, and on `errors` the text on bad arguments or the line of the fault. Prints nothing if
+    /// the reader went away. An error may leave a part printed.
     pub fn print<O: Write, E: Write>(&self, output: &mut O, errors: &mut E) -> io::Result<()>
         ensures line { OnOk result
             (PrintsFault self.now (E.contents errors.old) (E.contents errors.new)) }

@@ -13,9 +13,9 @@ use rbc_explain::explain;
 use std::alloc::Global;
 use std::io::{Read, Write};
 
-/// Writes the log of a batch, which the reader gives, from this input on, 1 or more, on the track that a text is. The
-/// track is known before anything is read, and the whole log before anything is written. At a terminal, says on
-/// `errors` that the batch is read from it.
+/// Writes the log of a batch, which the reader gives, from this input on, 1 or more. The text is that of the track
+/// file. The track is read before the batch, and nothing is written before the whole log is known. At a terminal, says
+/// on `errors` that the batch is read from it.
 ///
 /// # Errors
 ///

@@ -12,21 +12,21 @@ use std::{fmt, io};
 /// Why a task that the arguments named was not done. Its `Display` is the line for the user.
 #[derive(Clone, Copy)]
 pub enum Fault {
-    /// The track file could not be read, or is no UTF-8. Nothing was read or written.
+    /// The track file could not be read, or is not UTF-8. Nothing was read or written.
     TrackUnreadable,
-    /// The text of the track file is no track. Nothing was read or written.
+    /// The text of the track file is not a track. Nothing was read or written.
     Track(TrackError),
-    /// The track is good, and its report, which is written, has so many warnings.
+    /// The track is valid, and its report, which is written, has this many warnings.
     TrackWarnings { count: usize },
-    /// The batch was not done.
+    /// The batch was not processed.
     Batch(ProcessError),
-    /// The batch was read, and lacks the input that was asked for: it has only so many. Nothing was written.
+    /// The batch was read, and lacks the input that was asked for: it has only this many. Nothing was written.
     OnlyInputs { count: usize },
     /// Not all lines were answered. What was written before stands.
     Live(PromptError),
-    /// The word is no hexadecimal text of whole bytes.
+    /// The word is not hexadecimal text of whole bytes.
     BadHex,
-    /// The bytes are no message.
+    /// The bytes are not a message.
     Decode(DecodeError),
     /// Standard output took no more than the first `sent` bytes of the text.
     Write { sent: usize },
@@ -77,7 +77,7 @@ impl Fault {
     ghost use Rattle.std.specs.IoError.{error_kind};
     ghost use Rattle.rbc_dispatch.specs.Fault.{fault_of_reading, fault_of_writing};
 
-    /// The fault that an error of reading the track file is.
+    /// The fault for an error in reading the track file.
     pub fn of_reading(error: &io::Error) -> Fault
         ensures { result ≡ fault_of_reading (error_kind error.now) }
     {
@@ -87,7 +87,7 @@ impl Fault {
         }
     }
 
-    /// The fault that an error of writing a text for people is, behind its first `sent` bytes.
+    /// The fault for an error in writing a text for people, after its first `sent` bytes.
     pub fn of_writing(error: &io::Error, sent: usize) -> Fault
         ensures { result ≡ fault_of_writing (error_kind error.now) sent }
     {

@@ -10,8 +10,8 @@ pub struct Figures {
     pub inputs: u64,
     /// How many inputs were attempted before it was their turn to be committed. Nothing is proved of this number.
     pub attempted: u64,
-    /// How many attempts were taken over. This number is proved to be that of the inputs, less those that were recomputed
-    /// when they were committed.
+    /// How many attempts were taken over. It is proved to be the number of inputs, less those that were recomputed when
+    /// they were committed.
     pub taken_over: u64,
     /// How many inputs were recomputed because a record that their attempt had read had changed.
     pub recomputed: u64,

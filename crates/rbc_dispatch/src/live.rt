@@ -11,9 +11,9 @@ use rbc_live::{LiveDesk, Wanted, answer_lines};
 use std::alloc::Global;
 use std::io::{Read, Write};
 
-/// Answers the lines of a reader as they come, on the track that a text is: `wanted` says from which number on, and
-/// whether with alarms. The track is known before anything is read. At a terminal, says on `errors` that they are read
-/// from it.
+/// Answers the lines of a reader as they come. The text is that of the track file; `wanted` says from which number on,
+/// and whether with alarms. The track is read before any line. At a terminal, says on `errors` that lines are read from
+/// it.
 ///
 /// # Errors
 ///

@@ -9,10 +9,10 @@ use ertms_bits::BitReader;
 use std::alloc::{AllocError, Global};
 use std::fmt::Write;
 
-/// What stands above the lines.
+/// The heading above the lines.
 const HEADING: &str = "  bit width  variable             value  meaning\n";
 
-/// The bytes of a message, in lines: one for each variable, and for the bits that are none.
+/// The bytes of a message, in lines: one for each variable, and one for bits that belong to no variable.
 pub fn long_text(alloc: Global, bytes: &[u8]) -> Result<String, AllocError>
     ensures { IfOk result (λ text. string_bytes text ≡ long_text bytes.now) }
 {
@@ -23,7 +23,7 @@ pub fn long_text(alloc: Global, bytes: &[u8]) -> Result<String, AllocError>
     while bits.left() > 0 {
         let row = at.row(place, &mut bits);
         push_line(&mut text, row)?;
-        // No text that memory holds has so many lines.
+        // No text that memory holds has this many lines.
         place = place.checked_add(row.width).ok_or(AllocError)?;
         at = at.after(row);
     }
@@ -42,8 +42,8 @@ fn push_line(text: &mut String, row: Row) -> Result<(), AllocError>
     )
 }
 
-/// The rows of a message show each of its bits: the values, each in as many bits as its row says, are one behind the
-/// other the bits of the message.
+/// The rows of a message show each of its bits: the values, each in as many bits as its row says, are one after another
+/// the bits of the message.
 pub fn rows_law()
     ensures { AllBitsAreShown }
 {}

@@ -14,17 +14,17 @@ use std::fmt;
 pub enum Meaning {
     /// What these words say.
     Words(&'static str),
-    /// So many bytes.
+    /// This many bytes.
     Bytes(u32),
-    /// So many bits.
+    /// This many bits.
     Bits(u32),
-    /// So many units of 10 ms.
+    /// This many units of 10 ms.
     Time(u32),
     /// A length in units of 10 cm.
     Length(u64),
     /// The same, in the other direction.
     Back(u64),
-    /// So many units of 5 km/h.
+    /// This many units of 5 km/h.
     Speed(u32),
     /// A balise group: NID_C and NID_BG as one number.
     Group(u32),
@@ -224,7 +224,7 @@ fn reference(scale: u32, value: u32) -> Meaning
     }
 }
 
-/// So many units of Q_SCALE in units of 10 cm.
+/// A length of this many units of Q_SCALE, in units of 10 cm.
 fn length(scale: u32, value: u32) -> u64
     ensures { result ≡ length_in scale value }
 {

@@ -2,10 +2,10 @@
 use clap::error::ErrorKind;
 use std::alloc::AllocError;
 
-/// Why no task was had of the words.
+/// Why the words give no task.
 #[derive(Drop)]
 pub enum NoTask {
-    /// The words ask for help, or are no words of the program's.
+    /// The words ask for help, or are not words that the program takes.
     Words(clap::Error),
     /// Memory ran out.
     OutOfMemory,

@@ -10,8 +10,9 @@ use rbc_picture::picture;
 use std::alloc::Global;
 use std::io::{Read, Write};
 
-/// Writes the picture of what stands after so many inputs of a batch, which the reader gives, or after all, on the
-/// track that a text is. The track is known before anything is read, and the whole picture before anything is written.
+/// Writes the picture of the state after the first `after` inputs of a batch, which the reader gives, or after all of
+/// them. The text is that of the track file. The track is read before the batch, and nothing is written before the
+/// whole picture is known.
 ///
 /// # Errors
 ///

@@ -49,7 +49,7 @@ use std::thread::Threads;
 use std::time::{Clock, Instant};
 
 /// Does what the arguments of the process ask for, and returns the exit status. `at_terminal` says whether `input` is a
-/// terminal. `output` should have no buffer of its own, so that what a write fault counts is what went out.
+/// terminal. `output` should not be buffered, so that a write fault counts the bytes that went out.
 pub fn run<R, I, O, E>(
     rt: &R,
     at_terminal: bool,
@@ -71,8 +71,7 @@ where
     conclude(outcome, output, errors)
 }
 
-/// Prints what an outcome has to say, and returns its exit status, which stands where the text
-/// cannot be printed.
+/// Prints the text of an outcome, and returns its exit status, also if the text cannot be printed.
 fn conclude<O, E>(outcome: Result<(), Ending>, output: &mut O, errors: &mut E) -> ExitCode
 where
     O: Write,
@@ -89,8 +88,8 @@ where
     }
 }
 
-/// Does the task that the arguments ask for. Arguments that are refused leave the streams untouched, and so does each
-/// task `errors`, but a run that is to report its figures there, and a notice at a terminal.
+/// Does the task that the arguments ask for. Arguments that are refused leave the streams untouched. On `errors` a task
+/// writes only the figures of a run that is to report them, and the notice at a terminal.
 fn perform<R, I, O, E>(
     rt: &R,
     words: &[String],
@@ -259,7 +258,7 @@ where
     }
 }
 
-/// Reports on the track in a file. Nothing is written where the file is not read.
+/// Reports on the track in a file. Nothing is written if the file cannot be read.
 fn check_file<R, O>(rt: &R, file: &str, other_keys: bool, output: &mut O) -> Result<(), Fault>
 where
     R: AllocGlobal + Files,
@@ -271,8 +270,7 @@ where
     check_text(rt.alloc(), text.as_str(), other_keys, output)
 }
 
-/// Runs a batch on the track in a file, and writes its alarms too. The track is known before anything of the batch is
-/// read.
+/// Runs a batch on the track in a file, and writes its alarms too. The track is read before the batch.
 fn run_file_with_alarms<R, I, O, E>(
     rt: &R,
     file: &str,
@@ -305,7 +303,7 @@ where
     )
 }
 
-/// Runs a batch on the track in a file, without alarms. The track is known before anything of the batch is read.
+/// Runs a batch on the track in a file, without alarms. The track is read before the batch.
 fn run_file<R, I, O, E>(
     rt: &R,
     file: &str,
@@ -343,7 +341,7 @@ where
 }
 
 /// Answers lines as they come, on the track in a file: `wanted` says from which number on, and whether with alarms. The
-/// track is known before anything is read.
+/// track is read before any line.
 fn live_file<R, I, O, E>(
     rt: &R,
     file: &str,
@@ -376,7 +374,7 @@ where
     )
 }
 
-/// Tells a batch in words, from this input on, on the track in a file. The track is known before anything is read.
+/// Tells a batch in words, from this input on, on the track in a file. The track is read before the batch.
 fn explain_file<R, I, O, E>(
     rt: &R,
     file: &str,
@@ -409,8 +407,8 @@ where
     )
 }
 
-/// Draws what stands after so many inputs of a batch, or after all, on the track in a file. The track is known before
-/// anything is read.
+/// Draws the state after the first `after` inputs of a batch, or after all of them, on the track in a file. The track
+/// is read before the batch.
 fn picture_file<R, I, O>(
     rt: &R,
     file: &str,
@@ -440,8 +438,7 @@ fn track_text<R: AllocGlobal + Files>(rt: &R, file: &str) -> Result<String, Faul
     }
 }
 
-/// Runs a batch on the track that a text is, and writes its alarms too. The track is known before anything of the batch is
-/// read.
+/// Runs a batch on the track in a text, and writes its alarms too. The track is read before the batch.
 fn run_with_alarms_on<R, I, O, E>(
     rt: &R,
     text: &str,
@@ -468,9 +465,9 @@ where
     Ok(())
 }
 
-/// Runs a batch on the track that a text is, without alarms. One worker takes the inputs in order; several attempt them, or share
-/// messages by train. The track is known before anything of the batch is read. With `stats`, a report on a run that is
-/// done goes to `errors`. If it cannot be written, the run is done nevertheless.
+/// Runs a batch on the track in a text, without alarms. One worker takes the inputs in order; several attempt them, or
+/// share messages by train. The track is read before the batch. With `stats`, a report on the finished run goes to
+/// `errors`. A report that cannot be written does not change the outcome.
 fn run_on<R, I, O, E>(
     rt: &R,
     text: &str,

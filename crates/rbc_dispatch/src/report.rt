@@ -9,8 +9,8 @@ use std::rt::Files;
 use std::time::{Clock, Instant};
 use std::{fs, io};
 
-/// Writes the report on a run that is done, which began at a time, if that is known. An error may leave a part of it
-/// written.
+/// Writes the report on a finished run. The time at which it began is given if it is known. An error may leave a part
+/// of it written.
 pub fn write_report<R: AllocGlobal + Clock + Files, E: Write>(
     rt: &R,
     desk: &Desk,
@@ -50,7 +50,7 @@ fn write_replies<E: Write>(desk: &Desk, errors: &mut E) -> io::Result<()> {
     writeln!(errors, "trains with a message: {}", desk.outboxes())
 }
 
-/// The most memory that the process has had at once, in kB, as Linux counts it; none where that cannot be read.
+/// The most memory that the process has had at once, in kB, as Linux counts it; `None` if that cannot be read.
 fn peak_memory<R: AllocGlobal + Files>(rt: &R) -> Option<u64> {
     let status = fs::read_to_string(rt, "/proc/self/status").ok()?;
     let line = status

@@ -14,8 +14,8 @@ const MAX_INTERRUPTIONS: u32 = 1_000;
 ///
 /// # Errors
 ///
-/// `ReaderGone` where nobody reads any more, as behind a pipe into `head`. `Write` where the writer fails otherwise,
-/// takes no bytes, or is interrupted `MAX_INTERRUPTIONS` times. The first `sent` bytes are out, and no more.
+/// `ReaderGone` if nobody reads any more, as behind a pipe into `head`. `Write` if the writer fails otherwise, takes no
+/// bytes, or is interrupted `MAX_INTERRUPTIONS` times. The first `sent` bytes are out, and no more.
 pub fn show<O: Write>(output: &mut O, text: &[u8]) -> Result<(), Fault>
     ensures ok { OnOk result (Appends (O.contents output.old) (O.contents output.new) text.now) }
     ensures part { IfErr result (λ fault. IsCutShort fault (O.contents output.old) (O.contents output.new) text.now) }

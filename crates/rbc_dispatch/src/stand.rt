@@ -34,7 +34,7 @@ pub struct Stand {
     pub message: u32,
     /// NID_PACKET of the last packet that has begun.
     pub packet: u32,
-    /// Whether no packet's L_PACKET came yet.
+    /// Whether no L_PACKET has come yet.
     pub is_first: bool,
     /// How many bits of that packet are left.
     pub left: u32,
@@ -79,7 +79,7 @@ impl Stand {
         }
     }
 
-    /// What is known behind a row.
+    /// What is known after a row.
     pub fn after(self, row: Row) -> Stand
         ensures { result ≡ after self row }
     {
@@ -93,7 +93,7 @@ impl Stand {
     }
 }
 
-/// What stands at a place where so many bits of the message are left: fewer than 8 where a packet could begin fill the
+/// What stands at a place with `count` bits of the message left. Where a packet could begin, fewer than 8 bits fill the
 /// message up.
 fn due(next: Variable, count: usize) -> Variable
     ensures { result ≡ due next count }
@@ -104,7 +104,7 @@ fn due(next: Variable, count: usize) -> Variable
     }
 }
 
-/// How many bits of the packet are left behind a variable: L_PACKET counts them, from the packet's first bit on.
+/// How many bits of the packet are left after a variable: L_PACKET counts them, from the packet's first bit on.
 fn left_behind(variable: Variable, value: u32, width: u32, left: u32) -> u32
     ensures { result ≡ left_behind variable value width left }
 {
@@ -114,7 +114,7 @@ fn left_behind(variable: Variable, value: u32, width: u32, left: u32) -> u32
     }
 }
 
-/// Keeps a value for what stands behind it.
+/// Keeps a value that later variables depend on.
 fn keeping(variable: Variable, value: u32, at: Stand) -> Stand
     ensures { result ≡ keeping variable value at }
 {
@@ -136,7 +136,7 @@ fn keeping(variable: Variable, value: u32, at: Stand) -> Stand
     }
 }
 
-/// What stands behind a variable with this value, where so many bits of its packet are left.
+/// What follows a variable with this value, if `left` bits of its packet are left.
 fn behind(variable: Variable, value: u32, left: u32, at: Stand) -> Variable
     ensures { result ≡ behind variable value left at }
 {
@@ -178,7 +178,7 @@ fn behind(variable: Variable, value: u32, left: u32, at: Stand) -> Variable
     }
 }
 
-/// What stands behind T_TRAIN: the header of a message to a train goes on otherwise than that of one from a train.
+/// What follows T_TRAIN: the headers of messages to a train and from a train differ after it.
 fn behind_stamp(at: Stand) -> Variable
     ensures { result ≡ behind Variable.TTrain 0 0 at }
 {
@@ -189,7 +189,7 @@ fn behind_stamp(at: Stand) -> Variable
     }
 }
 
-/// What stands behind the header of a message from a train.
+/// What follows the header of a message from a train.
 fn behind_engine(at: Stand) -> Variable
     ensures { result ≡ behind Variable.NidEngine 0 0 at }
 {
@@ -202,7 +202,7 @@ fn behind_engine(at: Stand) -> Variable
     }
 }
 
-/// What stands behind the identifier of an emergency stop.
+/// What follows the identifier of an emergency stop.
 fn behind_identifier(at: Stand) -> Variable
     ensures { result ≡ behind Variable.NidEm 0 0 at }
 {
@@ -215,7 +215,7 @@ fn behind_identifier(at: Stand) -> Variable
     }
 }
 
-/// What stands behind Q_SCALE.
+/// What follows Q_SCALE.
 fn behind_scale(at: Stand) -> Variable
     ensures { result ≡ behind Variable.QScale 0 0 at }
 {
@@ -228,8 +228,8 @@ fn behind_scale(at: Stand) -> Variable
     }
 }
 
-/// What stands behind L_PACKET, where so many bits of the packet are left. Of the packets from a train the first is its
-/// position, and the others are passed over.
+/// What follows L_PACKET, if `left` bits of the packet are left. The first packet from a train is its position; the
+/// others are passed over.
 fn behind_length(left: u32, at: Stand) -> Variable
     ensures { result ≡ behind Variable.LPacket 0 left at }
 {
@@ -245,7 +245,7 @@ fn behind_length(left: u32, at: Stand) -> Variable
     behind_variables(left)
 }
 
-/// What stands behind NID_LRBG.
+/// What follows NID_LRBG.
 fn behind_group(at: Stand) -> Variable
     ensures { result ≡ behind Variable.NidLrbg 0 0 at }
 {
@@ -260,7 +260,7 @@ fn behind_group(at: Stand) -> Variable
     }
 }
 
-/// What stands behind a packet's last variable: its further bits, or the next packet.
+/// What follows the last variable of a packet: its further bits, or the next packet.
 fn behind_variables(left: u32) -> Variable
     ensures { result ≡ behind_variables left }
 {
@@ -278,7 +278,7 @@ fn is_to_train(message: u32) -> bool
     message == 15 || message == 16 || message == 18 || message == 24
 }
 
-/// What stands behind a variable that is only in the position of a train, or behind bits that are passed over.
+/// What follows a variable that is only in the position of a train, or bits that are passed over.
 fn behind_position(variable: Variable, value: u32, left: u32) -> Variable
     ensures { IsOfPosition variable → (at : StandAt) → result ≡ behind variable value left at }
 {

@@ -4,7 +4,7 @@ ghost use Rattle.std.specs.Prelude.{◌≡◌};
 ghost use Rattle.rbc_dispatch.specs.Columns.{to_the_left};
 ghost use Rattle.rbc_dispatch.specs.Variables.{name_of, width_of};
 
-/// A variable of a message, or bits that are none.
+/// A variable of a message, or bits that belong to no variable.
 #[derive(Clone, Copy)]
 pub enum Variable {
     /// NID_MESSAGE: the kind of message.
@@ -25,7 +25,7 @@ pub enum Variable {
     NidEm,
     /// Q_EMERGENCYSTOP: the answer to the emergency stop.
     QEmergencystop,
-    /// Q_SCALE: the unit of the distances behind it.
+    /// Q_SCALE: the unit of the distances after it.
     QScale,
     /// D_REF: from the balise group to the point from which the message measures.
     DRef,
@@ -121,7 +121,7 @@ impl Variable {
         }
     }
 
-    /// How many bits it takes. Of a packet whose further bits are passed over, so many bits are left.
+    /// How many bits it takes. `left` is how many bits are left of a packet whose further bits are passed over.
     pub fn width(self, left: u32) -> u32
         ensures { result ≡ width_of self left }
     {

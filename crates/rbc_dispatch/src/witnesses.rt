@@ -6,22 +6,22 @@ ghost use Rattle.rbc_dispatch.specs.Witnesses.{AskFromNone, AskFromWithAlarms, A
 ghost use Rattle.rbc_dispatch.specs.Witnesses.{AskForCode, AskForNoCode, AskForPage, AskToExplain, AskToExplainNone};
 ghost use Rattle.rbc_dispatch.specs.declared.pages.Topic.TheVariants.{Batch, Track};
 
-/// What words behind `run --track t` ask for.
+/// What words after `run --track t` ask for.
 ///
 /// - No word asks for one worker, and not for two. `--workers 16` asks for 16 workers, and `--workers=007` for 7.
 /// - `--workers 0` asks for none, which the run refuses. `--workers 2` does not ask for one.
 /// - `--workers 256`, `--workers -1`, `--workers x` and a number that is named twice ask for no run.
-/// - The text of the flag is "false" where no word asks for figures, and "true" with `--stats`, which leaves the number
-///   of workers as it is. `--stats` twice asks for no run.
+/// - The text of the flag is "false" if no word asks for figures, and "true" with `--stats`, which leaves the number of
+///   workers as it is. `--stats` twice asks for no run.
 /// - `--by-train` asks for sharing by train, and leaves the number of workers as it is. `--by-train` twice asks for no
 ///   run.
 /// - `--alarms` asks for alarms, and leaves the number of workers as it is. Without it none are asked for. `--alarms`
 ///   twice asks for no run.
 ///
-/// Behind `live --track t`, `--from 7` asks for the answers from number 7 on, and `--from 0` for none; `--alarms` asks
-/// for alarms, before `--from 7` or behind it, and `--alarms` twice for no answers. Behind
-/// `explain --track t`, `--from 4294967295` asks for the log from that input on, and `--from 0` for none. Behind
-/// `picture --track t`, `--after 0` asks for the picture before all inputs, and `--after 4294967296` for none.
+/// After `live --track t`, `--from 7` asks for the answers from number 7 on, and `--from 0` for none; `--alarms` asks
+/// for alarms, before `--from 7` or after it, and `--alarms` twice for no answers. After `explain --track t`,
+/// `--from 4294967295` asks for the log from that input on, and `--from 0` for none. After `picture --track t`,
+/// `--after 0` asks for the picture before all inputs, and `--after 4294967296` for none.
 ///
 /// `codes` asks for all codes, `codes 12` for code 12, and `codes 0` and `codes 17` for nothing. `help batch` and
 /// `help track` ask for a page; `help run` and `help batch batch` for none.

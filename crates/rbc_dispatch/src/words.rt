@@ -39,7 +39,7 @@ pub enum Task<'a> {
     ///   many inputs at once, commit them in input order, and recompute the attempts that went stale.
     /// - `by_train`: several workers share runs of messages by train instead.
     /// - `stats`: report on standard error what the workers did.
-    /// - `alarms`: write the alarms too, each behind the result of its input. One worker takes the inputs then, in
+    /// - `alarms`: write the alarms too, each after the result of its input. One worker takes the inputs then, in
     ///   order, and nothing is reported.
     Run {
         track: &'a str,
@@ -49,7 +49,7 @@ pub enum Task<'a> {
         alarms: bool,
     },
     /// `dispatch live --track FILE --from N --alarms`: answer the lines on standard input as they come, on the track in
-    /// the file of this name, and write the answers from this number on, or from 1 where the arguments name none. With
+    /// the file of this name, and write the answers from this number on, or from 1 if the arguments name none. With
     /// `alarms`, write the alarms too.
     Live {
         track: &'a str,
@@ -57,13 +57,13 @@ pub enum Task<'a> {
         alarms: bool,
     },
     /// `dispatch explain --track FILE --from N`: tell the batch on standard input in words, on the track in the file of
-    /// this name, from this input on, 1 or more, or from 1 where the arguments name none.
+    /// this name, from this input on, 1 or more, or from 1 if the arguments name none.
     Explain {
         track: &'a str,
         from: u32,
     },
-    /// `dispatch picture --track FILE --after N`: draw what stands after so many inputs of the batch on standard input,
-    /// on the track in the file of this name, or after all where the arguments name no number.
+    /// `dispatch picture --track FILE --after N`: draw the state after this many inputs of the batch on standard input,
+    /// on the track in the file of this name, or after all if the arguments name no number.
     Picture {
         track: &'a str,
         after: Option<u32>,
@@ -74,8 +74,8 @@ pub enum Task<'a> {
         track: &'a str,
         other_keys: bool,
     },
-    /// `dispatch decode HEX --long`: write the text of the message whose bytes this word is an encoding of, in one line
-    /// or, with the option, in a line for each variable.
+    /// `dispatch decode HEX --long`: write the text of the message whose bytes this word gives, in one line or, with
+    /// the option, in a line for each variable.
     Decode {
         word: &'a str,
         long: bool,
@@ -101,7 +101,7 @@ struct NumberOption {
     name: &'static str,
     /// What the number has to be.
     parser: ValueParser<'static>,
-    /// The number where the option is not given, if there is one.
+    /// The number if the option is not given, if it has a default.
     default: &'static [&'static str],
     /// What help says of it.
     help: &'static str,
@@ -266,7 +266,7 @@ fn command<'a>(alloc: Global) -> Result<Command<'a>, AllocError>
     with_subcommand(with_decode, codes_command(alloc))
 }
 
-/// The command line with one more subcommand, where memory was had for both.
+/// The command line with one more subcommand, if there was memory for both.
 fn with_subcommand<'a>(
     command: Result<Command<'a>, AllocError>,
     subcommand: Result<Command<'a>, AllocError>,
@@ -454,7 +454,7 @@ fn hex_word<'a>(alloc: Global) -> Arg<'a>
         .help("The bytes of the message, two hexadecimal digits each")
 }
 
-/// The arguments, as words. Where one is not UTF-8, they are bad.
+/// The arguments, as words. They are bad if one of them is not UTF-8.
 pub fn read<R: Env + AllocGlobal>(rt: &R) -> Result<Vec<String>, NoTask>
     ensures { IfErr result (λ no_task. IsWantOfMemory no_task ⊎ (status_of no_task ≡ 2)) }
 {
@@ -486,8 +486,8 @@ fn refusal(alloc: Global, kind: ErrorKind, message: &str) -> Result<clap::Error,
     command(alloc)?.error(kind, message)
 }
 
-/// The task that the arguments ask for. The error is help, where they ask for that, what is wrong
-/// with them, or out of memory. A page of help that belongs to no command is a task.
+/// The task that the arguments ask for. The error is the help that they ask for, what is wrong with them, or a lack of
+/// memory. A page of help that belongs to no command is a task.
 pub fn parse<'a>(alloc: Global, words: &'a [String]) -> Result<Task<'a>, NoTask>
     ensures page { (topic : TopicOf) → topic_in (map string_bytes words.now) ≡ Some topic
         → result ≡ Ok (PageOn topic) }
@@ -515,7 +515,7 @@ pub fn parse<'a>(alloc: Global, words: &'a [String]) -> Result<Task<'a>, NoTask>
     }
 }
 
-/// The task that arguments ask for that name a command.
+/// The task of arguments that name a command.
 fn parse_command<'a>(alloc: Global, words: &'a [String]) -> Result<Task<'a>, NoTask>
     ensures run { (file : List ℕ) (workers : ℕ) (alarms : Bool)
         → AsksToRun file workers alarms (map string_bytes words.now)
@@ -538,12 +538,12 @@ fn parse_command<'a>(alloc: Global, words: &'a [String]) -> Result<Task<'a>, NoT
     let matches = command(alloc)?.try_get_matches_from(words)?;
     match task_of(&matches) {
         Some(task) => Ok(task),
-        // Not met: clap asks for a subcommand, and each subcommand for its word.
+        // Never reached: clap requires a subcommand, and each subcommand requires its word.
         None => Err(refuse(alloc, ErrorKind::MissingSubcommand, "no task was named")),
     }
 }
 
-// The task that the words named, by what was found in them.
+// The task that the words name, by what was found in them.
 fn task_of<'a>(matches: &ArgMatches<'a>) -> Option<Task<'a>>
     ensures found { IfSome result (IsFound (subcommand_rows_of matches.now)) }
     ensures none { IfNone result (IsNoTask (subcommand_rows_of matches.now)) }

@@ -9,11 +9,11 @@ use Rattle.rbc_core.specs.Runs.{Run, IsSerialRun, IsSaidSince}
 use Rattle.rbc_engine.specs.declared.workers.RunError.{RunError}
 use Rattle.rbc_engine.specs.declared.workers.RunError.TheVariants.{Workers, TooManyInputs, OutOfMemory}
 
--- at most so many workers
+-- the most workers
 abbrev pub max_workers : ℕ
 max_workers = 16
 
--- at most so many inputs in one run
+-- the most inputs of one run
 abbrev pub max_inputs : ℕ
 max_inputs = 100000
 
@@ -21,7 +21,7 @@ max_inputs = 100000
 abbrev pub IsOpening : Plan → Held → Type 0
 IsOpening track held = (desk : Desk) × Holds track (standing held) desk
 
--- so many can work
+-- this many workers are allowed
 abbrev pub MayWork : ℕ → Type 0
 MayWork workers = (1 ≤ workers) × (workers ≤ max_workers)
 
@@ -29,13 +29,13 @@ MayWork workers = (1 ≤ workers) × (workers ≤ max_workers)
 abbrev pub AreFew : Run → Type 0
 AreFew run = (length run.inputs ≤ max_inputs) × (length run.opening.results + length run.inputs ≤ max_results)
 
--- what is held is the desk of the rules applied to so many first inputs, one after another, and each mail that it has more than before
--- says what the rules give its train
+-- what is held is the desk of the rules applied to the first inputs, this many, one after another, and each mail that
+-- was added says what the rules give its train
 abbrev pub IsDeskAfter : Run → ℕ → Held → Type 0
 IsDeskAfter run count held = IsSerialRun run count (standing held) × IsSaidSince run count held.outboxes
 
--- What a stretch of a run leaves: so many of its first inputs are done, one of them at least if it has any; or memory was refused after the
--- first of them.
+-- What a stretch of a run leaves: some of its first inputs are done, at least one if it has any; or memory was refused
+-- after the first of them.
 abbrev pub IsStretch : Run → Result Stats RunError → Held → Type 0
 IsStretch run (Ok stats) new =
     IsDeskAfter run stats.taken new × (stats.taken ≤ length run.inputs) × ((stats.taken ≡ length run.inputs) ⊎ (0 < stats.taken)) × (stats.recomputed ≤ stats.taken)
@@ -43,15 +43,15 @@ IsStretch run (Err (OutOfMemory committed)) new = IsDeskAfter run committed new 
 IsStretch run (Err Workers) new = ⊥
 IsStretch run (Err TooManyInputs) new = ⊥
 
--- the inputs of a run behind so many, from the desk that these left
+-- the inputs of a run after this many, from the desk that these left
 abbrev pub rest_of : Run → ℕ → Held → Run
 rest_of run count mid = record { track = run.track; opening = mid; inputs = drop count run.inputs }
 
--- counts together
+-- the sum of two counts
 abbrev pub plus : Stats → Stats → Stats
 plus all more = record { taken = all.taken + more.taken; recomputed = all.recomputed + more.recomputed }
 
--- what the next stretch of a run leaves, behind those with these counts and from the desk that they left: its counts come to theirs
+-- what the next stretch of a run leaves, after the stretches with these counts and from the desk that they left: its counts are added to theirs
 abbrev pub IsNextStretch : Run → Stats → Result Stats RunError → Held → Type 0
 IsNextStretch run all (Ok now) new = (stats : Stats) × IsStretch (rest_of run all.taken run.opening) (Ok stats) new × (now ≡ plus all stats)
 IsNextStretch run all (Err (OutOfMemory committed)) new = (more : ℕ) × IsStretch (rest_of run all.taken run.opening) (Err (OutOfMemory more)) new × (committed ≡ all.taken + more)
@@ -65,7 +65,7 @@ IsFinished run (Err (OutOfMemory committed)) new = IsDeskAfter run committed new
 IsFinished run (Err Workers) new = ⊥
 IsFinished run (Err TooManyInputs) new = ⊥
 
--- what a run by so many workers leaves, by its answer: refused for the workers, refused for the inputs, or not refused
+-- what a run by this many workers leaves, by its answer: refused because of the workers, refused because of the inputs, or not refused
 abbrev pub IsRun : Run → ℕ → Result Stats RunError → Held → Type 0
 IsRun run workers (Ok stats) new = MayWork workers × AreFew run × IsFinished run (Ok stats) new
 IsRun run workers (Err Workers) new = ¬ (MayWork workers) × (new ≡ run.opening)

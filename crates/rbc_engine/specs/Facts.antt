@@ -1,4 +1,4 @@
--- That inputs are such as a batch can have is proved in at most one way, so that it can be kept beside them.
+-- That a batch can have some inputs is proved in at most one way, so that the proof can be kept beside them.
 use Rattle.std.specs.Prelude.{List, slice_index_or}
 use Rattle.std.specs.List.{All}
 use Rattle.std.specs.Coded.{×_prop, Π_prop, →_prop, Unit-prop, le_prop}

@@ -26,6 +26,6 @@ IsNext run s NotReady t = (t ≡ s) × (s.taken ≡ s.committed) × (0 < s.commi
 IsNext run s Done t = t.committed ≡ length run.inputs
 IsNext run s Failed t = Unit
 
--- a stretch is at its end: all inputs are committed, or those that were taken, and one at least
+-- a stretch is at its end: all inputs are committed, or all that were taken, and at least one
 abbrev pub IsAtItsEnd : Run → State → Type 0
 IsAtItsEnd run s = (s.committed ≡ length run.inputs) ⊎ ((s.taken ≡ s.committed) × (0 < s.committed))

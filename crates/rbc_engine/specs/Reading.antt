@@ -12,7 +12,7 @@ use Rattle.rbc_core.specs.Forwards.{IsLatest}
 abbrev pub IsNumber : Run → ℕ → Type 0
 IsNumber run number = (1 ≤ number) × (number ≤ length run.inputs)
 
--- this was the number of what stood under a key as an input was to see it, 0 where nothing did, in some state that a book of the run can be in
+-- this was the number under a key as an input was to see it, or 0 if nothing stood there, in some state that a book of the run can be in
 abbrev pub WasLatest : Run → LogName → ℕ → Key → ℕ → Type 0
 WasLatest run log input key number = (b : BookValue) × IsBook run log b × IsLatest (state_of b) input key number
 

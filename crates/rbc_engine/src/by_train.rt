@@ -35,7 +35,7 @@ impl Windows {
     }
 }
 
-/// Takes all inputs of a stretch in on the desk itself, one after another, without a book, a log or a lock. Nothing is
+/// Takes all inputs of a stretch on the desk itself, one after another, without a book, a log or a lock. Nothing is
 /// computed twice.
 pub(crate) fn run_alone(
     alloc: Global,
@@ -61,7 +61,7 @@ pub(crate) fn run_alone(
 }
 
 /// Takes all inputs of a stretch in as a window of several workers, no more than there are inputs; or by one worker if
-/// there is not the memory for a window.
+/// there is not enough memory for a window.
 pub(crate) fn run_shared<R: Threads + Wait + Sync>(
     rt: &R,
     alloc: Global,

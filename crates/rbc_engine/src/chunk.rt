@@ -1,4 +1,4 @@
-//! How many of the next inputs a worker takes at once, and whether it attempts them. Only speed hangs on it.
+//! How many of the next inputs a worker takes at once, and whether it attempts them. It affects only speed.
 
 ghost use Rattle.std.specs.Prelude.{◌<◌};
 
@@ -6,33 +6,33 @@ use ertms_codec::FromTrain;
 use rbc_records::{Key, PlainStore, Rec};
 use rbc_rule::Input;
 
-/// With more trains than this, inputs that are no messages are given up as they are taken, and computed at their commit:
-/// they read many trains one by one, where the store can search for those concerned, and all that is attempted at the
-/// same time reads what they write.
+/// With more trains than this, an input that is not a message is given up when it is taken, and computed at its commit.
+/// An attempt would read many trains one by one, while the store can search for those concerned, and all attempts made
+/// at the same time would read what it writes.
 const FEW_TRAINS: usize = 64;
 
-/// Between two inputs that are given up, so few messages are given up too: nothing behind the first is taken before it
-/// is committed, so that they could hardly be attempted at once.
+/// Fewer messages than this between two inputs that are given up are given up too. Nothing after the first is taken
+/// before it is committed, so few of them could be attempted in parallel.
 const SHORT: usize = 32;
 
-/// How many inputs are given up at once, at most.
+/// The most inputs that are given up at once.
 const MOST_GIVEN_UP: usize = 512;
 
-/// How many trains are searched for inputs that are given up at once, one input after another, before no more are.
+/// Limits the inputs that are given up at once: after this many trains searched for them, no more are.
 const MOST_SEARCHED: usize = 4_096;
 
 /// How many inputs all workers take at once, together.
 const AT_ONCE: usize = 64;
 
-/// The least and the most inputs that one worker takes at once, where many are left.
+/// The least and the most inputs that one worker takes at once, if many are left.
 const LEAST: usize = 8;
 
 const MOST: usize = 64;
 
-/// How many inputs a worker takes at once right behind one that was given up, and right before one that will be.
+/// How many inputs a worker takes at once right after one that was given up, and right before one that will be.
 const NEAR: usize = 4;
 
-/// How often a worker comes back for more inputs before all are taken, at least.
+/// The least number of times that a worker comes back for more inputs.
 const ROUNDS: usize = 8;
 
 /// The next inputs that a worker takes, and how many records they may publish.
@@ -43,8 +43,8 @@ pub(crate) struct Chunk {
     pub(crate) publishes: usize,
 }
 
-/// What a worker takes of these inputs, with the records as they stand. So many inputs were taken since the last one that
-/// was given up.
+/// What a worker takes of these inputs, with the present records. `since` inputs were taken since the last one that was
+/// given up.
 pub(crate) fn next_chunk(
     records: &PlainStore,
     inputs: &[Input],
@@ -69,7 +69,7 @@ pub(crate) fn next_chunk(
     attempted(attempted_first(inputs, most, workers))
 }
 
-/// So many of the first inputs are attempted.
+/// The first `count` inputs, which are to be attempted.
 fn attempted(count: usize) -> Chunk {
     Chunk {
         count,
@@ -78,8 +78,8 @@ fn attempted(count: usize) -> Chunk {
     }
 }
 
-/// How many of the first inputs are given up: those up to an input that is no message, and on to the next one where that
-/// is near. None behind messages that were attempted, up to the next input that is no message.
+/// How many of the first inputs are given up: those up to an input that is not a message, and on to the next such input
+/// if it is near. After messages that were attempted, none is given up unless the first input is not a message.
 fn given_up_first(trains: usize, inputs: &[Input], since: usize) -> usize {
     let mut given_up = 0usize;
     let mut messages = if since > 0 { SHORT } else { 0 };
@@ -110,7 +110,7 @@ fn published_by(trains: usize, inputs: &[Input], count: usize) -> usize {
     published
 }
 
-/// How many inputs a worker takes at once between two that are given up: few behind the first, so that the first of them
+/// How many inputs a worker takes at once between two that are given up: few after the first, so that the first of them
 /// are soon committed, and few before the second, so that all workers end at about the same time.
 fn most_between(inputs: &[Input], since: usize, most: usize, workers: usize) -> usize {
     let ahead = inputs
@@ -123,7 +123,7 @@ fn most_between(inputs: &[Input], since: usize, most: usize, workers: usize) -> 
     behind_the_first.min(before_the_second).min(ahead).max(1)
 }
 
-/// How many of the first inputs are attempted: as many as keep all workers busy to the end, and behind them the messages
+/// How many of the first inputs are attempted: as many as keep all workers busy to the end, and after them the messages
 /// of the same trains, so that no other worker attempts one of these at the same time.
 fn attempted_first(inputs: &[Input], most: usize, workers: usize) -> usize {
     let share = inputs.len() / workers.max(1).saturating_mul(ROUNDS);

@@ -5,7 +5,8 @@ use rbc_records::Key;
 /// Called by a worker between the steps of an attempt, never while it holds the lock of the book. A gate may wait
 /// there, so a test can choose in which order the steps of several workers come. Inputs are numbered from 1.
 pub trait Gate {
-    /// Before it is decided what an input does. Of an input that is given up as it is taken the gate hears no more.
+    /// Before it is decided what an input does. The gate is not called again for an input that is given up when it is
+    /// taken.
     fn before_rule(&self, input: u32);
 
     /// After the record under a key was read for an input, for the first time.
@@ -32,8 +33,7 @@ impl Gate for OpenGate {
     fn after_deposit(&self, _input: u32) {}
 }
 
-/// A gate for the inputs behind the first `before` of a run: it is told of each under the number that it has in the
-/// whole run.
+/// A gate for the inputs after the first `before` of a run: it is told the number of each in the whole run.
 #[derive(Drop)]
 pub(crate) struct Behind<'a, G> {
     pub(crate) gate: &'a G,

@@ -53,8 +53,8 @@ impl<N: RunName> Read<N> {
     }
 }
 
-/// A number that was read for every input from one on, before any of them was taken: no attempt at one of them was
-/// deposited, so all are to see the same.
+/// A number that was read for every input from one on, before any of them was taken. No attempt at any of them was
+/// deposited then, so all of them see the same number.
 #[derive(Drop)]
 struct ReadForAll<N: RunName> {
     first: u32,
@@ -153,8 +153,8 @@ impl<N: RunName> Written<N> {
 }
 
 /// What a worker has in hand of the inputs that it took at once: the numbers that were read for them, its attempts at
-/// them, and what these write. It sees what its own earlier attempts write before they are deposited. Where memory was
-/// refused it has less in hand; then numbers are read later, and inputs are given up.
+/// them, and what these write. It sees what its own earlier attempts write before they are deposited. If memory was
+/// refused it has less in hand; numbers are then read later, and inputs are given up.
 #[derive(Drop)]
 pub(crate) struct Hand<N: RunName> {
     first: u32,
@@ -168,7 +168,7 @@ pub(crate) struct Hand<N: RunName> {
 }
 
 impl<N: RunName> Hand<N> {
-    /// An empty hand. Takes no memory.
+    /// An empty hand.
     pub(crate) fn new(alloc: Global) -> Self {
         Hand {
             first: 0,
@@ -182,7 +182,7 @@ impl<N: RunName> Hand<N> {
         }
     }
 
-    /// Lets all that was in hand go, and keeps the memory for the next inputs, of which none is taken yet. Reads the
+    /// Drops all that was in hand, and keeps its memory for the next inputs, none of which is taken yet. Reads the
     /// numbers that each of them asks for.
     pub(crate) fn begin(&mut self, book: &Book<'_, N>) {
         let stops = ReadForAll::new(book, Key::Stops);

@@ -29,29 +29,28 @@ use std::sync::atomic::{AtomicU32, Ordering};
 use std::sync::{Mutex, Wait};
 use std::thread::{self, Threads};
 
-/// How much the log of one stretch of a run may hold, before no more inputs are taken in it: a number of lists' items,
-/// of which each record counts one more. The memory of a log is given back with its stretch.
+/// The weight that the log of one stretch of a run may reach before no more inputs are taken in it. A record weighs
+/// one, plus one for each item of its lists. The log is freed at the end of its stretch.
 const MAX_WEIGHT: usize = 1_600_000;
 
-/// What so many commits leave is freed outside the lock.
+/// What this many commits leave is freed outside the lock.
 const ROOM: usize = 256;
 
-/// So many inputs behind the last one that is committed are taken, and no more: each of them may have to be searched for
-/// what it writes.
+/// The most inputs that are taken beyond the last committed one. A search may have to look at what each of them writes.
 const MOST_AHEAD: u32 = 1_024;
 
-/// How many records the log of one stretch may hold before no more inputs are taken in it, or four times as many as it has
-/// when it is opened, if that is more. Up to some more than these the log takes no further memory of its own.
+/// How many records the log of one stretch may hold before no more inputs are taken in it, or four times as many as it
+/// has when it is opened, if that is more. Up to slightly more than this, the log takes no further memory of its own.
 const MAX_VERSIONS: usize = 15_000;
 
 /// How often a worker that waits for inputs that were given up lets other threads run, before it takes the lock again.
 const PAUSES: u32 = 10_000;
 
-/// How often a worker that waits for its turn does so, before it goes on out of turn.
+/// How often a worker that waits for its turn lets other threads run, before it goes on out of turn.
 const TURN_PAUSES: u32 = 200;
 
-/// How far workers are, for those that wait: how many inputs are committed, and which one was the last that was given up
-/// as it was taken. Both are written under the lock of the book. Only speed hangs on them.
+/// How far workers are, for those that wait: how many inputs are committed, and which one was the last that was given
+/// up as it was taken. Both are written under the lock of the book. They affect only speed.
 #[derive(Drop)]
 struct Progress {
     committed: AtomicU32,
@@ -93,14 +92,14 @@ struct Taken<N: RunName> {
 enum Next<N: RunName> {
     /// It attempts these inputs, or gives them up.
     Try(Taken<N>),
-    /// It comes back once so many inputs are committed.
+    /// It comes back once this many inputs are committed.
     Wait(u32),
-    /// It leaves: no input is to be taken any more, or memory was refused.
+    /// It ends: no more inputs are to be taken, or memory was refused.
     Leave,
 }
 
 impl<'a, 'b, N: RunName, G: Gate, R: Wait> Job<'a, 'b, N, G, R> {
-    /// Works until no input is to be taken any more.
+    /// Works until no more inputs are to be taken.
     fn work(&self) {
         let mut hand = Hand::new(self.alloc);
         let mut leavings = Leavings::new(self.alloc);
@@ -123,9 +122,9 @@ impl<'a, 'b, N: RunName, G: Gate, R: Wait> Job<'a, 'b, N, G, R> {
         }
     }
 
-    /// Commits inputs in their order, as far as they are ready, if the next one is the first of those that this worker has
-    /// brought last; and takes the next inputs: all under one lock. So a worker commits what it has made itself, which
-    /// its processor still has at hand, wherever workers bring inputs in their order.
+    /// Under one lock: commits inputs in order, as far as they are ready, if the next one is the first that this worker
+    /// brought last; then takes the next inputs. So if workers bring inputs in order, each commits its own attempts,
+    /// which are still in its processor's cache.
     fn next(&self, first: u32, hand: &mut Hand<N>, leavings: &mut Leavings) -> Next<N> {
         let mut guard = lock(self.rt, self.book);
         let book = &mut *guard;
@@ -133,7 +132,7 @@ impl<'a, 'b, N: RunName, G: Gate, R: Wait> Job<'a, 'b, N, G, R> {
             self.progress.committed.store(u32::MAX, Ordering::SeqCst);
         }
         let next = self.next_of(book, hand);
-        // The others hear of the commits last, and so do not come before they have to wait once more.
+        // The others are told of the commits last, so that they do not come for the lock earlier than they have to.
         self.progress
             .committed
             .fetch_max(book.committed(), Ordering::SeqCst);
@@ -152,15 +151,15 @@ impl<'a, 'b, N: RunName, G: Gate, R: Wait> Job<'a, 'b, N, G, R> {
         }
     }
 
-    /// How many inputs have to be committed before more are taken: those that were given up, and so many that not too
-    /// many are ahead.
+    /// How many inputs have to be committed before more are taken: all that were given up, and enough that not too many
+    /// are ahead.
     fn awaited(&self, book: &Book<'_, N>) -> u32 {
         let given_up = self.progress.given_up.load(Ordering::SeqCst);
         let behind = book.stats().taken.saturating_sub(MOST_AHEAD);
         given_up.max(behind)
     }
 
-    /// How many inputs are committed; more than there are, where memory was refused.
+    /// How many inputs are committed; more than there are, if memory was refused.
     fn committed(&self, book: &Book<'_, N>) -> u32 {
         let told = self.progress.committed.load(Ordering::SeqCst);
         told.max(book.committed())
@@ -232,10 +231,10 @@ impl<'a, 'b, N: RunName, G: Gate, R: Wait> Job<'a, 'b, N, G, R> {
         }
     }
 
-    /// Attempts inputs and deposits the attempts, or gives the inputs up. Before each it frees some of what commits left:
-    /// so the memory that it needs is that which it has just freed, and it seldom waits for another thread in `malloc`.
-    /// Then it waits until all before them are committed, for some time: so it mostly commits what it has made itself,
-    /// and two workers seldom want the lock at the same time.
+    /// Attempts inputs and deposits the attempts, or gives the inputs up. Before each attempt it frees some of what
+    /// commits left, so `malloc` mostly returns memory that this thread has just freed, and seldom waits for another
+    /// thread. Then it waits for some time until all inputs before these are committed, so it mostly commits its own
+    /// attempts, and two workers seldom want the lock at the same time.
     fn bring(&self, taken: &Taken<N>, hand: &mut Hand<N>, leavings: &mut Leavings) {
         let count = taken.last.saturating_sub(taken.first) as usize + 1;
         let each = leavings.len().saturating_sub(count) / count;
@@ -273,8 +272,8 @@ impl<'a, 'b, N: RunName, G: Gate, R: Wait> Job<'a, 'b, N, G, R> {
         }
     }
 
-    /// Attempts the input of a number: decides what it does by single records, and publishes what it writes, without
-    /// the lock but for the numbers that are read and not in hand. It does so in memory that an earlier commit left.
+    /// Attempts the input of a number: decides what it does by single records, and publishes what it writes. It takes
+    /// the lock only to read numbers that are not in hand, and works in memory that an earlier commit left.
     fn attempt(
         &self,
         number: u32,
@@ -313,7 +312,7 @@ impl<'a, 'b, N: RunName, G: Gate, R: Wait> Job<'a, 'b, N, G, R> {
         }
     }
 
-    /// Waits until all inputs before this one are committed, or for some time.
+    /// Waits until all inputs before this one are committed, but not for long.
     fn wait_for_turn(&self, first: u32) {
         for _ in 0..TURN_PAUSES {
             for _ in 0..LOOKS {
@@ -326,7 +325,7 @@ impl<'a, 'b, N: RunName, G: Gate, R: Wait> Job<'a, 'b, N, G, R> {
         }
     }
 
-    /// Waits until so many inputs are committed, and all that were given up meanwhile, or for some time.
+    /// Waits until this many inputs are committed, and all that were given up meanwhile, but not for long.
     fn wait_for_commits(&self, number: u32) {
         for _ in 0..PAUSES {
             for _ in 0..LOOKS {
@@ -348,7 +347,7 @@ fn take_one<N: RunName>(book: &mut Book<'_, N>) -> Option<u32>
     book.take()
 }
 
-/// Inputs that were taken, of which at least the last one has such a number.
+/// Inputs that were taken, from `first` to `last`.
 fn in_hand<N: RunName>(first: u32, last: u32, is_given_up: bool) -> Taken<N>
     requires above { 1 ≤ first }
     requires within { last ≤ length N.run.inputs }
@@ -370,7 +369,7 @@ impl<'a, 'b, N: RunName + Send + Sync, G: Gate + Sync, R: Threads + Wait + Sync>
     G,
     R,
 > {
-    /// Works in this thread, and in so many less one more; a thread that cannot be started is left out.
+    /// Works in this thread and in `workers - 1` others. A thread that cannot be started is left out.
     fn share(&self) {
         thread::scope(thread::scope_env(), self.rt, |scope| {
             for _ in 1..self.workers {
@@ -381,8 +380,8 @@ impl<'a, 'b, N: RunName + Send + Sync, G: Gate + Sync, R: Threads + Wait + Sync>
     }
 }
 
-/// Has the inputs of a book attempted and committed by as many workers as can be had, of which the calling thread is
-/// one, as far as they come. The book is one of the run still, whatever they did.
+/// Lets workers attempt and commit the inputs of a book, as far as they get. The calling thread is one of them; a
+/// thread that cannot be started is left out. Whatever they did, the book is still one of the run.
 pub(crate) fn work_together<'b, N: RunName + Send + Sync, G: Gate + Sync, R: Threads + Wait + Sync>(
     rt: &R,
     alloc: Global,

@@ -10,10 +10,10 @@ use std::{hint, thread};
 /// How often a worker that waits looks again before it lets other threads run.
 pub(crate) const LOOKS: u32 = 30;
 
-/// How often it lets them run before it sleeps: to wake a thread takes longer than most sections of the lock.
+/// How often it lets them run before it sleeps: waking a thread takes longer than the lock is mostly held.
 const PAUSES: u32 = 80;
 
-/// Locks a book. It is one of the run, whatever others did to it before.
+/// Locks a book. Whatever others did to it, it is one of the run.
 pub(crate) fn lock<'a, 'b, N: RunName, R: Wait>(
     rt: &R,
     book: &'a Mutex<Book<'b, N>>,
@@ -28,7 +28,7 @@ pub(crate) fn lock<'a, 'b, N: RunName, R: Wait>(
     guard
 }
 
-/// Locks a book if it gets free within some time.
+/// Locks a book if it becomes free within some time.
 fn try_for_some_time<'a, 'b, N: RunName>(
     book: &'a Mutex<Book<'b, N>>,
 ) -> Option<MutexGuard<'a, Book<'b, N>>> {

@@ -15,9 +15,9 @@ use std::alloc::Global;
 use std::marker::Model;
 use std::sync::{Mutex, Wait};
 
-/// Reads the records of a book for one input: the number of each under the lock of the book, if its worker does not have
-/// it in hand, and the record in the log of the run, without the lock and without a copy. What was read under a key, also
-/// that there is no record, is read once; the notes stand in the order of first reading.
+/// Reads the records of a book for one input: the number of each under the lock of the book, if its worker does not
+/// have it in hand, and the record in the log of the run, without the lock and without a copy. What was read under a
+/// key, also that there is no record, is read once; the notes stand in the order of first reading.
 #[derive(Drop)]
 pub struct Recorder<'a, 'b, N: RunName, G, R> {
     rt: &'a R,
@@ -44,8 +44,7 @@ impl<'a, 'b, N: RunName, G, R> Model for Recorder<'a, 'b, N, G, R> {
 }
 
 impl<'a, 'b, N: RunName, G: Gate, R: Wait> Recorder<'a, 'b, N, G, R> {
-    /// Makes a recorder for the input of a number, which has read nothing yet. The log has to be that of the run. Takes
-    /// no memory.
+    /// Makes a recorder for the input of a number, which has read nothing yet. The log has to be that of the run.
     pub fn new(
         rt: &'a R,
         alloc: Global,
@@ -60,7 +59,7 @@ impl<'a, 'b, N: RunName, G: Gate, R: Wait> Recorder<'a, 'b, N, G, R> {
         Recorder::knowing(rt, Notes::new(alloc), book, log, gate, input, None)
     }
 
-    /// The same for a worker that has numbers in hand, with notes in the memory of others.
+    /// Makes a recorder for a worker that has numbers in hand, with notes in the memory of others.
     pub(crate) fn knowing(
         rt: &'a R,
         notes: Notes,
@@ -139,7 +138,8 @@ impl<'a, 'b, N: RunName, G: Gate, R: Wait> Reader for Recorder<'a, 'b, N, G, R> 
 
     ghost failed = { λ recorder. recorder.failures };
 
-    /// Fails for lack of memory; and `Failed` where a number that stood in the book is not found in the log.
+    /// Fails with `OutOfMemory` for lack of memory, and with `Failed` if a number that stood in the book is not found
+    /// in the log.
     fn fetch(&mut self, key: Key) -> Result<(), ReadFault> {
         if self.notes.get(key).is_some() {
             return Ok(());

@@ -10,13 +10,13 @@ use rbc_rule::Input;
 /// The greatest number of inputs of one stretch of a run: a book takes memory for each of its inputs.
 const MAX_STRETCH: usize = 16_384;
 
-/// How many of the first messages are looked at.
+/// How many of the first messages are examined.
 const SAMPLE: usize = 64;
 
 /// How many messages a window has, and from when on workers share them by train.
 #[derive(Clone, Copy, Debug, PartialEq, Eq)]
 pub struct Pace {
-    /// How many identifiers each train that sent one of the first messages holds at the least, taken together.
+    /// How many identifiers the trains that sent the first messages have to hold, on average.
     pub held: usize,
     /// The least number of messages of a window.
     pub least: usize,
@@ -52,10 +52,10 @@ pub(crate) struct Way {
     pub(crate) count: usize,
 }
 
-/// The way of the next inputs. Where no pace is given all workers share them on a book. Else messages are shared by
-/// train in windows, which have messages alone, and as many as the pace says. There is a window where they are many, or
-/// where the trains that sent the first of them hold many identifiers, since each message takes long then. Else one
-/// worker takes a few of them, before it is asked again. Only speed hangs on it.
+/// The way of the next inputs. Without a pace, all workers share the inputs on a book. With a pace, messages are shared
+/// by train in windows, which hold only messages, and as many as the pace says. A window is run if there are many
+/// messages, or if the trains that sent the first ones hold many identifiers, since each message then takes long.
+/// Otherwise one worker takes a few inputs, and the choice is made again. It affects only speed.
 pub(crate) fn next_way(desk: &Desk, inputs: &[Input], workers: u8, pace: Option<Pace>) -> Way
     ensures { 0 < result.count }
 {
@@ -86,7 +86,8 @@ fn some_on(road: Road, count: usize) -> Way
     }
 }
 
-/// How many inputs stand before the first so many messages on end: all of them, if there are none such.
+/// How many inputs stand before the first `least` consecutive messages, or the number of inputs if there are no such
+/// messages.
 fn before_messages(inputs: &[Input], least: usize) -> usize {
     let mut messages = 0usize;
     for (index, input) in inputs.iter().enumerate() {
@@ -102,7 +103,7 @@ fn before_messages(inputs: &[Input], least: usize) -> usize {
     inputs.len()
 }
 
-/// The messages that come first, so many at the most.
+/// The messages that come first, at most `most` of them.
 fn messages_ahead(inputs: &[Input], most: usize) -> &[Input] {
     let ahead = &inputs[..inputs.len().min(most)];
     match ahead.iter().position(|input| sender(input).is_none()) {
@@ -111,7 +112,7 @@ fn messages_ahead(inputs: &[Input], most: usize) -> &[Input] {
     }
 }
 
-/// Whether the trains that sent the first of these messages hold so many identifiers each, taken together.
+/// Whether the trains that sent the first of these messages hold at least `least` identifiers on average.
 fn are_dear(desk: &Desk, messages: &[Input], least: usize) -> bool {
     let first = &messages[..messages.len().min(SAMPLE)];
     let mut held = 0usize;
@@ -121,7 +122,7 @@ fn are_dear(desk: &Desk, messages: &[Input], least: usize) -> bool {
     held >= least.saturating_mul(first.len())
 }
 
-/// How many identifiers the train holds that sent an input; none for other inputs.
+/// How many identifiers the train that sent an input holds; 0 for other inputs.
 fn identifiers(desk: &Desk, input: &Input) -> usize {
     let Some(engine) = sender(input) else {
         return 0;

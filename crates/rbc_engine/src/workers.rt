@@ -1,5 +1,5 @@
-//! Runs by several workers, in stretches: of inputs that one worker does, of a window, or on a book with a log of its
-//! own, whose memory is given back with it.
+//! Runs by several workers, in stretches. A stretch is done by one worker, as a window, or on a book with a log of its
+//! own, which is freed at the end of the stretch.
 
 ghost use Rattle.std.specs.Prelude.{◌≡◌, ◌≤◌, IsTrue, Ok, false, length, drop};
 ghost use Rattle.std.specs.List.{All};
@@ -61,8 +61,8 @@ impl fmt::Display for RunError {
 
 impl Error for RunError {}
 
-/// Gives up the next input to be committed, which nobody will deposit any more. `false` if it was not taken, and is not
-/// the first: then nothing changed.
+/// Gives up the next input to be committed, for which nobody will deposit an attempt any more. `false`, with nothing
+/// changed, if it was not taken and is not the first.
 fn give_up<N: RunName>(book: &mut Book<'_, N>, number: u32) -> bool
     requires waiting { IsWaiting N.run (state_of book.old) }
     requires front { number ≡ front (state_of book.old) }
@@ -167,7 +167,7 @@ fn run_named<N: RunName + Send + Sync, G: Gate + Sync, R: Threads + Wait + Sync>
     }
 }
 
-/// Runs a stretch of a run by all workers on a log of its own, whose memory is given back with it.
+/// Runs a stretch of a run by all workers on a log of its own, which is freed at the end of the stretch.
 fn run_on_book<G: Gate + Sync, R: Threads + Wait + Sync>(
     rt: &R,
     alloc: Global,
@@ -186,8 +186,8 @@ fn run_on_book<G: Gate + Sync, R: Threads + Wait + Sync>(
     run_named::<Brand, G, R>(rt, alloc, track, desk, inputs, &log, workers, gate)
 }
 
-/// The workers of a run, of whom the calling thread is one; the gate behind which they attempt inputs on a book; and
-/// the pace at which they share messages by train, where they do that in place of it.
+/// The workers of a run, of whom the calling thread is one; the gate for their attempts on a book; and the pace at
+/// which they share messages by train, if they do that instead.
 #[derive(Drop)]
 struct Crew<'a, G> {
     workers: u8,
@@ -195,7 +195,7 @@ struct Crew<'a, G> {
     pace: Option<Pace>,
 }
 
-/// Runs a stretch of a run on the road that it takes, behind so many inputs.
+/// Runs a stretch of a run on the road that it takes, after this many inputs.
 fn run_stretch<G: Gate + Sync, R: Threads + Wait + Sync>(
     rt: &R,
     alloc: Global,
@@ -223,7 +223,7 @@ fn run_stretch<G: Gate + Sync, R: Threads + Wait + Sync>(
     }
 }
 
-/// Runs the first of some inputs in one stretch, as many as go the same way, behind so many.
+/// Runs the first of these inputs in one stretch, as many as go the same way, after this many earlier ones.
 fn run_first<G: Gate + Sync, R: Threads + Wait + Sync>(
     rt: &R,
     alloc: Global,
@@ -249,7 +249,7 @@ fn run_first<G: Gate + Sync, R: Threads + Wait + Sync>(
     )
 }
 
-/// Runs a stretch of a run, of which so many inputs are done.
+/// Runs a stretch of a run of which this many inputs are done.
 fn run_behind<G: Gate + Sync, R: Threads + Wait + Sync>(
     rt: &R,
     alloc: Global,
@@ -269,7 +269,7 @@ fn run_behind<G: Gate + Sync, R: Threads + Wait + Sync>(
     run_first(rt, alloc, track, desk, rest, before, crew, windows)
 }
 
-/// Runs the next stretch of a run, behind those with these counts, and adds its counts to theirs.
+/// Runs the next stretch of a run, after those with these counts, and adds its counts to theirs.
 fn run_next<G: Gate + Sync, R: Threads + Wait + Sync>(
     rt: &R,
     alloc: Global,
@@ -337,7 +337,7 @@ fn keeps(track: &Track)
     let _ = track.horizon();
 }
 
-/// Runs inputs, if so many workers can and the inputs are not too many.
+/// Runs inputs, if this number of workers is allowed and the inputs are not too many.
 fn run_admitted<G: Gate + Sync, R: Threads + Wait + Sync>(
     rt: &R,
     alloc: Global,
@@ -363,10 +363,10 @@ fn run_admitted<G: Gate + Sync, R: Threads + Wait + Sync>(
     run_stretches(rt, alloc, track, desk, inputs, crew, windows)
 }
 
-/// Runs inputs on a track, from a desk on, by so many workers, of which the calling thread is one. The workers attempt
-/// many inputs at once, note the records that they read, publish what the attempts write, and commit in the order of the
-/// inputs; an input is recomputed if something that its attempt read has changed. With `Ok` the desk is the one that the
-/// rules give where they are applied to the inputs one after another, whatever the workers did in between.
+/// Runs inputs on a track, from a desk on, by this many workers, of which the calling thread is one. The workers
+/// attempt many inputs at once, note the records that they read, publish what the attempts write, and commit in the
+/// order of the inputs; an input is recomputed if something that its attempt read has changed. With `Ok` the desk is
+/// the one that the rules give for the inputs one after another, whatever the workers did in between.
 ///
 /// # Errors
 ///

@@ -24,7 +24,7 @@ indent_of (first ∷ line) = if first == 61 then codes " " else []
 abbrev pub shown : List ℕ → List ℕ
 shown line = indent_of line ++ line
 
--- what stands behind the mark "= " of a line that begins with it
+-- the rest of a line that begins with the mark "= "
 abbrev pub unmarked : List ℕ → Option (List ℕ)
 unmarked line = if bytes_eq (take 2 line) (codes "= ") then Some (drop 2 line) else None
 
@@ -33,6 +33,6 @@ pub record AreAdded (added : List (List ℕ)) (old new : List ℕ) : Type 0 wher
   pub text : new ≡ old ++ flat_map ended added
   pub each : AllByRecursion IsLine added
 
--- Lines were added to a text. Behind the marks of those that are marked stand these lines, in their order.
+-- Lines were added to a text. The marked ones are, without their marks, these lines, in order.
 abbrev pub IsToldOn : List (List ℕ) → List ℕ → List ℕ → Type 0
 IsToldOn answers old new = (added : List (List ℕ)) × AreAdded added old new × (filter_map unmarked added ≡ answers)

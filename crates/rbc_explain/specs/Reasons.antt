@@ -101,7 +101,7 @@ why_at_once place number (at_once.BehindGroup edge) = why_there place ++ behind_
 abbrev pub at_once_text : ToTrain → Option Place → ℕ → WhyAtOnce → List ℕ
 at_once_text message place number why = kind_text message ++ why_at_once place number why
 
--- the identifier that a message revokes since its train left the stop unanswered
+-- the identifier that a message revokes because its train left the stop unanswered
 abbrev pub left_under : ToTrain → Bool → Option ℕ
 left_under (to_train.Revoke head id) unanswered = if unanswered then Some id else None
 left_under (to_train.StopAt head id scale reference dir distance) unanswered = None
@@ -170,7 +170,7 @@ lifted_text number (why_revoked.OtherWay facing dirs) =
     codes "the train faces " ++ (way_word facing ++ (codes ", and the restriction is for trains facing " ++ (ways_words dirs ++ codes ".\n")))
 lifted_text number why_revoked.Passed = codes "the train has passed it.\n"
 
--- Why a packet was sent, and how what it tells differs from the restriction of this number. No block has a packet that is `Unknown`.
+-- Why a packet was sent, and how what it tells differs from the restriction of this number. No block has an `Unknown` packet.
 abbrev pub why_packet : Option Place → ℕ → RestrictionTold → List ℕ
 why_packet place number (told.Told segment begin end unit why) = told_text why ++ difference_text (part_told place segment begin end) segment unit
 why_packet place number (told.Revoked why) = lifted_text number why

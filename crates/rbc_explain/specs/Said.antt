@@ -1,4 +1,4 @@
--- What is put in words of a message is what the message says (own rule).
+-- The words on a message say what the message says (own rule).
 use Rattle.std.specs.Prelude.{◌≡◌, ℕ, ◌+◌, Bool, true, false, List, [], ◌∷◌}
 use Rattle.ertms_codec.specs.declared.packets.Part.{Part}
 use Rattle.ertms_codec.specs.declared.to_train.ToTrain.{ToTrain}
@@ -16,14 +16,14 @@ use Rattle.rbc_explain.specs.declared.said.Spoken.TheVariants as spoken
 abbrev pub IsOriginOf : Plan → ℕ → ℕ → ℕ → Origin → Type 0
 IsOriginOf plan lrbg dir scale origin = CountsFrom plan lrbg dir scale origin.line origin.at origin.way origin.unit
 
--- a place lies so far ahead of another one: so many units from the beginning of the line, or before it
+-- a place lies this far ahead of another: this many units after the beginning of the line, or before it
 abbrev pub IsSpotAhead : Way → ℕ → ℕ → Bool → ℕ → Type 0
 IsSpotAhead Up from by false units = units ≡ from + by
 IsSpotAhead Up from by true units = ⊥
 IsSpotAhead Down from by false units = from ≡ units + by
 IsSpotAhead Down from by true units = by ≡ from + units
 
--- what is put in words is what is said
+-- the words say what the message says
 abbrev pub IsSpoken : rule.Said → Spoken → Type 0
 IsSpoken (rule.StopsAtOnce id) spoken.StopAtOnce = Unit
 IsSpoken (rule.StopsBefore id spot) (spoken.StopBefore line place) = (line ≡ spot.line) × (place ≡ spot.place)
@@ -36,7 +36,7 @@ IsSpoken (rule.Restricts id stretch front speed) (spoken.Restriction line from t
 IsSpoken (rule.RevokesLimit id) spoken.RestrictionRevoked = Unit
 IsSpoken _ _ = ⊥
 
--- a message says one thing, and that is put in words
+-- a message says one thing, and the words say it
 abbrev pub IsSpokenBy : Plan → ToTrain → Spoken → Type 0
 IsSpokenBy plan message words = (said : rule.Said) × Says plan message (said ∷ []) × IsSpoken said words
 
@@ -48,28 +48,29 @@ IsOnStop (rule.RevokesStop id) = Unit
 IsOnStop (rule.Restricts id stretch front speed) = ⊥
 IsOnStop (rule.RevokesLimit id) = ⊥
 
--- a packet says it, in a message that names a balise group
+-- the same for a packet, in a message that names a balise group
 abbrev pub IsSpokenByPacket : Plan → ℕ → Part → Spoken → Type 0
 IsSpokenByPacket plan lrbg packet words = (said : rule.Said) × PacketSays plan lrbg packet said × IsSpoken said words
 
--- to stop before the place that lies so many units ahead
+-- to stop before the place that lies this many units ahead
 abbrev pub IsStopBefore : Plan → ℕ → ℕ → ℕ → ℕ → Spoken → Type 0
 IsStopBefore plan lrbg dir scale distance words =
     (spot : rule.Spot) × IsSpotTold plan lrbg dir scale distance spot × ((id : ℕ) → IsSpoken (rule.StopsBefore id spot) words)
 
--- to keep to a speed on the stretch that begins so many units ahead
+-- to keep to a speed on the stretch that begins this many units ahead
 abbrev pub IsRestriction : Plan → ℕ → ℕ → ℕ → ℕ → ℕ → ℕ → Spoken → Type 0
 IsRestriction plan lrbg dir scale start length speed words =
     (stretch : rule.Stretch) × IsStretchTold plan lrbg dir scale start length stretch
     × ((id : ℕ) (front : Bool) → IsSpoken (rule.Restricts id stretch front speed) words)
 
--- "The stop is revoked" is said of a stop that is no longer active. One that a train left unanswered is still active: of that, an identifier is revoked.
+-- "The stop is revoked" is said of a stop that is no longer active. A stop that a train left unanswered is still
+-- active: only an identifier of it is revoked.
 abbrev pub IsRevokedAs : Bool → Spoken → Type 0
 IsRevokedAs unanswered spoken.StopRevoked = unanswered ≡ false
 IsRevokedAs unanswered (spoken.IdentifierRevoked id) = unanswered ≡ true
 IsRevokedAs unanswered _ = Unit
 
--- the sentence on a message to a train on a stop, which the train may have left unanswered: what the message says, in words
+-- the sentence on a message to a train about a stop, which the train may have left unanswered: what the message says, in words
 abbrev pub IsStopSentence : Plan → ℕ → ℕ → Bool → ToTrain → List ℕ → Type 0
 IsStopSentence plan engine number unanswered message text =
     (words : Spoken) × IsSpokenBy plan message words × IsRevokedAs unanswered words × (text ≡ stop_sentence engine number words)

@@ -1,4 +1,4 @@
--- Which lines of a log are the sentences on messages, and say why these were sent (own rule).
+-- Which lines of a log are sentences on messages and say why the messages were sent (own rule).
 use Rattle.std.specs.Prelude.{◌≡◌, ℕ, Bool, false, List, [], ◌∷◌, ◌++◌, length, map, codes, filter_map, Option}
 use Rattle.ertms_codec.specs.declared.packets.Part.{Part}
 use Rattle.ertms_codec.specs.declared.to_train.Head.{Head}
@@ -23,11 +23,11 @@ use Rattle.rbc_explain.specs.Said.{IsOnStop, IsStopSentence, IsRestrictionSenten
 abbrev pub HasSentence : (List ℕ → Type 0) → List (List ℕ) → Type 0
 HasSentence IsSentence lines = (before after : List (List ℕ)) × (line : List ℕ) × (lines ≡ before ++ line ∷ after) × IsSentence (ended line)
 
--- the lines of this text stand among the lines, one behind the other
+-- the lines of this text stand among the lines, one after another
 abbrev pub HasText : List ℕ → List (List ℕ) → Type 0
 HasText text lines = (before after : List (List ℕ)) × (lines ≡ before ++ (map shown (lines_of text) ++ after))
 
--- If a message says something of a stop, which its train may have left unanswered, the sentence on it is one of the lines.
+-- If a message says something about a stop, which its train may have left unanswered, the sentence on it is one of the lines.
 abbrev pub TellsStop : Plan → Sent → ℕ → Bool → List (List ℕ) → Type 0
 TellsStop plan sent number unanswered lines =
     (said : Said) → IsOnStop said → Says plan sent.message (said ∷ []) → HasSentence (IsStopSentence plan sent.engine number unanswered sent.message) lines
@@ -49,7 +49,8 @@ TellsEach plan lrbg place (packet ∷ packets) (one ∷ all) lines =
 TellsEach plan lrbg place [] all lines = Unit
 TellsEach plan lrbg place (packet ∷ packets) [] lines = Unit
 
--- The lines tell what the packets of a message say, and why they were sent: of one alone it is said to which train it is sent, of several first how many they are.
+-- The lines tell what the packets of a message say, and why they were sent. For one packet they say to which train it
+-- is sent; for several they first say how many there are.
 abbrev pub TellsPackets : Plan → ℕ → Head → Option Place → List Part → List ToldRestriction → List (List ℕ) → Type 0
 TellsPackets plan engine head place (packet ∷ []) (one ∷ all) lines =
     TellsPacketWhy plan head.lrbg packet (IsRestrictionSentence plan head.lrbg engine one.number packet) (single_text head packet place one) lines
@@ -70,7 +71,7 @@ TellsRestrictions plan engine (message.Revoke head id) place all lines = Unit
 abbrev pub TellsStopWhy : Plan → Sent → ℕ → Bool → List ℕ → List (List ℕ) → Type 0
 TellsStopWhy plan sent number unanswered why lines = TellsStop plan sent number unanswered lines × HasText why lines
 
--- The lines tell what a message says, and why it was sent to its train, which has this place. No block has one that is `Unknown`.
+-- The lines tell what a message says, and why it was sent to its train, which has this place. No block has an `Unknown` message.
 abbrev pub Tells : Plan → Sent → Option Place → ToldWhat → List (List ℕ) → Type 0
 Tells plan sent place (what.StopBefore number before edge unit) lines = TellsStopWhy plan sent number false (before_text sent.message place before edge unit) lines
 Tells plan sent place (what.StopAtOnce number why) lines = TellsStopWhy plan sent number false (at_once_text sent.message place number why) lines
@@ -78,7 +79,8 @@ Tells plan sent place (what.StopRevoked number unanswered) lines = TellsStopWhy 
 Tells plan sent place (what.Restrictions all) lines = TellsRestrictions plan sent.engine sent.message place all.items lines
 Tells plan sent place what.Unknown lines = Unit
 
--- The lines tell what each of the messages says that an input of this number sent, and why it was sent, one after the other, and behind that stands the marked line of the message.
+-- For each message that the input of this number sent, in order, the lines tell what it says and why it was sent, and
+-- then comes the marked line of the message.
 abbrev pub TellsAll : Plan → ℕ → List Sent → List Told → List (List ℕ) → Type 0
 TellsAll plan number [] [] lines = Unit
 TellsAll plan number (sent ∷ messages) (one ∷ told) lines =
@@ -87,7 +89,7 @@ TellsAll plan number (sent ∷ messages) (one ∷ told) lines =
 TellsAll plan number [] (one ∷ told) lines = ⊥
 TellsAll plan number (sent ∷ messages) [] lines = ⊥
 
--- Lines were added to a text that tell something. None of them is marked.
+-- Lines that tell something were added to a text. None of them is marked.
 abbrev pub IsSaidOn : (List (List ℕ) → Type 0) → List ℕ → List ℕ → Type 0
 IsSaidOn TellIt old new = (added : List (List ℕ)) × AreAdded added old new × (filter_map unmarked added ≡ []) × TellIt added
 

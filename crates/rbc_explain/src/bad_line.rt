@@ -1,4 +1,4 @@
-//! What is wrong with a line that is no input.
+//! What is wrong with a line that is not an input.
 
 use ertms_codec::cut;
 

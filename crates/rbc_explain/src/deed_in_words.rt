@@ -9,7 +9,7 @@ use std::fmt::Write;
 /// The answer with which a train rejects a stop (Q_EMERGENCYSTOP, own values).
 const REJECTED: u8 = 3;
 
-/// Adds what an accepted input did. Of one that is refused this adds nothing.
+/// Adds what an accepted input did. For a refused input it adds nothing.
 pub(crate) fn push_deed(text: &mut String, deed: &Deed) -> Result<(), AllocError> {
     match deed {
         Deed::Enrolled { engine, length } => {

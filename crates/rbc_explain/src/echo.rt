@@ -3,7 +3,7 @@
 use std::alloc::{AllocError, Global};
 use std::fmt::Write;
 
-/// The most columns of a line that is shown whole. No line of more bytes has fewer columns.
+/// The most columns of a line that is shown whole. A line has at least as many columns as bytes.
 const MOST_COLUMNS: usize = 80;
 
 /// How many columns are shown of a longer line.
@@ -14,7 +14,7 @@ fn is_plain(byte: u8) -> bool {
     (32..=126).contains(&byte) && byte != b'\\'
 }
 
-/// The columns of bytes: a plain byte as it is, any other as `\xHH`. Fails only for lack of memory.
+/// The columns of bytes: a plain byte as it is, any other as `\xHH`.
 fn columns_of(alloc: Global, bytes: &[u8]) -> Result<String, AllocError> {
     let mut columns = String::new(alloc);
     for byte in bytes {
@@ -35,8 +35,7 @@ fn as_plain(line: &[u8]) -> Option<&str> {
     str::from_utf8(line).ok()
 }
 
-/// Adds a line of a batch: all of its columns where they are at most 80, and else the first 60 and the number of its
-/// bytes. Fails only for lack of memory.
+/// Adds a line of a batch: all of its columns if they are at most 80, else the first 60 and the number of its bytes.
 pub(crate) fn push_echo(alloc: Global, text: &mut String, line: &[u8]) -> Result<(), AllocError> {
     if let Some(plain) = as_plain(line) {
         return text.push_str(plain);

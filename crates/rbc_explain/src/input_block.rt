@@ -28,7 +28,7 @@ pub(crate) struct TrackOfRun<'a> {
 }
 
 /// Adds what came of the input of a line. The lines of its answer stand there in their order, each with `= ` before it,
-/// and before the line of a message what the message says. Fails only for lack of memory.
+/// and before the line of a message what the message says.
 pub(crate) fn push_block(
     alloc: Global,
     log: &mut Vec<u8>,
@@ -48,7 +48,7 @@ pub(crate) fn push_block(
 }
 
 /// Adds each line of the answer to an input: after the first one what came of the input, and before each other one what
-/// is said of its message. Fails only for lack of memory.
+/// is said of its message.
 fn push_answer(
     alloc: Global,
     log: &mut Vec<u8>,
@@ -84,7 +84,7 @@ fn told_of(told: &[Told], index: usize) -> &Told
     &told[index]
 }
 
-/// The line of an input with its number, after an empty line. Fails only for lack of memory.
+/// The line of an input with its number, after an empty line.
 fn heading(alloc: Global, line: &[u8], block: &Block) -> Result<String, AllocError> {
     let number = block.number;
     let mut text = format!(in alloc; "\nINPUT {number}: ")?;
@@ -93,7 +93,7 @@ fn heading(alloc: Global, line: &[u8], block: &Block) -> Result<String, AllocErr
     Ok(text)
 }
 
-/// Whether the input was accepted, and what it did, or why it was refused. Fails only for lack of memory.
+/// Whether the input was accepted, and what it did, or why it was refused.
 fn outcome(
     alloc: Global,
     of: TrackOfRun<'_>,
@@ -127,7 +127,7 @@ fn push_accepted(text: &mut String, sent: u32) -> Result<(), AllocError> {
     }
 }
 
-/// What a stop or a restriction that began is to the trains, and what has come to wait. Fails only for lack of memory.
+/// What a stop or a restriction that began means for the trains, and what began to wait.
 fn afterwards(alloc: Global, block: &Block) -> Result<String, AllocError> {
     let mut text = String::new(alloc);
     if let Some(counts) = block.counts {

@@ -4,6 +4,10 @@
 //! It stands on rbc_account, which tells the run as values; rbc_dispatch calls `explain`. What that call rests on is
 //! `IsLogOfRun` (specs/Log.antt), with `Tells` (specs/Telling.antt) of each message. Begin with telling.rt; then
 //! input_block.rt has one input, and message.rt one message.
+//!
+//! A function that cannot report a lack of memory takes none. `AllocError` means that memory was refused; what the
+//! function was changing is then of no further use, unless its docstring says what is left. A docstring names each
+//! other cause of an error.
 #![tactic(auto)]
 
 mod bad_line;

@@ -8,8 +8,8 @@ use memchr::memchr;
 use rbc_text::first_line;
 use std::alloc::AllocError;
 
-/// Adds words, in whole lines without a mark: a line of them that begins with `=` is indented. Nearly every text can be
-/// added as it is. Fails only for lack of memory.
+/// Adds words, in whole lines without a mark: a line that begins with `=` is indented. Nearly every text can be added
+/// as it is.
 pub(crate) fn push_words(log: &mut Vec<u8>, words: &[u8]) -> Result<(), AllocError>
     ensures { OnOk result (IsSaidOn (HasText words.now) log.old.items log.new.items) }
 {
@@ -51,7 +51,7 @@ fn push_other(log: &mut Vec<u8>, line: &[u8]) -> Result<(), AllocError>
     log.extend_from_slice(b"\n")
 }
 
-/// What stands before a line so that it has no mark.
+/// The indent that keeps a line from having a mark.
 fn indent_of(line: &[u8]) -> &'static [u8]
     ensures { result.now ≡ indent_of line.now }
 {
@@ -61,7 +61,7 @@ fn indent_of(line: &[u8]) -> &'static [u8]
     }
 }
 
-/// Adds a line of the output, without its line feed, as it is, with `= ` before it. Fails only for lack of memory.
+/// Adds a line of the output, without its line feed, as it is, with `= ` before it.
 pub(crate) fn push_line(log: &mut Vec<u8>, line: &[u8]) -> Result<(), AllocError>
     ensures { IsLine line.now → OnOk result (AreAdded ((codes "= " ++ line.now) ∷ []) log.old.items log.new.items) }
 {

@@ -13,7 +13,7 @@ use std::fmt::Write;
 /// How many reports without an answer are counted.
 const MOST_REPORTS: u8 = 3;
 
-/// What stands at the end. Fails only for lack of memory.
+/// The end of the log: the state after the last input.
 pub(crate) fn end(
     alloc: Global,
     account: &Account,
@@ -99,7 +99,7 @@ fn facing_words(dirs: Dirs) -> &'static str {
     }
 }
 
-/// Adds to how many trains a stop or a restriction is told, and how many have answered it as it is to be.
+/// Adds to how many trains a stop or a restriction is told, and how many have answered it as required.
 fn push_sharing(text: &mut String, shared: &Sharing, done: &str) -> Result<(), AllocError> {
     let (told, answered) = (
         Count {
@@ -168,7 +168,7 @@ fn push_stop_identifier(
     }
 }
 
-/// Adds how a stop was told, and by the message of which stamp.
+/// Adds how a stop was told, and the stamp of the message that told it.
 fn push_told_stop(
     text: &mut String,
     account: &Account,

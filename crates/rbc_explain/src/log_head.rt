@@ -8,7 +8,7 @@ use std::fmt::Write;
 /// The number of the operating rules. It rises whenever a batch can get another output.
 const RULES: usize = 3;
 
-/// The head of a log that begins at an input. Fails only for lack of memory.
+/// The head of a log that begins at an input.
 pub(crate) fn head(alloc: Global, track: &NamedTrack, from: u32) -> Result<String, AllocError> {
     let mut text = String::new(alloc);
     write!(

@@ -13,8 +13,7 @@ use rbc_settle::Sent;
 use rbc_track::Track;
 use std::alloc::{AllocError, Global};
 
-/// Adds what a message says, and why it was sent. Of one that no record accounts for this adds nothing. Fails only for
-/// lack of memory.
+/// Adds what a message says, and why it was sent. For a message that no record accounts for it adds nothing.
 pub(crate) fn push_message(
     alloc: Global,
     log: &mut Vec<u8>,
@@ -49,12 +48,12 @@ pub(crate) fn push_message(
             push_words(log, reason.as_bytes())
         }
         ToldWhat::Restrictions(all) => push_restrictions(alloc, log, track, sent, place, all),
-        // It never comes in a block.
+        // It never occurs in a block.
         ToldWhat::Unknown => Ok(()),
     }
 }
 
-/// Adds the sentence on a message on a stop of this number, from what the message says. Fails only for lack of memory.
+/// Adds the sentence on a message on a stop of this number, from what the message says.
 fn push_stop_sentence(
     alloc: Global,
     log: &mut Vec<u8>,

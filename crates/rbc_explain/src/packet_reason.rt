@@ -212,7 +212,7 @@ impl fmt::Display for WhyPacket {
                 };
                 write!(f, "{lifted}")
             }
-            // It never comes in a block.
+            // It never occurs in a block.
             RestrictionTold::Unknown => write!(f, "\n"),
         }
     }
@@ -266,7 +266,7 @@ fn id_of(packet: &Part) -> u8
     }
 }
 
-/// One of several packets, and why it was sent. Fails only for lack of memory.
+/// One of several packets, and why it was sent.
 pub(crate) fn packet_text(
     alloc: Global,
     packet: &Part,
@@ -284,7 +284,7 @@ pub(crate) fn packet_text(
     format!(in alloc; "    Packet {kind}, identifier {id}.\n    Why: {why}")
 }
 
-/// The packet of a message with one packet, and why it was sent. Fails only for lack of memory.
+/// The packet of a message with one packet, and why it was sent.
 pub(crate) fn single_text(
     alloc: Global,
     head: Head,
@@ -330,7 +330,7 @@ impl fmt::Display for PlaceSentence {
     }
 }
 
-/// That a message has so many packets, and where its train may be. Fails only for lack of memory.
+/// That a message has this many packets, and where its train may be.
 pub(crate) fn several_text(
     alloc: Global,
     engine: u32,

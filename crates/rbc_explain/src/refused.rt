@@ -11,7 +11,7 @@ use std::fmt::Write;
 /// How many of the active numbers are shown.
 const MOST_NUMBERS: usize = 4;
 
-/// What is shown of a refused input: its line, what it is as an input, and how many lines the track has.
+/// What is shown of a refused input: its line, its input, and the number of lines of the track.
 #[derive(Clone, Copy)]
 pub(crate) struct RefusedInput<'a> {
     pub line: &'a [u8],
@@ -51,7 +51,7 @@ fn row_for(input: &Input, code: u8) -> Option<Row> {
     }
 }
 
-/// Adds a sentence, of which each further line is as far in as the first.
+/// Adds a sentence. Its further lines are indented like the first.
 fn push_sentence(text: &mut String, sentence: &str) -> Result<(), AllocError> {
     for (index, line) in sentence.lines().enumerate() {
         if index != 0 {
@@ -63,7 +63,7 @@ fn push_sentence(text: &mut String, sentence: &str) -> Result<(), AllocError> {
     Ok(())
 }
 
-/// Adds the line on the figures of a refusal, if it has one, where the track has so many lines.
+/// Adds the line on the figures of a refusal, if it has one. `track_lines` is the number of lines of the track.
 fn push_detail(text: &mut String, detail: &Detail, track_lines: usize) -> Result<(), AllocError> {
     match detail {
         Detail::NotEnrolled { engine } => write!(text, "  Engine {engine} is not enrolled.\n"),

@@ -16,7 +16,7 @@ use rbc_settle::Sent;
 use rbc_track::Track;
 use std::alloc::{AllocError, Global};
 
-/// Adds what a message 24 says, and why each of its packets was sent. Fails only for lack of memory.
+/// Adds what a message 24 says, and why each of its packets was sent.
 pub(crate) fn push_restrictions(
     alloc: Global,
     log: &mut Vec<u8>,
@@ -46,7 +46,7 @@ pub(crate) fn push_restrictions(
     }
 }
 
-/// Adds what each of several packets says, and why. Fails only for lack of memory.
+/// Adds what each of several packets says, and why.
 fn push_each(
     alloc: Global,
     log: &mut Vec<u8>,
@@ -77,7 +77,7 @@ fn one_of(all: &[ToldRestriction], index: usize) -> &ToldRestriction
     &all[index]
 }
 
-/// Adds what one of several packets says, its kind and identifier, and why it was sent. Fails only for lack of memory.
+/// Adds what one of several packets says, its kind and identifier, and why it was sent.
 fn push_packet(
     alloc: Global,
     log: &mut Vec<u8>,
@@ -96,8 +96,7 @@ fn push_packet(
     push_words(log, reason.as_bytes())
 }
 
-/// Adds the sentence on one of several packets, on the restriction of this number, from what the packet says. Fails
-/// only for lack of memory.
+/// Adds the sentence on one of several packets, on the restriction of this number, from what the packet says.
 fn push_packet_sentence(
     alloc: Global,
     log: &mut Vec<u8>,
@@ -118,7 +117,7 @@ fn push_packet_sentence(
     }
 }
 
-/// Adds what a message with one packet says, and why it was sent. Fails only for lack of memory.
+/// Adds what a message with one packet says, and why it was sent.
 fn push_single(
     alloc: Global,
     log: &mut Vec<u8>,
@@ -138,8 +137,7 @@ fn push_single(
     push_words(log, reason.as_bytes())
 }
 
-/// Adds the sentence on a message of one packet, on the restriction of this number, from what the packet says. Fails
-/// only for lack of memory.
+/// Adds the sentence on a message of one packet, on the restriction of this number, from what the packet says.
 fn push_restriction_sentence(
     alloc: Global,
     log: &mut Vec<u8>,

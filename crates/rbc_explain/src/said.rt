@@ -131,7 +131,7 @@ fn group_in(track: &Track, lrbg: u32) -> Option<Group>
     track.group(lrbg)
 }
 
-/// The place that lies so many units ahead of an origin, which may be before the beginning of the line.
+/// The place that lies this many units ahead of an origin, which may be before the beginning of the line.
 fn spot_ahead(origin: &Origin, units: u32) -> Spot
     requires { (origin.now.unit ≤ 100) × (origin.now.at ≤ max_length) × (units ≤ 131070) }
     ensures ahead { IsSpotAhead origin.now.way origin.now.at (units * origin.now.unit) result.is_before result.units }
@@ -154,7 +154,7 @@ fn spot_ahead(origin: &Origin, units: u32) -> Spot
     }
 }
 
-/// To stop before the place that lies so many units ahead, if that is on a line.
+/// To stop before the place that lies this many units ahead, if it is on a line.
 fn stop_before(track: &Track, lrbg: u32, dir: u8, scale: u8, distance: u16) -> Option<Spoken>
     ensures is { IfSome result (IsStopBefore track.now lrbg dir scale distance) }
     ensures all { (spot : rule.Spot) → IsSpotTold track.now lrbg dir scale distance spot → is_some result ≡ true }
@@ -170,8 +170,8 @@ fn stop_before(track: &Track, lrbg: u32, dir: u8, scale: u8, distance: u16) -> O
     })
 }
 
-/// What a message on a stop says: of one that is escalated its identifier is revoked, and else the stop itself. `None`
-/// where the message is no such one, or tells no place of the track.
+/// What a message on a stop says. If the stop is escalated, its identifier is revoked, else the stop itself. `None` if
+/// the message is not on a stop, or tells no place of the track.
 pub(crate) fn spoken_by(track: &Track, message: &ToTrain, is_escalated: bool) -> Option<Spoken>
     ensures is { IfSome result (IsSpokenBy track.now message.now) }
     ensures revoked { IfSome result (IsRevokedAs is_escalated) }
@@ -201,7 +201,7 @@ pub(crate) fn spoken_by(track: &Track, message: &ToTrain, is_escalated: bool) ->
     }
 }
 
-/// The restriction that begins so many units ahead and is so many units long. The speed is in units of 5 km/h.
+/// The restriction that begins this many units ahead and is this many units long. The speed is in units of 5 km/h.
 fn restriction(
     track: &Track,
     lrbg: u32,
@@ -226,7 +226,7 @@ fn restriction(
     })
 }
 
-/// What a packet says in a message that names a balise group. `None` where it tells no place of the track.
+/// What a packet says in a message that names a balise group. `None` if it tells no place of the track.
 pub(crate) fn spoken_by_packet(track: &Track, lrbg: u32, packet: &Part) -> Option<Spoken>
     ensures is { IfSome result (IsSpokenByPacket track.now lrbg packet.now) }
     ensures all { (said : rule.Said) → PacketSays track.now lrbg packet.now said → is_some result ≡ true }

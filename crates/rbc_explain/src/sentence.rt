@@ -6,7 +6,7 @@ ghost use Rattle.rbc_explain.specs.Sentences.{stop_sentence, restriction_sentenc
 use crate::said::Spoken;
 use std::alloc::{AllocError, Global};
 
-/// The sentence on a message to a train on a stop. Fails only for lack of memory.
+/// The sentence on a message to a train on a stop.
 pub(crate) fn stop_sentence(
     alloc: Global,
     engine: u32,
@@ -18,7 +18,7 @@ pub(crate) fn stop_sentence(
     format!(in alloc; "  To train {engine}, for stop {number}: {said}\n")
 }
 
-/// The sentence on a message to a train on one restriction. Fails only for lack of memory.
+/// The sentence on a message to a train on one restriction.
 pub(crate) fn restriction_sentence(
     alloc: Global,
     engine: u32,
@@ -30,7 +30,7 @@ pub(crate) fn restriction_sentence(
     format!(in alloc; "  To train {engine}, for restriction {number}: {said}\n")
 }
 
-/// The sentence on one of several packets. Fails only for lack of memory.
+/// The sentence on one of several packets.
 pub(crate) fn packet_sentence(
     alloc: Global,
     number: u32,

@@ -99,8 +99,7 @@ impl fmt::Display for Shortfall {
     }
 }
 
-/// That a message tells a train to stop before a place, since `edge` is the nearest edge ahead of it. Fails only for
-/// lack of memory.
+/// That a message tells a train to stop before a place, since `edge` is the nearest edge ahead of it.
 pub(crate) fn before_text(
     alloc: Global,
     message: &ToTrain,
@@ -162,7 +161,7 @@ impl fmt::Display for EdgeBehind {
     }
 }
 
-/// That a message tells a train to stop at once, and why. Fails only for lack of memory.
+/// That a message tells a train to stop at once, and why.
 pub(crate) fn at_once_text(
     alloc: Global,
     message: &ToTrain,
@@ -210,8 +209,7 @@ pub(crate) fn left_under(message: &ToTrain, unanswered: bool) -> Option<u8>
     }
 }
 
-/// That a message revokes a stop: it is released, or was left unanswered under an identifier. Fails only for lack of
-/// memory.
+/// That a message revokes a stop: it is released, or was left unanswered under an identifier.
 pub(crate) fn revoked_text(
     alloc: Global,
     message: &ToTrain,

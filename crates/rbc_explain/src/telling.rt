@@ -19,17 +19,16 @@ use std::io::Read;
 
 /// Reads a batch to its end, runs its lines on the track that a text in TOML writes, one after another from the empty
 /// state, and tells the run in words: what came of each input from number `from` on, and what stands at the end. The
-/// earlier inputs are run all the same. With no input at all `from` may be 1.
+/// earlier inputs are run, but not told. For an empty batch `from` may be 1.
 ///
-/// The log is UTF-8, in lines that end with a line feed. Each line of the output of a run that is an answer to an input
-/// that is told stands in it, in its order, with `= ` before it, and no other line begins so. Before the line of a
-/// message stands what the message says.
+/// The log is UTF-8, in lines that end with a line feed. Each output line that answers a told input stands in the log,
+/// in order, with `= ` before it, and no other line begins so. What a message says stands before the line of the
+/// message.
 ///
 /// # Errors
 ///
-/// `Track` where the text is no track, as `track_from_toml` has it; nothing is read then. `Batch` where the batch
-/// cannot be read or has too many inputs, or memory was refused. `OnlyInputs` with the number of inputs where it is
-/// below `from`.
+/// `Track` if the text is not a track, as `track_from_toml` says; nothing is read then. `Batch` if the batch cannot be
+/// read or has too many inputs, or memory was refused. `OnlyInputs` with the number of inputs if it is below `from`.
 pub fn explain<R: Read>(
     alloc: Global,
     text: &str,
@@ -50,8 +49,7 @@ pub fn explain<R: Read>(
     Ok(log_of(alloc, text, account, &lines, from)?)
 }
 
-/// The log of lines, on the track that a text in TOML writes. Fails only for lack of memory, and where the text is no
-/// track.
+/// The log of lines, on the track that a text in TOML writes. Fails also if the text is not a track.
 fn log_of(
     alloc: Global,
     text: &str,
@@ -82,7 +80,7 @@ fn log_of(
     Ok(log)
 }
 
-/// The names of a track. Fails only for lack of memory, and where the text is no track.
+/// The names of a track. Fails also if the text is not a track.
 fn names_of(alloc: Global, text: &str) -> Result<NamedTrack, AllocError> {
     match named_track(alloc, text) {
         Ok(named) => Ok(named),
@@ -90,7 +88,7 @@ fn names_of(alloc: Global, text: &str) -> Result<NamedTrack, AllocError> {
     }
 }
 
-/// Takes each line, and adds what came of it from an input on. Fails only for lack of memory.
+/// Takes each line, and adds what came of it from an input on.
 fn push_inputs(
     alloc: Global,
     log: &mut Vec<u8>,
@@ -109,7 +107,7 @@ fn push_inputs(
     Ok(())
 }
 
-/// Takes a line, and adds what came of it if it is told. Fails only for lack of memory.
+/// Takes a line, and adds what came of it if it is to be told.
 fn push_input(
     alloc: Global,
     log: &mut Vec<u8>,

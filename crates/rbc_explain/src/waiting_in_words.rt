@@ -4,7 +4,7 @@ use rbc_account::{Cause, Waiting, Waits};
 use std::alloc::AllocError;
 use std::fmt::Write;
 
-/// Adds that something has come to wait at a train.
+/// Adds that something began to wait at a train.
 pub(crate) fn push_waiting_at(
     text: &mut String,
     engine: u32,
@@ -15,7 +15,7 @@ pub(crate) fn push_waiting_at(
     push_what(text, waiting)
 }
 
-/// Adds that something waits at the train of which the lines before speak.
+/// Adds that something waits at the train that the lines before are about.
 pub(crate) fn push_waiting(text: &mut String, waiting: &Waiting) -> Result<(), AllocError> {
     let heading = heading(waiting.what);
     write!(text, "    {heading}: ")?;

@@ -16,7 +16,7 @@ heap = record { memory = record { seal = record {} } }
 abbrev pub chunk : Ty → Ptr → Fml
 chunk = ghosts.dealloc_token heap
 
--- a desk's memory at the pointer, which the C library's `free` takes back, or nothing where there is no desk
+-- a desk's memory at the pointer, which the C library's `free` takes back, or nothing if there is no desk
 abbrev pub live_at : Ptr → Option LiveDesk → Fml
 live_at p (Some desk) = box_owns chunk the_row p desk
 live_at p None = ftrue

@@ -10,7 +10,7 @@ use std::alloc::Global;
 use std::marker::Model;
 use std::ptr;
 
-/// The memory of a desk, which it owns, or none. It is not freed where the pointer is dropped: `give` hands it back.
+/// The memory of a desk, which it owns, or none. Dropping the pointer does not free it: `give` hands it back.
 #[repr(C)]
 #[derive(Drop)]
 pub struct DeskPointer {

@@ -39,7 +39,7 @@ pub record IsTable (count : ℕ) (slots : Slots) : Type 0 where
   pub below : All (λ id. id < count) (keys slots)
   pub once : TellsOnce slots
 
--- under no other identifier is the number of a slot told
+-- the number of a slot is told under no other identifier
 abbrev pub TellsApart : ℕ → Slot → Slots → Type 0
 TellsApart id slot slots = (n : ℕ) → tells n slot ≡ true → is_told (without id slots) n ≡ false
 
@@ -91,7 +91,7 @@ abbrev pub reported_slot : Slot → Slot
 reported_slot (Used used) = if is_unanswered used then Used (record used { count = min (used.count + 1) most_reports }) else Used used
 reported_slot (Revoking stamp) = Revoking stamp
 
--- R-ESCALATE-1: so do all slots
+-- R-ESCALATE-1: all slots after one more report of the train
 abbrev pub after_report : Slots → Slots
 after_report slots = map (λ held. (held.0, reported_slot held.1)) slots
 
@@ -100,7 +100,7 @@ abbrev pub is_ripe : Slot → Bool
 is_ripe (Used used) = is_unanswered used && used.count == most_reports
 is_ripe (Revoking stamp) = false
 
--- so was the one under an identifier
+-- the same for the slot of an identifier
 abbrev pub is_ripe_at : Slots → ℕ → Bool
 is_ripe_at slots id = option_map_or is_ripe (value_of slots id) false
 
@@ -124,13 +124,13 @@ abbrev pub is_answered_by : ℕ → Slot → Bool
 is_answered_by stamp (Used used) = is_of_restriction used.kind && used.stamp == stamp
 is_answered_by stamp (Revoking own) = own == stamp
 
--- R-INPUT-7. The slot once the train has acknowledged the message with this stamp, or none where its identifier is free
--- then: a restriction is marked, and a stop stays as it is.
+-- R-INPUT-7. The slot once the train has acknowledged the message with this stamp, or none if its identifier is then
+-- free: a restriction is marked, and a stop stays as it is.
 abbrev pub acked_slot : ℕ → Slot → Option Slot
 acked_slot stamp (Used used) = Some (if is_answered_by stamp (Used used) then marked used else Used used)
 acked_slot stamp (Revoking own) = if own == stamp then None else Some (Revoking own)
 
--- the slots of the identifiers that are held then
+-- the slots of the identifiers that are still held after that acknowledgement
 abbrev pub acked_slots : ℕ → Slots → Slots
 acked_slots stamp slots = filter_map (λ held. option_map (λ slot. (held.0, slot)) (acked_slot stamp held.1)) slots
 
@@ -144,7 +144,7 @@ abbrev pub is_freed_by : ℕ → Slot → Bool
 is_freed_by stamp (Used used) = false
 is_freed_by stamp (Revoking own) = own == stamp
 
--- it told the restriction of a slot
+-- the message with this stamp told the restriction of a slot
 abbrev pub is_marked_by : ℕ → Slot → Bool
 is_marked_by stamp (Used used) = is_of_restriction used.kind && used.stamp == stamp
 is_marked_by stamp (Revoking own) = false

@@ -36,7 +36,7 @@ impl<const N: usize> Model for IdTable<N> {
 }
 
 impl<const N: usize> IdTable<N> {
-    /// Makes a table in which every identifier is free. `N` is at most 255. Takes no memory.
+    /// Makes a table in which every identifier is free. `N` is at most 255.
     pub fn new(alloc: Global) -> Self
         requires { N ≤ 255 }
         ensures { result ≡ [] }
@@ -46,8 +46,7 @@ impl<const N: usize> IdTable<N> {
         }
     }
 
-    /// Copies the table; fails only for lack of memory. The copy takes memory only if an identifier is held, and then
-    /// has room for one more.
+    /// Copies the table. The copy takes memory only if an identifier is held, and then has room for one more.
     pub fn copy(&self, alloc: Global) -> Result<Self, AllocError>
         ensures { IfOk result (λ copy. copy ≡ self.now) }
     {
@@ -59,8 +58,8 @@ impl<const N: usize> IdTable<N> {
         Ok(IdTable { held })
     }
 
-    /// Makes the table a copy of another, with room for one more if an identifier is held. Takes memory only where this
-    /// one did not have that room. Fails only for lack of memory; then every identifier is free.
+    /// Makes the table a copy of another, with room for one more if an identifier is held. Takes memory only if this
+    /// table lacked that room. After an error every identifier is free.
     pub fn copy_from(&mut self, other: &Self) -> Result<(), AllocError>
         ensures ok { OnOk result (self.new ≡ other.now) }
         ensures err { OnErr result (self.new ≡ []) }
@@ -120,9 +119,9 @@ impl<const N: usize> IdTable<N> {
 
     /// Whether an identifier is used by a number. A number whose slot is being revoked is not found.
     ///
-    /// The search begins at the index `near` among the held identifiers, and goes round. Where it finds the number,
-    /// `near` is then the index after it. So numbers that are asked for in the order of their identifiers are found at
-    /// once; the answer is the same wherever the search begins.
+    /// The search begins at the index `near` among the held identifiers, and goes round. If it finds the number, `near`
+    /// is then the index after it. So numbers that are sought in the order of their identifiers are found at once. The
+    /// answer is the same wherever the search begins.
     pub fn tells(&self, number: u32, near: &Cell<usize>) -> bool
         ensures { result ≡ is_told self.now number }
     {
@@ -161,8 +160,7 @@ impl<const N: usize> IdTable<N> {
     }
 
     /// Uses an identifier for a number, told by a message of this kind with this stamp (T_TRAIN, 10 ms). The identifier
-    /// must be free and below `N`, and the number must not be told already. Fails only for lack of memory, which leaves
-    /// the table unchanged.
+    /// must be free and below `N`, and the number must not be told already. An error leaves the table unchanged.
     pub fn tell(&mut self, id: u8, number: u32, stamp: u32, kind: Kind) -> Result<(), AllocError>
         requires below { id < N }
         requires free { has self.old id ≡ false }
@@ -195,7 +193,7 @@ impl<const N: usize> IdTable<N> {
 
     /// Takes the train's acknowledgement of the message with this stamp (own rule). It frees each identifier that the
     /// message revoked, and marks each restriction that it told as acknowledged. A stop is not acknowledged by its
-    /// stamp. Takes no memory.
+    /// stamp.
     pub fn ack_stamp(&mut self, stamp: u32) -> StampAck
         ensures answer { result ≡ stamp_answer self.old stamp }
         ensures after { changed_by_stamp result self.new ≡ after_stamp_ack self.old stamp }
@@ -238,7 +236,7 @@ impl<const N: usize> IdTable<N> {
     }
 
     /// Counts one more report of the train for each stop that it was told conditionally and has not acknowledged, to at
-    /// most 3 (own rule). Takes no memory.
+    /// most 3 (own rule).
     pub fn reported(&mut self)
         ensures { self.new ≡ after_report self.old }
     {
@@ -248,7 +246,7 @@ impl<const N: usize> IdTable<N> {
     }
 
     /// Whether an identifier is used by a stop that the train was told conditionally, and has left unanswered in three
-    /// reports. Takes no memory.
+    /// reports.
     pub fn ripe(&self, id: u8) -> bool
         ensures { result ≡ is_ripe_at self.now id }
     {
@@ -265,8 +263,8 @@ impl<const N: usize> IdTable<N> {
         self.held[at].1 = slot;
     }
 
-    /// Returns the index at which an identifier stands in `held`, or would stand. Where no identifier below it is free,
-    /// it stands at the index that is its own value, so that is tried first.
+    /// Returns the index at which an identifier stands in `held`, or would stand. If no identifier below it is free, it
+    /// stands at the index that is its own value, so that index is tried first.
     fn index_of(&self, id: u8) -> usize
         ensures { result ≡ index_for id self.now }
     {

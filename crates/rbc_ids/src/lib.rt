@@ -7,6 +7,9 @@
 //! stamp and says how many it freed and marked.
 //!
 //! Begin with slot.rt, then identifier_table.rt.
+//!
+//! A function that cannot report a lack of memory takes none. `AllocError` means that memory was refused; what the
+//! function was changing is then of no further use, unless its docstring says what is left.
 #![tactic(auto)]
 
 mod identifier_table;

@@ -16,7 +16,7 @@ use Rattle.rbc_live.specs.declared.alarm.Alarm.TheVariants.{NoPlace, Untold}
 use Rattle.rbc_live.specs.declared.waiting.Waits.TheVariants.{Stop, Restriction, Again}
 use Rattle.rbc_live.specs.Alarms.{alarms_at, same_alarm}
 
--- all identifiers of the train for stops are held, or no stamp is left for it; and the same of restrictions
+-- all identifiers of the train for stops are held, or no stamp is left for it; the same for restrictions
 abbrev pub HasNoStopLeft : TrainRec → Type 0
 HasNoStopLeft train = (length train.stops ≡ stop_identifiers) ⊎ (last_stamp ≤ train.stamp)
 
@@ -43,12 +43,12 @@ is_among alarms alarm = list_any (λ other. same_alarm other alarm) alarms
 abbrev pub IsStopToldOrAlarmed : TrainRec → List Alarm → ℕ × List Segment → Type 0
 IsStopToldOrAlarmed train alarms stop = (concern_to train stop ≡ concern.None) ⊎ ((is_told train.stops stop.0 ≡ true) ⊎ (is_among alarms (Untold (Stop stop.0)) ≡ true))
 
--- so does a restriction
+-- the same for a restriction
 abbrev pub IsLimitToldOrAlarmed : ℕ → TrainRec → List Alarm → ℕ × Limit → Type 0
 IsLimitToldOrAlarmed horizon train alarms limit =
     (limit_told_to horizon train.place limit.1 ≡ None) ⊎ ((is_told train.limits limit.0 ≡ true) ⊎ (is_among alarms (Untold (Restriction limit.0)) ≡ true))
 
--- nothing that concerns a train is neither told to it nor has an alarm, whatever is active
+-- whatever is active, all that concerns a train is told to it or has an alarm
 pub record NothingIsMissed (horizon : ℕ) (stops : List (ℕ × List Segment)) (limits : List (ℕ × Limit)) (train : TrainRec) : Type 0 where
   pub no_stop : All (IsStopToldOrAlarmed train (alarms_at horizon stops limits train)) stops
   pub no_limit : All (IsLimitToldOrAlarmed horizon train (alarms_at horizon stops limits train)) limits

@@ -1,4 +1,4 @@
--- The alarms of a state, one for each thing that a train is not told though it concerns it, and what is written of them (own rule).
+-- The alarms of a state, one for each thing that concerns a train and is not told to it, and the lines that are written for them (own rule).
 use Rattle.std.specs.Prelude.{ℕ, ◌+◌, Bool, ◌==◌, ◌&&◌, ◌||◌, nat_lt, nat_le, if◌then◌else◌, List, [], ◌∷◌, ◌++◌, map, codes, Option, Some, None}
 use Rattle.std.specs.Fmt.{decimal}
 use Rattle.std.specs.List.{flat_map, fold}
@@ -30,7 +30,7 @@ place_alarm (Some p) = []
 abbrev pub alarms_at : ℕ → List (ℕ × List Segment) → List (ℕ × Limit) → TrainRec → List Alarm
 alarms_at horizon stops limits train = place_alarm train.place ++ map (λ waiting. Untold waiting.what) (all_waiting horizon stops limits train)
 
--- the alarms of the train with an engine number; none where it is not enrolled
+-- the alarms of the train with an engine number; none if it is not enrolled
 abbrev pub alarms_of : Plan → World → ℕ → List Alarm
 alarms_of plan w engine = option_map_or (alarms_at plan.horizon w.stops.active w.limits.active) (value_of w.trains engine) []
 
@@ -54,7 +54,8 @@ same_alarm one other = (rank one).0 == (rank other).0 && (rank one).1 == (rank o
 abbrev pub is_earlier : Alarm → Alarm → Bool
 is_earlier one other = nat_lt (rank one).0 (rank other).0 || ((rank one).0 == (rank other).0 && nat_lt (rank one).1 (rank other).1)
 
--- What becomes of one alarm that stood, and of those that stand now: each earlier one is raised, and it is cleared where it is not among them.
+-- The changes for one old alarm and the present ones: each present alarm before it in the order is raised, and it is
+-- cleared if it is not among the present ones.
 abbrev pub and_then : Alarm → (List Alarm → List Change) → List Alarm → List Change
 and_then stood later [] = Cleared stood ∷ later []
 and_then stood later (first ∷ now) =
@@ -62,7 +63,7 @@ and_then stood later (first ∷ now) =
     else (if is_earlier stood first then Cleared stood ∷ later (first ∷ now)
     else Raised first ∷ and_then stood later now)
 
--- What changes from the alarms that stood to those that stand now, both in their order: those of only one of the lists, in this order.
+-- The changes from the old alarms to the present ones, both in order: the alarms that are in only one of the lists, in order.
 abbrev pub changes : List Alarm → List Alarm → List Change
 changes [] now = map Raised now
 changes (stood ∷ others) now = and_then stood (changes others) now
@@ -81,7 +82,7 @@ abbrev pub change_line : ℕ → ℕ → Change → List ℕ
 change_line input engine (Raised alarm) = decimal input ++ codes " raised " ++ decimal engine ++ codes " " ++ alarm_text alarm ++ codes "\n"
 change_line input engine (Cleared alarm) = decimal input ++ codes " cleared " ++ decimal engine ++ codes " " ++ alarm_text alarm ++ codes "\n"
 
--- a line for each alarm of one train that changes by an input
+-- a line for each alarm of one train that an input changes
 abbrev pub engine_lines : ℕ → ℕ → List Alarm → List Alarm → List ℕ
 engine_lines input engine old new = flat_map (change_line input engine) (changes old new)
 
@@ -89,12 +90,12 @@ engine_lines input engine old new = flat_map (change_line input engine) (changes
 abbrev pub engines_of_both : World → World → List ℕ
 engines_of_both old new = fold (λ engines engine. and_number engine engines) (keys old.trains) (keys new.trains)
 
--- the lines of all trains, of an input that leads from one world to another
+-- the lines of all trains, for an input that leads from one world to another
 abbrev pub alarm_lines : Plan → ℕ → World → World → List ℕ
 alarm_lines plan input old new = flat_map (λ engine. engine_lines input engine (alarms_of plan old engine) (alarms_of plan new engine)) (engines_of_both old new)
 
--- Where alarms are wanted: the lines of an input whose answer is written; at the last input before the first of those, a line for each alarm
--- that stands then; and else nothing.
+-- The alarm lines that are wanted: for an input whose answer is written, its lines; for the last input before the first
+-- of those, a line for each alarm that stands then; otherwise nothing.
 abbrev pub alarms_shown : Plan → Wanted → ℕ → World → World → List ℕ
 alarms_shown plan wanted input old new =
     if wanted.alarms then (if nat_le wanted.from input then alarm_lines plan input old new

@@ -1,4 +1,4 @@
--- What is out where lines are answered as they come.
+-- What is written when lines are answered as they come.
 use Rattle.std.specs.Prelude.{◌≡◌, ◌≤◌, ◌-◌, ◌^◌, ℕ, min, List, Option, Result, Ok, Err, ◌++◌, codes, take, length}
 use Rattle.std.specs.Fmt.{decimal}
 use Rattle.std.specs.Io.KnownBytes.{Appends, Consumes}
@@ -14,12 +14,13 @@ use Rattle.rbc_live.specs.declared.prompt.PromptError.TheVariants.{Read, Memory,
 abbrev pub count_of : ℕ → ℕ
 count_of number = min number (2 ^ 64 - 1)
 
--- the first bytes of a text are out, so many of them
+-- the first bytes of a text are out, this many of them
 abbrev pub IsPartOut : Option (List ℕ) → Option (List ℕ) → List ℕ → ℕ → Type 0
 IsPartOut old new text sent = (out : ℕ) × (out ≤ length text) × (sent ≡ count_of out) × Appends old new (take out text)
 
--- At Ok what is wanted of all lines that were read is out, and nothing else is written. At a read fault all lines that have ended are. Where memory was
--- refused the first lines are, each answer whole; at a write fault the first bytes of such a text are out.
+-- At Ok what is wanted for all lines that were read is out, and nothing else. At a read fault, what is wanted for all
+-- lines that have ended. If memory was refused, what is wanted for the first lines, each answer whole. At a write
+-- fault, the first bytes of such a text.
 abbrev pub Answers : {E : Type 0} → Plan → Wanted → Option (List ℕ) → Option (List ℕ) → Option (List ℕ) → Option (List ℕ) → Result E PromptError → Type 0
 Answers plan wanted read_old read_new old new (Ok done) =
     (batch text : List ℕ) × IsAllRead read_old read_new batch × AreAnswers plan wanted (lines_of batch) text × Appends old new text

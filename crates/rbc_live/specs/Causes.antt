@@ -22,7 +22,7 @@ IsCauseOf train (Stop number) NoStamp = last_stamp ≤ train.stamp
 IsCauseOf train (Restriction number) NoStamp = last_stamp ≤ train.stamp
 IsCauseOf train (Again number) NoStamp = last_stamp ≤ train.stamp
 
--- The cause of all that waits at the trains of a valid state is true: nothing waits for another reason.
+-- Each cause that is given for something that waits at a train of a valid state is true: nothing waits for another reason.
 abbrev pub EachCauseIsTrue : Type 0
 EachCauseIsTrue =
     (plan : Plan) (w : World) → IsWellFormed plan w

@@ -1,4 +1,4 @@
--- Lines that have begun, and lead to the same however they go on.
+-- Lines that have begun, and lead to the same result however they go on.
 use Rattle.std.specs.Prelude.{◌≡◌, ℕ, Bool, true, false, List, ◌++◌}
 use Rattle.rbc_track.specs.Plan.{Plan}
 use Rattle.rbc_rule.specs.declared.input.Input.{Input}
@@ -7,15 +7,15 @@ use Rattle.rbc_rule.specs.World.{World}
 use Rattle.rbc_rule.specs.Step.{step}
 use Rattle.rbc_text.specs.BatchText.{Line, line_of, IsInput}
 
--- whatever input the first line is, the second one is an input whose step is the same, on each track and in each world
+-- for each input of the first line, the second line has an input whose step is the same, on each track and in each world
 abbrev pub ActsAs : Line → Line → Type 0
 ActsAs kept line = (input : Input) → IsInput kept input → (other : Input) × IsInput line other × ((plan : Plan) (w : World) → step plan w other ≡ step plan w input)
 
--- the same of two lines that have begun, whatever follows
+-- the same for two lines that have begun, whatever follows
 abbrev pub GoesOnAs : List ℕ → List ℕ → Type 0
 GoesOnAs kept line = (more : List ℕ) → ActsAs (line_of (kept ++ more)) (line_of (line ++ more))
 
--- of a line that has not ended at most so many bytes are kept
+-- the most bytes that are kept of a line that has not ended
 abbrev pub max_kept : ℕ
 max_kept = 65536
 

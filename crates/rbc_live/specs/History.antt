@@ -22,8 +22,9 @@ use Rattle.rbc_live.specs.declared.desk.LiveFault.TheVariants.{Memory, Room}
 abbrev pub AreSame : List (Key × Rec) → List (Key × Rec) → Type 0
 AreSame old new = (k : Key) → record_in new k ≡ record_in old k
 
--- Records, an answer and messages are those of the step: where the records before were those of a world, those after it are of the
--- world after the step, and the answer and the messages to each engine are the step's. The order between engines is free.
+-- Records, an answer and messages are those of the step. If the records before were those of a world, the records after
+-- it are those of the world after the step, and the answer and the messages to each engine are the step's. The order
+-- between engines is free.
 abbrev pub IsStepOf : Plan → Input → List (Key × Rec) → List (Key × Rec) → Reply → List Sent → Type 0
 IsStepOf plan input old new reply messages = (w : World) → AreRecordsOf plan (record_in old) w
     → AreRecordsOf plan (record_in new) (step plan w input).world
@@ -34,20 +35,20 @@ IsStepOf plan input old new reply messages = (w : World) → AreRecordsOf plan (
 abbrev pub IsFed : Plan → List ℕ → List (Key × Rec) → List (Key × Rec) → Reply → List Sent → Type 0
 IsFed plan line old new reply messages = (input : Input) × IsInput (line_of line) input × IsStepOf plan input old new reply messages
 
--- so many messages are sent by the step of an input
+-- the step of an input sends this many messages
 abbrev pub AreSentAt : Plan → Input → List (Key × Rec) → ℕ → Type 0
 AreSentAt plan input records count = (w : World) → AreRecordsOf plan (record_in records) w → count ≡ count_sent (step plan w input).sent
 
--- so many messages are sent by the step of the line's input
+-- the step of the input of a line sends this many messages
 abbrev pub AreSentBy : Plan → List ℕ → List (Key × Rec) → ℕ → Type 0
 AreSentBy plan line records count = (input : Input) × IsInput (line_of line) input × AreSentAt plan input records count
 
--- a fault for want of room says how many messages there are, and they are more than were wanted
+-- a fault for lack of room says how many messages there are, and they are more than the caller allows
 abbrev pub IsFaultFor : (ℕ → Type 0) → ℕ → LiveFault → Type 0
 IsFaultFor AreSent most Memory = Unit
 IsFaultFor AreSent most (Room count) = (most < count) × AreSent count
 
--- so at a line, and at an input
+-- the same for a line, and for an input
 abbrev pub IsFaultOf : Plan → List ℕ → List (Key × Rec) → ℕ → LiveFault → Type 0
 IsFaultOf plan line records most fault = IsFaultFor (AreSentBy plan line records) most fault
 
@@ -60,7 +61,7 @@ pub record Taken : Type 0 where
   pub reply : Reply
   pub messages : List Sent
 
--- lines taken one after another lead from records to records; what is the same record by record counts as the same
+-- lines taken one after another lead from records to records; records that are the same under each key count as the same
 abbrev pub IsHistory : Plan → List (Key × Rec) → List Taken → List (Key × Rec) → Type 0
 IsHistory plan old [] new = AreSame old new
 IsHistory plan old (taken ∷ more) new =
@@ -79,10 +80,10 @@ standing_after taken records = record { records = record_in records; results = m
 abbrev pub IsSerialOf : Plan → List Input → List Taken → List (Key × Rec) → Type 0
 IsSerialOf plan inputs taken records = AreInputs (map (λ one. one.line) taken) inputs × Holds plan (standing_after taken records) (serial plan new_desk inputs)
 
--- the same of some inputs of the lines
+-- the same for some inputs of the lines
 abbrev pub IsSerialRunOf : Plan → List Taken → List (Key × Rec) → Type 0
 IsSerialRunOf plan taken records = (inputs : List Input) × AreInputs (map (λ one. one.line) taken) inputs × Holds plan (standing_after taken records) (serial plan new_desk inputs)
 
--- on each track, for all lines that are taken from the opening of a desk on
+-- this holds on each track, for all lines that are taken since a desk was opened
 abbrev pub EachHistoryIsSerial : Type 0
 EachHistoryIsSerial = (plan : Plan) (taken : List Taken) (records : List (Key × Rec)) → IsHistory plan [] taken records → IsSerialRunOf plan taken records

@@ -22,22 +22,22 @@ but_last (line ∷ more ∷ lines) = line ∷ but_last (more ∷ lines)
 abbrev pub ended_lines_of : List ℕ → List (List ℕ)
 ended_lines_of text = but_last (slice_split is_line_feed text)
 
--- the answer to a line of this number, where answers are written from a number on
+-- the answer to a line of this number, if answers are written from that number on
 abbrev pub shown : ℕ → ℕ → Taken → List ℕ
 shown from number taken = if nat_le from number then answer_of number taken.reply taken.messages else []
 
--- what is written of a line of this number, whose input a desk takes: the answer, and then the alarms that change
+-- what is written for a line of this number, whose input a desk takes: the answer, and then the alarms that change
 abbrev pub written_of : Plan → Wanted → ℕ → Desk → Input → Taken → List ℕ
 written_of plan wanted number desk input taken = shown wanted.from number taken ++ alarms_shown plan wanted number desk.world (step plan desk input).world
 
--- what is written of lines, of which the first has this number, and of their inputs, which a desk takes one after another
+-- what is written for lines, the first of which has this number, and whose inputs a desk takes one after another
 abbrev pub answers_from : Plan → Wanted → ℕ → Desk → List Input → List Taken → List ℕ
 answers_from plan wanted number desk (input ∷ inputs) (taken ∷ more) = written_of plan wanted number desk input taken ++ answers_from plan wanted (number + 1) (step plan desk input) inputs more
 answers_from plan wanted number desk [] taken = []
 answers_from plan wanted number desk (input ∷ inputs) [] = []
 
--- The text is what is wanted of these lines, of which the first has number 1: the answers, the messages and the alarms are those of the
--- serial run of the lines, from a new desk.
+-- The text is what is wanted for these lines, the first of which has number 1: the answers, the messages and the alarms
+-- are those of the serial run of the lines, from a new desk.
 pub record AreAnswers (plan : Plan) (wanted : Wanted) (lines : List (List ℕ)) (text : List ℕ) : Type 0 where
   pub taken : List Taken
   pub records : List (Key × Rec)

@@ -18,14 +18,14 @@ use Rattle.rbc_live.specs.declared.session.Session.{Session}
 use Rattle.rbc_live.specs.declared.prompt.PromptError.{PromptError}
 use Rattle.rbc_live.specs.declared.prompt.PromptError.TheVariants.{Read, Memory, Write}
 
--- what is kept of a line that has not ended: few bytes, which go on as the line does, and none only where it has none
+-- what is kept of a line that has not ended: few bytes, which go on as the line does, and no byte only if the line has none
 pub record Shows (line : List ℕ) (kept : UnfinishedLine) : Type 0 where
   pub alike : GoesOnAs kept.bytes.items line
   pub some : 1 ≤ length line → 1 ≤ length kept.bytes.items
   pub within : length kept.bytes.items ≤ length line
   pub few : length kept.bytes.items ≤ max_kept
 
--- What is wanted of these lines, which were taken from a new desk, is out, or else in the text; so many bytes are out.
+-- What is wanted for these lines, which were taken from a new desk, is out, or still in the text; this many bytes are out.
 pub record ArePending (plan : Plan) (wanted : Wanted) (text : List ℕ) (sent : ℕ) (old new : Option (List ℕ)) (ended : List (List ℕ)) : Type 0 where
   pub taken : List Taken
   pub records : List (Key × Rec)
@@ -37,7 +37,7 @@ pub record ArePending (plan : Plan) (wanted : Wanted) (text : List ℕ) (sent : 
   pub out : Appends old new written
   pub count : sent ≡ count_of (length written)
 
--- The same of a session, which can go on: the next line has begun with these bytes.
+-- The same for a session, which can go on: the next line has begun with these bytes.
 pub record IsUnderWay (plan : Plan) (wanted : Wanted) (session : Session) (old new : Option (List ℕ)) (ended : List (List ℕ)) (rest : List ℕ) : Type 0 where
   pub taken : List Taken
   pub inputs : List Input
@@ -59,7 +59,7 @@ pub record IsUnderWay (plan : Plan) (wanted : Wanted) (session : Session) (old n
 abbrev pub IsWaiting : Session → Type 0
 IsWaiting session = (session.text.items ≡ []) × (session.outlet.flushed ≡ true)
 
--- the first bytes of a text are out, behind so many others; the fault counts them all
+-- the first bytes of a text are out, after this many others; the fault counts them all
 abbrev pub IsCutShort : ℕ → List ℕ → Option (List ℕ) → Option (List ℕ) → PromptError → Type 0
 IsCutShort sent text old new fault = (part : ℕ) × (part ≤ length text) × Appends old new (take part text) × (fault ≡ Write (count_of (sent + part)))
 
@@ -74,7 +74,7 @@ abbrev pub GoesOn : {E : Type 0} → Plan → Wanted → List (List ℕ) → Opt
 GoesOn plan wanted lines old new (Ok done) P = P
 GoesOn plan wanted lines old new (Err fault) P = IsEnded plan wanted lines old new fault
 
--- pieces, of which the first goes on from what stands before it
+-- pieces, the first of which goes on from what stands before it
 abbrev pub joined : List ℕ → List (List ℕ) → List (List ℕ)
 joined rest [] = rest ∷ []
 joined rest (first ∷ more) = (rest ++ first) ∷ more

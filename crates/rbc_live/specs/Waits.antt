@@ -32,7 +32,7 @@ is_due train number = list_any (λ held. is_ripe held.1 && tells number held.1) 
 abbrev pub lacks_something : TrainRec → Bool
 lacks_something train = length train.stops == stop_identifiers || (length train.limits == limit_identifiers || nat_le last_stamp train.stamp)
 
--- Why a stop or a restriction waits: no identifier is free, and else the train has no stamp left.
+-- Why a stop or a restriction waits: no identifier is free or, if one is, the train has no stamp left.
 abbrev pub stop_cause : TrainRec → Cause
 stop_cause train = if length train.stops == stop_identifiers then NoIdentifier else NoStamp
 
@@ -65,7 +65,7 @@ stops_due stops train = map (λ stop. waiting_again train stop.0) (filter (λ st
 abbrev pub all_waiting : ℕ → List (ℕ × List Segment) → List (ℕ × Limit) → TrainRec → List Waiting
 all_waiting horizon stops limits train = stops_waiting stops train ++ limits_waiting horizon limits train ++ stops_due stops train
 
--- the same by the active stops and restrictions of records
+-- the same, by the active stops and restrictions of records
 abbrev pub waiting_at : ℕ → List (Key × Rec) → TrainRec → List Waiting
 waiting_at horizon records train = all_waiting horizon (active_stops records) (active_limits records) train
 

@@ -26,7 +26,7 @@ may_alarm train = is_none train.place || lacks_something train
 abbrev pub alarms_if_any : ℕ → List (Key × Rec) → TrainRec → Option (List Alarm)
 alarms_if_any horizon records train = if may_alarm train then Some (alarms_at horizon (active_stops records) (active_limits records) train) else None
 
--- the same of the train with an engine number, if it is enrolled
+-- the same for the train with an engine number, if it is enrolled
 abbrev pub seen_of : ℕ → List (Key × Rec) → ℕ → Option (List Alarm)
 seen_of horizon records engine = option_and_then (alarms_if_any horizon records) (train_in records engine)
 
@@ -38,11 +38,11 @@ seen_in seen engine = lookup (nat_eq engine) seen
 abbrev pub seen_with : ℕ → Option (List Alarm) → (ℕ → Option (List Alarm)) → ℕ → Option (List Alarm)
 seen_with engine alarms seen other = if engine == other then alarms else seen other
 
--- the alarms, where none are kept none
+-- the alarms that are kept, or none
 abbrev pub or_none : Option (List Alarm) → List Alarm
 or_none seen = unwrap_or seen []
 
--- of each train that may have alarms they are kept, and of no other
+-- alarms are kept for each train that may have any, and for no other
 abbrev pub IsWatch : ℕ → List (Key × Rec) → List (ℕ × List Alarm) → Type 0
 IsWatch horizon records seen = (engine : ℕ) → seen_in seen engine ≡ seen_of horizon records engine
 
@@ -71,11 +71,11 @@ are_zones_written writes = list_any (λ write. is_zone write.0) writes
 abbrev pub is_train_written : List (Key × Option Rec) → ℕ → Bool
 is_train_written writes engine = list_any (λ write. option_map_or (λ written. written == engine) (engine_of write.0) false) writes
 
--- records stay but for those under the keys of writes
+-- records stay, except those under the keys of writes
 abbrev pub StayBut : List (Key × Option Rec) → List (Key × Rec) → List (Key × Rec) → Type 0
 StayBut writes before after = (k : Key) → is_noted writes k ≡ false → record_in after k ≡ record_in before k
 
--- the lines of an engine, by what was seen of it before and after an input
+-- the lines of an engine, by the alarms that were seen before and after an input
 abbrev pub seen_lines : ℕ → (ℕ → Option (List Alarm)) → (ℕ → Option (List Alarm)) → ℕ → List ℕ
 seen_lines input before after engine = engine_lines input engine (or_none (before engine)) (or_none (after engine))
 
@@ -90,14 +90,14 @@ pub record AreSeenLines (input : ℕ) (before after : ℕ → Option (List Alarm
 abbrev pub none_seen : ℕ → Option (List Alarm)
 none_seen engine = None
 
--- a watch is kept exactly where alarms are wanted
+-- a watch is kept exactly if alarms are wanted
 abbrev pub IsWatchFor : Bool → ℕ → List (Key × Rec) → Option (List (ℕ × List Alarm)) → Type 0
 IsWatchFor false horizon records None = Unit
 IsWatchFor true horizon records None = ⊥
 IsWatchFor false horizon records (Some watch) = ⊥
 IsWatchFor true horizon records (Some watch) = IsWatch horizon records watch
 
--- what is written of alarms with the answer to an input, by what was seen before and after it
+-- the alarm lines with the answer to an input, by the alarms that were seen before and after it
 pub record IsAlarmPart (wanted : Wanted) (input : ℕ) (before after : ℕ → Option (List Alarm)) (text : List ℕ) : Type 0 where
   pub unwanted : wanted.alarms ≡ false → text ≡ []
   pub change : wanted.alarms ≡ true → wanted.from ≤ input → AreSeenLines input before after text

@@ -15,7 +15,7 @@ use Rattle.rbc_rule.specs.declared.outcome.Reply.{Reply}
 use Rattle.rbc_rule.specs.declared.outcome.Reply.TheVariants.{Done, Refused}
 use Rattle.rbc_live.specs.History.{Taken}
 
--- the line `x`, which is no input, with an answer to it and messages
+-- the line `x`, which is not an input, with an answer to it and messages
 abbrev pub line_x : Reply → List Sent → Taken
 line_x reply messages = record { line = 120 ∷ []; reply = reply; messages = messages }
 
@@ -27,7 +27,7 @@ refused = line_x (Refused 1) []
 abbrev pub accepted : Taken
 accepted = line_x (Done 0) []
 
--- it is refused, and yet a stop is sent to engine 7
+-- it is refused, but a stop is sent to engine 7
 abbrev pub sending : Taken
 sending = line_x (Refused 1) (record { engine = 7; message = Stop (record { stamp = 1; ack = false; lrbg = 16777215 }) 0 } ∷ [])
 

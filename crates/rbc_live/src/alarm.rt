@@ -16,7 +16,7 @@ use rbc_text::push_decimal;
 use rbc_zones::{Area, Limit};
 use std::alloc::{AllocError, Global};
 
-/// What is not as it should be at a train.
+/// An alarm of one train: what is not as it should be.
 #[derive(Clone, Copy)]
 pub enum Alarm {
     /// The train has no place: each stop stops it, and no restriction is told to it.
@@ -39,7 +39,7 @@ impl Alarm {
         }
     }
 
-    /// The number of the stop or the restriction; 0 where the train has no place.
+    /// The number of the stop or the restriction; 0 if the train has no place.
     pub fn number(self) -> u32
         ensures { result ≡ (rank self).1 }
     {
@@ -49,7 +49,7 @@ impl Alarm {
         }
     }
 
-    /// Whether it is the same.
+    /// Whether it is the same as another.
     fn is(self, other: Alarm) -> bool
         ensures { result ≡ same_alarm self other }
     {
@@ -74,7 +74,7 @@ pub enum Change {
     Cleared(Alarm),
 }
 
-/// The alarms of a train, by the active stops and restrictions, in their order. Fails only for lack of memory.
+/// The alarms of a train, by the active stops and restrictions, in their order.
 pub(crate) fn alarms_at(
     alloc: Global,
     horizon: u32,
@@ -93,7 +93,7 @@ pub(crate) fn alarms_at(
     Ok(alarms)
 }
 
-/// An alarm for each thing that waits. Fails only for lack of memory.
+/// An alarm for each thing that waits.
 fn untold(alloc: Global, waiting: &[Waiting]) -> Result<Vec<Alarm>, AllocError>
     ensures { IfOk result (λ alarms. alarms.items ≡ map (λ one. Untold one.what) waiting.now) }
 {
@@ -149,8 +149,8 @@ fn push_change(
     text.extend_from_slice(b"\n")
 }
 
-/// Appends what becomes of an alarm that stood, and the alarms that are raised before it. Hands back those that stand
-/// now and come later.
+/// Appends the alarms that are raised before an old alarm in order, and the old alarm if it is cleared. Returns the
+/// present alarms that come after it.
 fn push_until<'a>(
     text: &mut Vec<u8>,
     input: u64,

@@ -11,7 +11,7 @@ use std::io::{ErrorKind, Read};
 /// The greatest number of calls of a reader: 2 ^ 47, after which fewer than 2 ^ 63 lines were read.
 const MAX_CALLS: u64 = 1 << 47;
 
-/// How many calls of a reader were made, and whether one failed. None is made after that.
+/// How many calls of a reader were made, and whether one failed. After a failure no call is made.
 #[derive(Drop)]
 pub struct Calls {
     made: u64,
@@ -53,7 +53,7 @@ impl Calls {
     }
 }
 
-/// Whether an answer of a reader is an error, and not that the call was interrupted.
+/// Whether an answer of a reader is an error other than an interruption.
 fn is_failure(answer: &io::Result<usize>) -> bool
     ensures { IsTrue result ↔ IsFailure answer.now }
 {

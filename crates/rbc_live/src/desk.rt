@@ -25,12 +25,12 @@ pub struct LiveDesk {
     pub ghost serial: { ∥ IsSerial track records ∥₁ },
 }
 
-/// Why a line was not taken. Nothing that counts is changed then, and the line may be fed again.
+/// Why a line was not taken. The records are then unchanged, and the line may be fed again.
 #[derive(Clone, Copy, Debug, PartialEq, Eq)]
 pub enum LiveFault {
     /// Memory was refused.
     Memory,
-    /// The line sends this many messages, more than are wanted.
+    /// The line sends this many messages, more than the caller allows.
     Room(usize),
 }
 
@@ -52,7 +52,7 @@ pub struct Answer {
     pub messages: SentList,
 }
 
-/// What each track keeps: a step rests on it.
+/// Says in its contract what holds of every track, because a step depends on it.
 fn is_plan(track: &Track)
     ensures { IsPlan track.now }
 {
@@ -80,8 +80,8 @@ impl LiveDesk {
     ///
     /// # Errors
     ///
-    /// `Memory` where memory was refused; `Room` with the number of messages where there are more than `most`. The desk
-    /// is then as it was, and the line may be fed again.
+    /// `Memory` if memory was refused; `Room` with the number of messages if there are more than `most`. The desk is
+    /// then as it was, and the line may be fed again.
     pub fn feed(&mut self, alloc: Global, line: &[u8], most: usize) -> Result<Answer, LiveFault>
         ensures step { IfOk result (λ answer. IsFed self.old.track line.now self.old.records self.new.records
             answer.reply answer.messages) }
@@ -96,7 +96,8 @@ impl LiveDesk {
         Ok(answer)
     }
 
-    /// Takes one line as `feed` does, and hands back the records that its writes replaced, in their place.
+    /// Takes one line as `feed` does, and returns its writes, with the records that they replaced in place of the new
+    /// ones.
     ///
     /// # Errors
     ///
@@ -141,7 +142,8 @@ impl LiveDesk {
         Ok(answer)
     }
 
-    /// Takes one input as `take` does, and hands back the records that its writes replaced, in their place.
+    /// Takes one input as `take` does, and returns its writes, with the records that they replaced in place of the new
+    /// ones.
     ///
     /// # Errors
     ///
@@ -167,7 +169,7 @@ impl LiveDesk {
         let outcome = match decide(alloc, &self.track, input, &mut self.records) {
             Ok(outcome) => outcome,
             Err(RuleFault::OutOfMemory) => return Err(LiveFault::Memory),
-            // A desk's records are those of a world, and a store of all records never fails.
+            // The records of a desk are those of a world, and a store of all records never fails.
             Err(RuleFault::Torn) => unreachable!(),
             Err(RuleFault::Reader) => unreachable!(),
         };
@@ -184,7 +186,7 @@ impl LiveDesk {
         }
     }
 
-    /// Keeps what an input replaced for the memory of the next one.
+    /// Keeps the records that an input replaced, so that the next input can reuse their memory.
     pub fn keep_spare(&mut self, replaced: Writes)
         ensures records { self.new.records ≡ self.old.records }
         ensures track { self.new.track ≡ self.old.track }

@@ -16,7 +16,7 @@ pub struct UnfinishedLine {
 }
 
 impl UnfinishedLine {
-    /// No byte of a line. It takes no memory.
+    /// No byte of a line.
     pub fn new(alloc: Global) -> UnfinishedLine
         ensures { Shows [] result }
     {
@@ -25,7 +25,7 @@ impl UnfinishedLine {
         }
     }
 
-    /// Adds bytes of the same line. Fails only for lack of memory; what is kept is then of no use.
+    /// Adds bytes of the same line. After an error what is kept is of no use.
     pub fn add(&mut self, alloc: Global, more: &[u8]) -> Result<(), AllocError>
         ensures { (line : List ℕ) → Shows line self.old → OnOk result (Shows (line ++ more.now) self.new) }
     {

@@ -12,7 +12,7 @@ use std::io::Write;
 /// How many bytes a writer has taken, and whether it was flushed since.
 #[derive(Drop)]
 pub struct Outlet {
-    /// The number of bytes, where that is below 2 ^ 64, and else 2 ^ 64 - 1.
+    /// The number of bytes, or 2 ^ 64 - 1 if it is more.
     sent: u64,
     flushed: bool,
 }
@@ -53,7 +53,7 @@ impl Outlet {
         }
     }
 
-    /// Gives what was written to the system, if anything was written since the last time.
+    /// Flushes the writer, if anything was written since the last flush.
     ///
     /// # Errors
     ///

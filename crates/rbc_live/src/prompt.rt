@@ -24,7 +24,7 @@ pub enum PromptError {
     /// There was not enough memory for a line. The lines before it are answered.
     Memory,
     /// The writer failed, took no bytes, was interrupted 1,000 times over one piece of text, or could not be flushed.
-    /// Exactly the first `sent` bytes of the answers are out, or at least that many where `sent` is 2 ^ 64 - 1.
+    /// Exactly the first `sent` bytes of the answers are out, or at least that many if `sent` is 2 ^ 64 - 1.
     Write { sent: u64 },
 }
 
@@ -45,9 +45,9 @@ impl fmt::Display for PromptError {
 
 impl Error for PromptError {}
 
-/// Reads lines to the end of the reader, and takes each on a desk that has taken none. What is wanted of them, the answers
-/// from a number on and alarms, is written and flushed before the reader is asked for more. The last line may lack its
-/// line feed. However long a line is, at most 131,072 bytes of it are kept.
+/// Reads lines to the end of the reader, and takes each on a desk that has taken none. What is wanted of them, the
+/// answers from a number on and alarms, is written and flushed before the reader is asked for more. The last line may
+/// lack its line feed. However long a line is, at most 131,072 bytes of it are kept.
 ///
 /// # Errors
 ///
@@ -70,7 +70,7 @@ pub fn answer_lines<R: Read, W: Write>(
 ///
 /// # Errors
 ///
-/// Those of `answer_lines`: `Read` exactly where a call failed, or 2 ^ 47 calls gave no end.
+/// Those of `answer_lines`: `Read` exactly if a call failed, or 2 ^ 47 calls gave no end.
 fn answer_counted<R: Read, W: Write>(
     alloc: Global,
     desk: LiveDesk,

@@ -50,7 +50,7 @@ pub fn active_limits(records: &PlainStore) -> &[(u32, Limit)]
     }
 }
 
-/// The last number that was given to a stop, or 0 where none was.
+/// The last number that was given to a stop, or 0 if none was.
 pub fn last_stop(records: &PlainStore) -> u32
     ensures { result ≡ last_stop records.now }
 {
@@ -60,7 +60,7 @@ pub fn last_stop(records: &PlainStore) -> u32
     }
 }
 
-/// The last number that was given to a restriction, or 0 where none was.
+/// The last number that was given to a restriction, or 0 if none was.
 pub fn last_limit(records: &PlainStore) -> u32
     ensures { result ≡ last_limit records.now }
 {

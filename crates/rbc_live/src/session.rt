@@ -20,15 +20,15 @@ use rbc_text::render_answer;
 use std::alloc::{AllocError, Global};
 use std::io::Write;
 
-/// Answers are written once there are so many bytes of them, and at the end of each piece that is read.
+/// Answers are written once there are this many bytes of them, and at the end of each piece that is read.
 const ENOUGH: usize = 65_536;
 
-/// A desk that takes lines, and what it has to say of them.
+/// A desk that takes lines, with the answers that are not written yet.
 #[derive(Drop)]
 pub struct Session {
     desk: LiveDesk,
     wanted: Wanted,
-    /// The alarms that stand, where they are wanted.
+    /// The alarms that stand, if they are wanted.
     watch: Option<Watch>,
     /// The number of the next line; the first has number 1.
     number: u64,
@@ -39,7 +39,7 @@ pub struct Session {
 }
 
 impl Session {
-    /// Begins at a desk that has taken no line. It takes no memory.
+    /// Begins at a desk that has taken no line.
     pub fn new(alloc: Global, desk: LiveDesk, wanted: Wanted) -> Session
         requires { desk.records ≡ [] }
         ensures under_way { (known : Option (List ℕ)) → IsUnderWay desk.track wanted result known known [] [] }
@@ -57,8 +57,8 @@ impl Session {
         }
     }
 
-    /// Takes the line to its end, which these bytes are, and puts its answer behind the text. Fails only for lack of
-    /// memory; the text is then as it was.
+    /// Ends the current line with these bytes, takes it, and appends its answer to the text. After an error the text is
+    /// as it was.
     fn take_line(&mut self, alloc: Global, end: &[u8]) -> Result<(), AllocError>
         requires { self.old.number + 1 < 2 ^ 64 }
         ensures taken { (plan : Plan) (wanted : Wanted) (old new : Option (List ℕ)) (ended : List (List ℕ)) (rest : List ℕ)
@@ -110,7 +110,7 @@ impl Session {
         self.outlet.flush(writer)
     }
 
-    /// The fault of a line to which memory was refused: the answers to the lines before it are written first.
+    /// The fault of a line for which memory was refused. The answers to the lines before it are written first.
     fn out_of_memory<W: Write>(&mut self, writer: &mut W) -> PromptError
         ensures { (plan : Plan) (wanted : Wanted) (old : Option (List ℕ)) (ended : List (List ℕ))
             → ArePending plan wanted self.old.text.items self.old.outlet.sent old (W.contents writer.old) ended
@@ -122,7 +122,7 @@ impl Session {
         }
     }
 
-    /// Takes the line to its end, which these bytes are. Its answer is written if there is enough to write.
+    /// Ends the current line with these bytes, and takes it. The answers are written once there are enough of them.
     ///
     /// # Errors
     ///
@@ -149,7 +149,7 @@ impl Session {
         self.write_out(writer)
     }
 
-    /// Adds bytes of a line that they do not end.
+    /// Adds bytes to the current line, which goes on after them.
     ///
     /// # Errors
     ///
@@ -172,7 +172,7 @@ impl Session {
         Ok(())
     }
 
-    /// Takes the lines of a piece of what is read, in which the last one may go on, and writes their answers.
+    /// Takes the lines in a piece of the input, and writes their answers. The last line may go on in the next piece.
     ///
     /// # Errors
     ///

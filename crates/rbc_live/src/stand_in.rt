@@ -1,4 +1,4 @@
-//! A short line that stands in for a long one that has not ended: however both go on, they lead to the same.
+//! A short line that stands in for a long one that has not ended: however both go on, they lead to the same result.
 
 ghost use Rattle.std.specs.Prelude.{◌≡◌, ◌≤◌, ◌<◌, ◌+◌, ◌==◌, ◌∷◌, ◌++◌, [], ℕ, List, codes, length};
 ghost use Rattle.std.specs.Prelude.{if◌then◌else◌, false, true, IfOk, IfSome, IfNone};
@@ -13,7 +13,7 @@ use ertms_codec::cut;
 use rbc_text::parse_line;
 use std::alloc::{AllocError, Global};
 
-/// So many digits are kept of a long message, and one more where their number is odd. They spell more bytes than
+/// How many digits are kept of a long message, and one more if their number is odd. They spell more bytes than
 /// L_MESSAGE can count, so the others do not matter.
 const DIGITS: usize = 4_096;
 
@@ -23,7 +23,7 @@ const MAX_WORD: usize = 64;
 /// One segment more than a stop may have.
 const NINE_SEGMENTS: &[u8] = b" 0:0-0 0:0-0 0:0-0 0:0-0 0:0-0 0:0-0 0:0-0 0:0-0 0:0-0 ";
 
-/// Two texts, one behind the other.
+/// Two texts, one after the other.
 fn joined(alloc: Global, front: &[u8], behind: &[u8]) -> Result<Vec<u8>, AllocError>
     ensures { IfOk result (λ text. text.items ≡ front.now ++ behind.now) }
 {
@@ -40,7 +40,7 @@ fn bad_line(alloc: Global) -> Result<Vec<u8>, AllocError>
     joined(alloc, b" ", b"")
 }
 
-/// What stands before the last space of a line, and the word behind it. Nothing where there is no space.
+/// What stands before the last space of a line, and the word after it. `None` if there is no space.
 fn last_word(line: &[u8]) -> Option<(&[u8], &[u8])>
     ensures words { IfSome result (λ parts. words_of line.now ≡ words_of parts.0.now ++ parts.1.now ∷ []) }
     ensures whole { IfSome result (λ parts. words_of parts.1.now ≡ parts.1.now ∷ []) }
@@ -53,7 +53,7 @@ fn last_word(line: &[u8]) -> Option<(&[u8], &[u8])>
     }
 }
 
-/// The second word of a line, or nothing where there is none.
+/// The second word of a line, or an empty one if there is none.
 fn second_word(line: &[u8]) -> &[u8]
     ensures word { (first second : List ℕ) (more : List (List ℕ))
         → words_of line.now ≡ first ∷ second ∷ more
@@ -104,8 +104,8 @@ fn message(alloc: Global, word: &[u8]) -> Result<Vec<u8>, AllocError>
     joined(alloc, b"recv ", &word[..DIGITS + word.len() % 2])
 }
 
-/// Stands in for `stop` and more words, of which the last one may go on. Where there are more than eight segments, it
-/// does not matter which.
+/// Stands in for `stop` and more words, of which the last one may go on. If there are more than eight segments, it does
+/// not matter which.
 fn stop(alloc: Global, front: &[u8], word: &[u8]) -> Result<Vec<u8>, AllocError>
     requires command { (arguments : List (List ℕ)) × (words_of front.now ≡ codes "stop" ∷ arguments) }
     requires whole { words_of word.now ≡ word.now ∷ [] }
@@ -127,7 +127,7 @@ fn stop(alloc: Global, front: &[u8], word: &[u8]) -> Result<Vec<u8>, AllocError>
     Ok(kept)
 }
 
-/// A line of few bytes that goes on as this long one does. Fails only for lack of memory.
+/// A line of few bytes that goes on as this long one does.
 ///
 /// A long line is a message that is too long, a stop of too many segments, or a line that is refused with code 1,
 /// whatever follows.

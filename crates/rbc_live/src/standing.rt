@@ -15,7 +15,7 @@ use std::alloc::{AllocError, Global};
 
 impl LiveDesk {
     /// The alarms that stand, each with the engine number of its train: engines ascending, and those of one train in
-    /// their order. Fails only for lack of memory.
+    /// their order.
     pub fn alarms(&self, alloc: Global) -> Result<Vec<(u32, Alarm)>, AllocError>
         ensures { IfOk result (λ alarms. AreAlarmsOn self.now.track self.now.records alarms.items) }
     {

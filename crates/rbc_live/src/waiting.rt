@@ -34,7 +34,7 @@ pub enum Waits {
 }
 
 impl Waits {
-    /// Whether it is the same.
+    /// Whether it is the same as another.
     pub fn is(self, other: Waits) -> bool
         ensures { result ≡ same_waits self other }
     {
@@ -81,7 +81,7 @@ pub fn lacks_something(train: &TrainRec) -> bool
 }
 
 /// What waits at a train: the stops that concern it and are not told to it, the restrictions likewise, and the stops
-/// that are due, each in ascending order of the numbers. Fails only for lack of memory.
+/// that are due, each in ascending order of the numbers.
 pub fn all_waiting(
     alloc: Global,
     horizon: u32,
@@ -143,7 +143,7 @@ fn stops_due(
         .collect(alloc)
 }
 
-/// Whether a stop concerns a train and is not told to it. Takes no memory.
+/// Whether a stop concerns a train and is not told to it.
 pub fn stop_waits(train: &TrainRec, number: u32, area: &Area) -> bool
     ensures { result ≡ stop_waits train.now (number, area.now) }
 {
@@ -157,7 +157,7 @@ pub fn stop_waits(train: &TrainRec, number: u32, area: &Area) -> bool
     }
 }
 
-/// Whether a restriction concerns a train and is not told to it. Takes no memory.
+/// Whether a restriction concerns a train and is not told to it.
 pub fn limit_waits(horizon: u32, train: &TrainRec, number: u32, limit: &Limit) -> bool
     ensures { result ≡ limit_waits horizon train.now (number, limit.now) }
 {

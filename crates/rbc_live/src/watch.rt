@@ -47,8 +47,8 @@ impl AlarmList {
     }
 }
 
-/// The alarms of the trains that may have any, as the inputs that were followed left them. A train may have alarms only
-/// while it has no place, all its identifiers of a kind are held, or no stamp is left for it.
+/// The alarms of the trains that may have any, as they are after the inputs that were followed. A train may have alarms
+/// only while it has no place, all its identifiers of a kind are held, or no stamp is left for it.
 #[derive(Drop)]
 pub struct Watch {
     alarms: IndexMap<u32, AlarmList>,
@@ -70,7 +70,7 @@ fn may_alarm(train: &TrainRec) -> bool
     train.place.is_none() || lacks_something(train)
 }
 
-/// The alarms of the train with this engine number, if it is enrolled and may have any. Fails only for lack of memory.
+/// The alarms of the train with this engine number, if it is enrolled and may have any.
 pub(crate) fn seen_of(
     alloc: Global,
     horizon: u32,
@@ -109,7 +109,7 @@ fn engine_of(key: Key) -> Option<u32>
     }
 }
 
-/// Whether writes are of the active stops or restrictions.
+/// Whether the active stops or restrictions are written.
 fn are_zones_written(writes: &Writes) -> bool
     ensures { result ≡ are_zones_written writes.now }
 {
@@ -121,7 +121,7 @@ fn are_zones_written(writes: &Writes) -> bool
     false
 }
 
-/// The engine of the train that is written, where nothing else is.
+/// The engine of the train that is written, if nothing else is.
 fn only_train_written(writes: &Writes) -> Option<u32>
     ensures trains { IfSome result (λ engine. (other : ℕ) → has_number (engine ∷ []) other ≡ false
         → is_train_written writes.now other ≡ false) }
@@ -134,7 +134,7 @@ fn only_train_written(writes: &Writes) -> Option<u32>
     }
 }
 
-/// The engines of the trains that are written. Fails only for lack of memory.
+/// The engines of the trains that are written.
 fn trains_written(alloc: Global, writes: &Writes) -> Result<Numbers, AllocError>
     ensures { IfOk result (λ engines. (engine : ℕ) → has_number engines engine ≡ is_train_written writes.now engine) }
 {
@@ -147,7 +147,7 @@ fn trains_written(alloc: Global, writes: &Writes) -> Result<Numbers, AllocError>
     Ok(engines)
 }
 
-/// Adds a number, if it is not there. Fails only for lack of memory.
+/// Adds a number, unless it is already there.
 fn note(engines: &mut Numbers, engine: u32) -> Result<(), AllocError>
     ensures { OnOk result (engines.new ≡ and_number engine engines.old) }
 {
@@ -158,7 +158,7 @@ fn note(engines: &mut Numbers, engine: u32) -> Result<(), AllocError>
 }
 
 impl Watch {
-    /// Begins where no train is enrolled. It takes no memory.
+    /// Begins with no train enrolled.
     pub fn new(alloc: Global) -> Self
         ensures { result ≡ [] }
     {
@@ -177,7 +177,7 @@ impl Watch {
         }
     }
 
-    /// Keeps these alarms of a train, or none. Fails only for lack of memory.
+    /// Keeps these alarms of a train, or none.
     fn keep(&mut self, engine: u32, alarms: Option<AlarmList>) -> Result<(), AllocError>
         ensures { OnOk result ((other : ℕ) → seen_in self.new other
             ≡ seen_with engine alarms (seen_in self.old) other) }
@@ -193,7 +193,7 @@ impl Watch {
         Ok(())
     }
 
-    /// Adds the engines of the trains whose alarms are kept. Fails only for lack of memory.
+    /// Adds the engines of the trains whose alarms are kept.
     fn note_kept(&self, engines: &mut Numbers) -> Result<(), AllocError>
         ensures { OnOk result ((engine : ℕ) → has_number engines.new engine
             ≡ has_number engines.old engine || has self.now engine) }
@@ -205,8 +205,8 @@ impl Watch {
         Ok(())
     }
 
-    /// The trains whose alarms may be others after writes: those that are written, and where the active stops or
-    /// restrictions are, all whose alarms are kept. Fails only for lack of memory.
+    /// The trains whose alarms may have changed after writes: the trains that are written and, if the active stops or
+    /// restrictions are written, also all trains whose alarms are kept.
     fn concerned_by(&self, alloc: Global, writes: &Writes) -> Result<Numbers, AllocError>
         ensures trains { IfOk result (λ engines. (engine : ℕ) → has_number engines engine ≡ false
             → is_train_written writes.now engine ≡ false) }
@@ -220,8 +220,7 @@ impl Watch {
         Ok(engines)
     }
 
-    /// Keeps the alarms of some trains as they are by the records now, and returns the lines of those that change. Fails
-    /// only for lack of memory.
+    /// Updates the alarms of some trains to the present records, and returns the lines of those that change.
     fn see_all(
         &mut self,
         alloc: Global,
@@ -252,7 +251,7 @@ impl Watch {
     }
 
     /// Follows an input to the records that its writes led to; only the keys of the writes are looked at. Returns the
-    /// lines of the alarms that change. Fails only for lack of memory, and the watch is then of no further use.
+    /// lines of the alarms that change. After an error the watch is of no further use.
     pub fn follow(
         &mut self,
         alloc: Global,
@@ -274,7 +273,7 @@ impl Watch {
         self.see_all(alloc, horizon, records, engines.as_slice(), input)
     }
 
-    /// A line for each alarm that stands, as raised by an input. Fails only for lack of memory.
+    /// A line for each alarm that stands, as raised by an input.
     pub fn standing(&self, alloc: Global, input: u64) -> Result<Vec<u8>, AllocError>
         ensures { IfOk result (λ text. AreSeenLines input none_seen (seen_in self.now) text.items) }
     {
@@ -288,7 +287,7 @@ impl Watch {
     }
 }
 
-/// A watch where alarms are wanted. It takes no memory.
+/// A watch, if alarms are wanted.
 pub(crate) fn watch_for(alloc: Global, wanted: Wanted) -> Option<Watch>
     ensures { (horizon : ℕ) → IsWatchFor wanted.alarms horizon [] result }
 {
@@ -299,8 +298,8 @@ pub(crate) fn watch_for(alloc: Global, wanted: Wanted) -> Option<Watch>
     }
 }
 
-/// What is written of alarms with the answer to an input, whose writes led to the records of a desk. Where alarms are
-/// wanted, it follows the input. Fails only for lack of memory.
+/// The alarm lines that are written with the answer to an input, whose writes led to the records of a desk. If alarms
+/// are wanted, the watch follows the input.
 pub(crate) fn alarm_part(
     alloc: Global,
     watch: &mut Option<Watch>,

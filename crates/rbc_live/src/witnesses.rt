@@ -1,4 +1,4 @@
-//! Worked cases of the law: right ones, of which its statement holds, and wrong ones, of which it does not.
+//! Worked cases of the laws: correct ones, which satisfy a law, and wrong ones, which violate it.
 
 ghost use Rattle.std.specs.Prelude.{◌≡◌, [], ◌∷◌};
 ghost use Rattle.rbc_track.specs.Plan.{Plan};
@@ -13,7 +13,7 @@ ghost use Rattle.rbc_live.specs.History.{IsHistory, IsSerialRunOf};
 ghost use Rattle.rbc_live.specs.Witnesses.{refused, accepted, sending, engines_there, stop_1, train_7};
 ghost use Rattle.rbc_live.specs.Witnesses.{train_7_at_the_end, train_7_placed};
 
-/// A desk is opened and takes the line `x`, which is no input, on any track.
+/// A desk is opened and takes the line `x`, which is not an input, on any track.
 ///
 /// Right: the line is refused with code 1, nothing is sent, and no record stands there; this is the serial run of one
 /// input. So is the same twice.
@@ -43,11 +43,11 @@ pub fn waiting_law_witnesses()
 
 /// Train 7, to which nothing was told, has an alarm; or stop 1 of 20000 to 21000 on line 0 is active.
 ///
-/// Right: it has no place; it has no stamp left, and stop 1 is untold; it has no place, so the stop concerns it, and has
-/// its alarm.
+/// Right: it has no place; it has no stamp left, and stop 1 is untold; it has no place, so the stop concerns it, and
+/// has its alarm.
 ///
-/// Wrong: stop 1, restriction 1 or the answer to stop 1 has an alarm, though identifiers are free and stamps are left; the
-/// train has an alarm for its place, though it has one; and the stop has no alarm, or that of another stop.
+/// Wrong: stop 1, restriction 1 or the answer to stop 1 has an alarm, though identifiers are free and stamps are left;
+/// the train has an alarm for its place, though it has one; and the stop has no alarm, or that of another stop.
 pub fn alarm_law_witnesses()
     ensures no_place { HasReason train_7 NoPlace }
     ensures no_stamp { HasReason train_7_at_the_end (Untold (Stop 1)) }
@@ -62,11 +62,11 @@ pub fn alarm_law_witnesses()
 
 /// The alarms of a train that stood, and those that stand now.
 ///
-/// Right: a place is cleared, and stop 16 raised behind it; stop 2 is raised before stop 16, which stands still, and the
-/// answer to stop 1 is cleared behind it; nothing changes.
+/// Right: a place is cleared, and stop 16 raised after it; stop 2 is raised before stop 16, which stands still, and the
+/// answer to stop 1 is cleared after it; nothing changes.
 ///
-/// Wrong: what is cleared is left out; what is raised is; raised is told for cleared; the other order; what stands still
-/// is raised again; another stop is raised.
+/// Wrong: what is cleared is left out; what is raised is; raised is told for cleared; the other order; what stands
+/// still is raised again; another stop is raised.
 pub fn alarm_changes_witnesses()
     ensures both { changes (NoPlace ∷ []) (Untold (Stop 16) ∷ []) ≡ Cleared NoPlace ∷ Raised (Untold (Stop 16)) ∷ [] }
     ensures around { changes (Untold (Stop 16) ∷ Untold (Again 1) ∷ []) (Untold (Stop 2) ∷ Untold (Stop 16) ∷ [])

@@ -4,7 +4,7 @@ use Rattle.std.specs.List.{position_or_len, All}
 use Rattle.rbc_maps.specs.Numbered.{Numbered, AreNumbered}
 use Rattle.rbc_maps.specs.OnLines.{has_mark}
 
--- where the first value that carries a mark stands, counted from a base, or the place behind the last one
+-- where the first value that carries a mark stands, counted from a base, or the place after the last one
 abbrev pub first_with : ℕ → List (List ℕ) → ℕ → ℕ
 first_with base column mark = base + position_or_len (has_mark mark) column
 

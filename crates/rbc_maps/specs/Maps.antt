@@ -7,7 +7,7 @@ use Rattle.std.specs.Map.{lookup}
 abbrev pub has : {V : Type 0} → List (ℕ × V) → ℕ → Bool
 has pairs key = list_any (λ pair. pair.0 == key) pairs
 
--- the value at a key, or a default where the map has none
+-- the value at a key, or a default if the map has none
 abbrev pub value_or : {V : Type 0} → V → List (ℕ × V) → ℕ → V
 value_or none [] key = none
 value_or none (pair ∷ pairs) key = if pair.0 == key then pair.1 else value_or none pairs key

@@ -14,7 +14,7 @@ pub(crate) const PLACES: usize = MARKS + HINTS;
 
 /// Chains the values whose marks these are, from the last to the first. Afterwards `first` has, for each mark, the
 /// place of the first value that carries it, and `next`, for each value and each of its marks, the place of the next
-/// one; where there is none, the place behind the last value.
+/// one; if there is none, the place after the last value.
 pub(crate) fn chain<const N: usize>(
     marks: &[[u8; N]],
     first: &mut Vec<u32>,
@@ -75,7 +75,7 @@ fn head(first: &mut Vec<u32>, own: &[u8], place: u32)
     }
 }
 
-/// Where a number may stand: a hint, by its last six bits. It is 0 where there is none.
+/// Where a number may stand: a hint, by its last six bits. It is 0 if there is none.
 #[inline]
 pub(crate) fn hint_of(first: &[u32], number: u32) -> usize
     ensures { result ≡ slice_index first.now (64 + number % 64) }
@@ -84,7 +84,8 @@ pub(crate) fn hint_of(first: &[u32], number: u32) -> usize
     place.map_or(0, |place| *place as usize)
 }
 
-/// Notes behind the heads where the numbers stand, by their last six bits. Of a place the last sixteen bits are noted.
+/// Notes after the heads where the numbers stand, by their last six bits. Only the last sixteen bits of a place are
+/// noted.
 pub(crate) fn note_hints<V>(pairs: &[(u32, V)], first: &mut Vec<u32>)
     requires { length first.old.items ≡ 128 }
     ensures heads { (mark : ℕ) → mark < 64 → slice_index first.new.items mark ≡ slice_index first.old.items mark }

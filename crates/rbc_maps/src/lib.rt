@@ -7,6 +7,9 @@
 //! each that lies on a line, by the marks that its type has (`OnLines`), and looks at no other.
 //!
 //! Begin with lookup.rt, then numbered.rt; chain.rt has the places of the next value with the same mark.
+//!
+//! A function that cannot report a lack of memory takes none. `AllocError` means that memory was refused; what the
+//! function was changing is then of no further use, unless its docstring says what is left.
 #![tactic(auto)]
 
 mod chain;

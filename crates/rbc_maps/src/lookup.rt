@@ -61,9 +61,9 @@ fn index_at_either<V>(pairs: &[(u32, V)], key: u32, first: usize, second: usize)
 
 /// The value at a key, if the map has one.
 ///
-/// It is looked for at the index `near` first, at the index `hint` then, and everywhere last. If it is found, `near` is
-/// the index behind it from then on. So keys that are asked for in ascending order are found at once; the answer is the
-/// same whatever both are.
+/// The index `near` is tried first, then the index `hint`, then all. If the key is found, `near` is set to the index
+/// after it. So keys that are sought in ascending order are found at once. The answer is the same whatever both indices
+/// are.
 pub fn value_near<'a, V>(
     pairs: &'a [(u32, V)],
     key: u32,

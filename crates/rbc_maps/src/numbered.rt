@@ -15,14 +15,15 @@ use std::marker::Model;
 
 /// The active values by their numbers, which are above 0, and the last number that was ever given. A number that was
 /// removed is not given again. Beside the values stand the marks of the lines on which they lie, `N` of each, and where
-/// the next value stands that carries each of them, so that those of one line are found without a look at the others.
+/// the next value stands that carries each of them, so that the values on one line are found without examining the
+/// others.
 #[derive(Drop)]
 pub struct Numbered<V: OnLines<N>, const N: usize> {
     last: u32,
     active: Vec<(u32, V)>,
     /// The marks of the active values, in their order.
     marks: Vec<[u8; N]>,
-    /// For each mark of a line, the place of the first active value that carries it, and then hints where numbers
+    /// For each mark of a line, the place of the first active value that carries it, and then hints on where numbers
     /// stand. Empty until a value is added.
     first: Vec<u32>,
     /// For each active value and each of its marks, the place of the next one that carries it.
@@ -42,7 +43,7 @@ impl<V: OnLines<N>, const N: usize> Model for Numbered<V, N> {
 }
 
 impl<V: OnLines<N>, const N: usize> Numbered<V, N> {
-    /// No value is active, and the last number is 0. Takes no memory.
+    /// No value is active, and the last number is 0.
     pub fn new(alloc: Global) -> Self
         ensures { result ≡ none_numbered }
     {
@@ -55,7 +56,7 @@ impl<V: OnLines<N>, const N: usize> Numbered<V, N> {
         }
     }
 
-    /// The last number that was given, or 0 where none was.
+    /// The last number that was given, or 0 if none was.
     pub fn last(&self) -> u32
         ensures value { result ≡ self.now.last }
         ensures sound { AreNumbered self.now }
@@ -79,8 +80,8 @@ impl<V: OnLines<N>, const N: usize> Numbered<V, N> {
         self.active.as_slice()
     }
 
-    /// The active values that carry the mark of a line, with their numbers, in ascending order of the number. Among
-    /// them is each that lies on the line. The others are not looked at. Takes no memory.
+    /// The active values that carry the mark of a line, with their numbers, in ascending order of the number. They
+    /// include each value that lies on the line. The others are not examined.
     #[inline]
     pub fn on_line(&self, line: u32) -> OnLine<'_, V, N>
         ensures line { result ≡ marked V.marks (mark_of line) self.now.active }
@@ -99,9 +100,9 @@ impl<V: OnLines<N>, const N: usize> Numbered<V, N> {
 
     /// The value that is active under a number, if there is one, as `get` finds it.
     ///
-    /// It is looked for at the index `near` among the active values first. If it is found, `near` is the index behind
-    /// it from then on. So numbers that are asked for in ascending order are found at once, and mostly others too; the
-    /// answer is the same whatever `near` is.
+    /// The index `near` among the active values is tried first. If the number is found, `near` is set to the index
+    /// after it. So numbers that are sought in ascending order are found at once, and most others too. The answer is
+    /// the same whatever `near` is.
     pub fn get_near(&self, number: u32, near: &Cell<usize>) -> Option<&V>
         ensures { option_copied result ≡ value_of self.now.active number }
     {
@@ -119,10 +120,7 @@ impl<V: OnLines<N>, const N: usize> Numbered<V, N> {
     }
 
     /// Adds a value under a number above the last one. That number is the last one from then on.
-    ///
-    /// # Errors
-    ///
-    /// Fails only for lack of memory, and then changes nothing.
+    /// An error changes nothing.
     pub fn add(&mut self, number: u32, value: V) -> Result<(), AllocError>
     where
         V: Drop,
@@ -162,8 +160,8 @@ impl<V: OnLines<N>, const N: usize> Numbered<V, N> {
         found
     }
 
-    /// Copies all of it, with room for one value more. Takes memory for the active values and that room, and, once a
-    /// value was added, for the 128 places beside them. Fails only for lack of memory.
+    /// Copies all of it, with room for one more value. Takes memory for the active values and that room and, once a
+    /// value was added, for the 128 places beside them.
     pub fn copy(&self, alloc: Global) -> Result<Self, AllocError>
     where
         V: Copy,

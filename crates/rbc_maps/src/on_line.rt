@@ -11,8 +11,8 @@ use memchr::memchr;
 use std::marker::Model;
 
 /// Values that lie on lines and carry `N` marks, at most 8: among them the mark of each line on which they lie. A value
-/// may carry the mark of a line on which it does not lie, so who looks for what lies on a line judges what has its
-/// mark.
+/// may carry the mark of a line on which it does not lie, so a caller that seeks the values on a line has to check
+/// those with its mark.
 pub trait OnLines<const N: usize> {
     ghost use Rattle.std.specs.Prelude.{ℕ, List};
 
@@ -22,7 +22,7 @@ pub trait OnLines<const N: usize> {
     // What is true of each value of the type.
     ghost is_sound: { Self → Type 0 };
 
-    /// The marks of the value. Takes no memory.
+    /// The marks of the value.
     fn marks(&self) -> [u8; N]
         ensures marks { result ≡ marks self.now }
         ensures sound { is_sound self.now };
@@ -40,12 +40,12 @@ pub fn mark_of(line: u32) -> u8
     (line % 64) as u8
 }
 
-/// The values of a list that carry a mark, with their numbers, in the order of the list. Seen as the list of those that
-/// are left.
+/// The values of a list that carry a mark, with their numbers, in the order of the list. In contracts the list of those
+/// that are left.
 #[derive(Drop)]
 pub struct OnLine<'a, V: OnLines<N>, const N: usize> {
     mark: u8,
-    /// The place of the first one that is left, or the place behind the last value of the list.
+    /// The place of the first one that is left, or the place after the last value of the list.
     at: usize,
     pairs: &'a [(u32, V)],
     /// The marks of the values of the list.
@@ -67,7 +67,7 @@ impl<'a, V: OnLines<N>, const N: usize> Model for OnLine<'a, V, N> {
 }
 
 impl<'a, V: OnLines<N>, const N: usize> OnLine<'a, V, N> {
-    /// Those of a list whose marks and chains these are that carry the mark of a line.
+    /// The values that carry the mark of a line, of a list with these marks and chains.
     #[inline]
     pub(crate) fn new(
         line: u32,
@@ -107,7 +107,7 @@ impl<'a, V: OnLines<N>, const N: usize> Iterator for OnLine<'a, V, N> {
     }
 }
 
-/// The first place of a mark. Where the first one is that mark, nothing is searched.
+/// The first place of a mark. If the first mark is that one, nothing is searched.
 #[inline(always)]
 fn first_place(mark: u8, marks: &[u8]) -> Option<usize>
     ensures { IsFirstByte (is_byte mark) marks.now result }

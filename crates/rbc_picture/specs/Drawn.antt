@@ -30,12 +30,12 @@ line_texts stops limits trains line =
     ++ (flat_map train_texts (filter (λ train. is_place_on line train.place) trains)
     ++ map (band_title line) (limit_stretches line limits)))
 
--- those of so many panels, from line 0 on, where each line has texts
+-- the texts of this many panels, from line 0 on, by the texts of each line
 abbrev pub lines_texts : (ℕ → List (List ℕ)) → ℕ → List (List ℕ)
 lines_texts texts zero = []
 lines_texts texts (suc more) = texts 0 ++ lines_texts (λ line. texts (suc line)) more
 
--- those of a picture: of each line, and then of each train without a place
+-- the texts of a picture: of each line, and then of each train without a place
 abbrev pub picture_texts : ℕ → List (ℕ × List Segment) → List (ℕ × Limit) → List ShownTrain → List (List ℕ)
 picture_texts lines stops limits trains =
     lines_texts (line_texts stops limits trains) lines
@@ -53,12 +53,12 @@ train_at horizon records engine = option_map (enrolled_train horizon records eng
 abbrev pub trains_in : ℕ → List (Key × Rec) → List ShownTrain
 trains_in horizon records = filter_map (train_at horizon records) (engines_in records)
 
--- all that the picture of a track with so many lines has to show of records
+-- all that the picture of a track with this many lines has to show of records
 abbrev pub shown : ℕ → ℕ → List (Key × Rec) → List (List ℕ)
 shown horizon lines records =
     picture_texts lines (active_stops records) (active_limits records) (trains_in horizon records)
 
--- the lines that are taken: the first so many, or all
+-- the lines that are taken: the first ones, this many, or all
 abbrev pub lines_taken : Option ℕ → List (List ℕ) → List (List ℕ)
 lines_taken None lines = lines
 lines_taken (Some after) lines = take after lines
@@ -72,7 +72,7 @@ pub record IsPictureOf (plan : Plan) (lines : List (List ℕ)) (svg : List ℕ) 
   pub serial : IsSerialRunOf plan taken records
   pub drawn : StandIn (shown plan.horizon (length plan.lines) records) svg
 
--- The picture after so many lines of all that a reader had left, or after all of them, on the track that a text is.
+-- The picture after this many of the lines that a reader had left, or after all of them, on the track in a text.
 pub record IsPictureOfRun (text : List ℕ) (after : Option ℕ) (old new : Option (List ℕ)) (svg : List ℕ) : Type 0 where
   pub plan : Plan
   pub batch : List ℕ

@@ -22,7 +22,7 @@ pub record ShowsLine (scene : Scene) (number : ℕ) (panel : Panel) : Type 0 whe
   pub closed : Covers (stop_stretches number scene.stops.now) panel.stops
   pub restricted : Covers (limit_stretches number scene.limits.now) panel.limits
 
--- so many panels, from line 0 on
+-- this many panels, from line 0 on
 pub record ShowEachLine (scene : Scene) (count : ℕ) (panels : List Panel) : Type 0 where
   pub all : length panels ≡ count
   pub each : (number : ℕ) → IfSome (slice_get panels number) (ShowsLine scene number)
@@ -34,29 +34,29 @@ pub record ShowsAll (scene : Scene) (plan : Plan) : Type 0 where
 
 -- ---- the texts of the parts
 
--- those of the bands of a line
+-- the texts of the bands of a line
 abbrev pub bands_texts : ℕ → Bands → List (List ℕ)
 bands_texts line bands = map (λ band. band_title line band.stretch) bands.all.items
 
--- those of trains on their line
+-- the texts of trains on their line
 abbrev pub shapes_texts : List TrainShape → List (List ℕ)
 shapes_texts shapes = flat_map (λ shape. train_texts (train_shown shape.train.now)) shapes
 
--- those of trains without a place
+-- the texts of trains without a place
 abbrev pub lost_texts : List LostTrain → List (List ℕ)
 lost_texts lost = flat_map (λ train. train_texts (train_shown train.train.now)) lost
 
--- those of a panel
+-- the texts of a panel
 abbrev pub panel_texts : Panel → List (List ℕ)
 panel_texts panel =
     line_heading panel.line
     ∷ (bands_texts panel.line panel.stops ++ (shapes_texts panel.trains.items ++ bands_texts panel.line panel.limits))
 
--- those of all parts
+-- the texts of all parts
 abbrev pub plan_texts : Plan → List (List ℕ)
 plan_texts plan = flat_map panel_texts plan.panels.items ++ lost_texts plan.lost.items
 
--- those that a scene has to show
+-- the texts that a scene has to show
 abbrev pub scene_texts : Scene → List (List ℕ)
 scene_texts scene =
     picture_texts (length scene.track.now.lines.items) scene.stops.now scene.limits.now

@@ -1,7 +1,7 @@
 -- Texts that a document shows (own rule).
 use Rattle.std.specs.Prelude.{◌≡◌, ℕ, List, [], ◌∷◌, ◌++◌}
 
--- these texts stand in a document, one behind the other
+-- these texts stand in a document, one after another
 abbrev pub StandIn : List (List ℕ) → List ℕ → Type 0
 StandIn [] document = Unit
 StandIn (text ∷ texts) document =

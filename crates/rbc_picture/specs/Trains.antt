@@ -31,19 +31,19 @@ is_unplaced train = is_none train.place
 abbrev pub train_shown : TrainState → ShownTrain
 train_shown train = record { engine = train.engine; place = train.place; waiting = train.waiting.items }
 
--- the same of a train at which something stands, by its record
+-- the same for a train with this state, by its record
 abbrev pub known_train : TrainStanding → TrainRec → ShownTrain
 known_train standing train =
     record { engine = standing.engine; place = train.place; waiting = standing.waiting.items }
 
--- the same of all trains at which something stands, by the records of their engines
+-- the same for all trains with these states, by the records of their engines
 abbrev pub known_trains : (ℕ → Option TrainRec) → List TrainStanding → List ShownTrain
 known_trains lookup [] = []
 known_trains lookup (standing ∷ rest) =
     option_to_list (option_map (known_train standing) (lookup standing.engine)) ++ known_trains lookup rest
 
 -- A train with this place, or with none, stands in one part: in the panel of its line, or in the list of the trains
--- without a place. Tests on the place say on which lines it is, and whether it is in that list.
+-- without a place. Tests on the place say in which panels it is, and whether it is in that list.
 pub record StandsOnce (is_there : ℕ → Option placing.Place → Bool) (is_lost : Option placing.Place → Bool)
     (held : Option placing.Place) : Type 0 where
   pub placed : (place : placing.Place) → held ≡ Some place
@@ -51,6 +51,6 @@ pub record StandsOnce (is_there : ℕ → Option placing.Place → Bool) (is_los
       × ((line : ℕ) → (is_there line held ≡ true → line ≡ place.line) × (line ≡ place.line → is_there line held ≡ true))
   pub unplaced : held ≡ None → (is_lost held ≡ true) × ((line : ℕ) → is_there line held ≡ false)
 
--- so with each train
+-- the same for each train
 abbrev pub EachStandsOnce : Type 0
 EachStandsOnce = (train : TrainState) → StandsOnce is_place_on (λ place. is_none place) train.place

@@ -28,6 +28,6 @@ pub record KeepsOrder (x : ℕ → ℕ) (low high : ℕ) : Type 0 where
   pub last : x high ≡ right_end
   pub rises : (place next : ℕ) → place ≤ next → x place ≤ x next
 
--- so in each window
+-- the same for each window
 abbrev pub EachWindowKeepsOrder : Type 0
 EachWindowKeepsOrder = (low high : ℕ) → low < high → KeepsOrder (x_at low high) low high

@@ -20,7 +20,7 @@ never_lost place = false
 abbrev pub x_to_1000 : ℕ → ℕ
 x_to_1000 place = x_at 0 1000 place
 
--- the same turned
+-- the same, turned round
 abbrev pub turned : ℕ → ℕ
 turned place = 12000 - x_to_1000 place
 

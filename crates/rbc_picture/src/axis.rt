@@ -26,15 +26,11 @@ const GAP: i64 = 80;
 pub(crate) struct Mark {
     /// Where it stands, in tenths of a pixel.
     pub x: i64,
-    /// Its words, or nothing where there is no room for them.
+    /// Its words, or nothing if there is no room for them.
     pub words: Option<String>,
 }
 
 /// The marks of the axis of a window.
-///
-/// # Errors
-///
-/// Memory was refused.
 pub(crate) fn axis_of(alloc: Global, window: Window) -> Result<Vec<Mark>, AllocError> {
     let step = window.step();
     let mut axis = Vec::new(alloc);

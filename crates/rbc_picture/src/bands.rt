@@ -60,10 +60,6 @@ pub(crate) struct Bands {
 }
 
 /// The bands of stretches in a window, in lanes.
-///
-/// # Errors
-///
-/// Memory was refused.
 pub(crate) fn bands_of(
     alloc: Global,
     window: Window,
@@ -115,7 +111,7 @@ fn band_of(alloc: Global, window: Window, stretch: Stretch) -> Result<Band, Allo
     })
 }
 
-/// Where the words of a band stand, by the room that they need: in the band, else behind it, else before it.
+/// Where the words of a band stand, by the room that they need: in the band, else after it, else before it.
 fn room_of(body: Span, need: i64) -> (Room, Span) {
     if body.right.saturating_sub(body.left) >= need.saturating_add(200) {
         return (Room::Inside, body);
@@ -136,7 +132,7 @@ impl Bands {
         lane_top(0, self.lanes.count)
     }
 
-    /// Adds the bands of a line to a document, in lanes from `top` downwards. Fails only for lack of memory.
+    /// Adds the bands of a line to a document, in lanes from `top` downwards.
     pub(crate) fn push(
         &self,
         alloc: Global,
@@ -155,10 +151,6 @@ impl Bands {
     }
 
     /// The parts of the panel that the bands cover. Bands that meet are one part.
-    ///
-    /// # Errors
-    ///
-    /// Memory was refused.
     pub(crate) fn columns(&self, alloc: Global) -> Result<Vec<Span>, AllocError> {
         let mut from_left = Vec::new(alloc);
         for band in &self.all {
@@ -192,7 +184,7 @@ fn lane_top(top: i64, lane: usize) -> i64 {
 }
 
 impl Band {
-    /// Adds the band of a stretch of a line to a document. Fails only for lack of memory.
+    /// Adds the band of a stretch of a line to a document.
     fn push(
         &self,
         alloc: Global,

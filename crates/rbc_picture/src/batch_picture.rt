@@ -67,8 +67,8 @@ fn taken_of(inputs: usize, after: Option<u32>) -> Option<usize>
     }
 }
 
-/// Takes the first lines of a batch, as many as `taken`, and draws what stands after them. Fails only for lack of
-/// memory, and where the text is not the track of the account.
+/// Takes the first lines of a batch, as many as `taken`, and draws what stands after them. Fails also if the text is
+/// not the track of the account.
 fn drawn(
     alloc: Global,
     text: &str,
@@ -90,7 +90,7 @@ fn drawn(
     picture_of(alloc, &account, &named, lines.len())
 }
 
-/// Takes lines. Fails only for lack of memory.
+/// Takes lines.
 fn pass_all(alloc: Global, account: &mut Account, lines: &[&[u8]]) -> Result<(), AllocError>
     ensures { (plan : Plan) → HasTaken plan account.old []
         → OnOk result (HasTaken plan account.new (texts_of lines.now)) }
@@ -101,7 +101,7 @@ fn pass_all(alloc: Global, account: &mut Account, lines: &[&[u8]]) -> Result<(),
     Ok(())
 }
 
-/// Takes a line. Fails only for lack of memory.
+/// Takes a line.
 fn pass(alloc: Global, account: &mut Account, line: &[u8]) -> Result<(), AllocError>
     ensures { (plan : Plan) (lines : List (List ℕ)) → HasTaken plan account.old lines
         → OnOk result (HasTaken plan account.new (lines ++ line.now ∷ [])) }
@@ -110,7 +110,7 @@ fn pass(alloc: Global, account: &mut Account, line: &[u8]) -> Result<(), AllocEr
     Ok(())
 }
 
-/// The names of a track, which a text writes. Fails only for lack of memory, and where the text does not write it.
+/// The names of a track, from the text of its file. Fails also if the text is not that track.
 fn names_of(alloc: Global, text: &str, track: &Track) -> Result<NamedTrack, AllocError>
     ensures { IfOk result (λ named. length named.lines.items ≡ length track.now.lines) }
 {
@@ -123,7 +123,7 @@ fn names_of(alloc: Global, text: &str, track: &Track) -> Result<NamedTrack, Allo
     Ok(named)
 }
 
-/// Whether a track has so many lines.
+/// Whether a track has this many lines.
 fn has_lines(track: &Track, lines: usize) -> bool
     ensures { result ≡ true → lines ≡ length track.now.lines }
 {
@@ -134,7 +134,7 @@ fn has_lines(track: &Track, lines: usize) -> bool
     has_last && track.line_len(lines).is_none()
 }
 
-/// Draws what stands after the inputs that an account has taken, out of so many. Fails only for lack of memory.
+/// Draws the state after the inputs that an account has taken, out of this many.
 fn picture_of(
     alloc: Global,
     account: &Account,

@@ -6,7 +6,7 @@ ghost use Rattle.rbc_picture.specs.Shown.{IsShownOn};
 use crate::svg::Svg;
 use std::alloc::AllocError;
 
-/// Adds a piece. Fails only for lack of memory, here or while the piece was drawn.
+/// Adds a piece. Reports a lack of memory here or while the piece was drawn.
 #[tactic(auto, using(crate::proofs::Joining::shown_piece))]
 pub(crate) fn push_piece(document: &mut String, piece: Svg) -> Result<(), AllocError>
     ensures { OnOk result (IsShownOn [] (string_bytes document.old) (string_bytes document.new)) }
@@ -15,7 +15,7 @@ pub(crate) fn push_piece(document: &mut String, piece: Svg) -> Result<(), AllocE
     document.push_str(piece.as_str())
 }
 
-/// Adds a text as it is. Fails only for lack of memory.
+/// Adds a text as it is.
 #[tactic(auto, using(crate::proofs::Joining::shown_text))]
 pub(crate) fn push_text(document: &mut String, text: &str) -> Result<(), AllocError>
     ensures { OnOk result (IsShownOn (text.now ∷ []) (string_bytes document.old) (string_bytes document.new)) }

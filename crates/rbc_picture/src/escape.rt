@@ -8,10 +8,6 @@ use std::alloc::AllocError;
 
 /// Adds a text with `&amp;`, `&lt;` and `&gt;` for each `&`, `<` and `>`. What is added can neither begin nor end an
 /// element, and begins no other entity.
-///
-/// # Errors
-///
-/// Memory was refused.
 pub(crate) fn push_escaped(text: &mut String, name: &str) -> Result<(), AllocError>
     ensures escaped { OnOk result (chars (string_bytes text.new)
         ≡ chars (string_bytes text.old) ++ escaped (chars name.now)) }

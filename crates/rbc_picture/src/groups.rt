@@ -42,10 +42,6 @@ pub(crate) struct GroupSign {
 }
 
 /// The balise groups of a line that lie in a window, from left to right. `groups` are in ascending order.
-///
-/// # Errors
-///
-/// Memory was refused.
 pub(crate) fn signs_of(
     alloc: Global,
     groups: &[NamedGroup],

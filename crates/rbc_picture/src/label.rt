@@ -30,10 +30,6 @@ pub(crate) struct Label {
 }
 
 /// The label of a train whose arrow has this body.
-///
-/// # Errors
-///
-/// Memory was refused.
 pub(crate) fn label_of(alloc: Global, train: &TrainState, body: Span) -> Result<Label, AllocError> {
     let engine = engine_words(alloc, train.engine)?;
     let untold = untold_list(alloc, train)?;
@@ -57,10 +53,6 @@ pub(crate) fn label_of(alloc: Global, train: &TrainState, body: Span) -> Result<
 }
 
 /// The number of a train's on-board equipment, in words.
-///
-/// # Errors
-///
-/// Memory was refused.
 pub(crate) fn engine_words(alloc: Global, engine: u32) -> Result<String, AllocError> {
     format!(in alloc; "{engine}")
 }
@@ -74,7 +66,7 @@ fn untold_list(alloc: Global, train: &TrainState) -> Result<String, AllocError> 
     short_list(alloc, "NOT TOLD ", &words, 2)
 }
 
-/// The room of a text behind another, if there is a text.
+/// The room of a text after another, if there is a text.
 fn need_of(words: &str) -> i64 {
     if words.is_empty() {
         return 0;

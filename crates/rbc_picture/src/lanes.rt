@@ -19,10 +19,6 @@ pub(crate) struct Lanes {
 
 /// Puts items into lanes by their extents. Items are taken from left to right, then in their order, and each goes into
 /// the first lane that is free there.
-///
-/// # Errors
-///
-/// Memory was refused.
 pub(crate) fn lanes_of(alloc: Global, extents: &[Span]) -> Result<Lanes, AllocError>
     ensures { IfOk result (λ lanes. length lanes.of_items.items ≡ length extents.now) }
 {

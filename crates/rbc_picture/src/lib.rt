@@ -7,6 +7,10 @@
 //!
 //! Begin with batch_picture.rt, then scene.rt (what is drawn) and plan.rt (panels, and trains without a place).
 //! window.rt gives the places on a panel, escape.rt texts in XML, lanes.rt keeps trains apart.
+//!
+//! Drawing keeps a lack of memory in the `Svg`, whose `ended` reports it. Any other function that cannot report it
+//! takes no memory. `AllocError` means that memory was refused; what the function was changing is then of no further
+//! use. A docstring names each other cause of an error.
 #![tactic(auto)]
 
 mod axis;

@@ -34,10 +34,6 @@ pub(crate) struct LostTrain<'a> {
 }
 
 /// The trains without a place, in their order.
-///
-/// # Errors
-///
-/// Memory was refused.
 pub(crate) fn lost_of<'a>(
     alloc: Global,
     trains: &'a [TrainState],
@@ -95,7 +91,7 @@ fn box_corner(top: i64, index: usize) -> Point {
     }
 }
 
-/// Adds the trains without a place to a document, from `top` downwards. Fails only for lack of memory.
+/// Adds the trains without a place to a document, from `top` downwards.
 pub(crate) fn push_lost(
     alloc: Global,
     document: &mut String,
@@ -129,7 +125,7 @@ fn heading(alloc: Global, y: i64) -> Svg {
     svg
 }
 
-/// Adds the box of each train. Fails only for lack of memory.
+/// Adds the box of each train.
 fn push_boxes(
     alloc: Global,
     document: &mut String,
@@ -146,7 +142,7 @@ fn push_boxes(
 }
 
 impl LostTrain<'_> {
-    /// Adds the box of the train to a document. Fails only for lack of memory.
+    /// Adds the box of the train to a document.
     fn push(&self, alloc: Global, document: &mut String, corner: Point) -> Result<(), AllocError>
         ensures { OnOk result (IsShownOn (train_texts (train_shown self.now.train.now)) (string_bytes document.old)
             (string_bytes document.new)) }

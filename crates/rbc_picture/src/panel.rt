@@ -73,10 +73,6 @@ pub(crate) struct Panel<'a> {
 }
 
 /// The panel of a line, which begins at `top`.
-///
-/// # Errors
-///
-/// Memory was refused.
 pub(crate) fn panel_of<'a>(
     alloc: Global,
     scene: &Scene<'a>,
@@ -178,7 +174,7 @@ impl Panel<'_> {
             .saturating_add(100)
     }
 
-    /// Adds the panel to a document. Fails only for lack of memory.
+    /// Adds the panel to a document.
     pub(crate) fn push(&self, alloc: Global, document: &mut String) -> Result<(), AllocError>
         ensures { OnOk result (IsShownOn (panel_texts self.now) (string_bytes document.old)
             (string_bytes document.new)) }
@@ -232,7 +228,7 @@ impl Panel<'_> {
         svg
     }
 
-    /// Writes the name and the length of the line, behind its number, and which part of it is shown.
+    /// Writes the name and the length of the line, after its number, and which part of it is shown.
     fn draw_heading(&self, svg: &mut Svg) {
         let y = self.heading_at().y;
         svg.name(&self.about.name);
@@ -295,7 +291,7 @@ impl Panel<'_> {
         draw_end(svg, right, 200, self.window.high == self.about.length);
     }
 
-    /// Adds each train to a document, in its row. Fails only for lack of memory.
+    /// Adds each train to a document, in its row.
     fn push_trains(&self, alloc: Global, document: &mut String) -> Result<(), AllocError>
         ensures { OnOk result (IsShownOn (shapes_texts self.now.trains.items) (string_bytes document.old)
             (string_bytes document.new)) }

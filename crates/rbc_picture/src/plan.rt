@@ -44,10 +44,6 @@ pub(crate) struct Plan<'a> {
 }
 
 /// Plans a picture.
-///
-/// # Errors
-///
-/// Memory was refused.
 pub(crate) fn plan_of<'a>(alloc: Global, scene: &Scene<'a>) -> Result<Plan<'a>, AllocError>
     ensures { IfOk result (ShowsAll scene.now) }
 {
@@ -102,7 +98,7 @@ impl Plan<'_> {
         u64::try_from(end.saturating_add(200) / 10).unwrap_or(0)
     }
 
-    /// Adds the panels to a document, and the trains without a place if there are any. Fails only for lack of memory.
+    /// Adds the panels to a document, and the trains without a place if there are any.
     fn push(&self, alloc: Global, document: &mut String) -> Result<(), AllocError>
         ensures { OnOk result (IsShownOn (plan_texts self.now) (string_bytes document.old)
             (string_bytes document.new)) }
@@ -116,7 +112,7 @@ impl Plan<'_> {
         push_lost(alloc, document, lost, self.lost_top)
     }
 
-    /// Adds the panels to a document. Fails only for lack of memory.
+    /// Adds the panels to a document.
     fn push_panels(&self, alloc: Global, document: &mut String) -> Result<(), AllocError>
         ensures { OnOk result (IsShownOn (flat_map panel_texts self.now.panels.items) (string_bytes document.old)
             (string_bytes document.new)) }
@@ -138,10 +134,6 @@ fn rule(alloc: Global, top: i64) -> Svg {
 }
 
 /// Writes the whole document.
-///
-/// # Errors
-///
-/// Memory was refused.
 pub(crate) fn document_of(alloc: Global, scene: &Scene<'_>) -> Result<String, AllocError>
     ensures { IfOk result (λ document. StandIn (scene_texts scene.now) (string_bytes document)) }
 {

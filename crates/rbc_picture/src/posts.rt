@@ -37,10 +37,6 @@ struct Signs {
 }
 
 /// The posts of a train on a line, from left to right. Stops before one place have one post.
-///
-/// # Errors
-///
-/// Memory was refused.
 pub(crate) fn posts_of(
     alloc: Global,
     train: &TrainState,
@@ -109,10 +105,6 @@ pub(crate) struct Taken {
 
 impl Taken {
     /// The parts that posts take, and other parts.
-    ///
-    /// # Errors
-    ///
-    /// Memory was refused.
     pub(crate) fn by(
         alloc: Global,
         posts: &[Post],
@@ -162,10 +154,6 @@ impl Post {
 }
 
 /// Finds room for the words of posts, one post after another.
-///
-/// # Errors
-///
-/// Memory was refused.
 pub(crate) fn place_words(
     posts: &mut Vec<Post>,
     taken: &mut Taken,

@@ -38,10 +38,6 @@ pub(crate) struct Sums {
 
 /// The places of each line that its window has to show: those of its trains, of their balise groups, before which they
 /// are told to stop, and the ends of active stretches.
-///
-/// # Errors
-///
-/// Memory was refused.
 pub(crate) fn reaches_of(alloc: Global, scene: &Scene<'_>) -> Result<Vec<Reach>, AllocError> {
     let mut reaches = Vec::new(alloc);
     for line in 0..scene.track.lines.len() {

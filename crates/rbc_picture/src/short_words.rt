@@ -60,10 +60,6 @@ impl fmt::Display for ShortWord {
 }
 
 /// The text `before`, then the first words of a list, at most `most`, and how many more there are, as in `S1 S2 +3`.
-///
-/// # Errors
-///
-/// Memory was refused.
 pub(crate) fn short_list(
     alloc: Global,
     before: &str,
@@ -98,10 +94,6 @@ fn push_more(list: &mut String, shown: usize, more: usize) -> Result<(), AllocEr
 
 /// The short list with as many words, at most `most`, as fit into a room in tenths of a pixel, in size 11. Without
 /// words it is empty.
-///
-/// # Errors
-///
-/// Memory was refused.
 pub(crate) fn fitting_list(
     alloc: Global,
     before: &str,

@@ -50,10 +50,6 @@ impl fmt::Display for Stretch {
 }
 
 /// The stretches of a line that stops close, by number and then in the order of the stop.
-///
-/// # Errors
-///
-/// Memory was refused.
 pub(crate) fn stop_stretches(
     alloc: Global,
     stops: &[(u32, Area)],
@@ -92,10 +88,6 @@ fn push_stretches(
 }
 
 /// The stretches of a line on which restrictions apply, by number.
-///
-/// # Errors
-///
-/// Memory was refused.
 pub(crate) fn limit_stretches(
     alloc: Global,
     limits: &[(u32, Limit)],

@@ -7,8 +7,8 @@ use rbc_words::{Count, Km};
 use std::alloc::{AllocError, Global};
 use std::fmt::Write;
 
-/// A piece of a document. If memory is refused, a part of it is missing, and `ended` reports it: a method that adds to
-/// it has no result. All lengths and coordinates are in tenths of a pixel.
+/// A piece of a document. If memory is refused, a part of it is missing, and `ended` reports it; the methods that add
+/// to it do not. All lengths and coordinates are in tenths of a pixel.
 #[derive(Drop)]
 pub(crate) struct Svg {
     text: String,
@@ -58,7 +58,7 @@ impl Svg {
         }
     }
 
-    /// Adds so many of a thing.
+    /// Adds a number of things.
     pub(crate) fn count(&mut self, number: usize, noun: &str) {
         let count = Count { number, noun };
         if write!(self.text, "{count}").is_err() {

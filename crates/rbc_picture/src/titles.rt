@@ -1,4 +1,4 @@
-//! The texts that a picture has to show. Each fails only for lack of memory.
+//! The texts that a picture has to show.
 
 ghost use Rattle.std.specs.Prelude.{◌≡◌, Some, IfOk, string_bytes};
 ghost use Rattle.rbc_picture.specs.Titles.{line_heading, band_title, train_title, waiting_sentence, way_word};

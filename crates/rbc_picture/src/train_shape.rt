@@ -61,10 +61,6 @@ pub(crate) struct TrainShape<'a> {
 }
 
 /// The shape of a train at its place on a line.
-///
-/// # Errors
-///
-/// Memory was refused.
 pub(crate) fn shape_of<'a>(
     alloc: Global,
     train: &'a TrainState,
@@ -166,7 +162,7 @@ impl TrainShape<'_> {
         extent
     }
 
-    /// Adds the train to a document, in a row. Fails only for lack of memory.
+    /// Adds the train to a document, in a row.
     pub(crate) fn push(
         &self,
         alloc: Global,
@@ -245,7 +241,7 @@ impl TrainShape<'_> {
         }
     }
 
-    /// Draws the sign of the stops that the train is told by message 16, and its words where there is room for them.
+    /// Draws the sign of the stops that the train is told by message 16, and its words if there is room for them.
     fn draw_now(&self, svg: &mut Svg, y: i64) {
         if let Some(sign) = &self.now {
             let front = front_of(self.body, self.side);

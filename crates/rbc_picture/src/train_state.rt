@@ -47,10 +47,6 @@ pub(crate) struct AtOnce {
 }
 
 /// The trains of a run in ascending order.
-///
-/// # Errors
-///
-/// Memory was refused.
 pub(crate) fn trains_of(
     alloc: Global,
     account: &Account,
@@ -156,10 +152,6 @@ impl TrainState {
     }
 
     /// The stops that the train is told, by number, and then the restrictions, by number.
-    ///
-    /// # Errors
-    ///
-    /// Memory was refused.
     pub(crate) fn told_words(&self, alloc: Global) -> Result<Vec<ShortWord>, AllocError> {
         let mut words = Vec::new(alloc);
         for stop in &self.stops {
@@ -177,10 +169,6 @@ impl TrainState {
     }
 
     /// The stops that concern the train and are not told to it, by number, and then the restrictions, by number.
-    ///
-    /// # Errors
-    ///
-    /// Memory was refused.
     pub(crate) fn untold_words(&self, alloc: Global) -> Result<Vec<ShortWord>, AllocError> {
         let mut words = Vec::new(alloc);
         for waiting in &self.waiting {
@@ -194,10 +182,6 @@ impl TrainState {
     }
 
     /// The stops that the train is told by message 16, if there are any.
-    ///
-    /// # Errors
-    ///
-    /// Memory was refused.
     pub(crate) fn at_once(&self, alloc: Global) -> Result<Option<AtOnce>, AllocError> {
         let mut words = Vec::new(alloc);
         let mut is_answered = true;

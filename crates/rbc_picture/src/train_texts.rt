@@ -12,7 +12,7 @@ use crate::train_state::TrainState;
 use rbc_account::Waiting;
 use std::alloc::{AllocError, Global};
 
-/// Adds the title of a train to a document, on a line of its own. Fails only for lack of memory.
+/// Adds the title of a train to a document, on a line of its own.
 pub(crate) fn push_train(
     alloc: Global,
     document: &mut String,
@@ -35,7 +35,7 @@ fn told(alloc: Global, train: &TrainState) -> Svg {
     svg
 }
 
-/// Adds a sentence for each stop and restriction that a train is not told. Fails only for lack of memory.
+/// Adds a sentence for each stop and restriction that a train is not told.
 fn push_waiting(alloc: Global, document: &mut String, waiting: &[Waiting]) -> Result<(), AllocError>
     ensures { OnOk result (IsShownOn (map (λ one. waiting_sentence one.what) waiting.now)
         (string_bytes document.old) (string_bytes document.new)) }

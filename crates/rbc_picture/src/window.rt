@@ -137,10 +137,6 @@ impl Window {
     }
 
     /// The marks of the axis, in units of 10 cm: each multiple of the step.
-    ///
-    /// # Errors
-    ///
-    /// Memory was refused.
     pub(crate) fn marks(self, alloc: Global) -> Result<Vec<u32>, AllocError> {
         let step = self.step();
         let first = self.low.div_ceil(step).saturating_mul(step);
@@ -155,7 +151,7 @@ impl Window {
     }
 }
 
-/// The next multiple of the grain, or the place itself where it is one.
+/// The next multiple of the grain, or the place itself if it is one.
 fn up_to_grain(place: u32) -> u32
     ensures { place ≤ result }
 {

@@ -1,4 +1,4 @@
-//! Worked cases of the laws: right ones, of which their statements hold, and wrong ones, of which they do not.
+//! Worked cases of the laws: correct ones, which satisfy them, and wrong ones, which violate them.
 
 ghost use Rattle.std.specs.Prelude.{Some, None, is_none};
 ghost use Rattle.rbc_picture.specs.Trains.{StandsOnce, is_place_on};

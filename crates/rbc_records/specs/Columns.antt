@@ -1,4 +1,4 @@
--- What stands beside the records, so that a search passes by most trains without looking them up (own rule).
+-- What is kept beside the records, so that a search can skip most trains without looking them up (own rule).
 use Rattle.std.specs.Prelude.{◌≡◌, ℕ, Bool, false, ◌==◌, ◌&&◌, List, map}
 use Rattle.std.specs.List.{list_any}
 use Rattle.rbc_settle.specs.Numbers.{has_number}
@@ -11,21 +11,21 @@ use Rattle.rbc_records.specs.declared.record.Key.{Key}
 use Rattle.rbc_records.specs.declared.record.Rec.TheVariants as rec
 use Rattle.rbc_records.specs.declared.record.Rec.{Rec}
 
--- what the train of a record was told; nothing if it is that of no train
+-- what the train of a record was told; nothing if the record is not of a train
 abbrev pub told_bits_of : Rec → ToldBits
 told_bits_of (rec.Engines engines) = record { stops = 0; limits = 0 }
 told_bits_of (rec.Train train) = told_bits_of_train train
 told_bits_of (rec.Stops stops) = record { stops = 0; limits = 0 }
 told_bits_of (rec.Limits limits) = record { stops = 0; limits = 0 }
 
--- where a new stop has to lie that is told to the train of a record
+-- where a new stop has to lie to be told to the train of a record
 abbrev pub extent_of : Rec → Extent
 extent_of (rec.Engines engines) = nowhere
 extent_of (rec.Train train) = extent_of_train train
 extent_of (rec.Stops stops) = nowhere
 extent_of (rec.Limits limits) = nowhere
 
--- a column: what f gives of each record, in their order
+-- a column: what f gives for each record, in their order
 abbrev pub column_of : {T : Type 0} → (Rec → T) → List (Key × Rec) → List T
 column_of {T} f entries = map {B = T} (λ (entry : Key × Rec). f entry.1) entries
 
@@ -34,12 +34,12 @@ pub record AreBeside (entries : List (Key × Rec)) (bits : List ToldBits) (exten
   pub bits_are : bits ≡ column_of told_bits_of entries
   pub extents_are : extents ≡ column_of extent_of entries
 
--- the records of a table, and how many more it can take without memory
+-- the records of a table, and how many more it can take without taking memory
 pub record Kept : Type 0 where
   pub entries : List (Key × Rec)
   pub room : ℕ
 
--- an entry is that of the train with this engine
+-- an entry is the record of the train with this engine
 abbrev pub is_of_train : ℕ → Key → Rec → Bool
 is_of_train engine (key.Train number) (rec.Train train) = number == engine
 is_of_train engine (key.Train number) (rec.Engines engines) = false

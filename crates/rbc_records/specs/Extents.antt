@@ -1,4 +1,4 @@
--- Where a new stop has to lie that a train may have to be told of, and where an area lies (own rule).
+-- Where a new stop has to lie for a train to be told of it, and where an area lies (own rule).
 use Rattle.std.specs.Prelude.{◌-◌, ◌^◌, nat_lt, nat_le, min, max, Bool, not, ◌==◌, ◌&&◌, if◌then◌else◌, List, fold, length}
 use Rattle.std.specs.Option.{option_map_or}
 use Rattle.std.specs.Int.Bits.{bit_and}
@@ -17,18 +17,19 @@ nowhere = record { lines = 0; least = 2 ^ 32 - 1; most = 0 }
 abbrev pub everywhere : Extent
 everywhere = record { lines = 2 ^ 64 - 1; least = 0; most = 2 ^ 32 - 1 }
 
--- where a train at this place may stand, and what lies ahead of it: what lies behind it is nothing to it
+-- where a train at this place may stand, and what lies ahead of it: what lies behind it does not concern it
 abbrev pub ahead_of : Way → Place → Extent
 ahead_of way.Up p = record { lines = with_bit 0 p.line; least = min p.lo p.hi; most = 2 ^ 32 - 1 }
 ahead_of way.Down p = record { lines = with_bit 0 p.line; least = 0; most = max p.lo p.hi }
 
--- where a new stop has to lie that is told to a train: without a free stop identifier it is told of none, and where a stop may be forced on it, of any
+-- where a new stop has to lie to be told to a train: without a free stop identifier it is told no stop, and if a stop
+-- may be forced on it, it is told any
 abbrev pub extent_of_train : TrainRec → Extent
 extent_of_train train =
     if nat_lt (length train.stops) 15 then (if nat_lt 0 (length train.forced) then everywhere else option_map_or (λ place. ahead_of place.facing place) train.place everywhere)
     else nowhere
 
--- with the line and the places of one more segment
+-- an extent with the line and the places of one more segment
 abbrev pub with_segment : Extent → Segment → Extent
 with_segment extent segment = record {
   lines = with_bit extent.lines segment.line;
@@ -36,7 +37,7 @@ with_segment extent segment = record {
   most = max extent.most (max segment.from segment.to);
 }
 
--- where an area lies: on all lines of its segments, from the least end of any to the greatest. One without segments is taken to lie everywhere.
+-- where an area lies: on all lines of its segments, from the least end to the greatest. An area without segments is taken to lie everywhere.
 abbrev pub extent_of_area : List Segment → Extent
 extent_of_area area = if nat_lt 0 (length area) then fold with_segment nowhere area else everywhere
 

@@ -63,7 +63,7 @@ pub record Extends (old new : Notes) : Type 0 where
   pub stays_known : (k : Key) → IsTrue (knows old k) → IsTrue (knows new k)
   pub stays_noted : (k : Key) → IsTrue (knows old k) → noted new k ≡ noted old k
 
--- and this key has become known
+-- what was known is still known, and this key has become known
 pub record Learns (old : Notes) (k : Key) (new : Notes) : Type 0 where
   pub known : IsTrue (knows new k)
   pub extends : Extends old new

@@ -9,7 +9,8 @@ use Rattle.rbc_records.specs.declared.record.Key.{Key}
 use Rattle.rbc_records.specs.declared.record.Rec.TheVariants as rec
 use Rattle.rbc_records.specs.Notes.{Notes, knows, noted}
 
--- A search has found these engines: all is known, each of them has a record, and no train is missed that is sought. Others may be among them.
+-- A search has found these engines: every key is known, each engine has a record, and no train that is sought is
+-- missed. There may be others among them.
 pub record AreFound (notes : Notes) (what : Sought) (engines : List ℕ) : Type 0 where
   pub all_known : (k : Key) → IsTrue (knows notes k)
   pub there : (engine : ℕ) → has_number engines engine ≡ true → IsTrue (is_some (noted notes (key.Train engine)))

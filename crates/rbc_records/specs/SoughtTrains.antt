@@ -9,7 +9,7 @@ use Rattle.rbc_settle.specs.Settling.{concern_to}
 use Rattle.rbc_records.specs.declared.search.Sought.{Sought}
 use Rattle.rbc_records.specs.declared.search.Sought.TheVariants as sought
 
--- a stop is something to a train
+-- a stop means something for a train
 abbrev pub is_concern : Concern → Bool
 is_concern concern.None = false
 is_concern concern.Now = true

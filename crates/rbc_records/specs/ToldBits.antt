@@ -12,11 +12,11 @@ use Rattle.rbc_records.specs.declared.told_bits.ToldBits.{ToldBits}
 abbrev pub has_bit : ℕ → ℕ → Bool
 has_bit bits number = bit_at bits (number % 64) == 1
 
--- with the bit of one more number
+-- the bits with that of one more number
 abbrev pub with_bit : ℕ → ℕ → ℕ
 with_bit bits number = bit_or bits (2 ^ (number % 64))
 
--- with the bit of the number that a slot tells; one that is being revoked tells none
+-- the bits with that of the number that a slot tells; a slot that is being revoked tells none
 abbrev pub with_slot : ℕ → Slot → ℕ
 with_slot bits (Used used) = with_bit bits used.number
 with_slot bits (Revoking stamp) = bits
@@ -25,7 +25,7 @@ with_slot bits (Revoking stamp) = bits
 abbrev pub bits_of_slots : Slots → ℕ
 bits_of_slots slots = fold (λ bits held. with_slot bits held.1) 0 slots
 
--- the same of a table that may hold many identifiers, which has every bit then
+-- the same for a table that may hold many identifiers: then every bit is set
 abbrev pub bits_of_few : Slots → ℕ
 bits_of_few slots = if nat_lt 16 (length slots) then 2 ^ 64 - 1 else bits_of_slots slots
 

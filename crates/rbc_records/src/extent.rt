@@ -1,4 +1,4 @@
-//! Where a new stop has to lie for a train, in few bytes, so that a search passes by most trains.
+//! Where a new stop has to lie to concern a train, in few bytes, so that a search can skip most trains.
 
 ghost use Rattle.std.specs.Prelude.{◌≡◌};
 ghost use Rattle.rbc_records.specs.Extents.{extent_of_train, ahead_of, extent_of_area, with_segment, meet};
@@ -6,10 +6,10 @@ ghost use Rattle.rbc_records.specs.Extents.{extent_of_train, ahead_of, extent_of
 use crate::told_bits::with_bit;
 use rbc_settle::{Area, Place, STOP_IDENTIFIERS, Segment, TrainRec, Way};
 
-/// Places on some lines, from the least to the most, both among them.
+/// Places on some lines, from the least to the greatest, both included.
 #[derive(Clone, Copy)]
 pub struct Extent {
-    /// The lines, by bits: bit `n % 64` stands for line n. None of them: no place.
+    /// The lines, by bits: bit `n % 64` stands for line n. Without any line there is no place.
     pub lines: u64,
     /// In units of 10 cm from the lower end of a line.
     pub least: u32,
@@ -68,8 +68,8 @@ impl Extent {
         }
     }
 
-    /// The extent of an area: on all lines of its segments, from the least end of any to the greatest. Of an area
-    /// without segments it is everywhere.
+    /// The extent of an area: on all lines of its segments, from the least end to the greatest. An area without
+    /// segments extends everywhere.
     pub fn of_area(area: &Area) -> Self
         ensures { result ≡ extent_of_area area.now }
     {
@@ -82,7 +82,7 @@ impl Extent {
             .fold(NOWHERE, |extent, segment| extent.with_segment(segment))
     }
 
-    /// With one more segment.
+    /// The extent with one more segment.
     fn with_segment(self, segment: &Segment) -> Self
         ensures { result ≡ with_segment self segment.now }
     {
@@ -93,8 +93,8 @@ impl Extent {
         }
     }
 
-    /// Whether both are on a line of the same bit, and have a place in common. Without a branch for each kind of
-    /// extent, as this is asked of every train at every new stop.
+    /// Whether both are on a line of the same bit, and have a place in common. It has no branch for each kind of
+    /// extent, because each new stop asks it of every train.
     #[inline(always)]
     pub fn meets(&self, other: &Extent) -> bool
         ensures { result ≡ meet self.now other.now }

@@ -4,6 +4,9 @@
 //! Stands on rbc_settle for what a record holds. rbc_rule reads through a [`Reader`] and rests on this: what is known
 //! never changes, and a search misses no train that the command seeks (specs/Notes.antt, specs/Seeking.antt). rbc_desk
 //! keeps a [`PlainStore`]. Begin with record.rt and reader.rt.
+//!
+//! A function that cannot report a lack of memory takes none. `AllocError` means that memory was refused; what the
+//! function was changing is then of no further use, unless its docstring says what is left.
 #![tactic(auto)]
 
 mod extent;

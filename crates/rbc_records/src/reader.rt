@@ -40,8 +40,8 @@ pub trait Reader {
         requires { IsTrue (knows (notes self.now) key) }
         ensures { option_copied result ≡ noted (notes self.now) key };
 
-    /// Writes that nobody needs any more, in whose memory others can be made; `None` where there are none. What has
-    /// been read stays.
+    /// Writes that are no longer needed, whose memory can be reused; `None` if there are none. What has been read
+    /// stays.
     fn spare(&mut self) -> Option<Writes>
         ensures same { notes self.new ≡ notes self.old }
         ensures failed { failed self.new ≡ failed self.old }
@@ -53,9 +53,9 @@ pub trait Reader {
     fn failures(&self) -> u64
         ensures { result ≡ failed self.now };
 
-    /// The engines of some trains, among them all that a command seeks. `None` from a reader that keeps no account of
-    /// what its trains were told; also where there are many, so that it is no use. A reader that returns engines knows
-    /// every key. Fails only for lack of memory.
+    /// The engines of some trains, among them all that a command seeks. `None` from a reader that does not record what
+    /// its trains were told, and if there are too many engines for a list to help. A reader that returns engines knows
+    /// every key.
     fn search(&self, _alloc: Global, _sought: Sought<'_>) -> Result<Option<Numbers>, AllocError>
         ensures { IfOk result (λ found. IfSome found (AreFound (notes self.now) _sought.entry)) }
     {

@@ -36,7 +36,7 @@ pub enum Rec {
 }
 
 impl Rec {
-    /// Copies the record; fails only for lack of memory.
+    /// Copies the record.
     pub fn copy(&self, alloc: Global) -> Result<Self, AllocError>
         ensures { IfOk result (λ copy. copy ≡ self.now) }
     {

@@ -49,7 +49,7 @@ impl Model for Table {
 }
 
 impl Table {
-    /// Makes an empty table. It allocates nothing.
+    /// Makes an empty table.
     pub fn new(alloc: Global) -> Self
         ensures { result.entries ≡ [] }
     {
@@ -83,7 +83,7 @@ impl Table {
         (*key, rec)
     }
 
-    /// Makes room for some more records. Fails only for lack of memory; the records stay in either case.
+    /// Makes room for some more records. An error leaves the records unchanged.
     pub fn reserve(&mut self, additional: usize) -> Result<(), AllocError>
         ensures entries { self.new.entries ≡ self.old.entries }
         ensures ok { OnOk result (additional ≤ self.new.room) }
@@ -115,7 +115,7 @@ impl Table {
     }
 
     /// Exchanges the record under a key with another one, if a record stands there, and says whether one does. If none
-    /// does, nothing changes. Takes no memory and no room.
+    /// does, nothing changes. Takes no room.
     pub fn replace(&mut self, key: Key, rec: &mut Rec) -> bool
         ensures held { result ≡ is_some (record_in self.old.entries key) }
         ensures records { IsTrue result → (k : Key)
@@ -146,8 +146,8 @@ impl Table {
         Some(rec)
     }
 
-    /// The engines of the trains that a command may seek, among them all that it does seek. `None` where they are many.
-    /// Fails only for lack of memory.
+    /// The engines of the trains that a command may seek, among them all that it does seek. `None` if there are too
+    /// many.
     pub fn search(&self, alloc: Global, sought: Sought<'_>) -> Result<Option<Numbers>, AllocError>
         ensures { IfOk result (λ found. IfSome found (AreFound (Whole self.now.entries) sought.entry)) }
     {
@@ -173,7 +173,7 @@ impl Table {
     }
 }
 
-/// What the train of a record was told; nothing if it is that of no train.
+/// What the train of a record was told; nothing if the record is not of a train.
 fn told_bits_of(rec: &Rec) -> ToldBits
     ensures { result ≡ told_bits_of rec.now }
 {
@@ -186,7 +186,8 @@ fn told_bits_of(rec: &Rec) -> ToldBits
     }
 }
 
-/// Where a new stop has to lie if the train of a record may have to be told of it; nowhere if it is that of no train.
+/// Where a new stop has to lie if the train of a record may have to be told of it; nowhere if the record is not of a
+/// train.
 fn extent_of(rec: &Rec) -> Extent
     ensures { result ≡ extent_of rec.now }
 {

@@ -22,10 +22,10 @@ pub enum Sought<'a> {
     Stoppable(u32, &'a Area),
 }
 
-/// The most trains that a search returns. A command for more of them goes through all as fast.
+/// The most trains that a search returns. For more, going through all trains is as fast.
 const MAX_FOUND: usize = 256;
 
-/// The engines of the trains whose entries in a column pass a test. `None` where they are many.
+/// The engines of the trains whose entries in a column pass a test. `None` if there are too many.
 pub fn passing<T: Copy, F: Fn(T) -> bool>(
     alloc: Global,
     entries: &IndexMap<Key, Rec>,
@@ -48,7 +48,7 @@ pub fn passing<T: Copy, F: Fn(T) -> bool>(
 }
 
 /// Adds the engine at an index if a train stands there, unless it is among the engines already. Returns whether there
-/// was room for it: `false` where there are as many engines as a search returns. Fails only for lack of memory.
+/// was room for it: `false` if there are already as many engines as a search returns.
 fn add_train(
     entries: &IndexMap<Key, Rec>,
     index: usize,

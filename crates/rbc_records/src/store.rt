@@ -34,7 +34,7 @@ impl Model for PlainStore {
 }
 
 impl PlainStore {
-    /// Makes an empty store. It allocates nothing.
+    /// Makes an empty store.
     pub fn new(alloc: Global) -> Self
         ensures { result ≡ [] }
     {
@@ -51,8 +51,8 @@ impl PlainStore {
         self.records.get(key)
     }
 
-    /// Keeps what an input replaced, if that is one record: the next outcome can be made in its memory. It was a train's
-    /// where the input was a message.
+    /// Keeps what an input replaced, if that is one record, so that the next outcome can reuse its memory. After a
+    /// message it is the record of a train.
     pub fn keep_spare(&mut self, replaced: Writes)
         ensures { self.new ≡ self.old }
     {

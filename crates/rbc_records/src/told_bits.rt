@@ -1,16 +1,16 @@
-//! The numbers that a train was told, in few bytes, so that a search passes by most trains.
+//! The numbers that a train was told, in few bytes, so that a search can skip most trains.
 
 ghost use Rattle.std.specs.Prelude.{◌≡◌, fold};
 ghost use Rattle.rbc_records.specs.ToldBits.{has_bit, with_bit, with_slot, bits_of_slots, bits_of_few, told_bits_of_train};
 
 use rbc_settle::{IdTable, Slot, TrainRec};
 
-/// The most restriction identifiers of a train that are looked at. One that holds more counts as told of every
-/// restriction, so that a write of its record costs no more than a few steps.
+/// The most restriction identifiers of a train that are examined. A train that holds more counts as told of every
+/// restriction, so that writing its record takes only a few steps.
 const FEW: usize = 16;
 
-/// The numbers that a train was told, by bits: bit `n % 64` stands for the number n. So a bit that is not set tells
-/// that no such number was told.
+/// The numbers that a train was told, by bits: bit `n % 64` stands for the number n. So if a bit is not set, no such
+/// number was told.
 #[derive(Clone, Copy)]
 pub struct ToldBits {
     /// The numbers of the stops that the train was told or that it rejected.

@@ -25,7 +25,7 @@ impl Model for Writes {
 }
 
 impl Writes {
-    /// Makes an empty list of writes. It allocates nothing.
+    /// Makes an empty list of writes.
     pub fn new(alloc: Global) -> Self
         ensures { result ≡ [] }
     {
@@ -34,8 +34,7 @@ impl Writes {
         }
     }
 
-    /// Adds a write behind the others: of a new record, or of a removal. Fails only for lack of memory, and then
-    /// changes nothing.
+    /// Adds a write after the others: of a new record, or of a removal. An error changes nothing.
     pub fn set(&mut self, key: Key, rec: Option<Rec>) -> Result<(), AllocError>
         ensures ok { OnOk result (self.new ≡ self.old ++ (key, rec) ∷ []) }
         ensures err { OnErr result (self.new ≡ self.old) }

@@ -24,7 +24,7 @@ code_of NoSuchNumber = 14
 code_of StampTooHigh = 15
 code_of NothingToAcknowledge = 16
 
--- why there is no new value where a definition gives this result: it refuses with the code of the refusal, or memory ran out
+-- why there is no new value, if a definition gives this result: it refuses with the code of the refusal, or memory ran out
 abbrev pub IsReason : {A : Type 0} → Result A ℕ → NotChanged → Type 0
 IsReason given (Refused refusal) = Err (code_of refusal) ≡ given
 IsReason given OutOfMemory = Unit

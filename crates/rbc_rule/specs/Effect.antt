@@ -25,7 +25,7 @@ use Rattle.rbc_rule.specs.Bounds.{max_trains, max_stops, max_limits, max_stamp}
 use Rattle.rbc_rule.specs.Codes.{code_of}
 use Rattle.rbc_rule.specs.declared.refuse.Refusal.TheVariants.{UnknownTrain, AlreadyEnrolled, TooManyTrains, StopsOutstanding, NumberUsed, BadArea, TooManyActive, NoSuchNumber, StampTooHigh, NothingToAcknowledge}
 
--- a function of a result, unless that is a refusal
+-- a function of a result, unless the result is a refusal
 abbrev pub then_do : {A B : Type 0} → (A → B) → Result A ℕ → Result B ℕ
 then_do f (Ok answer) = Ok (f answer)
 then_do f (Err code) = Err code

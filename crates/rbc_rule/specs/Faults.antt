@@ -5,7 +5,7 @@ use Rattle.rbc_rule.specs.declared.outcome.RuleFault.{RuleFault}
 use Rattle.rbc_rule.specs.declared.outcome.RuleFault.TheVariants as fault
 use Rattle.rbc_rule.specs.Right.{IsTorn}
 
--- what a fault says of the notes where nothing more is read
+-- what a fault says of the notes if nothing more is read
 abbrev pub IsFaultOf : Plan → RuleFault → Notes → Type 0
 IsFaultOf plan fault.OutOfMemory notes = Unit
 IsFaultOf plan fault.Torn notes = IsTorn plan notes

@@ -101,7 +101,7 @@ withdrawn_outcome engine engines list others = record {
   messages = [];
 }
 
--- the outcome for a train after its message, behind what it writes where it moves from list to list
+-- the outcome for a train after its message, with what it writes first if it moves from list to list
 abbrev pub heard_outcome : Plan → Stops → Limits → ℕ → TrainRec → List (Key × Option Rec) → Outcome
 heard_outcome plan stops limits engine train moved = record {
   result = Done (length (messages_of plan stops limits train));

@@ -38,7 +38,7 @@ is_list key.Limits = false
 abbrev pub engines_at : World → Key → List ℕ
 engines_at w list = engines_in (record_of w list)
 
--- a list has the engines of those trains of which something holds
+-- a list has the engines of the trains that pass a test
 abbrev pub AreEnginesOf : (TrainRec → Bool) → World → List ℕ → Type 0
 AreEnginesOf is_one w engines = (engine : ℕ) → has_number engines engine ≡ option_map_or is_one (value_of w.trains engine) false
 
@@ -55,13 +55,13 @@ may_limit line train = same_key (key.Line line) (list_of train)
 abbrev pub AreTrainsKnown : Notes → List ℕ → Type 0
 AreTrainsKnown notes engines = All (λ engine. IsTrue (knows notes (key.Train engine))) engines
 
--- what a train writes that leaves one list and comes into another: nothing where both are one
+-- what a train that moves from one list to another writes: nothing if both are the same
 abbrev pub moves : World → ℕ → Key → Key → List (Key × Option Rec)
 moves w engine left entered =
     if same_key left entered then []
     else (left, engines_record (without_number engine (engines_at w left))) ∷ (entered, engines_record (with_number engine (engines_at w entered))) ∷ []
 
--- These are engines of trains of the world, and among them are those of all trains that a command seeks.
+-- These are engines of trains of the world, and they include those of all trains that a command seeks.
 pub record HaveSought (what : Sought) (w : World) (engines : List ℕ) : Type 0 where
   pub enrolled : (engine : ℕ) → has_number engines engine ≡ true → has_number (keys w.trains) engine ≡ true
   pub none_missed : (engine : ℕ) (train : TrainRec) → value_of w.trains engine ≡ Some train → is_sought what train ≡ true → has_number engines engine ≡ true

@@ -17,7 +17,7 @@ abbrev pub engines_record : List ℕ → Option Rec
 engines_record [] = None
 engines_record (engine ∷ engines) = Some (rec.Engines (engine ∷ engines))
 
--- stops and restrictions of which none was ever given have no record
+-- stops, or restrictions, have no record if none was ever given
 abbrev pub stops_record : Stops → Option Rec
 stops_record stops = if stops.last == 0 then None else Some (rec.Stops stops)
 

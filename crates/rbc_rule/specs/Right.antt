@@ -38,7 +38,7 @@ pub record MayBe (plan : Plan) (notes : Notes) (w : World) : Type 0 where
   pub well_formed : IsWellFormed plan w
   pub agrees : Agrees notes w
 
--- an outcome is right for notes where it is the step's in each such world
+-- an outcome is right for notes if it is that of the step in each such world
 abbrev pub IsRight : Plan → Input → Notes → Reply → List (Key × Option Rec) → List Sent → Type 0
 IsRight plan input notes reply writes messages = (w : World) → MayBe plan notes w → IsStep plan input w reply writes messages
 
@@ -51,7 +51,7 @@ abbrev pub IsOfSender : Input → Key → Type 0
 IsOfSender (Received message) k = k ≡ key.Train (engine_of message)
 IsOfSender _ k = ⊥
 
--- Each write changes what stands under its key, but that of the train that sent a message, which is written in any case.
+-- Each write changes what stands under its key, except that the train that sent a message is always written.
 abbrev pub EachWriteChanges : Plan → Input → Notes → List (Key × Option Rec) → Type 0
 EachWriteChanges plan input notes writes =
     (w : World) → MayBe plan notes w → All (λ write. IsChange w write ⊎ IsOfSender input write.0) writes
@@ -71,6 +71,6 @@ IsFault plan fault.OutOfMemory notes old new = new ≡ old
 IsFault plan fault.Torn notes old new = (new ≡ old) × IsTorn plan notes
 IsFault plan fault.Reader notes old new = new ≡ old + 1
 
--- where it ends by a fault, the fault says so
+-- if a call ends with a fault, the fault means what it says
 abbrev pub FailsAs : {T : Type 0} → Plan → Notes → ℕ → ℕ → Result T RuleFault → Type 0
 FailsAs plan notes old new result = IfErr result (λ fault. IsFault plan fault notes old new)

@@ -1,4 +1,4 @@
--- What a message has to say to a train: what the rules give that train (own rule).
+-- What a message must say to a train: what the rules give the train (own rule).
 use Rattle.std.specs.Prelude.{◌≡◌, ℕ, fold, ◌+◌, ◌*◌, ◌^◌, ◌≤◌, Bool, true, false, List, [], ◌∷◌, map, Some, Result, Ok, Err}
 use Rattle.ertms_codec.specs.declared.to_train.ToTrain.{ToTrain}
 use Rattle.ertms_codec.specs.declared.to_train.ToTrain.TheVariants as message
@@ -42,9 +42,9 @@ pub record IsSpotFor (p : Place) (edge : ℕ) (spot : Spot) : Type 0 where
   pub in_units : spot.unit ≡ 10 ^ scale
   pub ahead : IsAhead p.facing p.at (units * 10 ^ scale) spot.place
 
--- The stretch for a restriction, by places: it covers all of the restriction that is not behind the balise group, begins less than a unit
--- before that and ends less than a unit behind it, the way the train faces, in the finest unit in which its beginning and its length have
--- room in their fields.
+-- The stretch for a restriction, by places: it covers all of the restriction that is not behind the balise group,
+-- begins less than a unit before that part and ends less than a unit after it, the way the train faces, in the finest
+-- unit in which its beginning and its length have room in their fields.
 pub record IsStretchFor (limit : Limit) (p : Place) (stretch : Stretch) : Type 0 where
   pub scale : ℕ
   pub start : ℕ
@@ -65,7 +65,7 @@ pub record IsEdgeSaid (train : TrainRec) (edge id : ℕ) (said : Said) : Type 0 
   pub is_for : IsSpotFor p edge spot
   pub is_said : said ≡ StopsBefore id spot
 
--- what an active stop is to the train
+-- what an active stop means for the train
 abbrev pub IsConcernSaid : TrainRec → Concern → ℕ → Said → Type 0
 IsConcernSaid train concern.None id said = ⊥
 IsConcernSaid train concern.Now id said = said ≡ StopsAtOnce id
@@ -90,7 +90,7 @@ pub record IsLimitSaid (limits : Limits) (train : TrainRec) (id number : ℕ) (s
 abbrev pub as_told : Stops → TrainRec → TrainRec
 as_told stops train = record train { forced = fold (λ forced number. and_number number forced) train.forced (escalated stops train) }
 
--- one thing alone, of which a statement holds
+-- one thing alone, which satisfies a statement
 pub record IsAlone (holds : Said → Type 0) (said : List Said) : Type 0 where
   pub one : Said
   pub is : holds one
@@ -128,7 +128,7 @@ asks_for_answer (message.Stop head id) = false
 asks_for_answer (message.Revoke head id) = true
 asks_for_answer (message.General head packets) = true
 
--- a train to which so many messages more were sent, each with the next stamp
+-- a train to which this many more messages were sent, each with the next stamp
 abbrev pub after_sending : ℕ → TrainRec → TrainRec
 after_sending count train = record train { stamp = train.stamp + count }
 
@@ -144,7 +144,7 @@ pub record SaysFor (plan : Plan) (stops : Stops) (limits : Limits) (train : Trai
   pub by_its_group : (codec.head_of message).lrbg ≡ group_of train
   pub sendable : IsSendable message
 
--- What is said of a stop by the place alone, which is less: whatever it lies ahead of, and whichever way on.
+-- What is said of a stop by the place alone, which is less: it leaves open what the place lies ahead of, and in which direction.
 abbrev pub by_place : Said → Said
 by_place (StopsBefore id spot) = StopsBefore id (record spot { origin = 0; way = Up })
 by_place (StopsAtOnce id) = StopsAtOnce id
@@ -182,17 +182,17 @@ AllSayTo plan stops limits (train ∷ trains) (sent ∷ more) =
 AllSayTo plan stops limits [] (sent ∷ more) = ⊥
 AllSayTo plan stops limits (train ∷ trains) [] = ⊥
 
--- what is sent after an input: nothing where it is refused, and else what settling says to each train
+-- what is sent after an input: nothing if it is refused, else what settling says to each train
 abbrev pub IsSaidAfter : Plan → Result World ℕ → List (ℕ × List ToTrain) → Type 0
 IsSaidAfter plan (Err code) sent = sent ≡ []
 IsSaidAfter plan (Ok changed) sent = AllSayTo plan changed.stops changed.limits changed.trains sent
 
--- each step, from any well-formed world
+-- this holds of each step, from any well-formed world
 abbrev pub EachStepSays : Type 0
 EachStepSays =
     (plan : Plan) (w : World) (input : Input) → IsPlan plan → Fits input → IsWellFormed plan w
     → IsSaidAfter plan (effect plan input w) (step plan w input).sent
 
--- a message says one list of things at most
+-- a message says at most one list of things
 abbrev pub EachMessageSaysOneThing : Type 0
 EachMessageSaysOneThing = (plan : Plan) (message : ToTrain) (a b : List Said) → Says plan message a → Says plan message b → a ≡ b

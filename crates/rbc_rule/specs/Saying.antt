@@ -12,7 +12,7 @@ use Rattle.rbc_place.specs.Reach.{IsAhead}
 
 -- ---- what can be said
 
--- a place on a line before which a train is to stop: what it lies ahead of, which way on, and the unit that it was counted in
+-- a place on a line before which a train is to stop: what it lies ahead of, in which direction, and the unit in which it was counted
 pub record Spot : Type 0 where
   pub line : ℕ
   pub origin : ℕ
@@ -20,7 +20,7 @@ pub record Spot : Type 0 where
   pub place : ℕ
   pub unit : ℕ
 
--- what lies ahead of an origin on a line, one way on, from one distance to another, and the unit that they were counted in
+-- a stretch ahead of an origin on a line, in one direction, from one distance to another, and the unit in which they were counted
 pub record Stretch : Type 0 where
   pub line : ℕ
   pub origin : ℕ
@@ -48,7 +48,7 @@ way_told nominal dir = if dir == 1 then Some nominal else if dir == 0 then Some 
 abbrev pub unit_told : ℕ → Option ℕ
 unit_told scale = if nat_le scale 2 then Some (10 ^ scale) else None
 
--- what the distances of a message count from: the balise group that it names, one way on, in a unit
+-- what the distances of a message count from: the balise group that it names, in one direction, in a unit
 pub record CountsFrom (plan : Plan) (lrbg dir scale line origin : ℕ) (way : Way) (unit : ℕ) : Type 0 where
   pub group : Group
   pub known : group_of plan lrbg ≡ Some group
@@ -57,12 +57,12 @@ pub record CountsFrom (plan : Plan) (lrbg dir scale line origin : ℕ) (way : Wa
   pub one_way : way_told group.nominal dir ≡ Some way
   pub in_units : unit_told scale ≡ Some unit
 
--- the place that lies so many units ahead
+-- the place that lies this many units ahead
 pub record IsSpotTold (plan : Plan) (lrbg dir scale distance : ℕ) (spot : Spot) : Type 0 where
   pub counts : CountsFrom plan lrbg dir scale spot.line spot.origin spot.way spot.unit
   pub ahead : IsAhead spot.way spot.origin (distance * spot.unit) spot.place
 
--- the stretch that begins so many units ahead, and is so many units long
+-- the stretch that begins this many units ahead, and is this many units long
 pub record IsStretchTold (plan : Plan) (lrbg dir scale start length : ℕ) (stretch : Stretch) : Type 0 where
   pub counts : CountsFrom plan lrbg dir scale stretch.line stretch.origin stretch.way stretch.unit
   pub begins : stretch.begin ≡ start * stretch.unit

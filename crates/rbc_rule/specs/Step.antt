@@ -36,7 +36,7 @@ pub record Step : Type 0 where
   pub reply : Reply
   pub sent : List (ℕ × List ToTrain)
 
--- R-INPUT-1, R-INPUT-9: an input that is refused changes nothing, and sends nothing; after the effect of any other one
+-- R-INPUT-1, R-INPUT-9: an input that is refused changes nothing and sends nothing; after the effect of any other input
 -- every train is settled
 abbrev pub after : Plan → World → Result World ℕ → Step
 after plan w (Err code) = record { world = w; reply = Refused code; sent = [] }

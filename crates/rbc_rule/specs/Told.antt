@@ -36,7 +36,7 @@ use Rattle.rbc_rule.specs.WellFormed.{IsWellFormed}
 abbrev pub EachTrainIsUpToDate : Plan → World → Type 0
 EachTrainIsUpToDate plan w = All (λ train. IsUpToDateOrAtTheEnd plan w.stops w.limits train.1) w.trains
 
--- R-SETTLE-13: after each step, from any well-formed world
+-- R-SETTLE-13: this holds after each step, from any well-formed world
 abbrev pub EachStepTells : Type 0
 EachStepTells =
     (plan : Plan) (w : World) (input : Input) → IsPlan plan → Fits input → IsWellFormed plan w → EachTrainIsUpToDate plan (step plan w input).world
@@ -49,13 +49,13 @@ pub record IsLeftUnanswered (used : UsedSlot) : Type 0 where
   pub unanswered : used.acked ≡ false
   pub three_reports : used.count ≡ 3
 
--- a stop is something to a train
+-- a stop means something for a train
 abbrev pub is_something : Concern → Bool
 is_something concern.None = false
 is_something concern.Now = true
 is_something (concern.Before edge) = true
 
--- an active stop is still to be told: it is something to the train, which is not told it
+-- an active stop is still to be told: it means something for the train, and is not told to it
 abbrev pub is_untold : TrainRec → ℕ × List Segment → Bool
 is_untold train stop = not (is_told train.stops stop.0) && is_something (concern_to train stop)
 
@@ -89,7 +89,7 @@ abbrev pub PacketRevokesRightly : Limits → TrainRec → Packet → Type 0
 PacketRevokesRightly limits train (packet.Restrict dir scale id start length front speed) = Unit
 PacketRevokesRightly limits train (packet.Lift dir id) = MayRevokeLimit limits train id
 
--- so does a message
+-- the same for a message
 abbrev pub RevokesRightly : Stops → Limits → TrainRec → ToTrain → Type 0
 RevokesRightly stops limits train (message.StopAt head id scale reference dir distance) = Unit
 RevokesRightly stops limits train (message.Stop head id) = Unit
@@ -105,20 +105,20 @@ EachStepRevokesRightly =
 
 -- ---- what the slots of a train keep
 
--- A message left its mark in the slot of its stop identifier: what it tells is kept as told by it, under this number and with its stamp,
--- and not answered yet; and what it revokes as being revoked, with its stamp.
+-- A message left its mark in the slot of its stop identifier. What it tells is kept as told by it, under this number
+-- and with its stamp, and not answered yet; what it revokes is kept as being revoked, with its stamp.
 abbrev pub MarksStop : Slots → ℕ → ToTrain → Type 0
 MarksStop slots number (message.StopAt head id scale reference dir distance) = value_of slots id ≡ Some (told_now number head.stamp Conditional)
 MarksStop slots number (message.Stop head id) = value_of slots id ≡ Some (told_now number head.stamp Unconditional)
 MarksStop slots number (message.Revoke head id) = value_of slots id ≡ Some (Revoking head.stamp)
 MarksStop slots number (message.General head packets) = Unit
 
--- so did a packet in the slot of its restriction identifier
+-- the same for a packet, in the slot of its restriction identifier
 abbrev pub MarksLimit : Slots → ℕ → ℕ → Packet → Type 0
 MarksLimit slots stamp number (packet.Restrict dir scale id start length front speed) = value_of slots id ≡ Some (told_now number stamp Restriction)
 MarksLimit slots stamp number (packet.Lift dir id) = value_of slots id ≡ Some (Revoking stamp)
 
--- and each packet of a message, for each of some numbers
+-- the same for each packet of a message, each with its number
 abbrev pub PacketsMark : Slots → ℕ → List ℕ → List Packet → Type 0
 PacketsMark slots stamp [] [] = Unit
 PacketsMark slots stamp (number ∷ numbers) (one ∷ packets) = MarksLimit slots stamp number one × PacketsMark slots stamp numbers packets
@@ -131,7 +131,7 @@ MarksLimits slots numbers (message.Stop head id) = Unit
 MarksLimits slots numbers (message.Revoke head id) = Unit
 MarksLimits slots numbers (message.General head packets) = PacketsMark slots head.stamp numbers packets
 
--- the number that a change to the restrictions tells, or 0 where it tells none
+-- the number that a change to the restrictions tells, or 0 if it tells none
 abbrev pub number_told : LimitChange → ℕ
 number_told (limit_change.Revoke id) = 0
 number_told (limit_change.Tell id number told) = number
@@ -142,14 +142,14 @@ IsMarked now (ChangesStop (stop_change.Revoke id forced)) sent = MarksStop now.s
 IsMarked now (ChangesStop (stop_change.Tell id number told)) sent = MarksStop now.stops number sent
 IsMarked now (ChangesLimits changes) sent = MarksLimits now.limits (map number_told changes) sent
 
--- so did the message of each action
+-- the same for the message of each action
 abbrev pub AllMarked : TrainRec → List Action → List ToTrain → Type 0
 AllMarked now [] [] = Unit
 AllMarked now (action ∷ actions) (sent ∷ more) = IsMarked now action sent × AllMarked now actions more
 AllMarked now [] (sent ∷ more) = ⊥
 AllMarked now (action ∷ actions) [] = ⊥
 
--- A train that was so before is there after a step, and each message that it was sent left its marks.
+-- A train that was there before a step is there after it, and each message that was sent to it left its marks.
 pub record KeepsWhatWasSent (plan : Plan) (changed : World) (train : TrainRec) (trains : List (ℕ × TrainRec)) (engine : ℕ) (sent : List ToTrain) : Type 0 where
   pub now : TrainRec
   pub is_now : value_of trains engine ≡ Some now

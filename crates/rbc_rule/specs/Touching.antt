@@ -33,7 +33,7 @@ has_stop train number = is_told train.stops number || has_number train.forced nu
 abbrev pub has_limit : TrainRec → ℕ → Bool
 has_limit train number = is_told train.limits number
 
--- A change touches a train if a stop or a restriction begins that concerns it, or one ends that it has.
+-- A change touches a train if the stop or the restriction that begins concerns it, or if it has the one that ends.
 abbrev pub touches : Plan → Change → TrainRec → Bool
 touches plan (change.Stop number None) train = has_stop train number
 touches plan (change.Stop number (Some area)) train = is_stop_for train (number, area.now)
@@ -46,7 +46,7 @@ touches plan (change.Limit number (Some limit)) train = is_limit_for plan.horizo
 abbrev pub limit_of : Restriction → Limit
 limit_of new = record { segment = new.segment; dirs = new.dirs; speed = new.speed; front = new.front }
 
--- a value begins to be active, under a new number
+-- a value becomes active, under a new number
 pub record HasBegun {V : Type 0} (number : ℕ) (value : V) (old new : Numbered V) : Type 0 where
   pub above : old.last < number
   pub next : new ≡ with_next number value old
@@ -64,7 +64,7 @@ released_by (change.Stop number None) = Some number
 released_by (change.Stop number (Some area)) = None
 released_by (change.Limit number limit) = None
 
--- a value begins to be active under a number, or what was active under it ends
+-- a value becomes active under a number, or what was active under it ends
 abbrev pub BeginsOrEnds : {V : Type 0} → ℕ → Numbered V → Numbered V → Type 0
 BeginsOrEnds {V} number old new = ((value : V) × HasBegun number value old new) ⊎ (new ≡ with_less number old)
 

@@ -13,7 +13,7 @@ use rbc_track::Track;
 use rbc_zones::{Area, Limit, Limits, Stops};
 use std::alloc::Global;
 
-/// Returns the stops with one more, or why there cannot be one more.
+/// Returns the stops with one more, or why it cannot be added.
 pub(crate) fn stops_after(
     alloc: Global,
     track: &Track,
@@ -39,7 +39,7 @@ pub(crate) fn stops_after(
     Ok(after)
 }
 
-/// Returns the restrictions with one more, or why there cannot be one more.
+/// Returns the restrictions with one more, or why it cannot be added.
 pub(crate) fn limits_after(
     alloc: Global,
     track: &Track,

@@ -1,4 +1,4 @@
-//! Settles the trains that a stop or a restriction touches which begins or ends.
+//! Settles the trains that are touched when a stop or a restriction begins or ends.
 
 ghost use Rattle.std.specs.Prelude.{◌≡◌, ◌+◌, ◌*◌, ◌≤◌, ◌<◌, ◌^◌, IsTrue, length, Some, None};
 ghost use Rattle.rbc_zones.specs.Segments.{is_good_area};
@@ -29,7 +29,7 @@ use rbc_track::Track;
 use rbc_zones::{Limits, Stops};
 use std::alloc::Global;
 
-/// Reads the other records and settles the trains that a stop can concern which has begun. `stops` has it already.
+/// Reads the other records and settles the trains that a new stop can concern. `stops` already has it.
 pub(crate) fn stop_begun<S: Reader>(
     alloc: Global,
     track: &Track,
@@ -49,7 +49,7 @@ pub(crate) fn stop_begun<S: Reader>(
     settled_with_stops(alloc, track, number, stops, &engines, store)
 }
 
-/// Reads the other records and settles all trains after a stop has ended. `stops` lacks it already.
+/// Reads the other records and settles all trains after a stop has ended. `stops` no longer has it.
 pub(crate) fn stop_ended<S: Reader>(
     alloc: Global,
     track: &Track,
@@ -95,8 +95,7 @@ fn settled_with_stops<S: Reader>(
     Ok(Outcome::done(gathered.writes, gathered.messages))
 }
 
-/// Reads the other records and settles the trains that a restriction can concern which has begun. `limits` has it
-/// already.
+/// Reads the other records and settles the trains that a new restriction can concern. `limits` already has it.
 pub(crate) fn limit_begun<S: Reader>(
     alloc: Global,
     track: &Track,
@@ -116,7 +115,7 @@ pub(crate) fn limit_begun<S: Reader>(
     settled_with_limits(alloc, track, new.number, limits, &engines, store)
 }
 
-/// Reads the other records and settles all trains after a restriction has ended. `limits` lacks it already.
+/// Reads the other records and settles all trains after a restriction has ended. `limits` no longer has it.
 pub(crate) fn limit_ended<S: Reader>(
     alloc: Global,
     track: &Track,

@@ -40,7 +40,7 @@ pub(crate) fn fetch<S: Reader>(store: &mut S, key: Key) -> Result<(), RuleFault>
     }
 }
 
-/// Fetches one record, and takes what is spare.
+/// Fetches one record, and takes the spare writes of the reader.
 pub(crate) fn fetch_with_spare<S: Reader>(
     store: &mut S,
     key: Key,
@@ -148,7 +148,7 @@ pub(crate) fn fetch_list<S: Reader>(
     Ok(engines)
 }
 
-/// Asks the reader for the trains that a command seeks. `None` if it keeps no account of them, or finds many.
+/// Asks the reader for the trains that a command seeks. `None` if it keeps no record of them, or finds too many.
 fn search<S: Reader>(
     alloc: Global,
     sought: Sought<'_>,
@@ -166,7 +166,7 @@ fn search<S: Reader>(
     }
 }
 
-/// Fetches trains among which are all that a command seeks, and returns their engines: those that the reader finds, or
+/// Fetches trains that include all that a command seeks, and returns their engines: those that the reader finds, or
 /// else all.
 pub(crate) fn fetch_told<S: Reader>(
     alloc: Global,
@@ -186,8 +186,8 @@ pub(crate) fn fetch_told<S: Reader>(
     fetch_list(alloc, Key::Roster, store)
 }
 
-/// Fetches trains among which are all that a stop concerns which begins, and returns their engines: those that the
-/// reader finds, or else those without a place and those on the lines of its segments. `stops` has it already.
+/// Fetches trains that include all that a new stop concerns, and returns their engines: those that the reader finds, or
+/// else those without a place and those on the lines of its segments. `stops` already has it.
 pub(crate) fn fetch_concerned<S: Reader>(
     alloc: Global,
     track: &Track,

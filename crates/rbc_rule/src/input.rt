@@ -28,7 +28,7 @@ impl Model for Segments {
 }
 
 impl Segments {
-    /// Makes an empty list. It takes no memory.
+    /// Makes an empty list.
     pub fn new(alloc: Global) -> Self
         ensures { result ≡ [] }
     {
@@ -37,7 +37,7 @@ impl Segments {
         }
     }
 
-    /// Adds a segment at the end. Fails only for lack of memory, and then changes nothing.
+    /// Adds a segment at the end. An error changes nothing.
     pub fn push(&mut self, segment: Segment) -> Result<(), AllocError>
         ensures ok { OnOk result (self.new ≡ self.old ++ segment ∷ []) }
         ensures err { OnErr result (self.new ≡ self.old) }
@@ -91,12 +91,12 @@ pub enum Input {
     },
     /// A message from a train.
     Received(FromTrain),
-    /// A line that is no input, with its refusal code, 1 to 6 (`Refusal::code`).
+    /// A line that is not an input, with its refusal code, 1 to 6 (`Refusal::code`).
     Bad(u8),
 }
 
 impl Input {
-    /// Whether each number is in the range stated above and a stop has at least one segment. It takes no memory.
+    /// Whether each number is in the range stated above and a stop has at least one segment.
     pub fn fits(&self) -> bool
         ensures { IsTrue result ↔ Fits self.now }
     {

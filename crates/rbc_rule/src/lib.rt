@@ -5,6 +5,9 @@
 //! one contract: the outcome of `decide` is the step of each valid state that has the records that were read (`IsRight`
 //! of specs/Right.antt; the step is `step` of specs/Step.antt). Begin with input.rt and rule.rt; then commands.rt for
 //! the signaller, and receive.rt for trains.
+//!
+//! A function that cannot report a lack of memory takes none. `AllocError` means that memory was refused; what the
+//! function was changing is then of no further use, unless its docstring says what is left.
 #![tactic(auto)]
 
 mod active_lists;

@@ -42,7 +42,7 @@ pub(crate) fn line_of(track: &Track, segment: &Segment) -> Key
     Key::Line(segment.line as u8)
 }
 
-/// Returns the record of a list of engines, or `None` for an empty list. It takes no memory.
+/// Returns the record of a list of engines, or `None` for an empty list.
 pub fn engines_record(engines: Numbers) -> Option<Rec>
     ensures { result ≡ engines_record engines }
 {
@@ -53,7 +53,7 @@ pub fn engines_record(engines: Numbers) -> Option<Rec>
     }
 }
 
-/// Writes a list with one more engine. Fails only for lack of memory.
+/// Writes a list with one more engine.
 pub(crate) fn write_with(
     alloc: Global,
     list: Key,
@@ -68,7 +68,7 @@ pub(crate) fn write_with(
     writes.set(list, engines_record(engines))
 }
 
-/// Writes a list without an engine. Fails only for lack of memory.
+/// Writes a list without an engine.
 pub(crate) fn write_without(
     alloc: Global,
     list: Key,

@@ -1,4 +1,4 @@
-//! How much there may be (own rules, but for the engine number). What is beyond a limit is refused.
+//! The limits (own rules, except that of the engine number). An input beyond a limit is refused.
 
 /// The greatest number of enrolled trains.
 pub const MAX_TRAINS: usize = 2_000;

@@ -41,7 +41,7 @@ impl Model for SentList {
 }
 
 impl SentList {
-    /// Makes an empty list. It takes no memory.
+    /// Makes an empty list.
     pub fn new(alloc: Global) -> Self
         ensures { result ≡ [] }
     {
@@ -50,14 +50,14 @@ impl SentList {
         }
     }
 
-    /// Makes a list of these messages. It takes no memory.
+    /// Makes a list of these messages.
     pub fn from_vec(all: Vec<Sent>) -> Self
         ensures { result ≡ all.items }
     {
         SentList { all }
     }
 
-    /// Adds a message at the end. Fails only for lack of memory, and then changes nothing.
+    /// Adds a message at the end. An error changes nothing.
     pub fn add(&mut self, sent: Sent) -> Result<(), AllocError>
         ensures ok { OnOk result (self.new ≡ self.old ++ sent ∷ []) }
         ensures err { OnErr result (self.new ≡ self.old) }
@@ -66,7 +66,7 @@ impl SentList {
         Ok(())
     }
 
-    /// Adds messages at the end. Fails only for lack of memory, and then changes nothing.
+    /// Adds messages at the end. An error changes nothing.
     pub fn add_all(&mut self, sent: Vec<Sent>) -> Result<(), AllocError>
         ensures ok { OnOk result (self.new ≡ self.old ++ sent.items) }
         ensures err { OnErr result (self.new ≡ self.old) }
@@ -77,8 +77,7 @@ impl SentList {
     }
 
     /// Brings a copy of a train up to date, which it returns, and adds the messages that do it at the end. Returns
-    /// `None` and adds nothing if there is nothing to do, or no stamp is left. Fails only for lack of memory, and then
-    /// changes nothing.
+    /// `None` and adds nothing if there is nothing to do, or no stamp is left. An error changes nothing.
     pub fn add_settled(
         &mut self,
         alloc: Global,
@@ -117,7 +116,7 @@ impl SentList {
         &self.all[index]
     }
 
-    /// Returns the messages as a vector. It takes no memory.
+    /// Returns the messages as a vector.
     pub fn into_vec(self) -> Vec<Sent>
         ensures { result.items ≡ self }
     {

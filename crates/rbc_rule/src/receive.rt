@@ -54,8 +54,8 @@ pub fn receive<S: Reader>(
     received(alloc, track, engine, train, moved, store)
 }
 
-/// An empty list of writes, and the record of a train that is not needed any more: both from writes that are spare, if
-/// there are any.
+/// An empty list of writes, and the record of a train that is no longer needed: both from spare writes, if there are
+/// any.
 fn emptied(alloc: Global, spare: Option<Writes>) -> (Writes, Option<TrainRec>)
     ensures { result.0 ≡ [] }
 {
@@ -64,8 +64,8 @@ fn emptied(alloc: Global, spare: Option<Writes>) -> (Writes, Option<TrainRec>)
     (writes, train)
 }
 
-/// Reads the two lists of a train that leaves one and comes into another, and returns what is written to them, in an
-/// empty list that is given: nothing for a train that stays in its list.
+/// Reads the two lists of a train that moves from one to the other, and returns what is written to them, in the given
+/// empty list. A train that stays in its list writes nothing.
 fn moves<S: Reader>(
     alloc: Global,
     engine: u32,
@@ -92,8 +92,8 @@ fn moves<S: Reader>(
     moved(alloc, engine, left, entered, writes, store)
 }
 
-/// Returns what is written to the two lists of a train that leaves one and comes into another, by the records that were
-/// read, in an empty list that is given.
+/// Returns what is written to the two lists of a train that moves from one to the other, by the records that were read,
+/// in the given empty list.
 fn moved<S: Reader>(
     alloc: Global,
     engine: u32,
@@ -127,7 +127,7 @@ fn moved<S: Reader>(
 }
 
 /// Reads the stops and the restrictions, settles a train after its message, and makes the outcome. What the train
-/// writes where it moves from list to list comes first.
+/// writes if it moves from list to list comes first.
 fn received<S: Reader>(
     alloc: Global,
     track: &Track,

@@ -15,7 +15,7 @@ pub enum Refusal {
     BadHex,
     /// The message has a wrong length.
     Length,
-    /// The message is not of a type that is read here.
+    /// The message is not of a type that this program reads.
     Message,
     /// A packet is missing, wrong for the message, or of a wrong length.
     Packet,
@@ -31,7 +31,7 @@ pub enum Refusal {
     StopsOutstanding,
     /// The number of the stop, or of the restriction, is not above the last one.
     NumberUsed,
-    /// The area of the stop, or the restriction, is not good for the track.
+    /// The area of the stop, or the restriction, is not valid on the track.
     BadArea,
     /// 64 stops, or 300 restrictions, are active.
     TooManyActive,

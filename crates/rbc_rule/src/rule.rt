@@ -1,8 +1,8 @@
 //! Decides one input by reading single records.
 //!
-//! Functions over `&mut S` fetch records, and functions over `&S` decide by what was read. A command takes the road
-//! commands.rt, begin_and_end.rt, touched_trains.rt. What begins touches a train that it concerns and that has a free
-//! identifier; what ends touches one that is told it or stops at once for it. Other trains stay as they are
+//! Functions over `&mut S` fetch records, and functions over `&S` decide by what was read. A command passes through
+//! commands.rt, begin_and_end.rt and touched_trains.rt. What begins touches a train that it concerns and that has a
+//! free identifier; what ends touches one that is told it or stops at once for it. Other trains stay as they are
 //! (proofs/Untouched.antt; Elsewhere.antt for another line; Seeking.antt: a search finds enough).
 
 ghost use Rattle.std.specs.Prelude.{◌≡◌, ◌+◌, ◌<◌, ◌^◌, IfOk, OnOk};
@@ -22,10 +22,10 @@ use std::alloc::Global;
 /// Decides an input on a track by the records that it reads (own rule): the answer, the records to write and the
 /// messages to send. The outcome is that of a step of each valid state that has the records that were read. An input
 /// that is refused writes nothing and sends nothing, whatever was read. Each write changes what stands under its key,
-/// but that of the train that sent a message, which is written in any case. A stop that begins reads the trains without
-/// a place and those on the lines of its segments, a restriction that begins those on its line; what ends reads all
-/// trains, or those that a search of the reader finds. Nothing is written to the store, and records that were read
-/// before stay as they were.
+/// except that the train that sent a message is always written. A stop that begins reads the trains without a place and
+/// those on the lines of its segments, a restriction that begins those on its line; what ends reads all trains, or
+/// those that a search of the reader finds. Nothing is written to the store, and records that were read before stay as
+/// they were.
 ///
 /// # Errors
 ///

@@ -32,7 +32,7 @@ pub struct Gathered {
     pub messages: SentList,
 }
 
-/// Settles a train, and collects its messages, and its record if that changes. The train no longer stops at once for a
+/// Settles a train, and collects its messages and, if it changes, its record. The train no longer stops at once for a
 /// released stop.
 fn settle_one(
     alloc: Global,
@@ -59,7 +59,7 @@ fn settle_one(
     }
 }
 
-/// Does the same for a train that stops at once for the released stop.
+/// Does what `settle_one` does, for a train that stops at once for the released stop.
 fn settle_released(
     alloc: Global,
     track: &Track,
@@ -84,7 +84,7 @@ fn settle_released(
     gather(gathered, train.engine, sent, after)
 }
 
-/// Does the same for any other train.
+/// Does what `settle_one` does, for any other train.
 fn settle_as_it_is(
     alloc: Global,
     track: &Track,

@@ -95,8 +95,8 @@ fn answered(train: TrainRec, id: u8, answer: u8) -> Result<TrainRec, NotChanged>
     }
 }
 
-/// Returns the train after its message, in the memory of a record that is spare if there is one, or why the message is
-/// refused. The given record is unchanged.
+/// Returns the train after its message, or why the message is refused. The record is made in the memory of a spare one,
+/// if there is one. The given record is unchanged.
 pub fn heard(
     alloc: Global,
     track: &Track,

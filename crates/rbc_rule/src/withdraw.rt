@@ -45,7 +45,7 @@ pub fn withdraw<S: Reader>(
     withdrawn(alloc, engine, list, store)
 }
 
-/// Takes a train out of the enrolled engines and of the list in which it stands, by the records that were read.
+/// Takes a train out of the enrolled engines and out of its list, by the records that were read.
 fn withdrawn<S: Reader>(
     alloc: Global,
     engine: u32,

@@ -151,15 +151,15 @@ IsSaidIn w input sent = IsSaidAfter track_a (effect track_a input w) sent
 abbrev pub only_train_7 : Place → World
 only_train_7 place = world_of (train_7 (Some place) 1000 []) none_numbered none_numbered
 
--- of the messages to it in the step in which stop 1 becomes active on a stretch of line 0
+-- what the law says of the messages to it in the step in which stop 1 becomes active on a stretch of line 0
 abbrev pub IsSaidOfStop : Place → ℕ → ℕ → List ToTrain → Type 0
 IsSaidOfStop place from to sent = IsSaidIn (only_train_7 place) (Stop 1 (on_line_0 from to ∷ [])) ((7, sent) ∷ [])
 
--- and of those in the step in which a restriction to 80 km/h does
+-- the same for the step in which a restriction to 80 km/h becomes active there
 abbrev pub IsSaidOfLimit : Place → ℕ → ℕ → List ToTrain → Type 0
 IsSaidOfLimit place from to sent = IsSaidIn (only_train_7 place) (Restrict 1 (on_line_0 from to) dirs.Both 80 false) ((7, sent) ∷ [])
 
--- what the law says of message 18 for identifier 16, which has no room in its variable, where that is to be revoked
+-- what the law says of message 18 for identifier 16, which has no room in its variable, if that is to be revoked
 abbrev pub IsSaidOfIdentifier16 : Type 0
 IsSaidOfIdentifier16 = SaysFor track_a none_numbered none_numbered (train_7 (Some facing_up) 1001 []) (ChangesStop (stop_change.Revoke 16 None)) (revoke 16)
 
@@ -182,7 +182,7 @@ SaysByPlaceOf sent = SaysByPlace track_a (stop_1 (on_line_0 50005 60000)) none_n
 abbrev pub two_stops : World
 two_stops = record { trains = []; stops = record { last = 2; active = (1, on_line_0 20000 21000 ∷ []) ∷ (2, on_line_0 40000 41000 ∷ []) ∷ [] }; limits = none_numbered }
 
--- of the messages to train 7 in the step in which it is enrolled there
+-- what the law says of the messages to train 7 in the step in which it is enrolled in that world
 abbrev pub IsSaidAtEnrolment : List ToTrain → Type 0
 IsSaidAtEnrolment sent = IsSaidIn two_stops (Enrol 7 2000) ((7, sent) ∷ [])
 
@@ -196,15 +196,15 @@ spot_at place = record { line = 0; origin = 10000; way = Up; place = place; unit
 abbrev pub told_as_0 : ℕ → Slots
 told_as_0 number = (0, told_now number 1001 Conditional) ∷ []
 
--- train 7 with its last stamp, told what stands in its slots
+-- train 7 with its last stamp, which was told what its slots say
 abbrev pub world_told : Option Place → ℕ → Slots → World
 world_told place stamp slots = world_of (train_7 place stamp slots) (stop_1 (on_line_0 20000 21000)) none_numbered
 
--- it faces up, and was told the stop under stamp 1001, its last
+-- the train faces up, and was told the stop under stamp 1001, its last
 abbrev pub told_world : World
 told_world = world_told (Some facing_up) 1001 (told_as_0 1)
 
--- train 7 as its second action sees it, once it has reported so often that it was told the stop under identifier 0 and has not answered
+-- train 7 as its second action sees it, once it has reported this often after it was told the stop under identifier 0, without an answer
 abbrev pub unanswered : ℕ → TrainRec
 unanswered reports =
     let told = Used (record { number = 1; stamp = 1001; kind = Conditional; acked = false; count = reports }) in
@@ -214,18 +214,18 @@ unanswered reports =
 abbrev pub IsSaidAgain : ℕ → Type 0
 IsSaidAgain reports = SaysFor track_a (stop_1 (on_line_0 20000 21000)) none_numbered (unanswered reports) (ChangesStop (stop_change.Tell 1 1 AtOnce)) (message.Stop (head_at 1003 false) 1)
 
--- and of message 15
+-- what the law says of message 15 in its place
 abbrev pub IsSaidBeforeAgain : ℕ → Type 0
 IsSaidBeforeAgain reports =
     SaysFor track_a (stop_1 (on_line_0 20000 21000)) none_numbered (unanswered reports) (ChangesStop (stop_change.Tell 1 1 AtOnce)) (message.StopAt (head_at 1003 false) 1 0 (pos 0) 1 10000)
 
--- it was told the stop under two identifiers
+-- the train was told the stop under two identifiers
 abbrev pub told_twice : World
 told_twice = world_told (Some facing_up) 1002 ((0, told_now 1 1001 Conditional) ∷ (1, told_now 1 1002 Conditional) ∷ [])
 
 -- ---- other worlds
 
--- it was told a stop that is not active any more
+-- the train was told a stop that is no longer active
 abbrev pub world_released : World
 world_released = world_of (train_7 (Some facing_up) 1001 (told_as_0 1)) (record { last = 1; active = [] }) none_numbered
 
@@ -238,7 +238,7 @@ abbrev pub world_limited : World
 world_limited =
     world_of (record (train_7 (Some facing_up) 1001 []) { limits = (0, told_now 1 1001 Restriction) ∷ [] }) none_numbered (restriction_1 (on_line_0 20000 21000))
 
--- it may stand beyond the end of its line
+-- the train may stand beyond the end of its line
 abbrev pub world_off_line : World
 world_off_line = world_of (train_7 (Some (record facing_up { hi = 300001 })) 1000 []) none_numbered none_numbered
 
@@ -261,7 +261,7 @@ three_trains = record {
   limits = none_numbered;
 }
 
--- a list of engines that is there
+-- a list of engines that has a record
 abbrev pub engines_there : List ℕ → Option Rec
 engines_there engines = Some (rec.Engines engines)
 
@@ -277,7 +277,7 @@ all_lists_read = Part (
     ∷ []
     )
 
--- one key alone was read, with what was found under it
+-- only one key was read, with what was found under it
 abbrev pub read_alone : Key → Option Rec → Notes
 read_alone key found = Part ((key, found) ∷ [])
 
@@ -291,7 +291,7 @@ told_1 = record { dir = 1; scale = 0; start = 1050; length = 1000; front = false
 abbrev pub two_changes : List LimitChange
 two_changes = limit_change.Revoke 0 ∷ limit_change.Tell 1 1 told_1 ∷ []
 
--- the packets that say so
+-- the packets for these changes
 abbrev pub lift_0 : Packet
 lift_0 = packet.Lift both_ways 0
 
@@ -307,7 +307,7 @@ IsSaidOfTwo sent = SaysFor track_a none_numbered (restriction_1 (on_line_0 11050
 
 -- ---- what may be revoked, and what slots keep
 
--- the slot of a number that was told by the message with stamp 1001 in such a way, and counts so many reports
+-- the slot of a number that was told by the message with stamp 1001 in this way, and counts this many reports
 abbrev pub slot_of : Kind → Bool → ℕ → Slot
 slot_of kind acked reports = Used (record { number = 1; stamp = 1001; kind = kind; acked = acked; count = reports })
 
@@ -315,7 +315,7 @@ slot_of kind acked reports = Used (record { number = 1; stamp = 1001; kind = kin
 abbrev pub world_due : World
 world_due = world_told (Some facing_up) 1001 ((0, slot_of Conditional false 3) ∷ [])
 
--- the stop identifiers from a number on, so many, being revoked
+-- this many stop identifiers from a number on, being revoked
 abbrev pub revoking : ℕ → ℕ → Slots
 revoking from count = map (λ id. (id, Revoking 1000)) (range_with_len from count)
 

@@ -1,4 +1,4 @@
-//! Worked cases of `revocation_law` and `slots_law`: right ones, and wrong ones that differ from them in one point.
+//! Worked cases of `revocation_law` and `slots_law`: correct ones, and wrong ones that differ from them in one point.
 //!
 //! Train 7 stands 200 m beyond balise group 5, which lies at 10000 on line 0, and faces up. Its stop identifier 0 was
 //! used for stop 1, or its restriction identifier 0 for restriction 1, by the message with stamp 1001.

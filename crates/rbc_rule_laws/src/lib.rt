@@ -3,8 +3,8 @@
 //! Stands on the definitions of rbc_rule; nothing here runs. rbc_desk rests on [`step_law`], a step leaves a valid
 //! state, and on [`says_law`], each message says what the rules give its train; rbc_account on both and on
 //! [`told_law`]. [`revocation_law`]: only what may be revoked is. [`slots_law`]: each identifier keeps the stamp of the
-//! message that told or revoked it. Begin with law.rt, then specs/Witnesses.antt: each law has right cases that
-//! satisfy it, and wrong ones that do not.
+//! message that told or revoked it. Begin with law.rt, then specs/Witnesses.antt: each law has correct cases, which
+//! satisfy it, and wrong ones, which do not.
 #![tactic(auto)]
 
 mod kept_witnesses;

@@ -1,4 +1,4 @@
-//! Worked cases of `says_law` for each kind of message: right ones, and wrong ones that differ from them in one
+//! Worked cases of `says_law` for each kind of message: correct ones, and wrong ones that differ from them in one
 //! variable.
 //!
 //! Train 7 of 200 m stands 200 m beyond balise group 5, which lies at 10000 on line 0, and faces up, unless it is said
@@ -22,7 +22,7 @@ ghost use Rattle.rbc_rule_laws.specs.Witnesses.{of_packets, IsSaidOfTwo, stamped
 /// balise group 6, which lies at 200000, to 50000.
 ///
 /// Wrong: a distance one short, and one far; the other direction, also by 0 units; another balise group in 15 and in
-/// 16, also where the same place is meant; another identifier in 15 and in 16; a distance that does not count from the
+/// 16, also if the same place is meant; another identifier in 15 and in 16; a distance that does not count from the
 /// balise group itself; message 15 to a train that has to stop at once, and 16 to one that has not.
 pub fn stop_witnesses()
     ensures at_once { IsSaidOfStop facing_up 12100 13000 (stop_at_once ∷ []) }
@@ -41,12 +41,12 @@ pub fn stop_witnesses()
     ensures at_once_for_before { IsSaidOfStop facing_up 20000 21000 (stop_at_once ∷ []) → ⊥ }
 {}
 
-/// T_TRAIN and M_ACK of each message. The last stamp of train 7 is 1000, or 0 where it is enrolled, or 1001 where it
-/// was told stop 1 or restriction 1.
+/// T_TRAIN and M_ACK of each message. The last stamp of train 7 is 1000, or 0 if it is enrolled, or 1001 if it was told
+/// stop 1 or restriction 1.
 ///
-/// Wrong: the stamp for an unknown time, also where it is the next one; the stamp of the message before; a stamp left
-/// out; two messages of one stamp, and in the other order; and an answer by the stamp asked for by messages 15 and 16,
-/// or not by messages 18 and 24.
+/// Wrong: the stamp for an unknown time, also if it is the next one; the stamp of the message before; a stamp left out;
+/// two messages of one stamp, and in the other order; and an answer by the stamp asked for by messages 15 and 16, or
+/// not by messages 18 and 24.
 pub fn head_witnesses()
     ensures unknown_time { IsSaidOfStop facing_up 20000 21000 (stamped 4294967295 (stop_before 1 0 10000) ∷ []) → ⊥ }
     ensures no_time_left { IsSaidAtTheEnd (stamped 4294967295 (stop_before 1 0 10000)) → ⊥ }
@@ -64,7 +64,7 @@ pub fn head_witnesses()
 ///
 /// Right: it begins 1050 units ahead, is 1000 units long, and the train's length delays its end.
 ///
-/// Wrong: one unit less and more, where it begins, how long it is and how fast the train may go; units of 1 m where
+/// Wrong: one unit less and more, where it begins, how long it is and how fast the train may go; units of 1 m though
 /// those of 10 cm have room; the length rounded down, of a restriction of 11055 to 51055; another identifier; the
 /// train's length does not delay its end; another balise group.
 pub fn restriction_witnesses()
@@ -87,8 +87,8 @@ pub fn restriction_witnesses()
 /// Right: as the restriction is lifted, its identifier is revoked both ways.
 ///
 /// Wrong: one way; the stop identifier 0 in its place; another identifier; another balise group in 18 and in 24; the
-/// restriction identifier 0 in place of the stop's; the revocation of a stop that is active; and an identifier for which
-/// the variable has no room.
+/// restriction identifier 0 in place of the stop's; the revocation of a stop that is active; and an identifier for
+/// which the variable has no room.
 pub fn revocation_witnesses()
     ensures lifted { IsSaidIn world_limited (input.Lift 1) ((7, lift 2 0 ∷ []) ∷ []) }
     ensures one_way { IsSaidIn world_limited (input.Lift 1) ((7, lift 1 0 ∷ []) ∷ []) → ⊥ }

@@ -1,5 +1,5 @@
-//! Worked cases of the laws and of the records: right ones, of which a law's conclusion or `Agrees` holds, and wrong
-//! ones, of which it does not.
+//! Worked cases of the laws and of the records: correct ones, which satisfy the conclusion of a law or `Agrees`, and
+//! wrong ones, which violate it.
 
 ghost use Rattle.std.specs.Prelude.{◌≡◌, ◌∷◌, [], Some, None};
 ghost use Rattle.rbc_settle.specs.Settling.{last_stamp};

@@ -11,7 +11,7 @@ pub data Action : Type 0 where
   ChangesStop : StopChange → Action
   ChangesLimits : List LimitChange → Action
 
--- R-SETTLE-6: how many groups so many items make
+-- R-SETTLE-6: how many groups this many items make
 abbrev pub groups_for : ℕ → ℕ
 groups_for count = (count + (most_packets - 1)) / most_packets
 

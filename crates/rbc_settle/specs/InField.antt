@@ -8,7 +8,7 @@ pub record IsEdgeInField (edge : Edge) : Type 0 where
   pub scale : edge.scale ≤ 2
   pub distance : edge.distance ≤ 32767
 
--- so has each field of a part of a line
+-- each field of a part of a line has room for its value
 pub record IsPartInField (part : Part) : Type 0 where
   pub dir : part.dir ≤ 2
   pub scale : part.scale ≤ 2

@@ -11,7 +11,7 @@ AreNumbers numbers = IsTrue (rises_from 0 numbers)
 abbrev pub has_number : List ℕ → ℕ → Bool
 has_number numbers n = list_any (λ other. other == n) numbers
 
--- the list with a number that it had not, at its place
+-- the list with a number that it lacked, at its place
 abbrev pub with_number : ℕ → List ℕ → List ℕ
 with_number n [] = n ∷ []
 with_number n (first ∷ rest) = if nat_lt n first then n ∷ first ∷ rest else first ∷ with_number n rest

@@ -48,8 +48,8 @@ Limits = Numbered Limit
 abbrev pub last_stamp : ℕ
 last_stamp = 4294967294
 
--- R-SETTLE-7. How many messages a train is sent at most where it is settled: 15 identifiers of stops are revoked and as
--- many are told, and 255 of restrictions, which makes six groups.
+-- R-SETTLE-7. The most messages that settling sends to a train: 15 stop identifiers are revoked and 15 are told, and
+-- the 255 restriction identifiers are revoked and told in six groups.
 abbrev pub most_messages : ℕ
 most_messages = 36
 
@@ -96,7 +96,7 @@ told_limit limit p = record {
   speed = limit.speed / 5;
 }
 
--- R-STOP-1: what an active stop is to a train
+-- R-STOP-1: what an active stop means for a train
 abbrev pub concern_to : TrainRec → ℕ × List Segment → Concern
 concern_to train stop = concern_of stop.1 (has_number train.forced stop.0) train.place
 
@@ -129,7 +129,7 @@ to_revoke is_gone slots = keys (filter (λ held. is_used_by is_gone held.1) slot
 abbrev pub is_stop_gone : Stops → ℕ → Bool
 is_stop_gone stops number = not (has stops.active number)
 
--- R-RESTRICTION-4. A restriction is clear of a train; of a train without a place none is.
+-- R-RESTRICTION-4. A restriction is clear of a train. No restriction is clear of a train without a place.
 abbrev pub is_clear_of : Option Place → Limit → Bool
 is_clear_of None limit = false
 is_clear_of (Some p) limit = is_clear limit p
@@ -146,7 +146,7 @@ abbrev pub due_number : Stops → Slot → Option ℕ
 due_number stops (Used used) = if is_ripe (Used used) && has stops.active used.number then Some used.number else None
 due_number stops (Revoking stamp) = None
 
--- R-ESCALATE-3: how many free identifiers no stop needs that has to be told
+-- R-ESCALATE-3: how many free identifiers are left once each stop that has to be told has one
 abbrev pub spare_identifiers : Stops → TrainRec → ℕ
 spare_identifiers stops train = length (free_identifiers stop_identifiers train.stops) - length (filter_map (stop_to_tell train) stops.active)
 
@@ -232,13 +232,13 @@ and_forced None forced = forced
 and_forced (Some number) forced = and_number number forced
 
 -- R-SETTLE-8. The restrictions after a change that the message with a stamp makes. A revoked identifier is held until
--- the train has acknowledged that, and an identifier under which a number is told is used from then on.
+-- the train has acknowledged the message, and an identifier under which a number is told is used from then on.
 abbrev pub limit_changed : ℕ → Slots → LimitChange → Slots
 limit_changed stamp slots (limit_change.Revoke id) = with_value id (Revoking stamp) slots
 limit_changed stamp slots (limit_change.Tell id number told) = with_value id (told_now number stamp Restriction) slots
 
 -- R-SETTLE-8, R-ESCALATE-5. An action takes the next stamp. Stops are changed as restrictions are, and an escalated
--- number is forced as it is revoked.
+-- number becomes forced when it is revoked.
 abbrev pub carried_out : TrainRec → Action → TrainRec
 carried_out train (ChangesStop (stop_change.Revoke id number)) =
     record train { stamp = train.stamp + 1; stops = with_value id (Revoking (train.stamp + 1)) train.stops; forced = and_forced number train.forced }

@@ -24,8 +24,8 @@ abbrev pub IsNoneDue : Stops → TrainRec → Type 0
 IsNoneDue stops train = All (λ held. due_number stops held.1 ≡ None) train.stops ⊎ (length train.stops ≡ stop_identifiers)
 
 -- R-SETTLE-13. A train is up to date: each active stop and each active restriction that concerns it is told, unless no
--- identifier is free; no slot is used by a number that has to be revoked; and where a stop identifier is free no slot
--- is due.
+-- identifier is free; no slot is used by a number that has to be revoked; and if a stop identifier is free, no slot is
+-- due.
 pub record IsUpToDate (plan : Plan) (stops : Stops) (limits : Limits) (train : TrainRec) : Type 0 where
   pub told : All (IsToldIfItCan train) stops.active
   pub limits_told : All (IsLimitToldIfItCan plan.horizon train) limits.active

@@ -16,7 +16,7 @@ use Rattle.rbc_settle.specs.Numbers.{AreNumbers, has_number}
 use Rattle.rbc_settle.specs.Settling.{Stops, Limits, last_stamp, settled}
 use Rattle.rbc_settle.specs.UpToDate.{HasTables}
 
--- no number stands twice in a list
+-- no number occurs twice in a list
 abbrev pub AreDistinct : List ℕ → Type 0
 AreDistinct [] = Unit
 AreDistinct (n ∷ ns) = (has_number ns n ≡ false) × AreDistinct ns
@@ -42,7 +42,7 @@ stamps_in slots = map (λ held. stamp_of held.1) slots
 abbrev pub stamps : TrainRec → List ℕ
 stamps train = stamps_in train.stops ++ stamps_in train.limits
 
--- The stamp of a stop is no other slot's: neither that of a later stop nor that of a restriction. Restrictions may share one.
+-- No other slot has the stamp of a stop: neither a later stop nor a restriction. Restrictions may share a stamp.
 abbrev pub AreApart : List ℕ → List ℕ → Type 0
 AreApart [] limits = Unit
 AreApart (stamp ∷ stops) limits = (has_number stops stamp ≡ false) × (has_number limits stamp ≡ false) × AreApart stops limits
@@ -64,7 +64,7 @@ is_limit_kind Conditional = false
 is_limit_kind Unconditional = false
 is_limit_kind Restriction = true
 
--- reports are counted of a stop that was told conditionally, to at most 3
+-- reports are counted only for a stop that was told conditionally, to at most 3
 abbrev pub has_count : Slot → Bool
 has_count (Used used) = if is_conditional used.kind then nat_le used.count most_reports else used.count == 0
 has_count (Revoking stamp) = true
@@ -88,9 +88,9 @@ abbrev pub HasPlaceOn : Plan → Option Place → Type 0
 HasPlaceOn plan None = Unit
 HasPlaceOn plan (Some p) = IsPlaceOn plan p
 
--- A train that can be on a track where these stops and restrictions are active: NID_ENGINE has 24 bits, and its length is 1 to
--- 40,000 units; it stands on the track; what it rejected and what it is told was given a number; and no slot's stamp is above
--- the last one, and that of a stop is no other slot's.
+-- A train that can be on a track where these stops and restrictions are active: NID_ENGINE has 24 bits, and its length
+-- is 1 to 40,000 units; it stands on the track; the numbers that it rejected and that it is told were given; no stamp
+-- of a slot is above its last one; and no other slot has the stamp of a stop.
 pub record IsWellFormedTrain (plan : Plan) (stops : Stops) (limits : Limits) (train : TrainRec) : Type 0 where
   pub engine : train.engine ≤ max_engine
   pub length : (1 ≤ train.length) × (train.length ≤ max_train_length)

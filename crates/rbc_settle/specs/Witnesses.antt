@@ -1,4 +1,4 @@
--- Worked cases of what settling promises: right trains, and trains that are wrong in one point.
+-- Worked cases of what settling promises: correct trains, and trains that are wrong in one point.
 use Rattle.std.specs.Prelude.{ℕ, true, false, [], ◌∷◌, Some}
 use Rattle.rbc_track.specs.Plan.{Plan}
 use Rattle.rbc_track.specs.declared.group.Way.TheVariants.{Up, Down}
@@ -82,7 +82,7 @@ told_as_limit = train_7 1 ((0, told_now 1 1 Restriction) ∷ [])
 abbrev pub sixteenth : TrainRec
 sixteenth = train_7 1 ((15, told_now 1 1 Unconditional) ∷ [])
 
--- stop 2 was told, which was never given
+-- stop 2, which was never given, was told
 abbrev pub never_given : TrainRec
 never_given = train_7 1 ((0, told_now 2 1 Unconditional) ∷ [])
 
@@ -102,11 +102,11 @@ group_turned = record { line = 0; lrbg = 5; at = 10000; same = false; facing = U
 abbrev pub placed_at : Place → TrainRec
 placed_at place = record (train_7 1 ((0, told_now 1 1 Conditional) ∷ [])) { place = Some place }
 
--- train 7 at that place, which was told stop 1 conditionally, and has reported so often without an answer
+-- train 7 at that place, which was told stop 1 conditionally, and has reported this often without an answer
 abbrev pub unanswered : ℕ → TrainRec
 unanswered reports = record (train_7 1 ((0, Used (record { number = 1; stamp = 1; kind = Conditional; acked = false; count = reports })) ∷ [])) { place = Some beyond_5 }
 
--- a report is counted of a stop that was told at once
+-- a report is counted for a stop that was told at once
 abbrev pub counted_unconditional : TrainRec
 counted_unconditional = train_7 1 ((0, Used (record { number = 1; stamp = 1; kind = Unconditional; acked = false; count = 1 })) ∷ [])
 

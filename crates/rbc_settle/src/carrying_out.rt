@@ -24,8 +24,7 @@ const UNKNOWN_GROUP: u32 = 16_777_215;
 /// Q_DIR of a revoked restriction: both directions.
 const BOTH: u8 = 2;
 
-/// Makes changes to the stops, one after another, and puts the message of each behind those of `sent`. Fails only for
-/// lack of memory.
+/// Makes changes to the stops, one after another, and appends the message of each to `sent`.
 pub fn change_stops(
     train: &mut TrainRec,
     changes: &[StopChange],
@@ -47,8 +46,7 @@ pub fn change_stops(
     Ok(())
 }
 
-/// Makes changes to the restrictions, one after another, and puts a message for each hundred of them behind those of
-/// `sent`. Fails only for lack of memory.
+/// Makes changes to the restrictions, one after another, and appends a message for each hundred of them to `sent`.
 pub fn change_limits(
     alloc: Global,
     train: &mut TrainRec,
@@ -112,8 +110,7 @@ fn told_message(train: &TrainRec, id: u8, told: ToldStop) -> ToTrain
     }
 }
 
-/// Returns the message that makes 1 to 100 changes to the restrictions, with the next stamp. Fails only for lack of
-/// memory.
+/// Returns the message that makes 1 to 100 changes to the restrictions, with the next stamp.
 fn limits_message(
     alloc: Global,
     train: &TrainRec,
@@ -146,8 +143,7 @@ fn head_of(train: &TrainRec, ack: bool) -> Head
     }
 }
 
-/// Makes the changes of one message to the restrictions, under the identifiers that they name. Fails only for lack of
-/// memory.
+/// Makes the changes of one message to the restrictions, under the identifiers that they name.
 fn change_group(train: &mut TrainRec, changes: &[LimitChange]) -> Result<(), AllocError>
     requires stamp { train.old.stamp + 1 < 2 ^ 32 }
     requires allowed { Allows train.old (ChangesLimits changes.now) }
@@ -159,7 +155,7 @@ fn change_group(train: &mut TrainRec, changes: &[LimitChange]) -> Result<(), All
     Ok(())
 }
 
-/// Makes changes that have one stamp to a table of restrictions, one after another. Fails only for lack of memory.
+/// Makes changes that have one stamp to a table of restrictions, one after another.
 fn change_all(
     limits: &mut IdTable<255>,
     stamp: u32,
@@ -179,7 +175,7 @@ fn change_all(
     Ok(())
 }
 
-/// Returns the packets of 1 to 100 changes, in their order. Fails only for lack of memory.
+/// Returns the packets of 1 to 100 changes, in their order.
 fn packets_of(alloc: Global, changes: &[LimitChange]) -> Result<Packets, AllocError>
     requires some { 1 ≤ length changes.now }
     requires most { length changes.now ≤ most_packets }

@@ -28,7 +28,7 @@ use std::cell::Cell;
 const LAST_STAMP: u32 = 4_294_967_294;
 
 /// Returns the changes for which stamps are left, in their order (own rule). Takes memory only if there is something to
-/// revoke or to tell. Fails only for lack of memory.
+/// revoke or to tell.
 pub fn changes(
     alloc: Global,
     track: &Track,
@@ -57,8 +57,7 @@ pub fn changes(
     })
 }
 
-/// Puts changes behind others. Takes no memory where there are no others, or none to be put. Fails only for lack of
-/// memory.
+/// Appends changes to others. Takes no memory if there are no others, or none to append.
 #[inline(always)]
 fn put_behind<T: Drop>(changes: &mut Vec<T>, mut more: Vec<T>) -> Result<(), AllocError>
     ensures { OnOk result (changes.new.items ≡ changes.old.items ++ more.items) }
@@ -75,7 +74,7 @@ fn put_behind<T: Drop>(changes: &mut Vec<T>, mut more: Vec<T>) -> Result<(), All
 
 /// Returns the numbers that are escalated (own rule): of the stops that the train was told conditionally and left
 /// unanswered in three reports those with the least identifiers, as many as there are identifiers to spare. Takes no
-/// memory where there is no such stop.
+/// memory if there is no such stop.
 fn escalated(alloc: Global, stops: &Stops, train: &TrainRec) -> Result<Vec<u32>, AllocError>
     ensures { IfOk result (λ numbers. numbers.items ≡ escalated stops.now train.now) }
 {
@@ -125,7 +124,7 @@ fn is_active(stops: &Stops, number: u32, near: &Cell<usize>) -> bool
     stops.get_near(number, near).is_some()
 }
 
-/// Returns how many free identifiers no stop needs that has to be told.
+/// Returns how many free identifiers are left once each stop that has to be told has one.
 fn spare_identifiers(stops: &Stops, train: &TrainRec) -> usize
     ensures { result ≡ spare_identifiers stops.now train.now }
 {
@@ -185,7 +184,7 @@ fn is_stop_revoked(stops: &Stops, forced_now: &[u32], number: u32, near: &Cell<u
     !is_active(stops, number, near) || is_escalated(forced_now, number)
 }
 
-/// Whether a number is one of those that are escalated. Mostly none is, which is seen at one look.
+/// Whether a number is one of those that are escalated. Mostly none is, which one comparison shows.
 #[inline(always)]
 fn is_escalated(forced_now: &[u32], number: u32) -> bool
     ensures { result ≡ has_number forced_now.now number }
@@ -208,7 +207,7 @@ fn number_forced(forced_now: &[u32], slot: Slot) -> Option<u32>
 }
 
 /// Pairs the stops that have to be told, in ascending order of the numbers, with the free identifiers, in ascending
-/// order. The pairs end with the shorter of both lists, so no stop is looked at where no identifier is free.
+/// order. The pairs end with the shorter list, so no stop is examined if no identifier is free.
 fn stops_told(
     alloc: Global,
     stops: &Stops,
@@ -227,8 +226,8 @@ fn stops_told(
     }
 }
 
-/// The line by whose stops alone a train is judged: its own, if it has a place and rejected no stop. A train without a
-/// place is judged by all stops, and so is one that is told some at once, as those concern it wherever they are.
+/// The only line whose stops can concern a train: its own, if it has a place and rejected no stop. For a train without
+/// a place all stops matter, and also for one that is told some at once, since those concern it wherever they are.
 fn line_to_judge(train: &TrainRec) -> Option<u32>
     ensures { IfSome result (IsJudgedOnLine train.now) }
 {
@@ -238,7 +237,7 @@ fn line_to_judge(train: &TrainRec) -> Option<u32>
     Some(u32::from(train.place.as_ref()?.line()))
 }
 
-/// The pairs of `stops_told`, for a train that is judged by the stops on its line, where none is escalated.
+/// The pairs of `stops_told`, for a train that is judged by the stops on its line, if none is escalated.
 fn stops_told_on_line(
     alloc: Global,
     stops: &Stops,
@@ -278,7 +277,7 @@ fn stops_told_anywhere(
         .collect(alloc)
 }
 
-/// Returns a stop and how it is told: one that is escalated at once, and any other as `stop_to_tell` has it.
+/// Returns a stop and how it is told: an escalated one at once, any other as `stop_to_tell` says.
 fn next_to_tell(
     forced_now: &[u32],
     train: &TrainRec,
@@ -330,8 +329,8 @@ fn is_used_by_gone_limit(
     }
 }
 
-/// Pairs the restrictions that have to be told with the free identifiers, as `stops_told` does with stops. Only those
-/// on its line concern a train, and none concerns one without a place.
+/// Pairs the restrictions that have to be told with the free identifiers, as `stops_told` does with stops. Only
+/// restrictions on its line concern a train, and none concerns a train without a place.
 fn limits_told(
     alloc: Global,
     horizon: u32,

@@ -7,6 +7,9 @@
 //!
 //! Begin with train.rt and settling.rt. judge.rt judges all changes before the first; carrying_out.rt makes them.
 //! `can_follow` (proofs/Follows.antt): each identifier is still free, or still used, at its turn.
+//!
+//! A function that cannot report a lack of memory takes none. `AllocError` means that memory was refused; what the
+//! function was changing is then of no further use, unless its docstring says what is left.
 #![tactic(auto)]
 
 mod carrying_out;

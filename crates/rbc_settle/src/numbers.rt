@@ -26,7 +26,7 @@ impl Model for Numbers {
 }
 
 impl Numbers {
-    /// Makes an empty list. Takes no memory.
+    /// Makes an empty list.
     pub fn new(alloc: Global) -> Self
         ensures { result ≡ [] }
     {
@@ -67,7 +67,7 @@ impl Numbers {
         at < self.all.len() && self.all[at] == n
     }
 
-    /// Adds a number, which the list must not have yet. Fails only for lack of memory, which changes nothing.
+    /// Adds a number, which the list must not have yet. An error changes nothing.
     pub fn add(&mut self, n: u32) -> Result<(), AllocError>
         requires { has_number self.old n ≡ false }
         ensures ok { OnOk result (self.new ≡ with_number n self.old) }
@@ -91,7 +91,7 @@ impl Numbers {
         found
     }
 
-    /// Copies the list; fails only for lack of memory. The copy takes memory only for its numbers.
+    /// Copies the list. The copy takes memory only for its numbers.
     pub fn copy(&self, alloc: Global) -> Result<Self, AllocError>
         ensures { IfOk result (λ copy. copy ≡ self.now) }
     {
@@ -100,8 +100,8 @@ impl Numbers {
         })
     }
 
-    /// Makes the list a copy of another. Takes memory only where the other has more numbers than this one had room
-    /// for. Fails only for lack of memory; then the list is empty.
+    /// Makes the list a copy of another. Takes memory only if the other has more numbers than this one has room for.
+    /// After an error the list is empty.
     pub fn copy_from(&mut self, other: &Self) -> Result<(), AllocError>
         ensures ok { OnOk result (self.new ≡ other.now) }
         ensures err { OnErr result (self.new ≡ []) }
@@ -110,8 +110,8 @@ impl Numbers {
         self.all.extend_from_slice(other.all.as_slice())
     }
 
-    /// Copies the list with one more number, which the list must not have; fails only for lack of
-    /// memory. The copy takes memory once, and only for its numbers.
+    /// Copies the list with one more number, which the list must not have. The copy takes memory once, and only for its
+    /// numbers.
     pub fn copy_with(&self, alloc: Global, n: u32) -> Result<Self, AllocError>
         requires { has_number self.now n ≡ false }
         ensures { IfOk result (λ copy. copy ≡ with_number n self.now) }
@@ -124,8 +124,7 @@ impl Numbers {
         Ok(Numbers { all })
     }
 
-    /// Copies the list without a number, which it may lack; fails only for lack of memory. The copy
-    /// takes memory once, and only for its numbers.
+    /// Copies the list without a number, which it need not have. The copy takes memory once, and only for its numbers.
     pub fn copy_without(&self, alloc: Global, n: u32) -> Result<Self, AllocError>
         ensures { IfOk result (λ copy. copy ≡ without_number n self.now) }
     {
@@ -139,8 +138,8 @@ impl Numbers {
         Ok(Numbers { all })
     }
 
-    /// Makes the list of the numbers of both lists; fails only for lack of memory. It takes memory
-    /// once, for as many numbers as both lists have together, and time by their lengths.
+    /// Makes the list of the numbers of both lists. It takes memory once, for as many numbers as both lists have
+    /// together, and time by their lengths.
     pub fn union(&self, alloc: Global, other: &Self) -> Result<Self, AllocError>
         ensures union { IfOk result (λ both. IsUnion both self.now other.now) }
         ensures few { IfOk result (λ both. length both ≤ length self.now + length other.now) }

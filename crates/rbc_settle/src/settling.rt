@@ -23,9 +23,9 @@ use std::alloc::{AllocError, Global};
 /// a message. All of it is judged before the first change, and each message takes the next stamp, as long as stamps are
 /// left.
 ///
-/// Returns the copy, and puts its 1 to 36 messages behind those of `sent`, in their order. Returns `None` and leaves
-/// `sent` as it is if there is nothing to do or no stamp is left; that takes no memory if there is nothing to do. Fails
-/// only for lack of memory, which leaves `sent` as it is.
+/// Returns the copy, and appends its 1 to 36 messages to `sent`, in their order. Returns `None` and leaves `sent` as it
+/// is if there is nothing to do or no stamp is left. Takes memory only if there is something to do. An error leaves
+/// `sent` as it is.
 pub fn settled(
     alloc: Global,
     track: &Track,
@@ -66,8 +66,8 @@ fn are_none(changes: &Changes) -> bool
     changes.stops.is_empty() && changes.limits.is_empty()
 }
 
-/// Makes all changes to a copy of a train, which it returns, and puts their messages behind those of `sent`. Fails
-/// only for lack of memory, which leaves `sent` as it is.
+/// Makes all changes to a copy of a train, which it returns, and appends their messages to `sent`. An error leaves
+/// `sent` as it is.
 fn changed(
     alloc: Global,
     train: &TrainRec,
@@ -88,7 +88,7 @@ fn changed(
     Ok(after)
 }
 
-/// Makes all changes to a train, and puts their messages behind those of `sent`. Fails only for lack of memory.
+/// Makes all changes to a train, and appends their messages to `sent`.
 fn change(
     alloc: Global,
     train: &mut TrainRec,
@@ -105,7 +105,7 @@ fn change(
 }
 
 /// Brings a train up to date as `settled` does, and returns the messages that do it, in their order. Takes memory only
-/// if there is something to do. Fails only for lack of memory, which leaves the train unchanged.
+/// if there is something to do. An error leaves the train unchanged.
 pub fn settle(
     alloc: Global,
     track: &Track,

@@ -39,7 +39,7 @@ pub struct TrainRec {
 
 impl TrainRec {
     /// Makes the record of a train without a place, to which nothing was told. The length is in units of 10 cm, the
-    /// stamp in units of 10 ms. Takes no memory.
+    /// stamp in units of 10 ms.
     pub fn new(alloc: Global, engine: u32, length: u32, stamp: u32) -> Self
         ensures { result ≡ new_train engine length stamp }
     {
@@ -54,7 +54,7 @@ impl TrainRec {
         }
     }
 
-    /// Copies the record; fails only for lack of memory.
+    /// Copies the record.
     pub fn copy(&self, alloc: Global) -> Result<Self, AllocError>
         ensures { IfOk result (λ copy. copy ≡ self.now) }
     {
@@ -69,8 +69,7 @@ impl TrainRec {
         })
     }
 
-    /// Copies the record in the memory of another that nobody needs any more, if there is one; fails only for lack of
-    /// memory.
+    /// Copies the record into the memory of one that is no longer needed, if there is one.
     pub fn copy_over(&self, alloc: Global, spare: Option<Self>) -> Result<Self, AllocError>
         ensures { IfOk result (λ copy. copy ≡ self.now) }
     {
@@ -91,7 +90,7 @@ impl TrainRec {
         })
     }
 
-    /// Makes a change to the stops, under the identifier that it names. Fails only for lack of memory.
+    /// Makes a change to the stops, under the identifier that it names.
     pub fn change_stop(&mut self, change: &StopChange) -> Result<(), AllocError>
         requires stamp { self.old.stamp + 1 < 2 ^ 32 }
         requires allowed { Allows self.old (ChangesStop change.now) }
@@ -111,8 +110,7 @@ impl TrainRec {
         Ok(())
     }
 
-    /// Adds a number, if there is one, to those that the train is told at once. Fails only for lack of memory, which
-    /// leaves the train as it was.
+    /// Adds a number, if there is one, to those that the train is told at once. An error leaves the train as it was.
     fn force(&mut self, number: Option<u32>) -> Result<(), AllocError>
         ensures ok { OnOk result (self.new ≡ record self.old { forced = and_forced number self.old.forced }) }
         ensures err { OnErr result (self.new ≡ self.old) }

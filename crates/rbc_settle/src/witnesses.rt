@@ -1,4 +1,4 @@
-//! Worked cases of the law.
+//! Worked cases of `settle_law` and of escalation.
 
 ghost use Rattle.rbc_settle.specs.UpToDate.{StaysAsItIs, IsUpToDate};
 ghost use Rattle.rbc_settle.specs.WellFormed.{IsWellFormedTrain};
@@ -12,19 +12,19 @@ ghost use Rattle.rbc_ids.specs.declared.slot.Kind.TheVariants.{Unconditional};
 ghost use Rattle.rbc_ids.specs.Table.{told_now};
 ghost use Rattle.rbc_settle.specs.Settling.{settled};
 
-/// What `settle_law` promises holds of a right train, and does not hold of wrong ones.
+/// What `settle_law` promises holds of a correct train, and does not hold of wrong ones.
 ///
 /// Right: stop 1 is active, and train 7, whose place is not known, was told it under identifier 0 with stamp 1. The
 /// train stays as it is, is up to date and is well-formed; it is also well-formed at a place 200 m beyond balise group
 /// 5. So is a train to which one message told a restriction and revoked another one, both with its stamp.
 ///
-/// A train does not stay as it is, and is not up to date, where an active stop that concerns it was not told, where a
-/// slot is used by a stop that is not active any more, or where a restriction that was told lies wholly behind it.
+/// A train does not stay as it is, and is not up to date, if an active stop that concerns it was not told, if a slot is
+/// used by a stop that is no longer active, or if a restriction that was told lies wholly behind it.
 ///
-/// A train is not well-formed where a stop was told under two identifiers or under identifier 15, where the stamp of a
-/// stop is that of another stop or of a restriction, where the stamp of a slot is above the train's, where a stop's
-/// slot is that of a restriction, where a stop was told that was never given, or where the position or the direction of
-/// its balise group is not the one on the track.
+/// A train is not well-formed if a stop was told under two identifiers or under identifier 15, if the stamp of a stop
+/// is that of another stop or of a restriction, if the stamp of a slot is above the train's, if the slot of a stop is
+/// that of a restriction, if a stop was told that was never given, or if the position or the direction of its balise
+/// group is not the one on the track.
 pub fn settle_law_witnesses()
     ensures told_stays { StaysAsItIs track_a stop_1 no_limit told }
     ensures told_is_up_to_date { IsUpToDate track_a stop_1 no_limit told }
@@ -54,8 +54,8 @@ pub fn settle_law_witnesses()
 /// Right: after two reports it stays as it is. After three the stop is revoked, told at once under identifier 1, and
 /// told so from then on.
 ///
-/// Wrong: after three reports it stays as it is, or is up to date. A train is not well-formed where four reports are
-/// counted, or one of a stop that was told at once.
+/// Wrong: after three reports it stays as it is, or is up to date. A train is not well-formed if four reports are
+/// counted, or one for a stop that was told at once.
 pub fn escalation_witnesses()
     ensures two_reports { StaysAsItIs track_a stop_1 no_limit (unanswered 2) }
     ensures forced { (settled track_a stop_1 no_limit (unanswered 3)).forced ≡ 1 ∷ [] }

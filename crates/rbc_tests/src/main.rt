@@ -2,11 +2,12 @@
 //! and of 256 messages, or of as many as its line in cases.txt says. It says of each batch whether every output is that
 //! of an independent model, how many windows there were, and how many messages windows lacked the memory for.
 //!
-//! `rbc_tests RUNS WORKERS MOST` runs each batch so many times, by so many workers, and in windows of so many messages at
-//! the most, or on the book alone if MOST is 0. If there are more runs than one, it says on standard error how many inputs
-//! of a batch were recomputed. Its tests (tests.rt) show what a batch cannot: a book, with inputs attempted out of turn;
-//! runs by several workers, with gates that hold a worker until another one has come by; whole batches over readers
-//! and writers that fail; and trains whose stamps end. Their values are from outside.
+//! `rbc_tests RUNS WORKERS MOST` runs each batch this many times, by this many workers, and in windows of this many
+//! messages at the most, or on the book alone if MOST is 0. If there are more runs than one, it says on standard error
+//! how many inputs of a batch were recomputed. Its tests (tests.rt) show what a batch cannot: a book, with inputs
+//! attempted out of turn; runs by several workers, with gates that hold a worker until another one has come by; whole
+//! batches over readers and writers that fail; and trains whose stamps end. Their expected values do not come from this
+//! program.
 #![tactic(auto)]
 
 #[cfg(test)]
@@ -27,8 +28,8 @@ use std::{env, fs};
 /// How many workers run each batch, where no number is named.
 const WORKERS: &str = "1 2 3 4 16";
 
-/// The most messages of a window for each way in which a batch is run, where neither its line nor a word names some. On
-/// a locked book that is 0.
+/// The most messages of a window for each way in which a batch is run, unless its line or a word names others. 0 stands
+/// for a locked book.
 const WAYS: &str = "0 7 256";
 
 /// A batch on a track, and the output that is wanted.
@@ -79,8 +80,8 @@ fn case_of<R: Files + AllocGlobal>(rt: &R, case: &str, track: &str) -> Result<Ca
     })
 }
 
-/// Runs a case by so many workers, in windows of so many messages at the most, or on a locked book if that is 0. Writes
-/// its output, and counts the windows.
+/// Runs a case by this many workers, in windows of this many messages at the most, or on a locked book if that is 0.
+/// Writes its output, and counts the windows.
 fn run_in<R>(
     rt: &R,
     case: &Case,
@@ -114,8 +115,8 @@ where
     Ok(stats)
 }
 
-/// Runs a case by so many workers, in windows of so many messages at the most, or on a locked book if that is 0, and
-/// adds what came of it.
+/// Runs a case by this many workers, in windows of this many messages at the most, or on a locked book if that is 0,
+/// and adds what came of it.
 fn add_run<R>(rt: &R, case: &Case, workers: u8, most: usize, counts: Counts) -> Result<Counts>
 where
     R: AllocGlobal + Threads + Wait + Sync,
@@ -133,7 +134,7 @@ where
     })
 }
 
-/// Runs a case by so many workers in each way, and adds what came of it.
+/// Runs a case by this many workers in each way, and adds what came of it.
 fn run_ways<R>(rt: &R, case: &Case, workers: &str, ways: &str, counts: Counts) -> Result<Counts>
 where
     R: AllocGlobal + Threads + Wait + Sync,
@@ -202,8 +203,8 @@ where
     Ok((said_of(rt.alloc(), name, track, counts)?, counts))
 }
 
-/// What is said of a case: whether every output is right, in how many windows it was run, and how many of their messages
-/// one worker took in order, if there are some.
+/// What is said of a case: whether every output is right, in how many windows it was run, and how many of their
+/// messages one worker took in order, if there are some.
 fn said_of(alloc: Global, name: &str, track: &str, counts: Counts) -> Result<String, AllocError> {
     let Counts { windows, left, .. } = counts;
     let answer = if counts.is_right { "right" } else { "wrong" };
@@ -238,7 +239,7 @@ where
     Ok(())
 }
 
-/// A word of the arguments, if there are so many.
+/// A word of the arguments, if there are this many.
 fn word_at<R: AllocGlobal + Env>(rt: &R, index: usize) -> Result<Option<String>> {
     Ok(env::args(rt)?.nth(index))
 }

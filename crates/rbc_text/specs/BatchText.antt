@@ -31,7 +31,7 @@ is_colon byte = byte == 58
 abbrev pub is_dash : ℕ → Bool
 is_dash byte = byte == 45
 
--- pieces without the last one, where that is empty
+-- pieces without the last one, if it is empty
 abbrev pub without_empty_end : List (List ℕ) → List (List ℕ)
 without_empty_end [] = []
 without_empty_end ([] ∷ []) = []
@@ -60,7 +60,7 @@ is_decimal word = nat_le 1 (length word) && (nat_le (length word) 10 && list_all
 abbrev pub decimal_of : List ℕ → Option ℕ
 decimal_of word = if is_decimal word && nat_le (value_of word) 4294967295 then Some (value_of word) else None
 
--- a segment, where all its numbers are there
+-- a segment, if all its numbers are there
 abbrev pub segment_from : Option ℕ → Option ℕ → Option ℕ → Option Segment
 segment_from line from to = option_and_then (λ l. option_and_then (λ f. option_map (λ t. record { line = l; from = f; to = t }) to) from) line
 
@@ -69,16 +69,16 @@ abbrev pub segment_of : List ℕ → Option Segment
 segment_of word = let places = after_first is_colon word in
     segment_from (decimal_of (before_first is_colon word)) (decimal_of (before_first is_dash places)) (decimal_of (after_first is_dash places))
 
--- a segment before others, where all are there
+-- a segment before others, if all are there
 abbrev pub onto_all : Option Segment → Option (List Segment) → Option (List Segment)
 onto_all segment segments = option_and_then (λ first. option_map (λ more. first ∷ more) segments) segment
 
--- the segments that words spell, where each of them spells one
+-- the segments that words spell, if each of them spells one
 abbrev pub segments_of : List (List ℕ) → Option (List Segment)
 segments_of [] = Some []
 segments_of (word ∷ words) = onto_all (segment_of word) (segments_of words)
 
--- an enrolment, where the engine number is in its range, and the length from 1 unit on too
+-- an enrolment, if the engine number is in its range, and the length is in its range and at least 1 unit
 abbrev pub enrolment_from : Option ℕ → Option ℕ → Option Input
 enrolment_from engine length =
     option_and_then (λ e. option_and_then (λ l. if nat_le e max_engine && (nat_le 1 l && nat_le l max_train_length) then Some (Enrol e l) else None) length) engine
@@ -88,7 +88,7 @@ abbrev pub enrolment_of : List (List ℕ) → Option Input
 enrolment_of (engine ∷ length ∷ []) = enrolment_from (decimal_of engine) (decimal_of length)
 enrolment_of _ = None
 
--- a stop, where its number and all its segments are there
+-- a stop, if its number and all its segments are there
 abbrev pub stop_from : Option ℕ → Option (List Segment) → Option Input
 stop_from number segments = option_and_then (λ n. option_map (Stop n) segments) number
 
@@ -97,7 +97,7 @@ abbrev pub stop_of : List (List ℕ) → Option Input
 stop_of (number ∷ segment ∷ segments) = stop_from (decimal_of number) (segments_of (segment ∷ segments))
 stop_of _ = None
 
--- a withdrawal, where the engine number is in its range
+-- a withdrawal, if the engine number is in its range
 abbrev pub withdrawal_from : Option ℕ → Option Input
 withdrawal_from engine = option_and_then (λ e. if nat_le e max_engine then Some (Withdraw e) else None) engine
 
@@ -134,7 +134,7 @@ front_of word =
     else (if bytes_eq word (codes "1") then Some true
     else None)
 
--- a restriction, where all its values are there
+-- a restriction, if all its values are there
 abbrev pub restriction_from : Option ℕ → Option Segment → Option Dirs → Option ℕ → Option Bool → Option Input
 restriction_from number segment dirs speed front =
     option_and_then (λ n. option_and_then (λ s. option_and_then (λ d. option_and_then (λ v. option_map (Restrict n s d v) front) speed) dirs) segment) number
@@ -182,11 +182,11 @@ line_of_words (word ∷ arguments) =
     if bytes_eq word (codes "recv") then message_of arguments
     else option_map Spelled (command_of word arguments)
 
--- R-REFUSE-1: what a line spells; where it spells nothing, it is a bad line
+-- R-REFUSE-1: what a line spells; a line that spells nothing is a bad line
 abbrev pub line_of : List ℕ → Line
 line_of line = unwrap_or (line_of_words (words_of line)) (Spelled (Bad (code_of refusal.BadLine)))
 
--- R-REFUSE-3, R-REFUSE-4, R-REFUSE-5, R-REFUSE-6: why bytes that are no message are refused
+-- R-REFUSE-3, R-REFUSE-4, R-REFUSE-5, R-REFUSE-6: why bytes that are not a message are refused
 abbrev pub refusal_of : DecodeError → Refusal
 refusal_of Length = refusal.Length
 refusal_of Message = refusal.Message

@@ -1,4 +1,4 @@
--- What was read of a reader.
+-- What was read from a reader.
 use Rattle.std.specs.Prelude.{ℕ, List, Option}
 use Rattle.std.specs.Io.KnownBytes.{Consumes, IsAtEnd}
 

@@ -39,7 +39,7 @@ fn enrolment_from(engine: Option<u32>, length: Option<u32>) -> Option<Input>
     }
 }
 
-/// The input of the words behind `enrol`.
+/// The input of the words after `enrol`.
 fn enrolment(arguments: &[u8]) -> Option<Input>
     ensures { result ≡ enrolment_of (words_of arguments.now) }
 {
@@ -61,7 +61,7 @@ fn stop_from(number: Option<u32>, segments: Option<Segments>) -> Option<Input>
     }
 }
 
-/// The input of the words behind `stop`. Fails only for lack of memory.
+/// The input of the words after `stop`.
 fn stop(alloc: Global, arguments: &[u8]) -> Result<Option<Input>, AllocError>
     ensures { IfOk result (λ found. found ≡ stop_of (words_of arguments.now)) }
 {
@@ -72,7 +72,7 @@ fn stop(alloc: Global, arguments: &[u8]) -> Result<Option<Input>, AllocError>
     }
 }
 
-/// The input of the words behind `withdraw`.
+/// The input of the words after `withdraw`.
 #[tactic(auto, using(crate::proofs::LineWords::withdrawal_is))]
 fn withdrawal(arguments: &[u8]) -> Option<Input>
     ensures { result ≡ withdrawal_of (words_of arguments.now) }
@@ -83,7 +83,7 @@ fn withdrawal(arguments: &[u8]) -> Option<Input>
     }
 }
 
-/// The input of the words behind `restrict`. The speed is in km/h.
+/// The input of the words after `restrict`. The speed is in km/h.
 fn restriction(arguments: &[u8]) -> Option<Input>
     ensures { result ≡ restriction_of (words_of arguments.now) }
 {
@@ -104,7 +104,7 @@ fn restriction(arguments: &[u8]) -> Option<Input>
     }
 }
 
-/// The input of a signaller's command and the words behind it. Fails only for lack of memory.
+/// The input of a signaller's command and the words after it.
 pub fn command(alloc: Global, word: &[u8], arguments: &[u8]) -> Result<Option<Input>, AllocError>
     ensures { IfOk result (λ found. found ≡ command_of word.now (words_of arguments.now)) }
 {
@@ -125,8 +125,8 @@ pub fn command(alloc: Global, word: &[u8], arguments: &[u8]) -> Result<Option<In
     }
 }
 
-/// The input of one line, without its line feed (own rule): what it spells, or a refusal with its code. It is one that
-/// a batch can have. Fails only for lack of memory.
+/// The input of one line, without its line feed (own rule): what it spells, or a refusal with its code. A batch can
+/// have this input.
 pub fn parse_line(alloc: Global, line: &[u8]) -> Result<Input, AllocError>
     ensures spelled { IfOk result (λ input. IsInput (line_of line.now) input) }
     ensures fits { IfOk result (λ input. Fits input) }

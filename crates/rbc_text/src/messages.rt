@@ -15,11 +15,11 @@ use memchr::memchr;
 use rbc_rule::{Input, Refusal};
 use std::alloc::{AllocError, Global};
 
-/// A message of at most so many bytes is read without allocating. A position report has 23 of them, or 37 with what the
-/// longest adds.
+/// A message of at most this many bytes is read without taking memory. A position report has 23 bytes, or 37 at the
+/// most.
 const SHORT_MESSAGE: usize = 64;
 
-/// Why bytes that are no message are refused.
+/// Why bytes that are not a message are refused.
 fn refusal_of(fault: DecodeError) -> Refusal
     ensures { result ≡ refusal_of fault }
 {
@@ -55,8 +55,8 @@ fn is_hex_word(word: &[u8]) -> bool
     !word.is_empty() && has_no_return(word)
 }
 
-/// The input of a short message in hexadecimal digits, if a text is that and nothing else. Most are, and then no
-/// separator has to be looked for.
+/// The input of a text that is a short message in hexadecimal digits and nothing else. Most texts are, and then no
+/// separator has to be searched.
 fn short_message(text: &[u8]) -> Option<Input>
     ensures { IfSome result (λ input. IsInput (unwrap_or (message_of (words_of text.now)) (Spelled (Bad 1))) input) }
 {
@@ -71,7 +71,7 @@ fn short_message(text: &[u8]) -> Option<Input>
     }
 }
 
-/// The input of a short word that is to be hexadecimal digits. Takes no memory.
+/// The input of a short word that should be hexadecimal digits.
 fn short_word(word: &[u8]) -> Input
     requires { length word.now ≤ 128 }
     ensures { IsInput (line_of_hex (decode_of word.now)) result }
@@ -84,7 +84,7 @@ fn short_word(word: &[u8]) -> Input
     }
 }
 
-/// The input of a word of any length that is to be hexadecimal digits. Fails only for lack of memory.
+/// The input of a word of any length that should be hexadecimal digits.
 fn long_word(alloc: Global, word: &[u8]) -> Result<Input, AllocError>
     ensures { IfOk result (λ input. IsInput (line_of_hex (decode_of word.now)) input) }
 {
@@ -95,7 +95,7 @@ fn long_word(alloc: Global, word: &[u8]) -> Result<Input, AllocError>
     }
 }
 
-/// The input of a word that is to be hexadecimal digits. A short one takes no memory. Fails only for lack of memory.
+/// The input of a word that should be hexadecimal digits. A short word takes no memory.
 fn message_from(alloc: Global, word: &[u8]) -> Result<Input, AllocError>
     ensures { IfOk result (λ input. IsInput (line_of_hex (decode_of word.now)) input) }
 {
@@ -106,7 +106,7 @@ fn message_from(alloc: Global, word: &[u8]) -> Result<Input, AllocError>
     }
 }
 
-/// The input of the words behind `recv`, cut one by one. Fails only for lack of memory.
+/// The input of the words after `recv`, cut one by one.
 fn message_in_words(alloc: Global, arguments: &[u8]) -> Result<Input, AllocError>
     ensures { IfOk result (λ input. IsInput (unwrap_or (message_of (words_of arguments.now)) (Spelled (Bad 1))) input) }
 {
@@ -118,7 +118,7 @@ fn message_in_words(alloc: Global, arguments: &[u8]) -> Result<Input, AllocError
     }
 }
 
-/// The input of the words behind `recv`. Fails only for lack of memory.
+/// The input of the words after `recv`.
 pub fn message(alloc: Global, arguments: &[u8]) -> Result<Input, AllocError>
     ensures { IfOk result (λ input. IsInput (unwrap_or (message_of (words_of arguments.now)) (Spelled (Bad 1))) input) }
 {

@@ -1,5 +1,5 @@
-//! Writing answers and messages as output text: those of a desk, or those of one input. What writes a line stands in
-//! line in both: it is a tenth of a batch that sends many messages.
+//! Writing answers and messages as output text: those of a desk, or those of one input. The functions that write a line
+//! are inlined in both: they take a tenth of the time of a batch that sends many messages.
 
 ghost use Rattle.std.specs.Prelude.{◌≡◌, ◌++◌, ◌*◌, ◌-◌, ◌≤◌, ◌<◌, ◌^◌, codes, drop, length, take, OnOk, IfOk, map};
 ghost use Rattle.std.specs.Fmt.{decimal};
@@ -42,7 +42,7 @@ fn push_reply(text: &mut Vec<u8>, reply: Reply) -> Result<(), AllocError>
     }
 }
 
-/// Appends that an input was accepted and that nothing was sent, which is so of most, and ends the line.
+/// Appends that an input was accepted and sent nothing, as most inputs do, and ends the line.
 fn push_nothing_sent(text: &mut Vec<u8>) -> Result<(), AllocError>
     ensures { OnOk result (text.new.items ≡ text.old.items ++ codes " ok 0\n") }
 {
@@ -65,7 +65,7 @@ pub fn push_result(text: &mut Vec<u8>, input: u64, reply: Reply) -> Result<(), A
     }
 }
 
-/// How many bytes are made digits at once: a message that has no more takes one step.
+/// How many bytes are turned into digits at once. A message of at most this many takes one step.
 const AT_ONCE: usize = 32;
 
 /// Appends at most 32 bytes as hexadecimal digits, in upper case.
@@ -159,7 +159,7 @@ fn push_outboxes(text: &mut Vec<u8>, desk: &Desk, from: usize, to: usize) -> Res
     Ok(())
 }
 
-/// The output text of a desk: the results from 1 on, and then the messages by engine. Fails only for lack of memory.
+/// The output text of a desk: the results from 1 on, and then the messages by engine.
 pub fn render(alloc: Global, desk: &Desk) -> Result<Vec<u8>, AllocError>
     ensures { IfOk result (λ text. text.items ≡ output_of desk.now.results desk.now.outboxes) }
 {
@@ -169,7 +169,7 @@ pub fn render(alloc: Global, desk: &Desk) -> Result<Vec<u8>, AllocError>
     Ok(text)
 }
 
-/// The lines of all results of a desk, with which its output text begins. Fails only for lack of memory.
+/// The lines of all results of a desk, with which its output text begins.
 pub fn render_results(alloc: Global, desk: &Desk) -> Result<Vec<u8>, AllocError>
     ensures { IfOk result (λ text. text.items ≡ flat_map result_line (enumerate_from 1 desk.now.results)) }
 {
@@ -178,8 +178,7 @@ pub fn render_results(alloc: Global, desk: &Desk) -> Result<Vec<u8>, AllocError>
     Ok(text)
 }
 
-/// The lines of the outboxes of a desk at the indices of a range: a part of its output text. Fails only for lack of
-/// memory.
+/// The lines of the outboxes of a desk at the indices of a range: a part of its output text.
 pub fn render_outboxes(
     alloc: Global,
     desk: &Desk,
@@ -210,7 +209,7 @@ fn push_messages(text: &mut Vec<u8>, input: u64, messages: &SentList) -> Result<
 }
 
 /// The text of the answer to one input: the line of its result, and then its messages in the order in which they are
-/// sent. Fails only for lack of memory.
+/// sent.
 pub fn render_answer(
     alloc: Global,
     input: u64,

@@ -1,4 +1,4 @@
-//! Cutting a text at separators, and what the words behind a command spell.
+//! Cutting a text at separators, and what the words after a command spell.
 
 ghost use Rattle.std.specs.Prelude.{◌≡◌, ◌∷◌, ◌<◌, length, IfSome, IfNone, ◌==◌, IfOk};
 ghost use Rattle.std.specs.List.{position, slice_split, before_first, after_first};
@@ -11,7 +11,7 @@ use rbc_rule::Segments;
 use rbc_zones::{Dirs, Segment};
 use std::alloc::{AllocError, Global};
 
-/// The first line of a text that is not empty, and what stands behind its line feed.
+/// The first line of a text that is not empty, and the text after its line feed.
 pub fn first_line(text: &[u8]) -> (&[u8], &[u8])
     requires { 0 < length text.now }
     ensures line { lines_of text.now ≡ result.0.now ∷ lines_of result.1.now }
@@ -24,7 +24,7 @@ pub fn first_line(text: &[u8]) -> (&[u8], &[u8])
     }
 }
 
-/// What stands before the first separator, and what stands behind it. Without a separator: the whole text, and nothing.
+/// The text before the first separator, and the text after it. Without a separator: the whole text, and an empty one.
 fn halves(text: &[u8], separator: u8) -> (&[u8], &[u8])
     ensures before { result.0.now ≡ before_first (λ b. b == separator) text.now }
     ensures behind { result.1.now ≡ after_first (λ b. b == separator) text.now }
@@ -72,7 +72,7 @@ pub fn segment(word: &[u8]) -> Option<Segment>
     segment_from(decimal(line), decimal(from), decimal(to))
 }
 
-/// The segments that the words of a text spell, if every word is a segment. Fails only for lack of memory.
+/// The segments that the words of a text spell, if every word is a segment.
 pub fn segments(alloc: Global, text: &[u8]) -> Result<Option<Segments>, AllocError>
     ensures { IfOk result (λ found. found ≡ segments_of (words_of text.now)) }
 {

@@ -19,7 +19,7 @@ pub fn write_text<W: Write>(writer: &mut W, text: &[u8]) -> Result<(), usize>
     write_on(writer, text, &mut interruptions)
 }
 
-/// Writes the whole of a text with a writer that was interrupted so many times before, as `write_text` does.
+/// Writes the whole of a text with a writer that was interrupted this many times before, as `write_text` does.
 pub fn write_on<W: Write>(writer: &mut W, text: &[u8], interruptions: &mut u32) -> Result<(), usize>
     requires { interruptions.old < 1000 }
     ensures ok { OnOk result (Appends (W.contents writer.old) (W.contents writer.new) text.now) }

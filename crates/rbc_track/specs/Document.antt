@@ -13,7 +13,7 @@ pub record Written : Type 0 where
   pub lengths : List ℕ
   pub sites : List Site
 
--- the greatest whole number that is read where no other bound is set
+-- the greatest whole number that is read if no other bound is set
 abbrev pub max_u32 : ℕ
 max_u32 = 4294967295
 
@@ -43,7 +43,7 @@ way_in _ = None
 abbrev pub length_in : Members → Option ℕ
 length_in members = number_at (codes "length") 0 max_u32 members
 
--- the balise group of these four, where all of them are there
+-- the balise group of these four, if all of them are there
 abbrev pub site_from : Option ℕ → Option ℕ → Option ℕ → Option Way → Option Site
 site_from (Some nid) (Some line) (Some at) (Some nominal) = Some (record { nid = nid; line = line; at = at; nominal = nominal })
 site_from _ _ _ _ = None
@@ -54,7 +54,7 @@ site_in members =
     site_from (number_at (codes "nid") 0 max_group_number members) (number_at (codes "line") 0 max_u32 members)
     (number_at (codes "at") 0 max_u32 members) (option_and_then way_in (get_member (codes "nominal") members))
 
--- a list with one more value in front, where both are there
+-- a list with one more value in front, if both are there
 abbrev pub with_first : {A : Type 0} → Option A → Option (List A) → Option (List A)
 with_first (Some first) (Some rest) = Some (first ∷ rest)
 with_first _ _ = None
@@ -68,20 +68,20 @@ in_each read (item row rows) = with_first (option_and_then read (as_table row)) 
 abbrev pub rows_of : {A : Type 0} → (Members → Option A) → Data → Option (List A)
 rows_of read value = option_and_then (in_each read) (as_array value)
 
--- the balise groups in the tables of an array, and none where there is no value
+-- the balise groups in the tables of an array, and none if there is no value
 abbrev pub rows_or_none : Option Data → Option (List Site)
 rows_or_none None = Some []
 rows_or_none (Some value) = rows_of site_in value
 
--- the lengths of the lines, which have to be there
+-- the lengths of the lines; the key must be there
 abbrev pub lengths_under : Members → Option (List ℕ)
 lengths_under members = option_and_then (rows_of length_in) (get_member (codes "line") members)
 
--- the balise groups, or none where the key is missing
+-- the balise groups, or none if the key is missing
 abbrev pub sites_under : Members → Option (List Site)
 sites_under members = rows_or_none (get_member (codes "group") members)
 
--- the whole of these three, where all of them are there
+-- what is written, of these three parts, if all of them are there
 abbrev pub written_from : Option ℕ → Option (List ℕ) → Option (List Site) → Option Written
 written_from (Some horizon) (Some lengths) (Some sites) = Some (record { horizon = horizon; lengths = lengths; sites = sites })
 written_from _ _ _ = None

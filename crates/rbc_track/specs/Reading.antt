@@ -21,7 +21,7 @@ is_length length = nat_le 1 length && nat_le length max_length
 abbrev pub is_on : List ℕ → Site → Bool
 is_on lengths site = option_map_or (λ length. nat_le site.at length) (slice_get lengths site.line) false
 
--- no number stands twice
+-- no number occurs twice
 abbrev pub are_apart : List ℕ → Bool
 are_apart [] = true
 are_apart (number ∷ numbers) = not (list_any (λ other. number == other) numbers) && are_apart numbers
@@ -62,7 +62,7 @@ plan_or_text (Some members) = plan_or_shape (written_in members)
 abbrev pub track_of : List ℕ → Result Plan TrackError
 track_of text = plan_or_text (parse_document text)
 
--- the balise groups of a document, and none where the value of a key is of the wrong kind
+-- the balise groups of a document, and none if the value of a key is of the wrong kind
 abbrev pub sites_in_document : Option Members → List Site
 sites_in_document document = option_map_or (λ written. written.sites) (option_and_then written_in document) []
 
@@ -70,7 +70,7 @@ sites_in_document document = option_map_or (λ written. written.sites) (option_a
 abbrev pub sites_of : List ℕ → List Site
 sites_of text = sites_in_document (parse_document text)
 
--- under each number the track has the balise group that the text has under it, or none where the text has none
+-- under each number the track has the balise group that the text has under it, or none if the text has none
 abbrev pub FindsItsGroups : List ℕ → Plan → Type 0
 FindsItsGroups text plan = (nid : ℕ) → group_of plan nid ≡ option_map group_at (find (λ site. site.nid == nid) (sites_of text))
 

@@ -108,7 +108,7 @@ fn way_in(value: &Value) -> Option<Way>
     }
 }
 
-/// The balise group of the values of its four keys, if all of them are there.
+/// The balise group with these values of its four keys, if all are present.
 fn site_from(
     nid: Option<u32>,
     line: Option<u32>,

@@ -6,7 +6,7 @@ use Rattle.rbc_track.specs.Plan.{max_length, max_group_number}
 use Rattle.rbc_track_report.specs.declared.named_document.Draft.{Draft}
 use Rattle.rbc_track_report.specs.declared.named_document.GroupDraft.{GroupDraft}
 
--- Of a draft only a first misfit is noted, if there was none.
+-- A misfit is noted in a draft, if there was none before. Nothing else changes.
 pub record IsMissed (old new : Draft) : Type 0 where
   pub name : new.name ≡ old.name
   pub horizon : new.horizon ≡ old.horizon
@@ -15,18 +15,18 @@ pub record IsMissed (old new : Draft) : Type 0 where
   pub first : IsSome old.misfit → new.misfit ≡ old.misfit
   pub cut : new.is_cut ≡ old.is_cut
 
--- A draft that was read on: its name and its horizon stay, and with no misfit there was none before.
+-- More of a draft was read: its name and its horizon stay, and if it has no misfit, it had none before.
 pub record IsReadOn (old new : Draft) : Type 0 where
   pub name : new.name ≡ old.name
   pub horizon : new.horizon ≡ old.horizon
   pub misfit : new.misfit ≡ None → old.misfit ≡ None
 
--- A draft whose horizon and balise groups have numbers of their range.
+-- The horizon and the balise groups of a draft have numbers in their ranges.
 pub record IsInRange (draft : Draft) : Type 0 where
   pub horizon : draft.horizon ≤ max_length
   pub nids : All (λ group. group.nid ≤ max_group_number) draft.groups.items
 
--- The balise groups of a draft are put in another order, or memory was refused. All else stays.
+-- The balise groups of a draft were put in another order, or memory was refused. All else stays.
 pub record IsReordered (old new : Draft) : Type 0 where
   pub name : new.name ≡ old.name
   pub horizon : new.horizon ≡ old.horizon

@@ -5,7 +5,7 @@ use Rattle.rbc_track.specs.declared.error.TrackError.{TrackError}
 use Rattle.rbc_track_report.specs.declared.report.Verdict.{Verdict}
 use Rattle.rbc_track_report.specs.declared.report.Verdict.TheVariants.{Good, Refused}
 
--- what is a track is good, and a text that is no track is refused by the rule that it breaks first
+-- a text that is a track is good; any other text is refused by the first rule that it breaks
 abbrev pub IsVerdictOn : Result Plan TrackError → Verdict → Type 0
 IsVerdictOn track (Good warnings) = (plan : Plan) × (track ≡ Ok plan)
 IsVerdictOn track (Refused rule) = track ≡ Err rule

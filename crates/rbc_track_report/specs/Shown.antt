@@ -15,7 +15,7 @@ abbrev pub is_name : List ℕ → Bool
 is_name text =
     not (length text == 0) && list_all (λ c. not (is_unruly c)) (chars text) && nat_le (length (chars text)) 40
 
--- the name that a value is, if it can be shown
+-- the name in a value, if it can be shown
 abbrev pub shown_in : Option Data → Option (List ℕ)
 shown_in (Some (string text)) = if is_name text then Some text else None
 shown_in _ = None
@@ -28,7 +28,7 @@ shown_name table = shown_in (get_member (codes "name") table)
 abbrev pub has_hidden_name : Members → Bool
 has_hidden_name table = is_some (get_member (codes "name") table) && is_none (shown_name table)
 
--- the rows that a value is, and none where it is no array
+-- the rows in a value, and none if it is not an array
 abbrev pub rows_in : Option Data → Items
 rows_in (Some (array rows)) = rows
 rows_in _ = no_items

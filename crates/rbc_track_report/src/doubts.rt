@@ -1,4 +1,4 @@
-//! What is doubtful about a track that is good.
+//! What is doubtful about a valid track.
 
 ghost use Rattle.rbc_track_report.specs.Growth.{AreWarned, AreNoted};
 
@@ -51,7 +51,7 @@ fn push_if_hidden(remarks: &mut Remarks<'_>, place: Place, table: &Table)
     }
 }
 
-/// Adds a warning where there is no line or no balise group, and else one for each line without one.
+/// Adds a warning if there is no line or no balise group, else one for each line without a balise group.
 #[tactic(auto, using(crate::proofs::Written::warned_none, crate::proofs::Written::warned_more))]
 pub fn push_bare(remarks: &mut Remarks<'_>, draft: &Draft<'_>)
     ensures { AreWarned remarks.old remarks.new }
@@ -80,7 +80,7 @@ pub fn push_notes(remarks: &mut Remarks<'_>, draft: &Draft<'_>)
     push_wide_gap(remarks, draft.horizon, groups);
 }
 
-/// Adds a note where the horizon is not below the longest line.
+/// Adds a note if the horizon is not below the longest line.
 fn push_far(remarks: &mut Remarks<'_>, draft: &Draft<'_>)
     ensures { AreNoted remarks.old remarks.new }
 {
@@ -90,7 +90,7 @@ fn push_far(remarks: &mut Remarks<'_>, draft: &Draft<'_>)
     }
 }
 
-/// Adds a note where the horizon is below 2 km.
+/// Adds a note if the horizon is below 2 km.
 #[tactic(auto, using(crate::proofs::Written::noted_none, crate::proofs::Written::noted_more))]
 fn push_near(remarks: &mut Remarks<'_>, horizon: u32)
     ensures { AreNoted remarks.old remarks.new }
@@ -100,7 +100,7 @@ fn push_near(remarks: &mut Remarks<'_>, horizon: u32)
     }
 }
 
-/// Adds a note where the horizon is less than what lies between two neighbours.
+/// Adds a note if the horizon is less than a gap between two neighbours.
 #[tactic(auto, using(crate::proofs::Written::noted_none, crate::proofs::Written::noted_more))]
 fn push_wide_gap(remarks: &mut Remarks<'_>, horizon: u32, groups: &[GroupDraft<'_>])
     ensures { AreNoted remarks.old remarks.new }
@@ -111,7 +111,7 @@ fn push_wide_gap(remarks: &mut Remarks<'_>, horizon: u32, groups: &[GroupDraft<'
     }
 }
 
-/// Adds a note for each two neighbours at one place.
+/// Adds a note for each pair of neighbours at one place.
 #[tactic(auto, using(crate::proofs::Written::noted_none, crate::proofs::Written::noted_more))]
 fn push_same_places(remarks: &mut Remarks<'_>, groups: &[GroupDraft<'_>])
     ensures { AreNoted remarks.old remarks.new }
@@ -128,7 +128,7 @@ fn push_same_places(remarks: &mut Remarks<'_>, groups: &[GroupDraft<'_>])
     }
 }
 
-/// The first gap between two neighbours on one line that is as wide as any.
+/// The first of the widest gaps between two neighbours on one line.
 fn widest_gap(groups: &[GroupDraft<'_>]) -> Gap {
     let mut widest = Gap {
         line: 0,
@@ -144,7 +144,7 @@ fn widest_gap(groups: &[GroupDraft<'_>]) -> Gap {
     widest
 }
 
-/// The gap between two neighbours, which has no width where they are on two lines.
+/// The gap between two neighbours. It has no width if they are on different lines.
 fn gap_between(one: &GroupDraft<'_>, next: &GroupDraft<'_>) -> Gap {
     Gap {
         line: one.line,

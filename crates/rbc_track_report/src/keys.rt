@@ -1,4 +1,4 @@
-//! Keys of a track file that nobody knows.
+//! Unknown keys of a track file.
 
 ghost use Rattle.std.specs.Prelude.{◌≡◌};
 ghost use Rattle.rbc_track_report.specs.Growth.{AreOnKeys};
@@ -39,7 +39,7 @@ struct Found {
     first: usize,
 }
 
-/// Keeps the keys of one table that nobody knows.
+/// Keeps the unknown keys of one table.
 fn keep_unknown<'a>(
     remarks: &mut Remarks<'_>,
     found: &mut BTreeMap<&'a str, Found>,
@@ -60,7 +60,7 @@ fn keep_unknown<'a>(
     }
 }
 
-/// A key that was found before or not, and is found once more in the table at an index.
+/// How often a key stands, once it is also found in the table at an index. `before` is what was found of it before.
 fn found_once_more(before: Option<&Found>, index: usize) -> Found {
     match before {
         Some(before) => Found {
@@ -101,8 +101,7 @@ fn push_unknown_in_rows<'a>(alloc: Global, remarks: &mut Remarks<'a>, kind: Kind
     push_found(remarks, kind, &found);
 }
 
-/// Adds a remark for each key that nobody knows: of the document, of lines, of balise groups, each in the order of the
-/// keys.
+/// Adds a remark for each unknown key: of the document, of lines, of balise groups, each in the order of the keys.
 pub fn push_unknown<'a>(alloc: Global, remarks: &mut Remarks<'a>, document: &'a Table)
     ensures { AreOnKeys remarks.old remarks.new }
 {

@@ -5,7 +5,9 @@
 //! and rbc_picture call [`named_track`] for the names of lines and groups. They rest on the clause of [`check`] that
 //! its verdict is that of `track_from_toml` (`IsVerdictOn`); the words beside it are tested.
 //!
-//! Begin with report.rt. [`Sheet`] (report_text.rt) is a text that says at its end whether memory was refused.
+//! Begin with report.rt. A [`Sheet`] (report_text.rt) is a text that keeps a lack of memory and reports it at its end;
+//! so do remarks and drafts. Any other function that cannot report it takes no memory. `AllocError` means that memory
+//! was refused.
 #![tactic(auto)]
 
 mod doubts;

@@ -1,4 +1,4 @@
-//! A document read table by table, with names, and the first place where it is not what it has to be.
+//! A document read table by table, with names, and the first value that is missing or wrong.
 
 ghost use Rattle.std.specs.Prelude.{◌≡◌, ◌≤◌, false, IsPermutation, OnOk, Some, None, IsSome, IfSome, option_copied};
 ghost use Rattle.std.specs.List.Sorted.{IsSorted};
@@ -40,20 +40,20 @@ pub enum Wanted {
     Lines,
     /// The tables of `group`.
     Groups,
-    /// One such table.
+    /// One table of `line` or `group`.
     Table,
 }
 
 /// A value of a document that is missing, or is not what it has to be.
 #[derive(Clone, Copy)]
 pub struct Misfit<'a> {
-    /// Where its key is to stand.
+    /// Where its key belongs.
     pub place: Place,
-    /// Its key, or nothing where it is a whole table.
+    /// Its key, or nothing if it is a whole table.
     pub key: Option<&'static str>,
-    /// What stands there.
+    /// The value there, if there is one.
     pub value: Option<&'a Value>,
-    /// What has to stand there.
+    /// What the value has to be.
     pub wanted: Wanted,
 }
 
@@ -83,7 +83,7 @@ pub struct Draft<'a> {
     pub groups: Vec<GroupDraft<'a>>,
     /// The first value that is missing, or is not what it has to be. It counts as 0, or as an empty text.
     pub misfit: Option<Misfit<'a>>,
-    /// Whether memory was refused to a line or a balise group.
+    /// Whether memory was refused for a line or a balise group.
     pub is_cut: bool,
 }
 
@@ -94,7 +94,7 @@ struct Here<'a> {
     table: &'a Table,
 }
 
-/// The rows under a key that are to be tables. Without the key there are none.
+/// The rows under a key that should be tables. Without the key there are none.
 pub fn rows_under<'a>(document: &'a Table, key: &str) -> &'a [Value]
     ensures { items_view result.now ≡ rows_under key.now (table_view document.now) }
 {

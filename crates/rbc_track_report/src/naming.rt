@@ -1,4 +1,4 @@
-//! A good track as people know it: its name, its lines and its balise groups in order, and how many warnings there are.
+//! A valid track as people know it: its name, its lines and its balise groups in order, and the number of warnings.
 
 ghost use Rattle.std.specs.Prelude.{◌≡◌, ◌⊎◌, Some, None, option_map, option_copied, option_and_then, IfOk};
 ghost use Rattle.std.specs.Prelude.{MatchResult};
@@ -57,7 +57,8 @@ pub struct NamedTrack {
     pub warnings: usize,
 }
 
-/// Reads the text of a good track file for its names. A check of the same text has as many warnings.
+/// Reads the names in the text of a valid track file. `warnings` is the number of warnings that a check of the text
+/// gives.
 ///
 /// # Errors
 ///
@@ -73,7 +74,7 @@ pub fn named_track(alloc: Global, text: &str) -> Result<NamedTrack, TrackError>
     track_in(alloc, &document)
 }
 
-/// The track that a document writes.
+/// The track in a document.
 ///
 /// # Errors
 ///
@@ -97,7 +98,7 @@ fn track_in(alloc: Global, document: &Table) -> Result<NamedTrack, TrackError>
     }
 }
 
-/// How many warnings a document has, of which this is the draft. Fails only for lack of memory.
+/// How many warnings the document of this draft has.
 fn warnings_of(alloc: Global, document: &Table, draft: &Draft<'_>) -> Result<usize, AllocError> {
     let mut remarks = Remarks::new(alloc, false);
     push_unknown(alloc, &mut remarks, document);
@@ -129,7 +130,7 @@ fn document_of(alloc: Global, text: &str) -> Result<Table, TrackError>
     }
 }
 
-/// The track of a draft without a misfit. Fails only for lack of memory.
+/// The track of a draft without a misfit.
 fn named(alloc: Global, document: &Table, draft: &Draft<'_>) -> Result<NamedTrack, AllocError>
     ensures name { IfOk result (λ named. option_map (λ name. string_bytes name) named.name
         ≡ option_copied draft.now.name) }
@@ -145,7 +146,7 @@ fn named(alloc: Global, document: &Table, draft: &Draft<'_>) -> Result<NamedTrac
     })
 }
 
-/// A copy of a name. Fails only for lack of memory.
+/// A copy of a name.
 fn owned(alloc: Global, name: Option<&str>) -> Result<Option<String>, AllocError>
     ensures { IfOk result (λ owned. option_map (λ name. string_bytes name) owned ≡ option_copied name.entry) }
 {
@@ -155,7 +156,7 @@ fn owned(alloc: Global, name: Option<&str>) -> Result<Option<String>, AllocError
     }
 }
 
-/// The lines of a draft. Fails only for lack of memory.
+/// The lines of a draft.
 fn lines_in(alloc: Global, draft: &Draft<'_>) -> Result<Vec<NamedLine>, AllocError> {
     let mut lines = Vec::new(alloc);
     for (index, line) in draft.lines.iter().enumerate() {
@@ -168,7 +169,7 @@ fn lines_in(alloc: Global, draft: &Draft<'_>) -> Result<Vec<NamedLine>, AllocErr
     Ok(lines)
 }
 
-/// The balise groups of a draft, in their order. Fails only for lack of memory.
+/// The balise groups of a draft, in their order.
 fn groups_in(alloc: Global, drafts: &[GroupDraft<'_>]) -> Result<Vec<NamedGroup>, AllocError> {
     let mut groups = Vec::new(alloc);
     for draft in drafts {

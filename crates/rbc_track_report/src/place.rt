@@ -191,7 +191,7 @@ fn push_beyond(sheet: &mut Sheet, index: usize, group: &GroupDraft<'_>, length: 
         .words(" long.\n");
 }
 
-/// Adds a balise group that is on none of so many lines.
+/// Adds a balise group that is on none of this many lines.
 fn push_no_such_line(sheet: &mut Sheet, index: usize, group: &GroupDraft<'_>, lines: usize)
     ensures { IsWrittenOn sheet.old sheet.new }
 {
@@ -220,7 +220,7 @@ fn push_group(sheet: &mut Sheet, index: usize, nid: u32)
         .words(")");
 }
 
-/// Adds the first balise group whose number an earlier one has.
+/// Adds the first balise group that has the number of an earlier one.
 fn push_twice(sheet: &mut Sheet, groups: &[GroupDraft<'_>])
     ensures { IsWrittenOn sheet.old sheet.new }
 {

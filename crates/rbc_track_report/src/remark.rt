@@ -44,7 +44,7 @@ impl Gap {
 /// What is doubtful about a track file. Lengths and places are in units of 10 cm.
 #[derive(Clone, Copy)]
 pub enum Remark<'a> {
-    /// Tables of a kind have a key that nobody knows: so many, the first of them at this index.
+    /// An unknown key stands in this many tables of a kind, the first of them at this index.
     UnknownKey {
         key: &'a str,
         kind: Kind,
@@ -69,7 +69,7 @@ pub enum Remark<'a> {
     FarHorizon(u32),
     /// The horizon is below 2 km.
     NearHorizon(u32),
-    /// The horizon is less than what lies between two neighbours.
+    /// The horizon is less than the gap between two neighbours.
     WideGap {
         horizon: u32,
         gap: Gap,
@@ -81,9 +81,9 @@ pub enum Remark<'a> {
 pub struct Remarks<'a> {
     pub warnings: Vec<Remark<'a>>,
     pub notes: Vec<Remark<'a>>,
-    /// Whether keys that nobody knows are notes and no warnings.
+    /// Whether unknown keys are notes, not warnings.
     other_keys: bool,
-    /// Whether memory was refused to a remark.
+    /// Whether memory was refused for a remark.
     pub is_cut: bool,
 }
 
@@ -121,7 +121,7 @@ impl<'a> Remarks<'a> {
         }
     }
 
-    /// Adds what is said of a key that nobody knows.
+    /// Adds the remark on an unknown key.
     pub fn unknown_key(&mut self, remark: Remark<'a>)
         ensures allowed { self.old.other_keys ≡ true → IsNoted remark.entry self.old self.new }
         ensures forbidden { self.old.other_keys ≡ false → IsWarned remark.entry self.old self.new }
@@ -197,7 +197,7 @@ fn known_there(kind: Kind) -> &'static str {
     }
 }
 
-/// Adds where a key stands: in so many tables of a kind, the first of them at an index.
+/// Adds where a key stands: in this many tables of a kind, the first of them at an index.
 #[tactic(auto, using(crate::proofs::Written::written_none, crate::proofs::Written::written_then))]
 fn push_where(sheet: &mut Sheet, kind: Kind, tables: usize, first: usize)
     ensures { IsWrittenOn sheet.old sheet.new }

@@ -18,7 +18,7 @@ use toml::Table;
 /// What came of a check.
 #[derive(Clone, Copy)]
 pub enum Verdict {
-    /// The track is good, with so many warnings.
+    /// The track is valid, with this many warnings.
     Good { warnings: usize },
     /// The text breaks this rule before any other. It is never `OutOfMemory`.
     Refused(TrackError),
@@ -33,11 +33,7 @@ pub struct Report {
     pub text: String,
 }
 
-/// Checks the text of a track file. With `other_keys`, keys that nobody knows are notes and no warnings.
-///
-/// # Errors
-///
-/// Memory ran out.
+/// Checks the text of a track file. With `other_keys`, unknown keys are notes, not warnings.
 pub fn check(alloc: Global, text: &str, other_keys: bool) -> Result<Report, AllocError>
     ensures verdict { IfOk result (λ report. IsVerdictOn (track_of text.now) report.verdict) }
 {
@@ -80,7 +76,7 @@ fn text_of(
     }
 }
 
-/// The report on a text that is no document, with the place and the message of the reader.
+/// The report on a text that is not a document, with the place and the message of the reader.
 fn no_document(
     alloc: Global,
     text: &str,

@@ -9,8 +9,8 @@ use rbc_words::{Count, Km, Metres};
 use std::alloc::{AllocError, Global};
 use std::fmt::Write;
 
-/// A text that is written piece by piece. Where memory is refused a piece is missing, and the end of the sheet tells
-/// so: a piece that is added has no result of its own.
+/// A text that is written piece by piece. If memory is refused, a piece is missing, and `ended` reports it; the methods
+/// that add a piece do not.
 #[derive(Drop)]
 pub struct Sheet {
     text: String,
@@ -29,7 +29,7 @@ impl Sheet {
         }
     }
 
-    /// An empty sheet with room for so many bytes. Where memory is refused to them, its end tells so.
+    /// An empty sheet with room for this many bytes. If memory is refused for them, `ended` reports it.
     pub fn with_room(alloc: Global, bytes: usize) -> Self
         ensures { string_bytes result.text ≡ [] }
     {
@@ -44,7 +44,7 @@ impl Sheet {
     ///
     /// # Errors
     ///
-    /// Memory was refused to a piece of it.
+    /// Memory was refused for a piece of it.
     pub fn ended(self) -> Result<String, AllocError>
         ensures { IfOk result (λ text. (text ≡ self.text) × (self.is_cut ≡ false)) }
     {
@@ -74,7 +74,7 @@ impl Sheet {
         self.words(digits.format(number))
     }
 
-    /// Adds a number in decimal, with its sign where it is below 0.
+    /// Adds a number in decimal, with its sign if it is below 0.
     pub fn integer(&mut self, number: i64) -> &mut Self
         ensures same { result.ghost_name ≡ self.entry.ghost_name }
         ensures written { IsWrittenOn self.old result.now }
@@ -117,7 +117,7 @@ impl Sheet {
         self
     }
 
-    /// Adds so many of a thing.
+    /// Adds a number of things.
     pub fn count(&mut self, number: usize, noun: &str) -> &mut Self
         ensures same { result.ghost_name ≡ self.entry.ghost_name }
         ensures written { IsWrittenOn self.old result.now }
@@ -129,7 +129,7 @@ impl Sheet {
         self
     }
 
-    /// Adds a number at the right of a column of so many places.
+    /// Adds a number at the right of a column of this width.
     pub fn column(&mut self, width: usize, number: usize) -> &mut Self
         ensures same { result.ghost_name ≡ self.entry.ghost_name }
         ensures written { IsWrittenOn self.old result.now }
@@ -160,8 +160,8 @@ impl Sheet {
         }
     }
 
-    /// Adds a text from a file: its first 40 characters, with a dot for each one that is unruly, and two dots where it
-    /// is longer.
+    /// Adds a text from a file: its first 40 characters, with a dot for each one that is unruly, and two dots if it is
+    /// longer.
     pub fn shown(&mut self, shown: &str) -> &mut Self
         ensures same { result.ghost_name ≡ self.entry.ghost_name }
         ensures written { IsWrittenOn self.old result.now }

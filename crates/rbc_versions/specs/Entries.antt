@@ -47,7 +47,7 @@ abbrev pub ticket_in : List (Key × Shown) → Key → Option Shown
 ticket_in [] k = None
 ticket_in (entry ∷ entries) k = if same_key k entry.0 then Some entry.1 else ticket_in entries k
 
--- under each key one number at most: each ticket under a key is of the log, and its version was published under that key
+-- at most one number stands under each key: each ticket under a key is of the log, and its version was published under that key
 abbrev pub StandIn : LogName → List (Key × Shown) → Type 0
 StandIn log tickets = (k : Key) → IfSome (ticket_in tickets k) (λ ticket. IsOf log ticket × (ticket.value.key ≡ k))
 
@@ -61,12 +61,12 @@ abbrev pub numbers_after : List (Key × NumberedRec) → (Key → ℕ) → Key �
 numbers_after [] numbers k = numbers k
 numbers_after (entry ∷ entries) numbers k = numbers_after entries (λ other. if same_key other entry.0 then entry.1.number else numbers other) k
 
--- the number that entries put under a key, of which the last with the key counts; none where no entry has it
+-- the number that entries put under a key: the last entry with the key counts; none if no entry has it
 abbrev pub number_for : List (Key × NumberedRec) → Key → Option ℕ
 number_for [] k = None
 number_for (entry ∷ entries) k = elim (number_for entries k) [ Some number ↦ Some number | None ↦ if same_key k entry.0 then Some entry.1.number else None ]
 
--- the number of each entry is the one that stands under its key: nothing else is compared
+-- the number of each entry is the one that stands under its key; only numbers are compared
 abbrev pub AreCurrent : List (Key × NumberedRec) → (Key → ℕ) → Type 0
 AreCurrent entries numbers = All (λ entry. entry.1.number ≡ numbers entry.0) entries
 
@@ -74,28 +74,28 @@ AreCurrent entries numbers = All (λ entry. entry.1.number ≡ numbers entry.0) 
 abbrev pub AreOfWrites : List (Key × NumberedRec) → List (Key × Option Rec) → Type 0
 AreOfWrites entries writes = (records : Key → Option Rec) (k : Key) → written (records_of entries) records k ≡ written writes records k
 
--- what a record counts in the log: one, and one for each item of its lists
+-- the weight of a record in the log: one, and one for each item of its lists
 abbrev pub rec_weight : Rec → ℕ
 rec_weight (rec.Engines engines) = length engines + 1
 rec_weight (rec.Train train) = length train.stops + length train.limits + 1
 rec_weight (rec.Stops stops) = length stops.active + 1
 rec_weight (rec.Limits limits) = length limits.active + 1
 
--- a removal counts nothing
+-- a removal weighs nothing
 abbrev pub note_weight : Option Rec → ℕ
 note_weight None = 0
 note_weight (Some r) = rec_weight r
 
--- what all of them count together
+-- the weight of all of them together
 abbrev pub notes_weight : List (Key × Option Rec) → ℕ
 notes_weight [] = 0
 notes_weight (note ∷ notes) = note_weight note.1 + notes_weight notes
 
--- a weight counts all of them, as far as a number of 64 bits goes
+-- a weight that counts all of them, up to the greatest number of 64 bits
 abbrev pub CountsAll : ℕ → List (Key × Option Rec) → Type 0
 CountsAll weight notes = min (notes_weight notes) (2 ^ 64 - 1) ≤ weight
 
--- what contracts see of the present tickets: they, and for how many keys more there is room
+-- what contracts see of the present tickets: the tickets, and how many more keys there is room for
 pub record PresentValue : Type 0 where
   pub tickets : List (Key × Shown)
   pub room : ℕ

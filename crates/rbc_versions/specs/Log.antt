@@ -3,11 +3,11 @@ use Rattle.std.specs.Prelude.{ℕ, ◌+◌, Option, Some, None}
 use Rattle.boxcar.specs.Table.{Where, Shelves, Shows}
 use Rattle.rbc_versions.specs.declared.log.Version.{Version}
 
--- a log, told from every other
+-- a name for a log, which no other log has
 abbrev pub LogName : Type 0
 LogName = Shelves
 
--- a ticket: its index, which is its number less 1, its version, and where that lies
+-- a ticket: its index, which is its number less 1, its version, and where the version lies
 abbrev pub Shown : Type 0
 Shown = Where Version
 

@@ -1,7 +1,7 @@
 //! The log: any thread publishes records in it under numbers, and looks them up, with no lock.
 //!
 //! A ticket hides a token of `boxcar`, so no crate above names one. Publishing may wait for a thread that makes room in
-//! the log; looking up waits for nobody. `is_same` (present.rt) is the only comparison of numbers.
+//! the log; looking up never waits. `is_same` (present.rt) is the only comparison of numbers.
 
 ghost use Rattle.std.specs.Prelude.{◌≡◌, ◌+◌, ◌<◌, IfOk, IfSome, None};
 ghost use Rattle.rbc_versions.specs.Log.{IsOf};
@@ -23,7 +23,7 @@ pub struct Version {
     pub rec: Rec,
 }
 
-/// Shows that a log holds a version under a number, for as long as the log lasts. It is copied without memory.
+/// Shows that a log holds a version under a number, for as long as the log lasts. Copying it takes no memory.
 #[derive(Drop)]
 pub struct Ticket {
     token: Pushed<Version>,
@@ -50,7 +50,7 @@ impl Ticket {
         self.token.index() as u64 + 1
     }
 
-    /// The same ticket once more. Takes no memory.
+    /// A copy of the ticket.
     pub fn again(&self) -> Ticket
         ensures { result ≡ self.now }
     {
@@ -77,8 +77,8 @@ impl Model for VersionLog {
 }
 
 impl VersionLog {
-    /// Makes an empty log. Fails only for lack of memory. No clause says that it is empty: what threads share is seen
-    /// by its tickets alone.
+    /// Makes an empty log. Its contract does not say that it is empty: what threads share is known only through
+    /// tickets.
     pub fn new(alloc: Global) -> Result<Self, OutOfMemory> {
         match boxcar::Vec::new(alloc) {
             Ok(versions) => Ok(VersionLog { versions }),
@@ -86,13 +86,13 @@ impl VersionLog {
         }
     }
 
-    /// How many versions were published, or are about to be. No clause speaks of it: others may publish meanwhile.
+    /// How many versions were published, or are about to be. Its contract says nothing, because other threads may
+    /// publish meanwhile.
     pub fn count(&self) -> usize {
         self.versions.count()
     }
 
-    /// Publishes a record under a number that no other record has. Fails only for lack of memory, or where no number is
-    /// left.
+    /// Publishes a record under a number that no other record has. Fails also if no number is left.
     pub fn publish(&self, rt: &impl Wait, key: Key, rec: Rec) -> Result<Ticket, OutOfMemory>
         ensures { IfOk result (λ ticket. IsOf self.now ticket × (ticket.value ≡ record { key = key; rec = rec })) }
     {
@@ -107,7 +107,7 @@ impl VersionLog {
         }
     }
 
-    /// Publishes a copy of a record. Fails only for lack of memory, or where no number is left.
+    /// Publishes a copy of a record. Fails also if no number is left.
     pub(crate) fn publish_copy(
         &self,
         rt: &impl Wait,
@@ -124,7 +124,7 @@ impl VersionLog {
         }
     }
 
-    /// A ticket of a number, if it was given out; none for 0. Takes no memory.
+    /// A ticket of a number, if it was given out; none for 0.
     pub fn look(&self, number: u64) -> Option<Ticket>
         ensures ticket { IfSome result (λ ticket. IsOf self.now ticket × (ticket.index + 1 ≡ number)) }
         ensures zero { number ≡ 0 → result ≡ None }

@@ -40,15 +40,14 @@ impl Model for Notes {
 }
 
 impl Notes {
-    /// Makes empty notes. It allocates nothing.
+    /// Makes empty notes.
     pub fn new(alloc: Global) -> Self
         ensures { result ≡ [] }
     {
         Notes { all: None, alloc }
     }
 
-    /// Adds a note behind the others: what was read under a key that is not noted yet. Fails only for lack of memory,
-    /// and then changes nothing.
+    /// Adds a note after the others: what was read under a key that is not noted yet. An error changes nothing.
     pub fn add(&mut self, key: Key, ticket: Option<Ticket>) -> Result<(), OutOfMemory>
         requires { is_noted (shown self.old) key ≡ false }
         ensures ok { OnOk result (self.new ≡ self.old ++ (key, ticket) ∷ []) }
@@ -109,10 +108,10 @@ impl Notes {
     }
 }
 
-/// How many notes there is room for at first: most inputs read three records.
+/// The initial room for notes: most inputs read three records.
 const FEW: usize = 4;
 
-/// Adds a note behind the others, under a key that none has. Fails only for lack of memory, and then changes nothing.
+/// Adds a note after the others, under a key that none has. An error changes nothing.
 fn append(
     all: &mut IndexMap<Key, Option<Ticket>>,
     key: Key,
@@ -143,7 +142,7 @@ fn noted(all: &IndexMap<Key, Option<Ticket>>, key: Key) -> Option<Option<&Ticket
     Some(ticket.as_ref())
 }
 
-/// A map of one note. Fails only for lack of memory.
+/// A map of one note.
 fn first_note(alloc: Global, key: Key, ticket: Option<Ticket>) -> Result<Tickets, OutOfMemory>
     ensures one { IfOk result (λ all. all.value.entries ≡ (key, ticket) ∷ []) }
     ensures learns { IfOk result (λ all. Learns (Part []) key (Part (shown all.value.entries))) }

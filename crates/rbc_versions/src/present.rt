@@ -20,7 +20,7 @@ use std::marker::Model;
 use std::sync::Wait;
 
 /// For each key under which a record stands now, the ticket of its version. In contracts a list of pairs, of which the
-/// first with a key counts, and for how many keys more there is room.
+/// first with a key counts, and how many more keys there is room for.
 #[derive(Drop)]
 pub struct Present {
     tickets: IndexMap<Key, Ticket>,
@@ -35,8 +35,8 @@ impl Model for Present {
     ghost view = { λ present. record { tickets = present.tickets.entries; room = spare present.tickets } };
 }
 
-/// Whether two tickets of the log have one number, or both are absent. Then they show one record. This is the one place
-/// at which numbers are taken for records.
+/// Whether two tickets of the log have one number, or both are absent. Then they show the same record. Only here are
+/// numbers compared in place of records.
 fn is_same(log: &VersionLog, one: Option<&Ticket>, other: Option<&Ticket>) -> bool
     requires one { IfSome (option_copied one) (IsOf log.now) }
     requires other { IfSome (option_copied other) (IsOf log.now) }
@@ -75,8 +75,8 @@ fn put(tickets: &mut IndexMap<Key, Ticket>, key: Key, ticket: Option<Ticket>)
 }
 
 impl Present {
-    /// Publishes a copy of each record of a store, and takes their tickets for the present ones. Fails only for lack of
-    /// memory, and may then leave versions in the log that nothing names.
+    /// Publishes a copy of each record of a store, and takes their tickets for the present ones. An error may leave
+    /// versions in the log that nothing names.
     pub fn of_store(
         rt: &impl Wait,
         alloc: Global,
@@ -99,7 +99,7 @@ impl Present {
         Ok(Present { tickets })
     }
 
-    /// The number of the record that stands under a key now; 0 if there is none. Takes no memory.
+    /// The number of the record that stands under a key now; 0 if there is none.
     pub fn number(&self, key: Key) -> u64
         ensures { result ≡ number_of (ticket_in self.now.tickets key) }
     {
@@ -109,8 +109,8 @@ impl Present {
         }
     }
 
-    /// Whether the number of every note is the present one. Nothing but numbers is compared; where they are the same,
-    /// so are the records. Takes no memory.
+    /// Whether the number of every note is still the present one. Only numbers are compared; if they are the same, so
+    /// are the records.
     pub fn are_current(&self, log: &VersionLog, notes: &Notes) -> bool
         requires notes { AreOf log.now notes.now }
         requires here { StandIn log.now self.now.tickets }
@@ -128,7 +128,7 @@ impl Present {
         true
     }
 
-    /// Makes room for so many keys more. Fails only for lack of memory.
+    /// Makes room for this many more keys.
     pub fn reserve(&mut self, additional: usize) -> Result<(), OutOfMemory>
         ensures tickets { self.new.tickets ≡ self.old.tickets }
         ensures room { OnOk result (additional ≤ self.new.room) }
@@ -140,7 +140,6 @@ impl Present {
     }
 
     /// Makes the tickets of a publication the present ones, and takes away those of its removals. There has to be room.
-    /// Takes no memory.
     pub fn take_over(&mut self, published: &Published)
         requires { length published.now ≤ self.old.room }
         ensures { (k : Key) → ticket_in self.new.tickets k

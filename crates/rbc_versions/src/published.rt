@@ -42,8 +42,8 @@ impl Model for Published {
 }
 
 impl Published {
-    /// How much was published: one for each record, and one for each item of its lists. It is for whoever bounds the
-    /// memory of a log; nothing else hangs on it.
+    /// How much was published: one for each record, and one for each item of its lists. Used only to bound the memory
+    /// of a log.
     pub fn weight(&self) -> usize
         ensures all { CountsAll result (shown self.now) }
         ensures once { IsNotedOnce (shown self.now) }
@@ -70,8 +70,8 @@ impl Published {
         (*key, ticket.as_ref())
     }
 
-    /// The number that the publication puts under a key: 0 where it removes what stands there. `None` if it names no
-    /// such key. Takes no memory.
+    /// The number that the publication puts under a key: 0 if it removes what stands there. `None` if it names no such
+    /// key.
     pub fn number(&self, key: Key) -> Option<u64>
         ensures { result ≡ number_for (numbered self.now) key }
     {
@@ -97,7 +97,7 @@ fn weight_of(rec: Option<&Rec>) -> usize
     items.saturating_add(1)
 }
 
-/// Publishes a copy of what one write puts under its key, if it is no removal. Fails only for lack of memory.
+/// Publishes a copy of what one write puts under its key, if it is no removal.
 fn publish_one(
     rt: &impl Wait,
     alloc: Global,
@@ -125,7 +125,7 @@ fn put(all: &mut IndexMap<Key, Option<Ticket>>, key: Key, ticket: Option<Ticket>
 }
 
 /// Publishes copies of what is written, in place of what a map held: one entry for each key, by its last write. Returns
-/// their weight. Fails only for lack of memory, and may then leave versions in the log that nothing names.
+/// their weight. An error may leave versions in the log that nothing names.
 fn publish_into(
     rt: &impl Wait,
     alloc: Global,
@@ -152,8 +152,8 @@ fn publish_into(
     Ok(weight)
 }
 
-/// Publishes copies of what is written: one entry for each key, by its last write. Fails only for lack of memory, and
-/// may then leave versions in the log that nothing names.
+/// Publishes copies of what is written: one entry for each key, by its last write. An error may leave versions in the
+/// log that nothing names.
 pub fn publish_all(
     rt: &impl Wait,
     alloc: Global,
@@ -170,7 +170,7 @@ pub fn publish_all(
     Ok(Published { all, weight })
 }
 
-/// Does the same in the memory of a publication that is of no more use.
+/// Does the same in the memory of a publication that is no longer needed.
 pub fn publish_all_over(
     rt: &impl Wait,
     alloc: Global,

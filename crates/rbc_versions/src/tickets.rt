@@ -7,10 +7,10 @@ use indexmap::IndexMap;
 use rbc_records::Key;
 use std::alloc::Global;
 
-/// Under each key a ticket, or none. Behind a pointer, so that what keeps it is small where it is moved.
+/// Under each key a ticket, or none. Boxed, so that moving its owner is cheap.
 pub(crate) type Tickets = Box<IndexMap<Key, Option<Ticket>>>;
 
-/// Puts tickets behind a pointer. Fails only for lack of memory.
+/// Boxes tickets.
 pub(crate) fn boxed(
     alloc: Global,
     tickets: IndexMap<Key, Option<Ticket>>,

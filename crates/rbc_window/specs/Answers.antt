@@ -12,15 +12,15 @@ use Rattle.rbc_desk.specs.Held.{Standing, Holds, AreRecordsOf}
 use Rattle.rbc_window.specs.Messages.{Records, Setting, records_after}
 use Rattle.rbc_window.specs.Gathering.{IsMessage, AreAnswers}
 
--- inputs are taken in, one after another: what stood there was a desk of the rules, and what stands there now is that desk after them
+-- inputs were taken in, one after another: the desk before was a desk of the rules, and the desk now is that desk after them
 abbrev pub AreTakenIn : Plan → List Input → Standing → Standing → Type 0
 AreTakenIn track inputs old new = (desk : Desk) → Holds track old desk → Holds track new (serial track desk inputs)
 
--- by what messages are taken in, in a world
+-- what messages are judged by, in a world
 abbrev pub setting_of : Plan → World → Setting
 setting_of track w = record { track = track; stops = w.stops; limits = w.limits }
 
--- The answers of messages, and what is written after all of them, in whatever world has these records.
+-- The answers to messages, and what is written after all of them, in any world that has these records.
 pub record AreDone (track : Plan) (w : World) (records : Records) (inputs : List Input) (answers : List Answer) (writes : List (Key × Option Rec)) : Type 0 where
   pub are_messages : All IsMessage inputs
   pub are_answers : AreAnswers (setting_of track w) records inputs answers

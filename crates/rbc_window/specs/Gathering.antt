@@ -26,7 +26,7 @@ AreAnswers s records (input ∷ inputs) [] = ⊥
 AreAnswers s records (input ∷ inputs) (answer ∷ answers) =
     IsAnswerOf (outcome_of s records input) answer × AreAnswers s (next_records s records input) inputs answers
 
--- what is left of what the shares keep is of the inputs that are left
+-- what the shares still keep belongs to the inputs that are left
 abbrev pub KeepRest : Setting → Records → List Input → List Share → Type 0
 KeepRest s records inputs shares = (place : ℕ) (share : Share) → slice_get shares place ≡ Some share → AreKept s place records inputs share.kept.items
 

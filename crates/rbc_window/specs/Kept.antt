@@ -14,7 +14,7 @@ use Rattle.rbc_window.specs.Messages.{Records, Setting, moves_in, outcome_of, ne
 abbrev pub IsAnswerOf : Outcome → Answer → Type 0
 IsAnswerOf outcome answer = (answer.result ≡ outcome.result) × (answer.messages.items ≡ outcome.messages)
 
--- what a message does to the list of trains under a key is that its train leaves one and comes into another
+-- what a message does to the lists of trains: its train leaves the list under one key and comes into the list under another
 abbrev pub IsMove : Records → Outcome → ℕ → Key → Key → Type 0
 IsMove records outcome engine left entered =
     (k : Key) → IsTrue (is_list k) → written outcome.writes records k ≡ written (moves_in records engine left entered) records k
@@ -36,7 +36,7 @@ abbrev pub has_engine : ℕ → Option ℕ → Bool
 has_engine share None = false
 has_engine share (Some engine) = share_of engine == share
 
--- what is kept begins with what is kept of the first message, if that is of the share, and then comes what is kept of the others
+-- what is kept begins with what is kept of the first message, if it is from a train of the share, and goes on with what is kept of the others
 abbrev pub BeginsWith : Bool → (Kept → Type 0) → (List Kept → Type 0) → List Kept → Type 0
 BeginsWith false First Rest kept = Rest kept
 BeginsWith true First Rest [] = ⊥

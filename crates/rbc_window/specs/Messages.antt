@@ -27,7 +27,7 @@ use Rattle.rbc_rule.specs.Gathered.{heard_outcome}
 abbrev pub Records : Type 0
 Records = Key → Option Rec
 
--- by what messages are taken in: the track, and the stops and the restrictions, which no message changes
+-- what messages are judged by: the track, the stops and the restrictions, none of which a message changes
 pub record Setting : Type 0 where
   pub track : Plan
   pub stops : Stops
@@ -41,7 +41,7 @@ train_in (Some (rec.Train train)) = Some train
 train_in (Some (rec.Stops stops)) = None
 train_in (Some (rec.Limits limits)) = None
 
--- what a train writes that leaves one list and comes into another: nothing where both are one
+-- what a train that moves from one list to another writes: nothing if both are the same
 abbrev pub moves_in : Records → ℕ → Key → Key → List (Key × Option Rec)
 moves_in records engine left entered =
     if same_key left entered then []
@@ -51,7 +51,7 @@ moves_in records engine left entered =
 abbrev pub refused : ℕ → Outcome
 refused code = record { result = Refused code; writes = []; messages = [] }
 
--- the outcome of a message by what its train is after it, or by the code that refuses it
+-- the outcome of a message, by its train after it, or by the code that refuses it
 abbrev pub outcome_of_train : Setting → Records → ℕ → TrainRec → Result TrainRec ℕ → Outcome
 outcome_of_train s records engine old (Err code) = refused code
 outcome_of_train s records engine old (Ok train) = heard_outcome s.track s.stops s.limits engine train (moves_in records engine (list_of old) (list_of train))
@@ -61,7 +61,7 @@ abbrev pub outcome_of_message : Setting → Records → FromTrain → Option Tra
 outcome_of_message s records message None = refused (code_of UnknownTrain)
 outcome_of_message s records message (Some old) = outcome_of_train s records (engine_of message) old (heard s.track message old)
 
--- The outcome of an input that is a message. Of other inputs nothing is said.
+-- The outcome of an input that is a message. Nothing is said of other inputs.
 abbrev pub outcome_of : Setting → Records → Input → Outcome
 outcome_of s records (Received message) = outcome_of_message s records message (train_in (records (key.Train (engine_of message))))
 outcome_of s records (Enrol engine train_length) = refused 0

@@ -6,7 +6,7 @@ use Rattle.rbc_records.specs.Notes.{same_key}
 use Rattle.rbc_rule.specs.Records.{engines_record}
 use Rattle.rbc_window.specs.Messages.{Records}
 
--- what stands under a key where some lists have changed
+-- what stands under a key, if some lists have changed
 abbrev pub list_or : List (Key × List ℕ) → Records → Key → Option Rec
 list_or [] records k = records k
 list_or (list ∷ lists) records k = if same_key k list.0 then engines_record list.1 else list_or lists records k

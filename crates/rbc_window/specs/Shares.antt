@@ -24,7 +24,7 @@ train_write train = (key.Train train.0, Some (rec.Train train.1))
 abbrev pub train_writes : List (ℕ × TrainRec) → List (Key × Option Rec)
 train_writes trains = map train_write trains
 
--- what stands under an engine number: the train that the share has changed, and else what stood there when the window began
+-- what stands under an engine number: the train that the share has changed, or else what stood there when the window began
 abbrev pub train_or : Option TrainRec → Option Rec → Option Rec
 train_or None before = before
 train_or (Some train) before = Some (rec.Train train)
@@ -58,13 +58,13 @@ pub record HasTaken (s : Setting) (number : ℕ) (records : Records) (inputs : L
   pub keeps : AreKept s number records inputs kept
   pub trained : TrainsStand s number records inputs trains
 
--- so has a share that says that it is done
+-- a share that says that it is done has done so
 abbrev pub HasTakenIfDone : Setting → Records → List Input → Share → Type 0
 HasTakenIfDone s records inputs share = share.is_done ≡ true → HasTaken s share.number records inputs share.trains share.kept.items
 
 abbrev pub HaveTakenIfDone : Setting → Records → List Input → List Share → Type 0
 HaveTakenIfDone s records inputs shares = All (HasTakenIfDone s records inputs) shares
 
--- each share stands at the place of its number, and has taken its messages in
+-- each share stands at the place of its number, and says that it has taken its messages in
 abbrev pub AreInPlaces : List Share → Type 0
 AreInPlaces shares = (place : ℕ) (share : Share) → slice_get shares place ≡ Some share → (share.number ≡ place) × (share.is_done ≡ true)

@@ -21,7 +21,7 @@ use rbc_rule::{Input, engine_of};
 use std::alloc::Global;
 
 /// The answers to all messages, in the order of the inputs; the lists are then as they stand after all of them. Fails
-/// for lack of memory, and where an input is no message.
+/// also if an input is not a message.
 pub(crate) fn answers_in_order(
     alloc: Global,
     store: &PlainStore,

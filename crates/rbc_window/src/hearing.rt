@@ -15,7 +15,7 @@ use rbc_track::Track;
 use rbc_zones::{Limits, Stops};
 use std::alloc::Global;
 
-/// By what messages are taken in: the track, and the stops and the restrictions, which no message changes.
+/// What messages are judged by: the track, the stops and the restrictions, none of which a message changes.
 #[derive(Drop)]
 pub struct Scene<'a> {
     pub track: &'a Track,
@@ -24,7 +24,7 @@ pub struct Scene<'a> {
 }
 
 /// The train after its message, settled, and what is kept of it, or why the message is refused. The record is made in
-/// the memory of one that is spare, if there is one. The given record is unchanged.
+/// the memory of a spare one, if there is one. The given record is unchanged.
 pub(crate) fn hear(
     alloc: Global,
     scene: &Scene<'_>,

@@ -32,7 +32,7 @@ impl Model for Lists {
 }
 
 impl Lists {
-    /// No list has changed. Takes no memory.
+    /// No list has changed.
     pub fn new(alloc: Global) -> Self
         ensures { result ≡ [] }
     {
@@ -41,9 +41,9 @@ impl Lists {
         }
     }
 
-    /// Takes a train out of one list and puts it into another; nothing changes where both are the same. Lists that
-    /// have not changed before are copied from the store. Fails only for lack of memory (or where the engine stands in
-    /// the list already that it comes into, or a record of another kind stands there, which never is).
+    /// Takes a train out of one list and puts it into another; nothing changes if both are the same. Lists that have
+    /// not changed before are copied from the store. It would also fail if the list that the engine enters already had
+    /// it, or if the record under a key were not a list; neither happens.
     pub fn move_train(
         &mut self,
         alloc: Global,
@@ -82,7 +82,7 @@ impl Lists {
         Ok(())
     }
 
-    /// Puts a train into a list. Fails as `own` does, and where the train stands in the list already.
+    /// Puts a train into a list. Fails as `own` does, and if the train is already in the list.
     fn put_in(
         &mut self,
         alloc: Global,
@@ -104,8 +104,8 @@ impl Lists {
         Ok(())
     }
 
-    /// The index of the list under a key, which is first copied from the store if it has not changed before. Fails for
-    /// lack of memory, and where the store has no list of engines there.
+    /// The index of the list under a key, which is first copied from the store if it has not changed before. Fails also
+    /// if the store has no list of engines there.
     fn own(&mut self, alloc: Global, store: &PlainStore, key: Key) -> Result<usize, AllocError>
         ensures same { OnOk result ((k : Key) → list_or self.new (record_in store.now) k
             ≡ list_or self.old (record_in store.now) k) }
@@ -133,7 +133,7 @@ impl Lists {
         self.all.len()
     }
 
-    /// Writes each list that has changed under its key, behind what is written already. Fails only for lack of memory.
+    /// Appends a write of each list that has changed under its key.
     pub fn write(self, writes: &mut Writes) -> Result<(), AllocError>
         ensures { OnOk result ((records : Records) (k : Key) → written writes.new records k
             ≡ list_or self (written writes.old records) k) }
@@ -157,8 +157,7 @@ fn record_of(engines: Numbers) -> Option<Rec>
     Some(Rec::Engines(engines))
 }
 
-/// Copies the engines in a record; without a record there are none. Fails for lack of memory, and where the record is
-/// none of a list of engines.
+/// Copies the engines in a record; without a record there are none. Fails also if the record is not a list of engines.
 fn engines_of(alloc: Global, found: Option<&Rec>) -> Result<Numbers, AllocError>
     ensures { IfOk result (λ engines. engines_record engines ≡ option_copied found.entry) }
 {

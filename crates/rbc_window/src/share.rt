@@ -25,7 +25,8 @@ use rbc_settle::TrainRec;
 use std::alloc::{AllocError, Global};
 use std::collections::VecDeque;
 
-/// In how many shares the trains are. There are more of them than workers, so that each worker has about as much to do.
+/// The number of shares into which the trains are divided. There are more shares than workers, so that all workers have
+/// about the same amount to do.
 pub(crate) const SHARES: u32 = 32;
 
 /// The share of the train of an engine.
@@ -47,7 +48,7 @@ pub struct Share {
 }
 
 impl Share {
-    /// A share that has taken nothing in. Takes no memory.
+    /// A share that has taken nothing in.
     pub(crate) fn new(alloc: Global, number: u32) -> Self
         ensures { result.is_done ≡ false }
     {
@@ -73,7 +74,7 @@ impl Share {
         self.is_done
     }
 
-    /// Takes its messages in, as far as there is memory. The records stand still meanwhile.
+    /// Takes its messages in, as far as there is memory. The records do not change meanwhile.
     pub(crate) fn take_in(
         self,
         alloc: Global,
@@ -110,7 +111,7 @@ impl Share {
         self.kept.pop_front()
     }
 
-    /// Writes its trains under their keys, behind what is written already. Fails only for lack of memory.
+    /// Appends writes of its trains under their keys.
     pub(crate) fn write(self, writes: &mut Writes) -> Result<(), AllocError>
         ensures { OnOk result (writes.new ≡ writes.old ++ train_writes self.trains) }
     {
@@ -118,7 +119,7 @@ impl Share {
     }
 }
 
-/// Takes the messages of a share in. Fails only for lack of memory.
+/// Takes the messages of a share in.
 fn take_in_each(
     alloc: Global,
     scene: &Scene<'_>,
@@ -160,8 +161,8 @@ fn message_of(input: &Input, share: u32) -> Option<&FromTrain>
     }
 }
 
-/// Takes a message in by its train, and tells what is kept of it. The record that is replaced is spare then: the next one
-/// is made in its memory. Fails only for lack of memory.
+/// Takes a message in by its train, and tells what is kept of it. The record that is replaced is then spare: the next
+/// one is made in its memory.
 fn taken(
     alloc: Global,
     scene: &Scene<'_>,

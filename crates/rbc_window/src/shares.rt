@@ -17,7 +17,7 @@ use std::alloc::{AllocError, Global};
 use std::sync::Wait;
 use std::thread::{self, Threads};
 
-/// The shares, whose messages so many workers take in at the same time. Fails only for lack of memory.
+/// The shares, after this number of workers has taken their messages in, all at the same time.
 pub fn taken_in<R: Threads + Wait + Sync>(
     rt: &R,
     alloc: Global,
@@ -38,8 +38,7 @@ pub fn taken_in<R: Threads + Wait + Sync>(
     in_order(alloc, workers)
 }
 
-/// The work of one worker: one share after another, as long as there is one that nobody has taken. It ends before that
-/// where memory is refused.
+/// The work of one worker: it takes one share after another until none is left. It ends earlier if memory is refused.
 fn work<R: Wait>(
     rt: &R,
     alloc: Global,
@@ -63,7 +62,7 @@ fn work<R: Wait>(
     done
 }
 
-/// All shares, for whoever takes them. Fails only for lack of memory.
+/// All shares, in a queue from which the workers take them.
 fn all_shares<R: Wait>(rt: &R, alloc: Global) -> Result<ArrayQueue<Share>, AllocError> {
     let all = ArrayQueue::new(alloc, SHARES as usize)?;
     for number in 0..SHARES {
@@ -72,7 +71,7 @@ fn all_shares<R: Wait>(rt: &R, alloc: Global) -> Result<ArrayQueue<Share>, Alloc
     Ok(all)
 }
 
-/// All shares in their order, none of them done. Fails only for lack of memory.
+/// All shares in their order, none of them done.
 fn none_done(alloc: Global) -> Result<Vec<Share>, AllocError>
     ensures { IfOk result (λ all. (s : Setting) (records : Records) (inputs : List Input)
         → HaveTakenIfDone s records inputs all.items) }
@@ -85,7 +84,6 @@ fn none_done(alloc: Global) -> Result<Vec<Share>, AllocError>
 }
 
 /// All shares in their order, as the workers leave them. A share that a worker lost for lack of memory is not done.
-/// Fails only for lack of memory.
 fn in_order(alloc: Global, workers: Vec<Vec<Share>>) -> Result<Vec<Share>, AllocError>
     ensures { IfOk result (λ all. (s : Setting) (records : Records) (inputs : List Input)
         → All (λ worker. HaveTakenIfDone s records inputs worker.items) workers.items
@@ -128,7 +126,7 @@ pub fn are_done(all: &[Share]) -> bool
     true
 }
 
-/// Writes the trains of all shares under their keys, behind what is written already. Fails only for lack of memory.
+/// Appends writes of the trains of all shares under their keys.
 pub fn write_trains(all: Vec<Share>, writes: &mut Writes) -> Result<(), AllocError>
     ensures { OnOk result (writes.new ≡ writes.old ++ flat_map (λ share. train_writes share.trains) all.items) }
 {

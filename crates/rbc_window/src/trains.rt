@@ -29,7 +29,7 @@ impl Model for Trains {
 }
 
 impl Trains {
-    /// No trains. Takes no memory.
+    /// No trains.
     pub(crate) fn new(alloc: Global) -> Self
         ensures { result ≡ [] }
     {
@@ -45,8 +45,8 @@ impl Trains {
         rbc_maps::value_of(&self.all, engine)
     }
 
-    /// Puts a train under its engine, and hands back the record in whose place it comes, if there is one. Fails only for
-    /// lack of memory, and then changes nothing.
+    /// Puts a train under its engine, and returns the record that it replaces, if there is one. An error changes
+    /// nothing.
     pub(crate) fn put(
         &mut self,
         engine: u32,
@@ -64,7 +64,7 @@ impl Trains {
         Ok(None)
     }
 
-    /// Writes each train under its key, behind what is written already. Fails only for lack of memory.
+    /// Appends a write of each train under its key.
     pub(crate) fn write(self, writes: &mut Writes) -> Result<(), AllocError>
         ensures { OnOk result (writes.new ≡ writes.old ++ train_writes self) }
     {

@@ -1,4 +1,4 @@
-//! A window: the shares' messages taken in side by side, and then their commit.
+//! A window: the shares take their messages in at the same time, and are then committed.
 
 ghost use Rattle.std.specs.Prelude.{◌≡◌, ◌≤◌, ◌+◌, All, length, IfOk, OnOk, OnErr};
 ghost use Rattle.rbc_track.specs.Plan.{IsPlan};
@@ -20,7 +20,7 @@ use std::alloc::{AllocError, AllocFailed, Global};
 use std::sync::Wait;
 use std::thread::Threads;
 
-/// A window was not run, and nothing is changed: there was not the memory for it, or not all inputs are messages.
+/// A window was not run, and nothing is changed: there was not enough memory, or not all inputs are messages.
 #[derive(Clone, Copy, Debug, PartialEq, Eq)]
 pub struct NotRun;
 
@@ -42,9 +42,9 @@ impl From<RuleFault> for NotRun {
     }
 }
 
-/// Takes messages from trains in. The trains are in shares, and each of so many workers takes the messages of one share
-/// after another in. The desk is then that of the rules applied to the messages one after another. There has to be room
-/// for the results.
+/// Takes in messages from trains. The trains are divided into shares, and each worker takes in the messages of one
+/// share after another. The desk is then the one that the rules give for the messages one after another. There has to
+/// be room for the results.
 ///
 /// # Errors
 ///

@@ -6,6 +6,8 @@
 //! (specs/Units.antt).
 //!
 //! Begin with units.rt and codes.rt; faults.rt has the faults, list.rt the whole list.
+//!
+//! A function that cannot report a lack of memory takes none. `AllocError` means that memory was refused.
 #![tactic(auto)]
 
 mod codes;

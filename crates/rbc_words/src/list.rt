@@ -23,10 +23,6 @@ EXIT STATUS. 0: done. 1: a fault. 2: bad arguments, with a text on standard erro
 
 /// Lists each result code and each fault: its number or its line, its name, what it means and what to do. The text has
 /// lines of at most 100 columns.
-///
-/// # Errors
-///
-/// Memory ran out.
 pub fn codes_text(alloc: Global) -> Result<String, AllocError> {
     let mut text = String::from_str(alloc, BEGINNING)?;
     push_codes(&mut text)?;
@@ -36,7 +32,7 @@ pub fn codes_text(alloc: Global) -> Result<String, AllocError> {
     Ok(text)
 }
 
-/// Adds the rows of all codes: each number that a code can be is tried, so none is missing.
+/// Adds the rows of all codes: each possible code is tried, so none is missing.
 fn push_codes(text: &mut String) -> Result<(), AllocError> {
     for code in 0..=u8::MAX {
         if let Some(row) = row_of_code(code) {

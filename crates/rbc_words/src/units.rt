@@ -2,7 +2,7 @@
 
 use std::fmt;
 
-/// A place or a length in units of 10 cm, shown in kilometres with three decimals, and with a fourth where it is not 0:
+/// A place or a length in units of 10 cm, shown in kilometres with three decimals, and with a fourth if it is not 0:
 /// 152000 is `15.200`, and 79675 is `7.9675`.
 #[derive(Clone, Copy)]
 pub struct Km(pub u32);
@@ -29,7 +29,7 @@ impl fmt::Display for Km {
     }
 }
 
-/// A length in units of 10 cm, shown in metres, with a tenth where it is not 0: 2000 is `200`, and 5 is `0.5`.
+/// A length in units of 10 cm, shown in metres, with a tenth if it is not 0: 2000 is `200`, and 5 is `0.5`.
 #[derive(Clone, Copy)]
 pub struct Metres(pub u32);
 
@@ -49,7 +49,7 @@ impl fmt::Display for Metres {
     }
 }
 
-/// So many of a thing: `1 line`, `2 lines`. The plural of the noun ends in s.
+/// A number of things: `1 line`, `2 lines`. The plural of the noun ends in s.
 #[derive(Clone, Copy)]
 pub struct Count<'a> {
     /// How many there are.

@@ -51,8 +51,8 @@ abbrev pub is_behind_group : Way → ℕ → ℕ → Bool
 is_behind_group Up at place = nat_lt place at
 is_behind_group Down at place = nat_lt at place
 
--- R-STOP-2, R-STOP-3, R-STOP-4: what a stop means whose nearest edge ahead is this one: no distance can be told to an
--- edge behind the balise group
+-- R-STOP-2, R-STOP-3, R-STOP-4: what a stop means if this is its nearest edge ahead: no distance can be told to an edge
+-- behind the balise group
 abbrev pub concern_by_edge : Place → Option ℕ → Concern
 concern_by_edge p None = concern.None
 concern_by_edge p (Some edge) = if is_behind_group p.facing p.at edge then concern.Now else concern.Before edge
@@ -68,7 +68,7 @@ abbrev pub concern_of : List Segment → Bool → Option Place → Concern
 concern_of area forced None = concern.Now
 concern_of area forced (Some p) = concern_at area forced p
 
--- R-STOP-7, R-RESTRICTION-6: the most units in which a message tells a distance or a length
+-- R-STOP-7, R-RESTRICTION-6: the most units that a message tells as a distance or a length
 abbrev pub max_units : ℕ
 max_units = 32766
 

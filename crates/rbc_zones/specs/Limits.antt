@@ -22,8 +22,8 @@ pub record Limit : Type 0 where
   pub speed : ℕ
   pub front : Bool
 
--- R-RESTRICTION-1: the ends of each restriction are apart and at places that a line can have, and its speed is a value
--- of V_TSR
+-- R-RESTRICTION-1: the ends of each restriction differ and are places that a line can have, and its speed is a value of
+-- V_TSR
 pub record IsLimit (limit : Limit) : Type 0 where
   pub ordered : limit.segment.from < limit.segment.to
   pub within : limit.segment.to ≤ max_length

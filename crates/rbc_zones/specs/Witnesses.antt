@@ -39,7 +39,7 @@ stop_elsewhere = on 1 50005 60000 ∷ []
 abbrev pub low_stop : List Segment
 low_stop = on 0 1000 3000 ∷ []
 
--- a stop of the lower end of the line
+-- a stop at the lower end of the line
 abbrev pub lowest_stop : List Segment
 lowest_stop = on 0 0 0 ∷ []
 

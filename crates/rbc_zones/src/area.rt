@@ -14,7 +14,7 @@ use std::marker::Model;
 /// The most segments that an area has.
 const MAX_SEGMENTS: usize = 8;
 
-/// The mark where an area has no further segment. No line has it, as marks of lines are below 64.
+/// The mark for a segment that an area does not have. No line has it, since marks of lines are below 64.
 const NO_MARK: u8 = 255;
 
 /// Fills the array of an area that has fewer segments.
@@ -56,7 +56,7 @@ impl Model for Area {
 }
 
 impl Area {
-    /// Makes an area of segments on a track; there is at least one. Takes no memory.
+    /// Makes an area of segments on a track; there is at least one.
     ///
     /// # Errors
     ///
@@ -104,7 +104,7 @@ impl OnLines<8> for Area {
 
     ghost is_sound = { AreSegments };
 
-    /// The marks of the lines of the segments, one of each segment that an area can have. Takes no memory.
+    /// The marks of the lines of the segments, one for each segment that an area can have.
     fn marks(&self) -> [u8; 8] {
         let segments = self.segments();
         array::from_fn(|at| mark_at(segments, at))

@@ -3,10 +3,12 @@
 //!
 //! It stands on rbc_place and rbc_maps. rbc_settle judges a train by it, rbc_rule asks which trains a command touches,
 //! and rbc_records searches by the same rules. They rest on [`concern`], [`limit_clear`] and [`limit_concerns`], which
-//! are the words of the rules (specs/Concerns.antt, specs/Limits.antt). [`stop_field`] and [`limit_fields`] give the
-//! distances of a message; [`stop_law`] and [`limit_law`] say how exact they are.
+//! follow the rules word for word (specs/Concerns.antt, specs/Limits.antt). [`stop_field`] and [`limit_fields`] give
+//! the distances of a message; [`stop_law`] and [`limit_law`] say how exact they are.
 //!
 //! Begin with stop.rt and limit.rt. area.rt has the segments of a stop, with a mark for the line of each.
+//!
+//! No function here takes memory.
 #![tactic(auto)]
 
 mod area;
@@ -31,8 +33,9 @@ pub use stop_distance::stop_field;
 pub use stop_meaning::Concern;
 pub use witnesses::{limit_law_witnesses, stop_law_witnesses};
 
-/// The areas of the active stops, by the numbers of the stops. Eight marks of each tell the lines of its segments.
+/// The areas of the active stops, by the numbers of the stops. Each has eight marks, which stand for the lines of its
+/// segments.
 pub type Stops = Numbered<Area, 8>;
 
-/// The active temporary speed restrictions, by their numbers. One mark of each tells its line.
+/// The active temporary speed restrictions, by their numbers. Each has one mark, which stands for its line.
 pub type Limits = Numbered<Limit, 1>;

@@ -51,8 +51,8 @@ impl Model for Limit {
 }
 
 impl Limit {
-    /// Makes a restriction of a segment of a track to a speed in km/h. `front` is Q_FRONT: true if there is no
-    /// train length delay at its end. Takes no memory.
+    /// Makes a restriction of a segment of a track to a speed in km/h. `front` is Q_FRONT: true if there is no train
+    /// length delay at its end.
     ///
     /// # Errors
     ///
@@ -125,7 +125,7 @@ impl OnLines<1> for Limit {
 
     ghost is_sound = { IsLimit };
 
-    /// The mark of the line of the segment. Takes no memory.
+    /// The mark of the line of the segment.
     fn marks(&self) -> [u8; 1] {
         [mark_of(self.segment.line)]
     }
@@ -146,9 +146,8 @@ fn is_for(dirs: Dirs, facing: Way) -> bool
     }
 }
 
-/// Whether a train has nothing more to do with a restriction (own rule): the restriction is on another line or
-/// applies to trains that face the other way, or it lies wholly behind the interval in which the train may stand.
-/// Takes no memory.
+/// Whether a train has nothing more to do with a restriction (own rule): the restriction is on another line or applies
+/// to trains that face the other way, or it lies wholly behind the interval in which the train may stand.
 #[inline]
 pub fn limit_clear(limit: &Limit, place: &Place) -> bool
     ensures { result ≡ is_clear limit.now place.now }
@@ -162,9 +161,9 @@ pub fn limit_clear(limit: &Limit, place: &Place) -> bool
         }
 }
 
-/// Whether a train has to be told of a restriction (own rule): the train is not clear of it, it ends beyond the
-/// train's balise group, and it begins no farther ahead of the interval in which the train may stand than the
-/// horizon, in units of 10 cm. Takes no memory.
+/// Whether a train has to be told of a restriction (own rule): the train is not clear of it, it ends beyond the train's
+/// balise group, and it begins no farther ahead of the interval in which the train may stand than the horizon, in units
+/// of 10 cm.
 #[inline]
 pub fn limit_concerns(limit: &Limit, place: &Place, horizon: u32) -> bool
     ensures { result ≡ concerns limit.now place.now horizon }

@@ -65,10 +65,10 @@ fn told_of_part(begin: u32, end: u32) -> (u8, u16, u16)
     (scale, start as u16, length as u16)
 }
 
-/// Q_SCALE, D_TSR and L_TSR of a restriction for a train that is not clear of it and beyond whose balise group it
-/// ends. D_TSR is the distance from the balise group to its start, or 0 if it starts behind the group, rounded
-/// down. L_TSR is the length from there to its end, which is rounded up. The unit is the finest of 10 cm, 1 m and
-/// 10 m in which both are at most 32,766. Takes no memory.
+/// Q_SCALE, D_TSR and L_TSR of a restriction for a train that is not clear of it and beyond whose balise group it ends.
+/// D_TSR is the distance from the balise group to its start, or 0 if it starts behind the group, rounded down. L_TSR is
+/// the length from there to its end, which is rounded up. The unit is the finest of 10 cm, 1 m and 10 m in which both
+/// are at most 32,766.
 pub fn limit_fields(limit: &Limit, place: &Place) -> (u8, u16, u16)
     requires not_clear { is_clear limit.now place.now ≡ false }
     requires ends_beyond { IsTrue (ends_beyond_group limit.now place.now) }

@@ -11,7 +11,7 @@ use crate::segment::Segment;
 use crate::stop_meaning::Concern;
 use rbc_place::{Place, Way};
 
-/// What a stop means for a train (own rule). Takes no memory.
+/// What a stop means for a train (own rule).
 ///
 /// - `Now` if the train has no place, if the stop is forced on it, or if a segment on its line meets the interval
 ///   in which it may stand.
@@ -46,7 +46,7 @@ fn concern_at(segments: &[Segment], place: &Place) -> Concern
     concern_by_edge(place, nearest)
 }
 
-/// What a stop means whose nearest edge ahead is this one.
+/// What a stop means if this is its nearest edge ahead.
 fn concern_by_edge(place: &Place, nearest: Option<u32>) -> Concern
     ensures { result ≡ concern_by_edge place.now nearest }
 {

@@ -8,7 +8,7 @@ ghost use Rattle.rbc_zones.specs.Concerns.{told_distance, IsToldFor};
 pub(crate) const MAX_UNITS: u32 = 32_766;
 
 /// Q_SCALE and D_EMERGENCYSTOP of a distance in units of 10 cm, at most 3,000,000. The distance is rounded down to
-/// whole units of 10 cm, 1 m or 10 m, whichever is the finest in which it is at most 32,766. Takes no memory.
+/// whole units of 10 cm, 1 m or 10 m, whichever is the finest in which it is at most 32,766.
 pub fn stop_field(distance: u32) -> (u8, u16)
     requires { distance ≤ max_length }
     ensures field { result ≡ told_distance distance }

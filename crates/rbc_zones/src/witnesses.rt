@@ -1,4 +1,4 @@
-//! Worked cases of the laws, right ones and wrong ones.
+//! Worked cases of the laws: correct ones, which satisfy them, and wrong ones, which violate them.
 
 ghost use Rattle.rbc_zones.specs.Concerns.{IsToldRightly};
 ghost use Rattle.rbc_zones.specs.Limits.{IsToldPart};
@@ -11,7 +11,7 @@ ghost use Rattle.rbc_zones.specs.Witnesses.{low_stop, lowest_stop, restriction};
 /// - Facing up, an edge at 5,000.5 m is 4,000 units of 1 m away. Facing down, one at 300 m is 7,000 units of 10 cm
 ///   away.
 /// - Wrong: 0 units of a scale that does not exist; 4,001 units of 1 m, which end beyond the edge; 400 units of 10 m,
-///   which are coarser than they have to be; 12,000 units of 10 cm where the line ends after 10,000.
+///   which are coarser than they have to be; 12,000 units of 10 cm though the line ends after 10,000.
 /// - Wrong too: a distance from the front of the train, the farther of two edges, the far end of a stop, and an edge
 ///   on another line.
 pub fn stop_law_witnesses()
@@ -34,9 +34,9 @@ pub fn stop_law_witnesses()
 ///   1,105.5 m to 5,105.5 m begins at 105 units of 1 m and is 4,001 long. Of one from 900 m to 1,205 m, in which the
 ///   balise group lies, 2,050 units of 10 cm are ahead. Facing down, one from 700 m to 500 m begins at 3,000 units of
 ///   10 cm and is 2,000 long.
-/// - Wrong: 5 m more at each end, a length rounded down, a start rounded up, units of 1 m where those of 10 cm have
+/// - Wrong: 5 m more at each end, a length rounded down, a start rounded up, units of 1 m though those of 10 cm have
 ///   room, and a start counted from the front of the train.
-/// - Wrong too: the whole length where the balise group lies in the restriction, and facing down the ends swapped.
+/// - Wrong too: the whole length though the balise group lies in the restriction, and facing down the ends swapped.
 pub fn limit_law_witnesses()
     ensures told { IsToldPart (restriction 11050 12050) facing_up 0 1050 1000 }
     ensures told_in_metres { IsToldPart (restriction 11055 51055) facing_up 1 105 4001 }

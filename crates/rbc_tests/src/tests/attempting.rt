@@ -203,7 +203,7 @@ pub(crate) struct Tried<N: RunName> {
     pub(crate) numbers: Vec<(Key, u64)>,
 }
 
-/// The keys of a publication with the numbers of their records, and with 0 where there is none any more.
+/// The keys of a publication with the numbers of their records, and with 0 if there is none any more.
 fn numbers_of(alloc: Global, published: &Published) -> Result<Vec<(Key, u64)>, AllocError> {
     let mut numbers = Vec::new(alloc);
     for index in 0..published.len() {

@@ -77,11 +77,7 @@ recv 9203800000FA000001C000000400
 ",
 };
 
-/// So many lines of a batch, behind the first ones.
-///
-/// # Errors
-///
-/// Memory is refused.
+/// Lines of a batch, this many, after the first ones.
 pub(crate) fn lines_of(
     alloc: Global,
     batch: &str,

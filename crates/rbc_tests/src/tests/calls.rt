@@ -47,7 +47,7 @@ struct Kept<N: RunName> {
 }
 
 impl<N: RunName> Kept<N> {
-    /// What was read for an input, which is not kept any more; nothing where another input was read for.
+    /// What was read for an input, which is not kept any more; nothing if another input was read for.
     fn take_ahead(&mut self, alloc: Global, input: u32) -> Ahead<N> {
         let nothing = Ahead::nothing(alloc, input);
         if self.ahead.input() == input {

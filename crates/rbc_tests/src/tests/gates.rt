@@ -171,8 +171,8 @@ impl Gate for Told {
     }
 }
 
-/// Holds each worker that begins an input until more than so many are at one, or once until that took too long, and
-/// counts how many were between their calls before the rule and after the deposit at most.
+/// Holds each worker that begins an input until more than this many are at one, or once until that took too long.
+/// Counts the most that were at the same time between their calls before the rule and after the deposit.
 #[derive(Drop)]
 pub(super) struct Inside<'a, R> {
     rt: &'a R,

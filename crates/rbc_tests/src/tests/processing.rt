@@ -11,7 +11,7 @@ use std::process::Abort;
 use std::sync::Wait;
 use std::thread::Threads;
 
-/// Gives a text in pieces of so many bytes, and fails at one call.
+/// Gives a text in pieces of this many bytes, and fails at one call.
 #[derive(Drop)]
 struct Pieces<'a> {
     text: &'a [u8],
@@ -32,8 +32,8 @@ impl Read for Pieces<'_> {
     }
 }
 
-/// Runs the longer batch, which is given in pieces of so many bytes, and fails at one call. Asserts that nothing is
-/// written where the reading fails, and else all.
+/// Runs the longer batch, which is given in pieces of this many bytes, and fails at one call. Asserts that nothing is
+/// written if reading fails, and otherwise all.
 fn assert_pieces<R>(rt: &R, size: usize, fails_at: u32, kind: ErrorKind)
 where
     R: Abort + AllocGlobal + Threads + Wait + Sync,
@@ -109,8 +109,8 @@ fn gives_up_on_endless_interruptions(rt: HostRuntime) {
     same(&rt, writer.calls, 1_000);
 }
 
-/// Takes one byte a call up to some number, then gives 0 or fails for so many calls, and works again. Every other call
-/// is interrupted.
+/// Takes one byte a call up to some number, then gives 0 or fails for this many calls, and works again. Every other
+/// call is interrupted.
 #[derive(Drop)]
 struct Narrow {
     taken: Vec<u8>,
@@ -148,7 +148,7 @@ impl Write for Narrow {
     }
 }
 
-// A writer that fails once is not tried again, though it would work.
+// A writer that fails once is not tried again, even if it would work.
 #[test]
 fn counts_what_is_out_where_the_writer_fails(rt: HostRuntime) {
     let track = good_track(&rt);
@@ -177,7 +177,8 @@ fn counts_what_is_out_where_the_writer_fails(rt: HostRuntime) {
     }
 }
 
-/// Is interrupted 600 times, takes so many bytes at the most, is interrupted so many times again, and then takes all.
+/// Is interrupted 600 times, takes at most a given number of bytes, is interrupted a given number of times again, and
+/// then takes all.
 #[derive(Drop)]
 struct Stuttering {
     taken: Vec<u8>,

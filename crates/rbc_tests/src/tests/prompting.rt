@@ -26,7 +26,7 @@ const ANSWERS: &str = "1 ok 0
 7 4 120280000000BFFFFFE0
 ";
 
-/// Gives `LINES` in pieces of so many bytes, and an error at one call. It also fails where it is asked for more while
+/// Gives `LINES` in pieces of this many bytes, and an error at one call. It also fails where it is asked for more while
 /// answers wait to be flushed.
 #[derive(Drop)]
 struct Asking<'a> {
@@ -78,7 +78,7 @@ impl Write for Telling<'_> {
     }
 }
 
-/// Where a reader or a writer fails: pieces of so many bytes are read, one call of the reader gives an error of this
+/// Where a reader or a writer fails: pieces of this many bytes are read, one call of the reader gives an error of this
 /// kind, and one flush fails. There is no call number 0.
 #[derive(Clone, Copy)]
 struct Course {

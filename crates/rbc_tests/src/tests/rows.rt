@@ -23,7 +23,7 @@ const RECOMPUTED: Call = Call::Commit(Commit::Recomputed);
 
 const AT_END: Call = Call::Commit(Commit::Done);
 
-/// What a run leaves in which engine 7 alone is told something.
+/// What a run leaves in which only engine 7 is told something.
 #[derive(Clone, Copy)]
 struct Left<'a> {
     taken: u32,
@@ -98,7 +98,7 @@ const MISLED: &[Call] = &[
     AT_END,
 ];
 
-/// The second input is read for in part before the first is committed, and in part behind it.
+/// The second input is read for in part before the first is committed, and in part after it.
 const READ_IN_BETWEEN: &[Call] = &[
     Call::Take(Some(1)),
     Call::Take(Some(2)),
@@ -169,7 +169,7 @@ const AT_THE_END: &[Call] = &[
     Call::Take(None),
 ];
 
-/// Runs the enrolments of two trains, 7 behind one with a higher number, and a stop, by these calls of a book. Both are
+/// Runs the enrolments of two trains, 7 after one with a higher number, and a stop, by these calls of a book. Both are
 /// told.
 fn assert_two_told<R: Abort + AllocGlobal + Wait>(
     rt: &R,
@@ -223,7 +223,7 @@ fn there_and_back(rt: HostRuntime) {
     assert_left(&rt, &inputs, THERE_AND_BACK, &left);
 }
 
-/// Runs inputs of which nobody is told, all of which are accepted, and asserts how many are recomputed.
+/// Runs inputs that are all accepted and of which no train is told, and asserts how many are recomputed.
 fn assert_silent<R: Abort + AllocGlobal + Wait>(
     rt: &R,
     inputs: &[Input],

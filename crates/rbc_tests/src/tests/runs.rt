@@ -1,4 +1,4 @@
-//! Runs by several workers. What they leave is given from outside.
+//! Runs by several workers. The expected results do not come from this program.
 
 ghost use Rattle.rbc_engine.specs.Answers.{IsOpening};
 
@@ -16,7 +16,7 @@ use std::process::Abort;
 use std::sync::Wait;
 use std::thread::Threads;
 
-/// Asserts what comes of a batch, by so many workers.
+/// Asserts what comes of a batch, by this many workers.
 pub(super) fn assert_answers<R, G>(rt: &R, batch: &str, workers: u8, gate: &G, text: &str) -> Stats
 where
     R: Abort + AllocGlobal + Threads + Wait + Sync,
@@ -30,8 +30,8 @@ where
     stats.expect(rt, "an output")
 }
 
-/// Asserts what comes of a batch whose messages are shared by train, by so many workers, at a pace. Returns the windows
-/// too.
+/// Asserts what comes of a batch whose messages are shared by train, by this many workers, at a pace. Returns the
+/// windows too.
 pub(super) fn assert_answers_by_train<R>(
     rt: &R,
     batch: &str,
@@ -203,7 +203,7 @@ fn applies_what_is_apart(rt: HostRuntime) {
     assert_desk(&rt, &desk, text);
 }
 
-/// So many lines of the batch in which a stop waits for an identifier, behind the first ones.
+/// Lines of the batch in which a stop waits for an identifier, this many, after the first ones.
 fn stops<R: Abort + AllocGlobal>(rt: &R, from: usize, count: usize) -> String {
     lines_of(rt.alloc(), FULL.batch, from, count).expect(rt, "memory")
 }
@@ -224,7 +224,7 @@ fn tells_the_gate_each_input(rt: HostRuntime) {
     }
 }
 
-/// Runs so many lines of the longer batch, behind the first ones.
+/// Runs lines of the longer batch, this many, after the first ones.
 fn run_part<R>(rt: &R, track: &Track, desk: &mut Desk, from: usize, count: usize, workers: u8)
 where
     R: Abort + AllocGlobal + Threads + Wait + Sync,
@@ -236,7 +236,7 @@ where
     same(rt, stats.is_ok(), true);
 }
 
-/// Runs a batch in two parts by so many workers.
+/// Runs a batch in two parts by this many workers.
 fn assert_parts<R>(rt: &R, workers: u8)
 where
     R: Abort + AllocGlobal + Threads + Wait + Sync,

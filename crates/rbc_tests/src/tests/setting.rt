@@ -71,7 +71,7 @@ pub(crate) fn head(stamp: u32, ack: bool, lrbg: u32) -> Head
     Head { stamp, ack, lrbg }
 }
 
-/// The bytes of a message, with zeros behind them, and their number: 0 where a variable is out of its range.
+/// The bytes of a message, with zeros after them, and their number: 0 if a variable is out of its range.
 pub(crate) fn written(message: &ToTrain) -> ([u8; 1024], usize)
     ensures { result.1 ≤ 897 }
 {

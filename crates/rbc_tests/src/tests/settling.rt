@@ -128,7 +128,7 @@ fn the_first_two_messages_get_the_last_two_stamps(rt: HostRuntime) {
     );
 }
 
-/// So many restrictions ahead of the train.
+/// Restrictions ahead of the train, this many.
 fn ahead(rt: &impl Abort, alloc: Global, track: &Track, count: u32) -> Limits {
     let slow = limit(track, 20_000, 21_000, Dirs::Up).expect(rt, "a good restriction");
     let mut limits = Limits::new(alloc);

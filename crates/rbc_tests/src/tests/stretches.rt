@@ -10,8 +10,8 @@ use std::process::Abort;
 use std::sync::Wait;
 use std::thread::Threads;
 
-/// How many trains are enrolled: as many as there can be. The lists of trains that this writes have some 4,000,000 items,
-/// and the log of one stretch is full at 1,600,000.
+/// How many trains are enrolled: as many as there can be. The lists of trains that this writes have some 4,000,000
+/// items, and the log of one stretch is full at 1,600,000.
 const TRAINS: u32 = 2_000;
 
 /// A batch that enrols trains 1 to `count`.
@@ -23,7 +23,7 @@ fn enrolments<R: Abort + AllocGlobal>(rt: &R, count: u32) -> String {
     batch
 }
 
-/// Adds a line to a batch: a train faces up, so many units of 10 cm, at most 32,766, beyond balise group 5. It is the
+/// Adds a line to a batch: a train faces up, this many units of 10 cm, at most 32,766, beyond balise group 5. It is the
 /// report of train 7 in the batches by hand, with another engine number and distance.
 fn add_report(rt: &impl Abort, batch: &mut String, engine: u32, distance: u32) {
     let engine = engine.saturating_mul(4);
@@ -42,7 +42,7 @@ fn add_ack(rt: &impl Abort, batch: &mut String, engine: u32, stamp: u32) {
     writeln!(batch, "recv 9203800000FA0{engine:06X}{stamp:09X}").expect(rt, "memory");
 }
 
-/// Runs a batch on a new desk by so many workers on a book, and returns its text, and the counts of the run.
+/// Runs a batch on a new desk by this many workers on a book, and returns its text, and the counts of the run.
 fn run_by<R>(rt: &R, track: &Track, batch: &str, workers: u8) -> (Vec<u8>, Stats)
 where
     R: Abort + AllocGlobal + Threads + Wait + Sync,
@@ -80,7 +80,7 @@ where
     wanted
 }
 
-/// Asserts that an output text contains a line, given with the line feeds before and behind it.
+/// Asserts that an output text contains a line, given with the line feeds before and after it.
 fn assert_line(rt: &impl Abort, text: &[u8], line: &str) {
     let text = str::from_utf8(text).expect(rt, "ASCII");
     assert!(rt; text.contains(line), "{line}");
@@ -96,7 +96,8 @@ fn goes_on_where_a_log_is_full(rt: HostRuntime) {
     assert_line(&rt, &text, "\n2001 ok 2000\n");
 }
 
-/// How many trains are enrolled in a batch whose commands are computed at their commit, since they concern more than 64.
+/// How many trains are enrolled in a batch whose commands are computed at their commit, since they concern more than
+/// 64.
 const CROWD: u32 = 80;
 
 /// Adds a report of each train: train 1 is `distance` beyond balise group 5, and each one 200 further than the one
@@ -136,8 +137,8 @@ fn commands_among_messages_of_a_crowd(rt: HostRuntime) {
     assert_line(&rt, &text, "\n241 ok 40\n");
 }
 
-/// Adds messages of four trains: each reports in turn, five times, 500 further each time, and then acknowledges its first
-/// message.
+/// Adds messages of four trains: each reports in turn, five times, 500 further each time, and then acknowledges its
+/// first message.
 fn add_burst(rt: &impl Abort, batch: &mut String, first: u32, distance: u32) {
     let behind = first.saturating_add(4);
     for step in 0..5u32 {
@@ -164,7 +165,7 @@ fn bursts<R: Abort + AllocGlobal>(rt: &R) -> String {
     batch
 }
 
-// R-INPUT-11. Where many inputs are left, one worker takes so many at once that several of these are of one train. It
+// R-INPUT-11. If many inputs are left, one worker takes so many at once that several of them are from one train. It
 // sees what its own earlier attempts write, before they are deposited.
 #[test]
 fn sees_its_own_attempts(rt: HostRuntime) {

@@ -8,8 +8,8 @@ use std::process::Abort;
 use std::sync::Wait;
 use std::thread::Threads;
 
-/// Trains 7 and 39 report twice on end, and, behind an input that is no message and changes nothing, three times. Their
-/// output is by another program of the same rules.
+/// Trains 7 and 39 report twice in a row and, after an input that is not a message and changes nothing, three times.
+/// The expected output was made by another program that follows the same rules.
 const APART: Worked = Worked {
     batch: "enrol 7 2000
 enrol 39 2000
@@ -39,8 +39,8 @@ stop 1 0:100000-110000
 ",
 };
 
-/// Runs a batch by two workers at a pace, and asserts its output, and that no input was computed twice. Returns how many
-/// windows there were, and how many messages were shared in them: all that they had.
+/// Runs a batch by two workers at a pace, and asserts its output, and that no input was computed twice. Returns how
+/// many windows there were, and how many messages were shared in them: all that they had.
 fn run_at<R>(rt: &R, worked: Worked, pace: Pace) -> (u32, u32)
 where
     R: Abort + AllocGlobal + Threads + Wait + Sync,
@@ -51,7 +51,7 @@ where
     (windows.count, windows.shared)
 }
 
-// R-INPUT-11. The messages on end are two, and then three. The train of the other batch holds 15 identifiers.
+// R-INPUT-11. There are two consecutive messages, and then three. The train of the other batch holds 15 identifiers.
 #[test]
 fn windows_as_the_pace_says(rt: HostRuntime) {
     let rows = [
