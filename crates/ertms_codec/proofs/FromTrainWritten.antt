@@ -1,12 +1,12 @@
 -- Lemmas on messages from a train that were written.
-use Rattle.std.proofs.Common.{◌≡◌, ℕ, ◌+◌, ◌-◌, ◌*◌, ◌<◌, ◌∙◌, List, [], ◌++◌, length, take, replicate, refl, sym, ap, subst, arith, append_assoc}
+use Rattle.std.proofs.Common.{◌≡◌, ℕ, ◌+◌, ◌-◌, ◌*◌, ◌<◌, ◌∙◌, List, [], ◌++◌, length, take, replicate, refl, sym, ap, arith, append_assoc}
 use Rattle.std.proofs.lemmas.List.{length-replicate, append-nil}
 use Rattle.std.proofs.lemmas.List.Concat.{flat_map-append}
 use Rattle.ertms_bits.specs.Bits.{bits_of_bytes, bytes_for}
 use Rattle.ertms_codec.specs.declared.from_train.Position.{Position}
 use Rattle.ertms_codec.specs.declared.from_train.FromTrain.{FromTrain}
 use Rattle.ertms_codec.specs.declared.from_train.FromTrain.TheVariants.{Report, Ack, StopAck}
-use Rattle.ertms_codec.specs.Layout.{Field, width_of, bits_of_fields, HoldValues}
+use Rattle.ertms_codec.specs.Layout.{width_of, bits_of_fields, HoldValues}
 use Rattle.ertms_codec.specs.FromTrain.{Spells, Fits, StandsWithPackets, StandsBehind, fields_of, fields_of_position}
 use Rattle.ertms_codec.specs.FromTrainWritten.{standing, IsInRange, size_of_position, behind_of, fields_of_message, length_of_message}
 use Rattle.ertms_codec.specs.Written.{Writes}

@@ -1,22 +1,27 @@
 -- Words that lead from one part of the grammar of texts to another.
-use Rattle.std.proofs.Common.{◌≡◌, ◌≤◌, ◌<◌, ◌^◌, ℕ, ◌+◌, List, [], ◌∷◌, ◌++◌, length, Bool, Option, Some, None, IsTrue, inl, inr, sym, refl, arith, ap, subst, ◌∙◌}
+use Rattle.std.proofs.Common.{◌≡◌, ◌≤◌, ℕ, zero, suc, ℤ, w16, FitsSigned, ◌+◌, List, [], ◌∷◌, ◌++◌, length, Bool, true, false, Option, Some, None, IsTrue, inl, inr, sym, refl, arith, ap, subst}
 use Rattle.std.specs.Prelude.{codes}
-use Rattle.std.specs.Fmt.{decimal, digits}
+use Rattle.std.specs.Fmt.{decimal, signed_decimal, digits}
 use Rattle.std.proofs.lemmas.List.{append-nil}
 use Rattle.std.proofs.lemmas.Bool.Decides.{nat_tests}
 use Rattle.std.proofs.lemmas.Fmt.{decimal_digit}
 use Rattle.ertms_codec.specs.declared.name.Name.{Name}
 use Rattle.ertms_codec.specs.declared.name.Name.TheVariants as name
-use Rattle.ertms_codec.specs.declared.wrong_word.Expected.{Expected}
 use Rattle.ertms_codec.specs.declared.wrong_word.Expected.TheVariants as a
 use Rattle.ertms_codec.specs.declared.wrong_word.WrongWord.{WrongWord}
+use Rattle.std.specs.List.{flat_map, AllByRecursion as All}
+use Rattle.ertms_codec.specs.declared.to_train.Head.{Head}
+use Rattle.ertms_codec.specs.declared.packets.Part.{Part}
+use Rattle.ertms_codec.specs.declared.packets.Part.TheVariants.{Restrict, Lift}
+use Rattle.ertms_codec.specs.PacketsToTrain.{PacketFits, IdFits}
 use Rattle.ertms_codec.specs.declared.from_train.Position.{Position}
 use Rattle.ertms_codec.specs.declared.from_train.FromTrain.{FromTrain}
 use Rattle.ertms_codec.specs.declared.from_train.FromTrain.TheVariants.{Report, Ack, StopAck}
 use Rattle.ertms_codec.specs.Names.{name_text}
+use Rattle.ertms_codec.specs.Texts.{flag_text, is_number_to_train}
 use Rattle.ertms_codec.specs.FromTrainWritten.{IsInRange, PositionIsInRange, IsNumberOfGroup}
-use Rattle.ertms_codec.specs.Grammar.{Grammar, Ends, Word, Stops, FirstWrong, Fills, Allows, wrong_at, one, named, train_then, position_then, previous_then, place_then, behind_from_train, is_number_from_train, from_train}
-use Rattle.ertms_codec.specs.Words.{Unread, Passes, train_words, position_words, place_words, previous_words, packet_word, kind_from_train, words_from_train}
+use Rattle.ertms_codec.specs.Grammar.{Grammar, Ends, Word, Stops, FirstWrong, Fills, Allows, one, named, train_then, position_then, previous_then, place_then, behind_from_train, is_number_from_train, from_train, packet_then, packets_behind, first_packets, head_then}
+use Rattle.ertms_codec.specs.Words.{Unread, Passes, part_number, part_words, packet_words, head_words, train_words, position_words, place_words, previous_words, packet_word, kind_from_train, words_from_train}
 
 -- words fill what a grammar wants, and lead to another
 abbrev pub Leads : Grammar → List (List ℕ) → Grammar → Type 0
@@ -113,7 +118,46 @@ message_leads (StopAck stamp engine id answer position) next range =
     (refl, ((id, range.2, refl), (refl, ((answer, range.3, refl), refl))))
     (position_leads position next range.4))
 
+pub past_part : (number : ℕ) (next : List ℕ → Grammar) {before after : Unread} (wrong : WrongWord) → Allows a.Packet number × Passes (decimal number ∷ []) before after → FirstWrong after.next (next (decimal number)) after.words wrong → FirstWrong before.next (one a.Packet next) before.words wrong
+past_part number next wrong (allowed, passes) first =
+    past (decimal number ∷ []) (one a.Packet next) (next (decimal number)) wrong ((number, allowed, refl), refl) passes first
+
+-- a flag, and D_REF
+pub past_flag : (name : Name) (flag : Bool) (next : Grammar) {before after : Unread} (wrong : WrongWord) → Passes (name_text name ∷ flag_text flag ∷ []) before after → FirstWrong after.next next after.words wrong → FirstWrong before.next (named name 1 next) before.words wrong
+past_flag name true next wrong passes first =
+    past (name_text name ∷ decimal 1 ∷ []) (named name 1 next) next wrong (refl, ((1, omega arith, refl), refl)) passes first
+past_flag name false next wrong passes first =
+    past (name_text name ∷ decimal 0 ∷ []) (named name 1 next) next wrong (refl, ((0, omega arith, refl), refl)) passes first
+
+pub past_reference : (number : ℤ) (next : List ℕ → Grammar) {before after : Unread} (wrong : WrongWord) → FitsSigned w16 number → Passes (name_text name.Ref ∷ signed_decimal number ∷ []) before after → FirstWrong after.next (next (signed_decimal number)) after.words wrong → FirstWrong before.next (one (a.Name name.Ref) (λ _. one a.Reference next)) before.words wrong
+past_reference number next wrong fits passes first =
+    past (name_text name.Ref ∷ signed_decimal number ∷ []) (one (a.Name name.Ref) (λ _. one a.Reference next)) (next (signed_decimal number)) wrong (refl, ((number, fits, refl), refl)) passes first
+
 -- numbers as words
+pub word_15 : decimal 15 ≡ codes "15"
+unfolding digits
+word_15 = refl
+
+pub word_16 : decimal 16 ≡ codes "16"
+unfolding digits
+word_16 = refl
+
+pub word_18 : decimal 18 ≡ codes "18"
+unfolding digits
+word_18 = refl
+
+pub word_24 : decimal 24 ≡ codes "24"
+unfolding digits
+word_24 = refl
+
+pub word_65 : decimal 65 ≡ codes "65"
+unfolding digits
+word_65 = refl
+
+pub word_66 : decimal 66 ≡ codes "66"
+unfolding digits
+word_66 = refl
+
 pub word_0 : decimal 0 ≡ codes "0"
 word_0 = decimal_digit 0 (omega arith)
 
@@ -154,3 +198,50 @@ never_from_train m index wrong range first =
     let fills = kind_fills m in
     let leads : Leads from_train (kind_from_train m ∷ words_from_train m) Ends = (fills, message_leads m Ends range) in
     stops_later (kind_from_train m ∷ words_from_train m) [] index from_train Ends wrong leads (subst (λ words. Stops index from_train words wrong) (sym (append-nil (kind_from_train m ∷ words_from_train m))) first.is)
+
+-- a packet has one of two numbers
+pub packet_number : (number : ℕ) → Allows a.Packet number → (number ≡ 65 → ⊥) → number ≡ 66
+packet_number number is no_restriction = grind (arith, nat_tests)
+
+-- the words of a packet, behind its number
+part_leads : (part : Part) (next : Grammar) → PacketFits part → IdFits part → Leads (packet_then (part_number part) next) (part_words part) next
+part_leads (Restrict dir scale id start length true speed) next fits small =
+    (refl, ((dir, fits.0, refl), (refl, ((scale, fits.1, refl), (refl, ((id, small, refl), (refl, ((start, fits.2, refl), (refl, ((length, fits.3, refl), (refl, ((1, omega arith, refl), (refl, ((speed, fits.4, refl), refl))))))))))))))
+part_leads (Restrict dir scale id start length false speed) next fits small =
+    (refl, ((dir, fits.0, refl), (refl, ((scale, fits.1, refl), (refl, ((id, small, refl), (refl, ((start, fits.2, refl), (refl, ((length, fits.3, refl), (refl, ((0, omega arith, refl), (refl, ((speed, fits.4, refl), refl))))))))))))))
+part_leads (Lift dir id) next fits small = (refl, ((dir, fits, refl), (refl, ((id, small, refl), refl))))
+
+part_fills : (part : Part) → Fills a.Packet (part_number part)
+part_fills (Restrict dir scale id start length front speed) = (65, refl, sym word_65)
+part_fills (Lift dir id) = (66, refl, sym word_66)
+
+-- the words of packets, where so many are still possible
+pub parts_lead : (parts : List Part) (possible left : ℕ) → possible ≡ length parts + left → All PacketFits parts → All IdFits parts → Leads (packets_behind possible) (flat_map packet_words parts) (packets_behind left)
+parts_lead [] possible left counts fit small =
+    let same : possible ≡ left = omega arith in
+    ap packets_behind same
+parts_lead (part ∷ parts) zero left counts fit small = absurd (omega (arith, counts))
+parts_lead (part ∷ parts) (suc possible) left counts fit small =
+    (part_fills part, Leads-append (part_words part) (flat_map packet_words parts) (packet_then (part_number part) (packets_behind possible)) (packets_behind possible) (packets_behind left) (part_leads part (packets_behind possible) fit.0 small.0) (parts_lead parts possible left (omega (arith, counts)) fit.1 small.1))
+
+-- of 1 to 100 packets
+pub first_parts_lead : (parts : List Part) (left : ℕ) → 100 ≡ length parts + left → 1 ≤ length parts → All PacketFits parts → All IdFits parts → Leads first_packets (flat_map packet_words parts) (packets_behind left)
+first_parts_lead [] left counts some fit small = absurd (omega (arith, some))
+first_parts_lead (part ∷ parts) left counts some fit small = parts_lead (part ∷ parts) 100 left counts fit small
+
+-- a packet is wanted where words are left: then a text may not end there
+pub in_a_row : (left : ℕ) (index : ℕ) (words : List (List ℕ)) (wrong : WrongWord) → (words ≡ [] → ⊥) → FirstWrong index (one a.Packet (λ number. packet_then number (packets_behind left))) words wrong → FirstWrong index (packets_behind (suc left)) words wrong
+in_a_row left index [] wrong some first = absurd (some refl)
+in_a_row left index (word ∷ words) wrong some first = record { is = first.is }
+
+pub to_train_number : (number : ℕ) → IsTrue (is_number_to_train number) → (number ≡ 15 → ⊥) → (number ≡ 16 → ⊥) → (number ≡ 18 → ⊥) → number ≡ 24
+to_train_number number is first second third = grind (arith, nat_tests)
+
+-- what begins every message to a train
+pub head_leads : (stamp : ℕ) (ack : Bool) (lrbg : ℕ) (next : Grammar) → stamp ≤ 4294967295 → lrbg ≤ 16777215 → Leads (head_then next) (head_words (record { stamp = stamp; ack = ack; lrbg = lrbg })) next
+head_leads stamp true lrbg next early known = (refl, ((stamp, early, refl), (refl, ((1, omega arith, refl), (refl, ((lrbg, known, refl), refl))))))
+head_leads stamp false lrbg next early known = (refl, ((stamp, early, refl), (refl, ((0, omega arith, refl), (refl, ((lrbg, known, refl), refl))))))
+
+pub past_head : (head : Head) (next : Grammar) {before after : Unread} (wrong : WrongWord) → head.stamp ≤ 4294967295 → head.lrbg ≤ 16777215 → Passes (head_words head) before after → FirstWrong after.next next after.words wrong → FirstWrong before.next (head_then next) before.words wrong
+past_head head next wrong early known passes first =
+    past (head_words head) (head_then next) next wrong (head_leads head.stamp head.ack head.lrbg next early known) passes first

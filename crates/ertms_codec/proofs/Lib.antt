@@ -1,4 +1,5 @@
 pub mod Cuts
+pub mod Encoded
 pub mod Faults
 pub mod FieldLists
 pub mod Fields
@@ -14,6 +15,7 @@ pub mod Leads
 pub mod NumberWords
 pub mod PacketFields
 pub mod PacketLists
+pub mod PacketTexts
 pub mod Places
 pub mod PositionFields
 pub mod SameWords
@@ -21,5 +23,6 @@ pub mod TextWords
 pub mod ToTrainAgain
 pub mod ToTrainLaws
 pub mod ToTrainSteps
+pub mod ToTrainTexts
 pub mod WordsLeft
 pub mod Written

@@ -1,5 +1,5 @@
 -- Messages with the same words are the same.
-use Rattle.std.proofs.Common.{◌≡◌, ◌≤◌, ◌<◌, ◌^◌, ℕ, List, [], ◌∷◌, ◌++◌, get_or, drop, Option, Some, None, sym, refl, arith, ap, ◌∙◌, Result, Ok, Err}
+use Rattle.std.proofs.Common.{◌≡◌, ◌≤◌, ◌<◌, ◌^◌, ℕ, List, [], ◌∷◌, get_or, drop, Option, Some, None, sym, refl, arith, ap, ◌∙◌, Result, Ok, Err}
 use Rattle.std.specs.Prelude.{IfOk, IfErr}
 use Rattle.std.specs.Prelude.{codes}
 use Rattle.std.specs.Fmt.{decimal}
@@ -7,8 +7,8 @@ use Rattle.std.proofs.lemmas.Fmt.{decimal_injective}
 use Rattle.ertms_codec.specs.declared.from_train.Position.{Position}
 use Rattle.ertms_codec.specs.declared.from_train.FromTrain.{FromTrain}
 use Rattle.ertms_codec.specs.declared.from_train.FromTrain.TheVariants.{Report, Ack, StopAck}
-use Rattle.ertms_codec.specs.FromTrainWritten.{IsInRange, PositionIsInRange, IsNumberOfGroup}
-use Rattle.ertms_codec.specs.Words.{kind_from_train, words_from_train, position_words, place_words, previous_words, packet_word, train_words}
+use Rattle.ertms_codec.specs.FromTrainWritten.{IsInRange, PositionIsInRange}
+use Rattle.ertms_codec.specs.Words.{kind_from_train, words_from_train, position_words}
 
 -- the numbers at a place of the same words
 at : (words others : List (List ℕ)) (place m n most : ℕ) → words ≡ others → get_or words place [] ≡ decimal m → get_or others place [] ≡ decimal n → m ≤ most → n ≤ most → most < 2 ^ 64 → m ≡ n

@@ -1,5 +1,5 @@
 -- The text of a message as words with a space between them.
-use Rattle.std.proofs.Common.{◌≡◌, ◌≤◌, ◌<◌, ◌^◌, ◌+◌, ◌%◌, ℕ, List, [], ◌∷◌, ◌++◌, length, Bool, true, false, not, ◌==◌, ◌&&◌, Option, Some, None, sym, refl, arith, ap, ◌∙◌, append_assoc}
+use Rattle.std.proofs.Common.{◌≡◌, ◌≤◌, ◌<◌, ◌^◌, ◌+◌, ◌%◌, ℕ, List, [], ◌∷◌, ◌++◌, Bool, true, false, not, ◌==◌, Option, Some, None, sym, refl, arith, ap, ◌∙◌, append_assoc}
 use Rattle.std.specs.Prelude.{codes}
 use Rattle.std.specs.List.{slice_split, join_with_byte, list_all, All}
 use Rattle.std.specs.Fmt.{decimal}
@@ -12,7 +12,7 @@ use Rattle.ertms_codec.specs.declared.from_train.Position.{Position}
 use Rattle.ertms_codec.specs.declared.from_train.FromTrain.{FromTrain}
 use Rattle.ertms_codec.specs.declared.from_train.FromTrain.TheVariants.{Report, Ack, StopAck}
 use Rattle.ertms_codec.specs.FromTrainWritten.{IsInRange, PositionIsInRange, IsNumberOfGroup}
-use Rattle.ertms_codec.specs.Texts.{text_from_train, position_text, groups_text}
+use Rattle.ertms_codec.specs.Texts.{text_from_train, position_text}
 use Rattle.ertms_codec.specs.Words.{kind_from_train, words_from_train, position_words, place_words, previous_words, packet_word, train_words}
 
 -- no byte of a word is a space
@@ -51,7 +51,7 @@ one_more_digit n digits large is =
 pub decimal_is_word : (number : ℕ) → number < 2 ^ 64 → has_no_space (decimal number) ≡ true
 decimal_is_word = decimal_by_steps (λ n digits. has_no_space digits ≡ true) (λ n small. rw (digit_is_no_space n small) refl) one_more_digit
 
-AreWords-append : (xs ys : List (List ℕ)) → AreWords xs → AreWords ys → AreWords (xs ++ ys)
+pub AreWords-append : (xs ys : List (List ℕ)) → AreWords xs → AreWords ys → AreWords (xs ++ ys)
 AreWords-append [] ys first second = second
 AreWords-append (x ∷ xs) ys first second = (first.0, AreWords-append xs ys first.1 second)
 
@@ -90,9 +90,11 @@ from_train_are_words (Ack stamp engine acked) range =
     (refl, AreWords-append (train_words stamp engine) (codes "acked" ∷ decimal acked ∷ []) (train_are_words stamp engine range.0 range.1) (refl, (decimal_is_word acked (omega (arith, range.2)), tt)))
 from_train_are_words (StopAck stamp engine id answer position) range =
     let named : AreWords (codes "em" ∷ decimal id ∷ codes "answer" ∷ decimal answer ∷ []) =
-    (refl, (decimal_is_word id (omega (arith, range.2)), (refl, (decimal_is_word answer (omega (arith, range.3)), tt)))) in
-    (refl, AreWords-append (train_words stamp engine) ((codes "em" ∷ decimal id ∷ codes "answer" ∷ decimal answer ∷ []) ++ position_words position) (train_are_words stamp engine range.0 range.1)
-    (AreWords-append (codes "em" ∷ decimal id ∷ codes "answer" ∷ decimal answer ∷ []) (position_words position) named (position_are_words position range.4)))
+    (refl, (decimal_is_word id (omega (arith, range.2)), (refl, (decimal_is_word answer (omega (arith, range.3)), tt)))) in (
+      refl,
+      AreWords-append (train_words stamp engine) ((codes "em" ∷ decimal id ∷ codes "answer" ∷ decimal answer ∷ []) ++ position_words position) (train_are_words stamp engine range.0 range.1)
+          (AreWords-append (codes "em" ∷ decimal id ∷ codes "answer" ∷ decimal answer ∷ []) (position_words position) named (position_are_words position range.4)),
+    )
 
 -- the text of a position is its words, with a space between two of them
 position_of : Option ℕ → (scale lrbg distance dir side over under : ℕ) → Position

@@ -1,15 +1,16 @@
 -- Words that are left, and the first wrong one among them.
-use Rattle.std.proofs.Common.{◌≡◌, ◌≤◌, ◌<◌, ◌^◌, ℕ, ◌+◌, List, [], ◌∷◌, ◌++◌, length, Bool, true, false, Option, Some, None, is_some, inl, inr, sym, refl, arith, append_assoc, length-append, ◌==◌, ◌∙◌, Result, Ok, Err, subst}
+use Rattle.std.proofs.Common.{◌≡◌, ◌<◌, ◌^◌, ℕ, List, [], ◌∷◌, ◌++◌, true, Option, Some, None, is_some, inl, inr, sym, refl, arith, append_assoc, length-append, ◌==◌, ◌∙◌, Result, Ok, Err, subst}
 use Rattle.std.specs.Prelude.{IfErr, IsErrAnd}
 use denote.Ref.{Bor}
 use Rattle.std.specs.Fmt.{decimal}
 use Rattle.std.proofs.lemmas.Fmt.{decimal_injective}
-use Rattle.ertms_codec.specs.declared.name.Name.{Name}
 use Rattle.ertms_codec.specs.declared.wrong_word.Expected.{Expected}
 use Rattle.ertms_codec.specs.declared.wrong_word.Expected.TheVariants as a
 use Rattle.ertms_codec.specs.declared.wrong_word.WrongWord.{WrongWord}
-use Rattle.ertms_codec.specs.Names.{name_text}
-use Rattle.ertms_codec.specs.Grammar.{Grammar, FirstWrong, Fills, Allows, IsAllowedNumber, IsNumber, wrong_at, one, named}
+use Rattle.ertms_codec.specs.declared.wrong_word.EncodeError.{EncodeError}
+use Rattle.ertms_codec.specs.declared.wrong_word.EncodeError.TheVariants as fault
+use Rattle.ertms_codec.specs.Encoding.{IsEncodeFault}
+use Rattle.ertms_codec.specs.Grammar.{Grammar, FirstWrong, Fills, Allows, IsNumber, wrong_at, one}
 use Rattle.ertms_codec.specs.Words.{Unread, Passes, words_left}
 use Rattle.ertms_codec.proofs.Cuts.{split_is_cons}
 
@@ -43,6 +44,10 @@ handed_on (Err x) e P is holds = subst P (sym is) holds
 pub about_err : {A E : Type 0} {P Q : E → Type 0} (result : Result A E) → ((e : E) → P e → Q e) → IfErr result P → IfErr result Q
 about_err (Ok value) then holds = tt
 about_err (Err e) then holds = then e holds
+
+pub about_fault : {P Q : WrongWord → Type 0} (fault : EncodeError) → ((wrong : WrongWord) → P wrong → Q wrong) → IsEncodeFault P fault → IsEncodeFault Q fault
+about_fault (fault.Word wrong) then holds = then wrong holds
+about_fault fault.OutOfMemory then holds = tt
 
 -- words were read, and then others
 pub Passes-append : {xs ys : List (List ℕ)} {before between after : Unread} → Passes xs before between → Passes ys between after → Passes (xs ++ ys) before after

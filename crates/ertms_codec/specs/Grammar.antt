@@ -1,5 +1,5 @@
 -- The texts of messages as a grammar, and the first word of a text that is wrong (own rule). A text is cut into words at single spaces.
-use Rattle.std.specs.Prelude.{◌≡◌, ◌⊎◌, ℕ, zero, suc, ◌+◌, ◌≤◌, ℤ, List, [], ◌∷◌, ◌++◌, Bool, true, false, FitsSigned, IsTrue, ◌==◌, ◌||◌, if◌then◌else◌, codes}
+use Rattle.std.specs.Prelude.{◌≡◌, ◌⊎◌, ℕ, zero, suc, ◌+◌, ◌≤◌, ℤ, List, [], ◌∷◌, Bool, true, false, FitsSigned, IsTrue, ◌==◌, ◌||◌, if◌then◌else◌, codes}
 use Rattle.std.specs.Fmt.{decimal, signed_decimal}
 use Rattle.std.specs.Int.{w16}
 use Rattle.std.specs.Str.{bytes_eq}
@@ -90,10 +90,11 @@ named name most next = one (a.Name name) (λ _. one (a.Number most) (λ _. next)
 abbrev pub head_then : Grammar → Grammar
 head_then next = named name.Stamp 4294967295 (named name.Ack 1 (named name.Lrbg 16777215 next))
 
-abbrev pub stop_at_then : Grammar → Grammar
-stop_at_then next =
+-- the body of an emergency stop at a place
+abbrev pub stop_at : Grammar
+stop_at =
     named name.Em 15 (named name.Scale 2
-    (one (a.Name name.Ref) (λ _. one a.Reference (λ _. named name.Dir 2 (named name.Stop 32767 next)))))
+    (one (a.Name name.Ref) (λ _. one a.Reference (λ _. named name.Dir 2 (named name.Stop 32767 Ends)))))
 
 -- packet 65, and packet 66, behind its number
 abbrev pub restrict_then : Grammar → Grammar
@@ -113,8 +114,8 @@ packets_behind zero = Ends
 packets_behind (suc more) = Word true a.Packet (λ number. packet_then number (packets_behind more))
 
 -- 1 to 100 packets
-abbrev pub packets : Grammar
-packets = one a.Packet (λ number. packet_then number (packets_behind 99))
+abbrev pub first_packets : Grammar
+first_packets = one a.Packet (λ number. packet_then number (packets_behind 99))
 
 -- packet 1 names the balise group before the last relevant one
 abbrev pub previous_then : List ℕ → Grammar → Grammar
@@ -149,11 +150,14 @@ behind_from_train next number =
     else stop_ack_then next
 
 -- what stands behind the number of a message to a train
-abbrev pub behind_to_train : Grammar → List ℕ → Grammar
-behind_to_train next number =
-    if bytes_eq number (codes "15") then head_then (stop_at_then next)
-    else if bytes_eq number (codes "24") then head_then packets
-    else head_then (named name.Em 15 next)
+abbrev pub body_to_train : List ℕ → Grammar
+body_to_train number =
+    if bytes_eq number (codes "15") then stop_at
+    else if bytes_eq number (codes "24") then first_packets
+    else named name.Em 15 Ends
+
+abbrev pub behind_to_train : List ℕ → Grammar
+behind_to_train number = head_then (body_to_train number)
 
 abbrev pub is_to_train_word : List ℕ → Bool
 is_to_train_word number = bytes_eq number (codes "15") || bytes_eq number (codes "16") || bytes_eq number (codes "18") || bytes_eq number (codes "24")
@@ -163,4 +167,4 @@ abbrev pub from_train : Grammar
 from_train = one a.FromTrain (behind_from_train Ends)
 
 abbrev pub message : Grammar
-message = one a.Message (λ number. if is_to_train_word number then behind_to_train Ends number else behind_from_train Ends number)
+message = one a.Message (λ number. if is_to_train_word number then behind_to_train number else behind_from_train Ends number)

@@ -1,3 +1,4 @@
+pub mod Encoding
 pub mod FromTrain
 pub mod FromTrainAtPlaces
 pub mod FromTrainWritten

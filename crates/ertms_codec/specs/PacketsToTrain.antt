@@ -26,3 +26,8 @@ pub record ArePacketsThatFit (packets : List Part) : Type 0 where
   pub some : 1 ≤ length packets
   pub most : length packets ≤ most_packets
   pub each : AllByRecursion PacketFits packets
+
+-- the identifier of a restriction has 8 bits
+abbrev pub IdFits : Part → Type 0
+IdFits (Restrict dir scale id start length front speed) = id ≤ 255
+IdFits (Lift dir id) = id ≤ 255

@@ -1,5 +1,5 @@
 -- The words of a text that are read one after the other, and the words of messages (own rule).
-use Rattle.std.specs.Prelude.{◌≡◌, ℕ, ℤ, ◌+◌, List, [], ◌∷◌, ◌++◌, length, ◌==◌, Bool, Option, Some, None, codes}
+use Rattle.std.specs.Prelude.{◌≡◌, ℕ, ◌+◌, List, [], ◌∷◌, ◌++◌, length, Option, Some, None, codes}
 use Rattle.std.specs.Fmt.{decimal, signed_decimal}
 use Rattle.std.specs.List.{flat_map}
 use denote.Ref.{Bor}
@@ -13,6 +13,7 @@ use Rattle.ertms_codec.specs.declared.from_train.FromTrain.{FromTrain}
 use Rattle.ertms_codec.specs.declared.from_train.FromTrain.TheVariants.{Report, Ack, StopAck}
 use Rattle.ertms_codec.specs.Pieces.{pieces_behind}
 use Rattle.ertms_codec.specs.Texts.{flag_text}
+use Rattle.ertms_codec.specs.ToTrain.{head_of}
 
 -- words that are not read yet, and the number of the next one
 pub record Unread : Type 0 where
@@ -31,16 +32,19 @@ pub record Passes (words : List (List ℕ)) (before after : Unread) : Type 0 whe
 abbrev pub head_words : Head → List (List ℕ)
 head_words head = codes "stamp" ∷ decimal head.stamp ∷ codes "ack" ∷ flag_text head.ack ∷ codes "lrbg" ∷ decimal head.lrbg ∷ []
 
-abbrev pub packet_words : Part → List (List ℕ)
-packet_words (Restrict dir scale id start length front speed) =
-    codes "65" ∷ codes "dir" ∷ decimal dir ∷ codes "scale" ∷ decimal scale ∷ codes "tsr" ∷ decimal id ∷ codes "start" ∷ decimal start
-    ∷ codes "length" ∷ decimal length ∷ codes "front" ∷ flag_text front ∷ codes "speed" ∷ decimal speed ∷ []
-packet_words (Lift dir id) = codes "66" ∷ codes "dir" ∷ decimal dir ∷ codes "tsr" ∷ decimal id ∷ []
+-- the word that says which packet it is, and the words behind it
+abbrev pub part_number : Part → List ℕ
+part_number (Restrict dir scale id start length front speed) = codes "65"
+part_number (Lift dir id) = codes "66"
 
--- an emergency stop at a place, behind the head
-abbrev pub stop_at_words : ℕ → ℕ → ℤ → ℕ → ℕ → List (List ℕ)
-stop_at_words id scale reference dir distance =
-    codes "em" ∷ decimal id ∷ codes "scale" ∷ decimal scale ∷ codes "ref" ∷ signed_decimal reference ∷ codes "dir" ∷ decimal dir ∷ codes "stop" ∷ decimal distance ∷ []
+abbrev pub part_words : Part → List (List ℕ)
+part_words (Restrict dir scale id start length front speed) =
+    codes "dir" ∷ decimal dir ∷ codes "scale" ∷ decimal scale ∷ codes "tsr" ∷ decimal id ∷ codes "start" ∷ decimal start
+    ∷ codes "length" ∷ decimal length ∷ codes "front" ∷ flag_text front ∷ codes "speed" ∷ decimal speed ∷ []
+part_words (Lift dir id) = codes "dir" ∷ decimal dir ∷ codes "tsr" ∷ decimal id ∷ []
+
+abbrev pub packet_words : Part → List (List ℕ)
+packet_words part = part_number part ∷ part_words part
 
 -- the word of a message to a train that says which it is, and the words behind it
 abbrev pub kind_to_train : ToTrain → List ℕ
@@ -49,11 +53,15 @@ kind_to_train (Stop head id) = codes "16"
 kind_to_train (Revoke head id) = codes "18"
 kind_to_train (General head packets) = codes "24"
 
+abbrev pub body_words : ToTrain → List (List ℕ)
+body_words (StopAt head id scale reference dir distance) =
+    codes "em" ∷ decimal id ∷ codes "scale" ∷ decimal scale ∷ codes "ref" ∷ signed_decimal reference ∷ codes "dir" ∷ decimal dir ∷ codes "stop" ∷ decimal distance ∷ []
+body_words (Stop head id) = codes "em" ∷ decimal id ∷ []
+body_words (Revoke head id) = codes "em" ∷ decimal id ∷ []
+body_words (General head packets) = flat_map packet_words packets
+
 abbrev pub words_to_train : ToTrain → List (List ℕ)
-words_to_train (StopAt head id scale reference dir distance) = head_words head ++ stop_at_words id scale reference dir distance
-words_to_train (Stop head id) = head_words head ++ (codes "em" ∷ decimal id ∷ [])
-words_to_train (Revoke head id) = head_words head ++ (codes "em" ∷ decimal id ∷ [])
-words_to_train (General head packets) = head_words head ++ flat_map packet_words packets
+words_to_train m = head_words (head_of m) ++ body_words m
 
 -- the word of the packet of a position, and the words for its balise group before the last one
 abbrev pub packet_word : Option ℕ → List ℕ

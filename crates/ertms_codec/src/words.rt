@@ -7,6 +7,7 @@ ghost use Rattle.std.specs.Fmt.{decimal, signed_decimal};
 ghost use Rattle.std.specs.List.{slice_split};
 ghost use Rattle.ertms_codec.specs.Grammar.{Grammar, Ends, FirstWrong, Allows, IsNumber, wrong_at, one, named};
 ghost use Rattle.ertms_codec.specs.Names.{name_text};
+ghost use Rattle.ertms_codec.specs.Texts.{flag_text};
 ghost use Rattle.ertms_codec.specs.Words.{Passes};
 
 use crate::cutting::cut;
@@ -146,6 +147,20 @@ impl<'a> Words<'a> {
     {
         self.name(name)?;
         self.number(Expected::Number(most))
+    }
+
+    /// Reads the name of a variable and its value, 0 or 1.
+    ///
+    /// # Errors
+    ///
+    /// The first of these words that is wrong.
+    pub fn flag(&mut self, name: Name) -> Result<bool, WrongWord>
+        ensures ok { IfOk result (λ flag. Passes (name_text name ∷ flag_text flag ∷ []) self.old self.new) }
+        ensures err { IfErr result (λ wrong. (next : Grammar)
+            → FirstWrong self.old.next (named name 1 next) self.old.words wrong) }
+    {
+        let value = self.named(name, 1)?;
+        Ok(value == 1)
     }
 
     /// Reads D_REF and its value.

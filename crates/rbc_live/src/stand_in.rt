@@ -7,9 +7,9 @@ ghost use Rattle.hex.specs.Hex.{is_hex_digit};
 ghost use Rattle.rbc_text.specs.BatchText.{words_of};
 ghost use Rattle.rbc_live.specs.GoingOn.{GoesOnAs, is_stop, max_kept};
 
+use ertms_codec::cut;
 use memchr::{memchr, memrchr};
 use rbc_rule::Input;
-use ertms_codec::cut;
 use rbc_text::parse_line;
 use std::alloc::{AllocError, Global};
 

@@ -109,7 +109,7 @@ impl Place {
 
 /// Where a train may stand according to its position report (own rule). The length of the train is in units of 10 cm.
 /// None if the report is packet 1, its balise group is not on the track, a distance or direction in it is unknown or
-/// spare, or the estimated front of the train is not on the line. Takes no memory.
+/// spare, or the estimated front of the train is not on the line.
 pub fn place_of(track: &Track, position: &Position, length: u32) -> Option<Place>
     ensures place { result ≡ place_of_report track.now position.now length }
     ensures on_line { IfSome result (LiesOnLine track.now) }

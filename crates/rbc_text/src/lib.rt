@@ -24,5 +24,5 @@ pub use output::{
     push_decimal, push_result, render, render_answer, render_outboxes, render_results,
 };
 pub use rbc_desk::{decide, step_law};
-pub use words::first_line;
+pub use words::{decimal, first_line};
 pub use writing::{write_on, write_text};

@@ -89,7 +89,7 @@ impl Track {
         })
     }
 
-    /// The balise group with a number, if the track has one. Takes no memory.
+    /// The balise group with a number, if the track has one.
     pub fn group(&self, nid: u32) -> Option<Group>
         ensures value { result ≡ group_of self.now nid }
         ensures placed { IfSome result (IsPlaced self.now nid) }
@@ -99,7 +99,7 @@ impl Track {
 
     /// The balise group that a train at a place of a line has passed last, with its number: the nearest one at the
     /// place or behind it, as the train faces. Of those at one place it is the one with the least number. None if
-    /// there is none; the line need not exist. Takes no memory.
+    /// there is none; the line need not exist.
     pub fn group_behind(&self, line: u32, place: u32, facing: Way) -> Option<(u32, Group)>
         ensures { MatchOption result (NoneBehind self.now line place facing)
             (IsNearestBehind self.now line place facing) }
@@ -107,8 +107,7 @@ impl Track {
         nearest_of(&self.groups, line, place, facing)
     }
 
-    /// The length of a line, in units of 10 cm, if the track has the line. Lines are numbered from 0. Takes no
-    /// memory.
+    /// The length of a line, in units of 10 cm, if the track has the line. Lines are numbered from 0.
     pub fn line_len(&self, line: u32) -> Option<u32>
         ensures value { result ≡ slice_get self.now.lines line }
         ensures in_range { IfSome result IsLength }

@@ -1,4 +1,4 @@
-use Rattle.std.proofs.Common.{◌≡◌, ◌∙◌, ap, sym, ◌==◌, ◌∷◌}
+use Rattle.std.proofs.Common.{◌≡◌, ◌∙◌, ap, ◌==◌, ◌∷◌}
 use Rattle.std.specs.List.{slice_split}
 use Rattle.ertms_codec.specs.Words.{kind_from_train, words_from_train}
 use Rattle.ertms_codec.proofs.TextWords.{from_train_split, from_train_joined}

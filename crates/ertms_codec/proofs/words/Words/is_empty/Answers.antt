@@ -1,4 +1,4 @@
-use Rattle.std.proofs.Common.{◌∙◌, not, ap, sym}
+use Rattle.std.proofs.Common.{◌∙◌, not, ap}
 use Rattle.ertms_codec.proofs.WordsLeft.{has_words}
 use Rattle.ertms_codec.proofs.words.Words.is_empty.Goals as goal
 

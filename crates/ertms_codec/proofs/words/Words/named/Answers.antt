@@ -1,4 +1,4 @@
-use Rattle.std.proofs.Common.{List, ℕ, refl}
+use Rattle.std.proofs.Common.{refl}
 use Rattle.ertms_codec.specs.declared.wrong_word.Expected.TheVariants as a
 use Rattle.ertms_codec.specs.Names.{name_text}
 use Rattle.ertms_codec.specs.Grammar.{one}

@@ -1,7 +1,6 @@
-use Rattle.std.proofs.Common.{List, ℕ, refl}
 use Rattle.ertms_codec.specs.declared.wrong_word.Expected.TheVariants as a
 use Rattle.ertms_codec.specs.Grammar.{one}
-use Rattle.ertms_codec.proofs.WordsLeft.{behind_word, handed_on}
+use Rattle.ertms_codec.proofs.WordsLeft.{handed_on}
 use Rattle.ertms_codec.proofs.words.Words.reference.Goals as goal
 
 pub returns-in_err-name-clause-err : goal.returns-in_err-name-clause-err
