@@ -2,7 +2,7 @@
 
 ghost use Rattle.std.specs.Prelude.{◌≡◌, ◌≤◌, ◌∷◌, [], IfOk, IfErr, IsTrue, ℕ, List};
 ghost use Rattle.std.specs.Fmt.{decimal};
-ghost use Rattle.std.specs.List.{flat_map, AllByRecursion as All};
+ghost use Rattle.std.specs.List.{flat_map, AllByRecursion};
 ghost use Rattle.ertms_codec.specs.Encoding.{IsEncodeFault};
 ghost use Rattle.ertms_codec.specs.Grammar.{Grammar, Ends, FirstWrong, behind_to_train, head_then, named, packet_then};
 ghost use Rattle.ertms_codec.specs.Grammar.{restrict_then, lift_then, one, first_packets};
@@ -121,7 +121,7 @@ fn last_id(words: &mut Words<'_>) -> Result<u8, WrongWord>
 /// The first wrong word, or `OutOfMemory`.
 fn packets(alloc: Global, words: &mut Words<'_>) -> Result<Packets, EncodeError>
     ensures fit { IfOk result ArePacketsThatFit }
-    ensures ids { IfOk result (All IdFits) }
+    ensures ids { IfOk result (AllByRecursion IdFits) }
     ensures ok { IfOk result (λ packets. words.old.words ≡ flat_map packet_words packets) }
     ensures err { IfErr result (IsEncodeFault (FirstWrong words.old.next first_packets words.old.words)) }
 {
