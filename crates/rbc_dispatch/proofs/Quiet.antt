@@ -5,7 +5,7 @@ use Rattle.rbc_dispatch.specs.Pages.{topic_in}
 use Rattle.rbc_dispatch.specs.Words.{AsksForNoBatch, AsksForNoFigures, IsFlag, IsFound, IsTaskBy, IsTaskOf, finding_in, flag_after}
 use Rattle.rbc_dispatch.specs.declared.pages.Topic.{Topic}
 use Rattle.rbc_dispatch.specs.declared.words.Task.{Task}
-use Rattle.rbc_dispatch.specs.declared.words.Task.TheVariants.{Run, Live, Explain, Picture, Check, Decode, Codes, Page}
+use Rattle.rbc_dispatch.specs.declared.words.Task.TheVariants.{Run, Live, Explain, Picture, Check, Encode, Decode, Codes, Page}
 use Rattle.rbc_dispatch.specs.Figures.{IsQuiet}
 use Rattle.rbc_dispatch.specs.Terminal.{IsSilent}
 
@@ -24,6 +24,7 @@ quiet_found words (Live track from alarms) is asked = tt
 quiet_found words (Explain track from) is asked = tt
 quiet_found words (Picture track after) is asked = tt
 quiet_found words (Check track other) is asked = tt
+quiet_found words (Encode track texts) is asked = tt
 quiet_found words (Decode hex long) is asked = tt
 quiet_found words (Codes code) is asked = tt
 quiet_found words (Page topic) is asked = tt
@@ -41,6 +42,7 @@ silent_found words (Live track from alarms) is asked = absurd (no_word _ track.n
 silent_found words (Explain track from) is asked = absurd (no_word _ track.now asked.2 is.0)
 silent_found words (Picture track after) is asked = tt
 silent_found words (Check track other) is asked = tt
+silent_found words (Encode track texts) is asked = tt
 silent_found words (Decode hex long) is asked = tt
 silent_found words (Codes code) is asked = tt
 silent_found words (Page topic) is asked = tt

@@ -4,7 +4,7 @@ use Rattle.rbc_track.specs.Plan.{Plan}
 use Rattle.rbc_track.specs.Reading.{IsTrackOf, RefusesTrack}
 use Rattle.rbc_dispatch.specs.Running.{IsErrUnread}
 use Rattle.rbc_dispatch.specs.declared.fault.Fault.{Fault}
-use Rattle.rbc_dispatch.specs.declared.fault.Fault.TheVariants.{Batch, OnlyInputs, Live, BadHex, Decode, Write, ReaderGone, OutOfMemory, Track, TrackUnreadable, TrackWarnings}
+use Rattle.rbc_dispatch.specs.declared.fault.Fault.TheVariants.{Write, OutOfMemory, Track, TrackUnreadable, TrackWarnings}
 
 -- the text is some track
 abbrev pub IsSomeTrack : List ℕ → Type 0
@@ -17,13 +17,7 @@ ChecksText text (Err (TrackWarnings count)) = IsSomeTrack text
 ChecksText text (Err (Track error)) = RefusesTrack text error
 ChecksText text (Err (Write sent)) = ⊤
 ChecksText text (Err OutOfMemory) = ⊤
-ChecksText text (Err (ReaderGone sent)) = ⊥
-ChecksText text (Err TrackUnreadable) = ⊥
-ChecksText text (Err (Batch error)) = ⊥
-ChecksText text (Err (OnlyInputs count)) = ⊥
-ChecksText text (Err (Live error)) = ⊥
-ChecksText text (Err BadHex) = ⊥
-ChecksText text (Err (Decode error)) = ⊥
+ChecksText text (Err _) = ⊥
 
 -- what comes of the track in a file: the file holds some text, or it is not read
 abbrev pub Checks : {E : Type 0} → Result E Fault → Type 0

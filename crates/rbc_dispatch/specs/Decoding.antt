@@ -6,7 +6,7 @@ use Rattle.ertms_codec.specs.Texts.{HasText, IsRefused}
 use Rattle.ertms_codec.specs.declared.error.DecodeError.{DecodeError}
 use Rattle.rbc_dispatch.specs.Long.{long_text}
 use Rattle.rbc_dispatch.specs.declared.fault.Fault.{Fault}
-use Rattle.rbc_dispatch.specs.declared.fault.Fault.TheVariants.{Batch, OnlyInputs, Live, BadHex, Decode, Write, ReaderGone, OutOfMemory, Track, TrackUnreadable, TrackWarnings}
+use Rattle.rbc_dispatch.specs.declared.fault.Fault.TheVariants.{Lines, BadHex, Decode, Write, ReaderGone, OutOfMemory}
 
 -- the word stands for bytes with this text
 abbrev pub SpellsText : List ℕ → List ℕ → Type 0
@@ -21,12 +21,7 @@ Decodes word old new (Err (ReaderGone sent)) = (text : List ℕ) × SpellsText w
 Decodes word old new (Err BadHex) = IsErr (decode_of word)
 Decodes word old new (Err (Decode e)) = (bytes : List ℕ) × (decode_of word ≡ Ok bytes) × IsRefused bytes e
 Decodes word old new (Err OutOfMemory) = ⊤
-Decodes word old new (Err (Batch e)) = ⊥
-Decodes word old new (Err (OnlyInputs count)) = ⊥
-Decodes word old new (Err (Live e)) = ⊥
-Decodes word old new (Err (Track e)) = ⊥
-Decodes word old new (Err TrackUnreadable) = ⊥
-Decodes word old new (Err (TrackWarnings count)) = ⊥
+Decodes word old new (Err _) = ⊥
 
 -- the word stands for bytes that are a message, and this is that message in lines
 abbrev pub SpellsLongText : List ℕ → List ℕ → Type 0
@@ -48,12 +43,5 @@ abbrev pub IsUntouched : {E W : Type 0} → Result E Fault → W → W → Type 
 IsUntouched (Ok done) old new = ⊤
 IsUntouched (Err (Write sent)) old new = ⊤
 IsUntouched (Err (ReaderGone sent)) old new = ⊤
-IsUntouched (Err BadHex) old new = new ≡ old
-IsUntouched (Err (Decode e)) old new = new ≡ old
-IsUntouched (Err OutOfMemory) old new = new ≡ old
-IsUntouched (Err (Batch e)) old new = new ≡ old
-IsUntouched (Err (OnlyInputs count)) old new = new ≡ old
-IsUntouched (Err (Live e)) old new = new ≡ old
-IsUntouched (Err (Track e)) old new = new ≡ old
-IsUntouched (Err TrackUnreadable) old new = new ≡ old
-IsUntouched (Err (TrackWarnings count)) old new = new ≡ old
+IsUntouched (Err (Lines error)) old new = ⊤
+IsUntouched (Err _) old new = new ≡ old

@@ -6,6 +6,9 @@ use Rattle.std.specs.declared.io.ErrorKind.TheVariants as reading
 use Rattle.ertms_codec.specs.RefusalNames.{name_of}
 use Rattle.ertms_codec.specs.declared.text.DescribeError.{DescribeError}
 use Rattle.ertms_codec.specs.declared.text.DescribeError.TheVariants as describing
+use Rattle.ertms_codec.specs.declared.wrong_word.EncodeError.{EncodeError}
+use Rattle.ertms_codec.specs.declared.wrong_word.EncodeError.TheVariants as encoding
+use Rattle.ertms_codec.specs.Grammar.{wrong_word_text}
 use Rattle.hex.specs.declared.error.FromHexError.{FromHexError}
 use Rattle.hex.specs.declared.error.FromHexError.TheVariants as hex
 use Rattle.rbc_explain.specs.TellError.{TellError}
@@ -13,15 +16,22 @@ use Rattle.rbc_explain.specs.TellError.TheVariants as telling
 use Rattle.rbc_batch.specs.Process.{fault_text}
 use Rattle.rbc_live.specs.Answers as prompt
 use Rattle.rbc_track.specs.Plan.{name_of as name_of_track}
+use Rattle.rbc_words.specs.FaultTexts.{line_fault_text}
 use Rattle.rbc_words.specs.Units.{count_text}
+use Rattle.rbc_words.specs.declared.filter.FilterError.TheVariants as filter
 use Rattle.rbc_dispatch.specs.declared.fault.Fault.{Fault}
-use Rattle.rbc_dispatch.specs.declared.fault.Fault.TheVariants.{Batch, OnlyInputs, Live, BadHex, Decode, Write, ReaderGone, OutOfMemory, Track, TrackUnreadable, TrackWarnings}
+use Rattle.rbc_dispatch.specs.declared.fault.Fault.TheVariants.{Batch, OnlyInputs, Live, Lines, Text, BadHex, Decode, Write, ReaderGone, OutOfMemory, Track, TrackUnreadable, TrackWarnings}
 
 -- the line of a fault, without its line feed
 abbrev pub line_of : Fault → List ℕ
 line_of (Batch error) = fault_text error
 line_of (OnlyInputs count) = codes "only " ++ count_text count (codes "input")
 line_of (Live error) = prompt.fault_text error
+line_of (Lines (filter.Line number fault)) = codes "encode: line " ++ decimal number ++ line_fault_text fault
+line_of (Lines filter.Read) = codes "read fault"
+line_of (Lines filter.Memory) = codes "out of memory"
+line_of (Lines (filter.Write sent)) = codes "write fault after " ++ decimal sent ++ codes " bytes"
+line_of (Text wrong) = codes "encode: " ++ wrong_word_text wrong
 line_of BadHex = codes "bad hex"
 line_of (Decode error) = codes "decode: " ++ name_of error
 line_of (Write sent) = codes "write fault after " ++ decimal sent ++ codes " bytes"
@@ -41,6 +51,11 @@ fault_of_telling (telling.OnlyInputs count) = OnlyInputs count
 abbrev pub fault_of_hex : FromHexError → Fault
 fault_of_hex hex.OutOfMemory = OutOfMemory
 fault_of_hex _ = BadHex
+
+-- the fault by why a text is not encoded
+abbrev pub fault_of_encoding : EncodeError → Fault
+fault_of_encoding (encoding.Word wrong) = Text wrong
+fault_of_encoding encoding.OutOfMemory = OutOfMemory
 
 -- the fault by what the codec answers
 abbrev pub fault_of_describing : DescribeError → Fault

@@ -2,7 +2,7 @@
 use Rattle.std.specs.Prelude.{◌≡◌, ◌⊎◌, ⊤, ℕ, List, ◌++◌, codes, false, true}
 use Rattle.std.specs.Fmt.{decimal}
 use Rattle.rbc_dispatch.specs.declared.words.Task.{Task}
-use Rattle.rbc_dispatch.specs.declared.words.Task.TheVariants.{Run, Live, Explain, Picture, Check, Decode, Codes, Page}
+use Rattle.rbc_dispatch.specs.declared.words.Task.TheVariants.{Run, Live, Explain, Picture, Check, Encode, Decode, Codes, Page}
 use Rattle.rbc_dispatch.specs.declared.figures.Figures.{Figures}
 
 -- the lines on the workers, without the last line feed
@@ -22,6 +22,7 @@ IsQuiet (Live track from alarms) = ⊤
 IsQuiet (Explain track from) = ⊤
 IsQuiet (Picture track after) = ⊤
 IsQuiet (Check track other) = ⊤
+IsQuiet (Encode track words) = ⊤
 IsQuiet (Decode hex long) = ⊤
 IsQuiet (Codes code) = ⊤
 IsQuiet (Page topic) = ⊤

@@ -7,7 +7,7 @@ use Rattle.rbc_track.specs.Plan.{Plan}
 use Rattle.rbc_track.specs.Reading.{IsTrackOf}
 use Rattle.rbc_dispatch.specs.Running.{IsErrUnread, IsNoTrack}
 use Rattle.rbc_dispatch.specs.declared.fault.Fault.{Fault}
-use Rattle.rbc_dispatch.specs.declared.fault.Fault.TheVariants.{Batch, OnlyInputs, Live, BadHex, Decode, Write, ReaderGone, OutOfMemory, Track, TrackUnreadable, TrackWarnings}
+use Rattle.rbc_dispatch.specs.declared.fault.Fault.TheVariants.{Live, Track}
 
 -- what is wanted of the answers to the lines is out, on the track that the text is
 abbrev pub AnswersOn : {E : Type 0} → List ℕ → Wanted → Option (List ℕ) → Option (List ℕ) → Option (List ℕ) → Option (List ℕ) → Result E PromptError → Type 0
@@ -18,15 +18,7 @@ abbrev pub LivesOn : {E : Type 0} → List ℕ → Wanted → Option (List ℕ) 
 LivesOn {E = E} text wanted read_old read_new old new (Ok done) = AnswersOn {E = E} text wanted read_old read_new old new (Ok done)
 LivesOn {E = E} text wanted read_old read_new old new (Err (Live error)) = AnswersOn {E = E} text wanted read_old read_new old new (Err error)
 LivesOn text wanted read_old read_new old new (Err (Track error)) = IsNoTrack text error
-LivesOn text wanted read_old read_new old new (Err (Batch error)) = ⊥
-LivesOn text wanted read_old read_new old new (Err (OnlyInputs count)) = ⊥
-LivesOn text wanted read_old read_new old new (Err TrackUnreadable) = ⊥
-LivesOn text wanted read_old read_new old new (Err (TrackWarnings count)) = ⊥
-LivesOn text wanted read_old read_new old new (Err OutOfMemory) = ⊥
-LivesOn text wanted read_old read_new old new (Err BadHex) = ⊥
-LivesOn text wanted read_old read_new old new (Err (Decode e)) = ⊥
-LivesOn text wanted read_old read_new old new (Err (Write sent)) = ⊥
-LivesOn text wanted read_old read_new old new (Err (ReaderGone sent)) = ⊥
+LivesOn text wanted read_old read_new old new (Err _) = ⊥
 
 -- what comes of lines, on the track in a file: the file holds some text, or it is not read
 abbrev pub Lives : {E : Type 0} → Wanted → Option (List ℕ) → Option (List ℕ) → Option (List ℕ) → Option (List ℕ) → Result E Fault → Type 0

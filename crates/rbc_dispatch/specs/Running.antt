@@ -8,7 +8,7 @@ use Rattle.rbc_track.specs.Reading.{IsTrackOf, RefusesTrack}
 use Rattle.rbc_track.specs.declared.error.TrackError.{TrackError}
 use Rattle.rbc_track.specs.declared.error.TrackError.TheVariants as track
 use Rattle.rbc_dispatch.specs.declared.fault.Fault.{Fault}
-use Rattle.rbc_dispatch.specs.declared.fault.Fault.TheVariants.{Batch, OnlyInputs, Live, BadHex, Decode, Write, ReaderGone, OutOfMemory, Track, TrackUnreadable, TrackWarnings}
+use Rattle.rbc_dispatch.specs.declared.fault.Fault.TheVariants.{Batch, OnlyInputs, Live, Lines, Write, ReaderGone, OutOfMemory, Track, TrackUnreadable}
 
 -- the batch is answered by this many workers, with its alarms or without; the counts of the run are not described
 abbrev pub AnswersBatch : Plan → ℕ → Bool → Option (List ℕ) → Option (List ℕ) → Option (List ℕ) → Option (List ℕ) → Result (Unit {0}) ProcessError → Type 0
@@ -30,15 +30,7 @@ abbrev pub RunsOn : {E : Type 0} → List ℕ → ℕ → Bool → Option (List 
 RunsOn text workers alarms read_old read_new old new (Ok done) = AnswersOn text workers alarms read_old read_new old new (Ok tt)
 RunsOn text workers alarms read_old read_new old new (Err (Batch error)) = AnswersOn text workers alarms read_old read_new old new (Err error)
 RunsOn text workers alarms read_old read_new old new (Err (Track error)) = IsNoTrack text error
-RunsOn text workers alarms read_old read_new old new (Err (OnlyInputs count)) = ⊥
-RunsOn text workers alarms read_old read_new old new (Err (Live error)) = ⊥
-RunsOn text workers alarms read_old read_new old new (Err TrackUnreadable) = ⊥
-RunsOn text workers alarms read_old read_new old new (Err (TrackWarnings count)) = ⊥
-RunsOn text workers alarms read_old read_new old new (Err OutOfMemory) = ⊥
-RunsOn text workers alarms read_old read_new old new (Err BadHex) = ⊥
-RunsOn text workers alarms read_old read_new old new (Err (Decode e)) = ⊥
-RunsOn text workers alarms read_old read_new old new (Err (Write sent)) = ⊥
-RunsOn text workers alarms read_old read_new old new (Err (ReaderGone sent)) = ⊥
+RunsOn text workers alarms read_old read_new old new (Err _) = ⊥
 
 -- the file could not be read, or memory ran out over it
 abbrev pub IsUnread : Fault → Type 0
@@ -58,11 +50,7 @@ Keeps (Ok done) read_old read_new old new = ⊤
 Keeps {E = E} (Err (Batch error)) read_old read_new old new = IsUnwritten {E = E} (Err error) old new
 Keeps (Err (OnlyInputs count)) read_old read_new old new = new ≡ old
 Keeps (Err (Live error)) read_old read_new old new = ⊤
-Keeps (Err (Track error)) read_old read_new old new = (read_new ≡ read_old) × (new ≡ old)
-Keeps (Err TrackUnreadable) read_old read_new old new = (read_new ≡ read_old) × (new ≡ old)
-Keeps (Err (TrackWarnings count)) read_old read_new old new = (read_new ≡ read_old) × (new ≡ old)
-Keeps (Err OutOfMemory) read_old read_new old new = (read_new ≡ read_old) × (new ≡ old)
-Keeps (Err BadHex) read_old read_new old new = (read_new ≡ read_old) × (new ≡ old)
-Keeps (Err (Decode e)) read_old read_new old new = (read_new ≡ read_old) × (new ≡ old)
 Keeps (Err (Write sent)) read_old read_new old new = ⊤
 Keeps (Err (ReaderGone sent)) read_old read_new old new = ⊤
+Keeps (Err (Lines error)) read_old read_new old new = ⊤
+Keeps (Err _) read_old read_new old new = (read_new ≡ read_old) × (new ≡ old)

@@ -7,7 +7,7 @@ use Rattle.rbc_explain.specs.Log.{IsLogOfRun}
 use Rattle.rbc_picture.specs.Drawn.{IsPictureOfRun}
 use Rattle.rbc_dispatch.specs.Running.{IsErrUnread}
 use Rattle.rbc_dispatch.specs.declared.fault.Fault.{Fault}
-use Rattle.rbc_dispatch.specs.declared.fault.Fault.TheVariants.{Batch, OnlyInputs, Live, BadHex, Decode, Write, ReaderGone, OutOfMemory, Track, TrackUnreadable, TrackWarnings}
+use Rattle.rbc_dispatch.specs.declared.fault.Fault.TheVariants.{Batch, OnlyInputs, Write, ReaderGone, Track}
 
 -- what has to hold of a text that shows a run, by the text of the track and what the reader had left before and has left after
 abbrev pub Showing : Type 1
@@ -34,12 +34,7 @@ ShowsOn Missing IsShown text read_old read_new old new (Err (ReaderGone sent)) =
 ShowsOn Missing IsShown text read_old read_new old new (Err (Track error)) = Tells {T = List ℕ} Missing text read_old read_new (Err (telling.Track error))
 ShowsOn Missing IsShown text read_old read_new old new (Err (Batch error)) = Tells {T = List ℕ} Missing text read_old read_new (Err (telling.Batch error))
 ShowsOn Missing IsShown text read_old read_new old new (Err (OnlyInputs count)) = Tells {T = List ℕ} Missing text read_old read_new (Err (telling.OnlyInputs count))
-ShowsOn Missing IsShown text read_old read_new old new (Err (Live error)) = ⊥
-ShowsOn Missing IsShown text read_old read_new old new (Err TrackUnreadable) = ⊥
-ShowsOn Missing IsShown text read_old read_new old new (Err (TrackWarnings count)) = ⊥
-ShowsOn Missing IsShown text read_old read_new old new (Err OutOfMemory) = ⊥
-ShowsOn Missing IsShown text read_old read_new old new (Err BadHex) = ⊥
-ShowsOn Missing IsShown text read_old read_new old new (Err (Decode e)) = ⊥
+ShowsOn Missing IsShown text read_old read_new old new (Err _) = ⊥
 
 -- what comes of showing a run, on the track in a file: the file holds some text, or it is not read
 abbrev pub Shows : {E : Type 0} → (ℕ → Type 0) → Showing → Option (List ℕ) → Option (List ℕ) → Option (List ℕ) → Option (List ℕ) → Result E Fault → Type 0

@@ -3,21 +3,13 @@ use Rattle.std.specs.Prelude.{◌≤◌, ⊤, ℕ, List, Option, None, Some, Res
 use Rattle.std.specs.Io.KnownBytes.{Appends}
 use Rattle.rbc_dispatch.specs.Parts.{IsPartOn}
 use Rattle.rbc_dispatch.specs.declared.fault.Fault.{Fault}
-use Rattle.rbc_dispatch.specs.declared.fault.Fault.TheVariants.{Batch, OnlyInputs, Live, BadHex, Decode, Write, ReaderGone, OutOfMemory, Track, TrackUnreadable, TrackWarnings}
+use Rattle.rbc_dispatch.specs.declared.fault.Fault.TheVariants.{Write, ReaderGone, OutOfMemory}
 
 -- the text is cut short, at a write fault or because its reader went away: exactly its first bytes are out
 abbrev pub IsCutShort : Fault → Option (List ℕ) → Option (List ℕ) → List ℕ → Type 0
 IsCutShort (Write sent) old new text = (sent ≤ length text) × Appends old new (take sent text)
 IsCutShort (ReaderGone sent) old new text = (sent ≤ length text) × Appends old new (take sent text)
-IsCutShort OutOfMemory old new text = ⊥
-IsCutShort BadHex old new text = ⊥
-IsCutShort (Decode e) old new text = ⊥
-IsCutShort (Batch e) old new text = ⊥
-IsCutShort (OnlyInputs count) old new text = ⊥
-IsCutShort (Live e) old new text = ⊥
-IsCutShort (Track e) old new text = ⊥
-IsCutShort TrackUnreadable old new text = ⊥
-IsCutShort (TrackWarnings count) old new text = ⊥
+IsCutShort _ old new text = ⊥
 
 -- At Ok this text is added to the output, and nothing else; otherwise the text is cut short.
 abbrev pub TellsPage : {E : Type 0} → List ℕ → Option (List ℕ) → Option (List ℕ) → Result E Fault → Type 0
@@ -35,11 +27,4 @@ TellsCodes code old new (Ok done) = (text : List ℕ) × IsListOf code text × A
 TellsCodes code old new (Err (Write sent)) = (text : List ℕ) × IsListOf code text × (sent ≤ length text) × Appends old new (take sent text)
 TellsCodes code old new (Err (ReaderGone sent)) = (text : List ℕ) × IsListOf code text × (sent ≤ length text) × Appends old new (take sent text)
 TellsCodes code old new (Err OutOfMemory) = ⊤
-TellsCodes code old new (Err BadHex) = ⊥
-TellsCodes code old new (Err (Decode e)) = ⊥
-TellsCodes code old new (Err (Batch e)) = ⊥
-TellsCodes code old new (Err (OnlyInputs count)) = ⊥
-TellsCodes code old new (Err (Live e)) = ⊥
-TellsCodes code old new (Err (Track e)) = ⊥
-TellsCodes code old new (Err TrackUnreadable) = ⊥
-TellsCodes code old new (Err (TrackWarnings count)) = ⊥
+TellsCodes code old new (Err _) = ⊥

@@ -2,7 +2,7 @@
 use Rattle.std.specs.Prelude.{⊤, ℕ, List, Option, take}
 use Rattle.std.specs.Io.KnownBytes.{Appends}
 use Rattle.rbc_dispatch.specs.declared.words.Task.{Task}
-use Rattle.rbc_dispatch.specs.declared.words.Task.TheVariants.{Run, Live, Explain, Picture, Check, Decode, Codes, Page}
+use Rattle.rbc_dispatch.specs.declared.words.Task.TheVariants.{Run, Live, Explain, Picture, Check, Encode, Decode, Codes, Page}
 
 -- the task does not say that it reads a batch from a terminal
 abbrev pub IsSilent : Task → Type 0
@@ -11,6 +11,7 @@ IsSilent (Live track from alarms) = ⊥
 IsSilent (Explain track from) = ⊥
 IsSilent (Picture track after) = ⊤
 IsSilent (Check track other) = ⊤
+IsSilent (Encode track words) = ⊤
 IsSilent (Decode hex long) = ⊤
 IsSilent (Codes code) = ⊤
 IsSilent (Page topic) = ⊤

@@ -1,10 +1,11 @@
 -- What the words ask for.
-use Rattle.std.specs.Prelude.{◌≡◌, ◌⊎◌, ℕ, Bool, List, [], ◌∷◌, Option, Some, None, Result, MatchResult, option_and_then, unwrap_or, is_some, if◌then◌else◌, ◌&&◌, nat_lt, length, pos, true, false, codes}
+use Rattle.std.specs.Prelude.{◌≡◌, ◌⊎◌, ℕ, Bool, List, [], ◌∷◌, Option, Some, None, Result, MatchResult, option_and_then, option_map, map, string_bytes, unwrap_or, is_some, if◌then◌else◌, ◌&&◌, nat_lt, length, pos, true, false, codes}
 use Rattle.std.specs.Option.{option_map_or}
 use Rattle.std.specs.List.{list_all}
 use Rattle.std.specs.Char.{digit_value}
 use Rattle.std.specs.Str.Parse.{digits_value, without_leading_plus}
 use Rattle.std.specs.Str.{bytes_eq}
+use Rattle.clap.specs.Lexer.{usize_max}
 use Rattle.clap.specs.Simple.{App, Shape, new_app, new_rule, on_top, subcommand_of, with_rule, with_subcommand}
 use Rattle.clap.specs.Walk.{Row, Rule, Text, byte_or_zero, first_of, one_of}
 use Rattle.clap.specs.Words.{fault_of}
@@ -13,11 +14,12 @@ use Rattle.clap.specs.declared.builder.value_parser.ValueParser.TheVariants as v
 use Rattle.rbc_live.specs.declared.wanted.Wanted.{Wanted}
 use Rattle.clap.specs.Kinds.{Kinds}
 use Rattle.rbc_dispatch.specs.Pages.{topic_in}
+use Rattle.rbc_dispatch.specs.TextWords.{spaced_text}
 use Rattle.rbc_dispatch.specs.declared.pages.Topic.{Topic}
 use Rattle.rbc_dispatch.specs.declared.no_task.NoTask.{NoTask}
 use Rattle.rbc_dispatch.specs.declared.no_task.NoTask.TheVariants.{OutOfMemory}
 use Rattle.rbc_dispatch.specs.declared.words.Task.{Task}
-use Rattle.rbc_dispatch.specs.declared.words.Task.TheVariants.{Run, Live, Explain, Picture, Check, Decode, Codes, Page}
+use Rattle.rbc_dispatch.specs.declared.words.Task.TheVariants.{Run, Live, Explain, Picture, Check, Encode, Decode, Codes, Page}
 
 -- the option that names the track file
 abbrev pub track_rule : Rule
@@ -103,7 +105,7 @@ codes_shape = (with_rule (new_app (codes "codes")) code_rule).top
 
 -- the word that is a message
 abbrev pub hex_rule : Rule
-hex_rule = record (new_rule (codes "HEX")) { required = true }
+hex_rule = new_rule (codes "HEX")
 
 -- the flag that writes a line for each variable
 abbrev pub long_rule : Rule
@@ -112,6 +114,18 @@ long_rule = record (new_rule (codes "long")) { long = Some (codes "long"); actio
 -- `decode`, with its word and its flag
 abbrev pub decode_shape : Shape
 decode_shape = (with_rule (with_rule (new_app (codes "decode")) hex_rule) long_rule).top
+
+-- the option that may name a track file
+abbrev pub known_track_rule : Rule
+known_track_rule = record (new_rule (codes "track")) { long = Some (codes "track"); value_names = 1 }
+
+-- the words of a text
+abbrev pub text_rule : Rule
+text_rule = record (new_rule (codes "TEXT")) { range = Some (record { start_inclusive = 1; end_inclusive = usize_max }) }
+
+-- `encode`, with its option and its words
+abbrev pub encode_shape : Shape
+encode_shape = (with_rule (with_rule (new_app (codes "encode")) known_track_rule) text_rule).top
 
 -- the command line without its subcommands, from the word after its name
 abbrev pub bare_line : App
@@ -125,9 +139,9 @@ input_line = with_subcommand (with_subcommand (with_subcommand (with_subcommand 
 abbrev pub track_line : App
 track_line = with_subcommand input_line check_shape
 
--- the command line that the program takes: `run`, `live`, `explain`, `picture`, `check`, `decode` or `codes`
+-- the command line that the program takes: `run`, `live`, `explain`, `picture`, `check`, `encode`, `decode` or `codes`
 abbrev pub command_line : App
-command_line = with_subcommand (with_subcommand track_line decode_shape) codes_shape
+command_line = with_subcommand (with_subcommand (with_subcommand track_line encode_shape) decode_shape) codes_shape
 
 -- memory ran out
 abbrev pub IsWantOfMemory : NoTask → Type 0
@@ -232,6 +246,20 @@ AsksToDecode word long words = (fault_of command_line words ≡ [])
     × (word_after (codes "decode") (codes "HEX") (finding_in words) ≡ Some word)
     × (is_set (flag_after (codes "decode") (codes "long") (finding_in words)) ≡ long)
 
+-- words without a fault that ask for lines with the text of their messages: no word is given, and no line for each variable is asked for
+abbrev pub AsksToDecodeLines : List Text → Type 0
+AsksToDecodeLines words = (fault_of command_line words ≡ [])
+    × (is_named (codes "decode") (finding_in words) ≡ true)
+    × (word_after (codes "decode") (codes "HEX") (finding_in words) ≡ None)
+    × (is_set (flag_after (codes "decode") (codes "long") (finding_in words)) ≡ false)
+
+-- words without a fault that ask for the bytes of messages: of the text that is given, each word with a space before it, or of lines where there is none
+abbrev pub AsksToEncode : Option Text → List ℕ → List Text → Type 0
+AsksToEncode track text words = (fault_of command_line words ≡ [])
+    × (is_named (codes "encode") (finding_in words) ≡ true)
+    × (word_after (codes "encode") (codes "track") (finding_in words) ≡ track)
+    × (spaced_text words ≡ text)
+
 -- words without a fault that ask what codes mean: this code alone, or all of them
 abbrev pub AsksForCodes : Option ℕ → List Text → Type 0
 AsksForCodes code words = (fault_of command_line words ≡ [])
@@ -252,13 +280,14 @@ AsksForNoBatch words = (word_after (codes "run") (codes "track") (finding_in wor
 abbrev pub AsksToCheck : Text → List Text → Type 0
 AsksToCheck file words = (fault_of command_line words ≡ []) × (word_after (codes "check") (codes "track") (finding_in words) ≡ Some file)
 
--- no word was found for a run, for lines as they come, for a message, for a log or for a picture
+-- no word was found for a run, for lines as they come, for a log or for a picture, and neither `decode` nor `encode` was named
 abbrev pub IsNeither : Finding → Type 0
 IsNeither found = (word_after (codes "run") (codes "track") found ≡ None)
     × (word_after (codes "live") (codes "track") found ≡ None)
-    × (word_after (codes "decode") (codes "HEX") found ≡ None)
+    × (is_named (codes "decode") found ≡ false)
     × (word_after (codes "explain") (codes "track") found ≡ None)
     × (word_after (codes "picture") (codes "track") found ≡ None)
+    × (is_named (codes "encode") found ≡ false)
 
 -- the task is what was found
 abbrev pub IsFound : Finding → Task → Type 0
@@ -278,9 +307,17 @@ IsFound found (Check track other) = IsNeither found × (word_after (codes "check
     × IsFlag (flag_after (codes "check") (codes "other-keys") found) other
 IsFound found (Codes code) = (is_named (codes "codes") found ≡ true)
     × (input_after (codes "codes") (codes "CODE") found ≡ code)
-IsFound found (Decode hex long) = (word_after (codes "decode") (codes "HEX") found ≡ Some hex.now)
+IsFound found (Encode track words) = (is_named (codes "encode") found ≡ true)
+    × (word_after (codes "encode") (codes "track") found ≡ option_map (λ file. file.now) track)
+IsFound found (Decode hex long) = (is_named (codes "decode") found ≡ true)
+    × (word_after (codes "decode") (codes "HEX") found ≡ option_map (λ word. word.now) hex)
     × (is_set (flag_after (codes "decode") (codes "long") found) ≡ long)
 IsFound found (Page topic) = ⊥
+
+-- a task that keeps the arguments keeps these
+abbrev pub HasWords : List Text → Task → Type 0
+HasWords words (Encode track kept) = map string_bytes kept.now ≡ words
+HasWords words _ = Unit {0}
 
 -- the task is the page that the words ask for, or else what was found in them
 abbrev pub IsTaskBy : Option Topic → Finding → Task → Type 0
@@ -297,79 +334,47 @@ IsNoTask found = IsNeither found × (word_after (codes "check") (codes "track") 
 -- the task is the batch, on the track in the file of this name, with this many workers, and with its alarms or without
 abbrev pub IsRunOn : Text → ℕ → Bool → Task → Type 0
 IsRunOn file workers alarms (Run track number by_train stats are_asked) = (track.now ≡ file) × (number ≡ workers) × (are_asked ≡ alarms)
-IsRunOn file workers alarms (Live track from are_asked) = ⊥
-IsRunOn file workers alarms (Check track other) = ⊥
-IsRunOn file workers alarms (Decode hex long) = ⊥
-IsRunOn file workers alarms (Explain track first) = ⊥
-IsRunOn file workers alarms (Picture track after) = ⊥
-IsRunOn file workers alarms (Codes code) = ⊥
-IsRunOn file workers alarms (Page topic) = ⊥
+IsRunOn file workers alarms _ = ⊥
 
 -- the task is lines as they come, on the track in the file of this name: from which number on, and with alarms or without
 abbrev pub IsLiveOn : Text → Wanted → Task → Type 0
 IsLiveOn file wanted (Live track first are_asked) = (track.now ≡ file) × (first ≡ wanted.from) × (are_asked ≡ wanted.alarms)
-IsLiveOn file wanted (Run track number by_train stats alarms) = ⊥
-IsLiveOn file wanted (Check track other) = ⊥
-IsLiveOn file wanted (Decode hex long) = ⊥
-IsLiveOn file wanted (Explain track first) = ⊥
-IsLiveOn file wanted (Picture track after) = ⊥
-IsLiveOn file wanted (Codes code) = ⊥
-IsLiveOn file wanted (Page topic) = ⊥
+IsLiveOn file wanted _ = ⊥
 
 -- the task is the log of the batch, on the track in the file of this name, from this input on
 abbrev pub IsExplainOn : Text → ℕ → Task → Type 0
 IsExplainOn file from (Explain track first) = (track.now ≡ file) × (first ≡ from)
-IsExplainOn file from (Run track number by_train stats alarms) = ⊥
-IsExplainOn file from (Live track first alarms) = ⊥
-IsExplainOn file from (Picture track after) = ⊥
-IsExplainOn file from (Check track other) = ⊥
-IsExplainOn file from (Decode hex long) = ⊥
-IsExplainOn file from (Codes code) = ⊥
-IsExplainOn file from (Page topic) = ⊥
+IsExplainOn file from _ = ⊥
 
 -- the task is the picture of the track in the file of this name, after this many inputs of the batch, or after all
 abbrev pub IsPictureOn : Text → Option ℕ → Task → Type 0
 IsPictureOn file after (Picture track count) = (track.now ≡ file) × (count ≡ after)
-IsPictureOn file after (Run track number by_train stats alarms) = ⊥
-IsPictureOn file after (Live track from alarms) = ⊥
-IsPictureOn file after (Explain track from) = ⊥
-IsPictureOn file after (Check track other) = ⊥
-IsPictureOn file after (Decode hex long) = ⊥
-IsPictureOn file after (Codes code) = ⊥
-IsPictureOn file after (Page topic) = ⊥
+IsPictureOn file after _ = ⊥
 
 -- the task is the text of the message that this word stands for, with a line for each variable or in one line
 abbrev pub IsDecode : Text → Bool → Task → Type 0
-IsDecode word long (Run track number by_train stats alarms) = ⊥
-IsDecode word long (Live track from alarms) = ⊥
-IsDecode word long (Check track other) = ⊥
-IsDecode word long (Explain track first) = ⊥
-IsDecode word long (Picture track after) = ⊥
-IsDecode word long (Codes code) = ⊥
-IsDecode word long (Page topic) = ⊥
-IsDecode word long (Decode hex by_variable) = (hex.now ≡ word) × (by_variable ≡ long)
+IsDecode word long (Decode (Some hex) by_variable) = (hex.now ≡ word) × (by_variable ≡ long)
+IsDecode word long _ = ⊥
+
+-- the task is lines with the text of their messages
+abbrev pub IsDecodeLines : Task → Type 0
+IsDecodeLines (Decode None long) = long ≡ false
+IsDecodeLines _ = ⊥
+
+-- the task is the bytes of the message with this text, or of those of lines, with the track in the file of this name
+abbrev pub IsEncode : Option Text → List ℕ → Task → Type 0
+IsEncode file text (Encode track words) = (option_map (λ name. name.now) track ≡ file) × (spaced_text (map string_bytes words.now) ≡ text)
+IsEncode file text _ = ⊥
 
 -- the task is what codes mean: this code alone, or all of them
 abbrev pub IsCodesOf : Option ℕ → Task → Type 0
 IsCodesOf code (Codes named) = named ≡ code
-IsCodesOf code (Run track number by_train stats alarms) = ⊥
-IsCodesOf code (Live track from alarms) = ⊥
-IsCodesOf code (Check track other) = ⊥
-IsCodesOf code (Decode hex long) = ⊥
-IsCodesOf code (Explain track first) = ⊥
-IsCodesOf code (Picture track after) = ⊥
-IsCodesOf code (Page topic) = ⊥
+IsCodesOf code _ = ⊥
 
 -- the task is the report on the track in the file of this name
 abbrev pub IsCheckOf : Text → Task → Type 0
 IsCheckOf file (Check track other) = track.now ≡ file
-IsCheckOf file (Run track number by_train stats alarms) = ⊥
-IsCheckOf file (Live track from alarms) = ⊥
-IsCheckOf file (Decode hex long) = ⊥
-IsCheckOf file (Explain track first) = ⊥
-IsCheckOf file (Picture track after) = ⊥
-IsCheckOf file (Codes code) = ⊥
-IsCheckOf file (Page topic) = ⊥
+IsCheckOf file _ = ⊥
 
 -- the words are taken for a task, unless memory runs out
 abbrev pub IsTakenFor : (Task → Type 0) → Result Task NoTask → Type 0

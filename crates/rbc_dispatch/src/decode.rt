@@ -1,17 +1,37 @@
-//! One message, from hexadecimal digits to text.
+//! The text of messages in place of their bytes.
 
 ghost use Rattle.std.specs.Prelude.{◌≡◌, ℕ, List};
 ghost use Rattle.hex.specs.Hex.{decode_of};
 ghost use Rattle.ertms_codec.specs.Texts.{IsRefused};
 ghost use Rattle.ertms_codec.specs.declared.error.DecodeError.{DecodeError};
 ghost use Rattle.rbc_dispatch.specs.Decoding.{Decodes, DecodesLong, IsUntouched, MeetsRefusal};
+ghost use Rattle.rbc_dispatch.specs.Filtering.{DecodesLines};
 
 use crate::fault::Fault;
 use crate::long::long_text;
 use crate::show::show;
 use ertms_codec::describe;
+use rbc_words::decode_lines;
 use std::alloc::Global;
-use std::io::Write;
+use std::io::{Read, Write};
+
+/// Writes the lines of a reader as they come, with the text of a message in place of its bytes. Any other line stays as it
+/// is.
+///
+/// # Errors
+///
+/// `Lines`. What was written before stands.
+pub fn decode_input<I: Read, O: Write>(
+    alloc: Global,
+    input: &mut I,
+    output: &mut O,
+) -> Result<(), Fault>
+    ensures { DecodesLines (I.remaining input.old) (I.remaining input.new)
+        (O.contents output.old) (O.contents output.new) result }
+{
+    decode_lines(alloc, input, output)?;
+    Ok(())
+}
 
 /// Writes the text of the message whose bytes a hexadecimal word gives.
 ///

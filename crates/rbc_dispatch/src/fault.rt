@@ -1,11 +1,11 @@
 //! What can keep the program from its task.
-use ertms_codec::{DecodeError, DescribeError};
+use ertms_codec::{DecodeError, DescribeError, EncodeError, WrongWord};
 use hex::FromHexError;
 use rbc_batch::ProcessError;
 use rbc_explain::TellError;
 use rbc_live::PromptError;
 use rbc_track::TrackError;
-use rbc_words::Count;
+use rbc_words::{Count, FilterError, LineFault};
 use std::alloc::AllocError;
 use std::{fmt, io};
 
@@ -24,6 +24,10 @@ pub enum Fault {
     OnlyInputs { count: usize },
     /// Not all lines were answered. What was written before stands.
     Live(PromptError),
+    /// Not all lines went through `encode` or `decode`. What was written before stands.
+    Lines(FilterError<LineFault>),
+    /// The text is the text of no message.
+    Text(WrongWord),
     /// The word is not hexadecimal text of whole bytes.
     BadHex,
     /// The bytes are not a message.
@@ -63,6 +67,9 @@ impl fmt::Display for Fault {
                 write!(f, "only {inputs}")
             }
             Fault::Live(error) => write!(f, "{error}"),
+            Fault::Lines(error @ FilterError::Line { .. }) => write!(f, "encode: {error}"),
+            Fault::Lines(error) => write!(f, "{error}"),
+            Fault::Text(wrong) => write!(f, "encode: {wrong}"),
             Fault::BadHex => write!(f, "bad hex"),
             Fault::Decode(error) => write!(f, "decode: {error}"),
             Fault::Write { sent } => write!(f, "write fault after {sent} bytes"),
@@ -154,6 +161,31 @@ impl From<PromptError> for Fault {
 
     fn from(error: PromptError) -> Fault {
         Fault::Live(error)
+    }
+}
+
+impl From<FilterError<LineFault>> for Fault {
+    ghost use Rattle.std.specs.Prelude.{◌≡◌};
+    ghost use Rattle.rbc_dispatch.specs.declared.fault.Fault.TheVariants.{Lines};
+
+    ghost from_gives = { λ error fault. fault ≡ Lines error };
+
+    fn from(error: FilterError<LineFault>) -> Fault {
+        Fault::Lines(error)
+    }
+}
+
+impl From<EncodeError> for Fault {
+    ghost use Rattle.std.specs.Prelude.{◌≡◌};
+    ghost use Rattle.rbc_dispatch.specs.Fault.{fault_of_encoding};
+
+    ghost from_gives = { λ error fault. fault ≡ fault_of_encoding error };
+
+    fn from(error: EncodeError) -> Fault {
+        match error {
+            EncodeError::Word(wrong) => Fault::Text(wrong),
+            EncodeError::OutOfMemory => Fault::OutOfMemory,
+        }
     }
 }
 

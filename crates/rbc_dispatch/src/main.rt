@@ -14,6 +14,7 @@ mod attempts;
 mod check;
 mod codes;
 mod decode;
+mod encode;
 mod ending;
 mod explain;
 mod fault;

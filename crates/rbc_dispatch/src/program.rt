@@ -1,5 +1,5 @@
 //! The program, over any streams.
-ghost use Rattle.std.specs.Prelude.{◌≡◌, ◌≢◌, ◌≤◌, ℕ, Bool, List, Option, [], IfErr, OnOk, false, map};
+ghost use Rattle.std.specs.Prelude.{◌≡◌, ◌≢◌, ◌≤◌, ◌∷◌, ℕ, Bool, List, Option, [], IfErr, IfOk, OnOk, false, map};
 ghost use Rattle.std.specs.Prelude.{Some, string_bytes, true};
 ghost use Rattle.std.specs.Process.{exit_status};
 ghost use Rattle.rbc_explain.specs.AccountTelling.{TooFewFor, TooLate};
@@ -8,12 +8,16 @@ ghost use Rattle.rbc_dispatch.specs.Checking.{Checks, IsUnreported};
 ghost use Rattle.rbc_dispatch.specs.Decoding.{Decodes, DecodesLong, IsUntouched};
 ghost use Rattle.rbc_dispatch.specs.Ending.{AtTask, status_of};
 ghost use Rattle.rbc_dispatch.specs.Figures.{IsQuiet};
+ghost use Rattle.rbc_dispatch.specs.Filtering.{DecodesAllLines, EncodesLines, EncodesTextOn, IsNoTrackGiven, IsTrackGiven};
+ghost use Rattle.rbc_dispatch.specs.Filtering.{name_given};
 ghost use Rattle.rbc_dispatch.specs.Living.{Lives};
 ghost use Rattle.rbc_dispatch.specs.Running.{IsUnread, Keeps, Runs, RunsOn};
 ghost use Rattle.rbc_dispatch.specs.Showing.{IsLogFrom, IsPictureAfter, Shows};
 ghost use Rattle.rbc_dispatch.specs.Pages.{topic_in};
 ghost use Rattle.rbc_dispatch.specs.Telling.{TellsCodes, TellsPage};
 ghost use Rattle.rbc_dispatch.specs.Terminal.{IsSilent, SaysOnly};
+ghost use Rattle.rbc_dispatch.specs.TextWords.{spaced_text};
+ghost use Rattle.rbc_dispatch.specs.Words.{AsksToDecodeLines, AsksToEncode, IsDecodeLines, IsEncode};
 ghost use Rattle.rbc_dispatch.specs.Words.{AsksForCodes, AsksForNoBatch, AsksForNoFigures, AsksToCheck};
 ghost use Rattle.rbc_dispatch.specs.Words.{AsksToDecode, AsksToDraw, AsksToExplain, AsksToLive, AsksToRun};
 ghost use Rattle.rbc_dispatch.specs.Words.{IsCheckOf, IsCodesOf, IsDecode, IsExplainOn, IsLiveOn, IsPictureOn};
@@ -22,7 +26,8 @@ ghost use Rattle.rbc_dispatch.specs.Words.{IsRunOn, fault_in};
 use crate::attempts::Attempts;
 use crate::check::check_text;
 use crate::codes::write_codes;
-use crate::decode::{decode, decode_long};
+use crate::decode::{decode, decode_input, decode_long};
+use crate::encode::{encode_input, encode_text, spaced_text};
 use crate::ending::Ending;
 use crate::explain::explain_text;
 use crate::fault::Fault;
@@ -38,7 +43,7 @@ use rbc_batch::{
     OpenGate, PACE, Windows, process, process_by_train, process_with_alarms, process_with_desk,
 };
 use rbc_live::Wanted;
-use rbc_track::track_from_toml;
+use rbc_track::{Track, track_from_toml};
 use std::env::Env;
 use std::fs;
 use std::io::{Read, Write};
@@ -131,6 +136,14 @@ where
         → AtTask (DecodesLong word (O.contents output.old) (O.contents output.new)) result }
     ensures unread { (word : List ℕ) (long : Bool) → AsksToDecode word long (map string_bytes words.now)
         → (input.new ≡ input.old) × AtTask (λ r. IsUntouched r output.old output.new) result }
+    ensures decode_lines { AsksToDecodeLines (map string_bytes words.now)
+        → AtTask (DecodesAllLines (I.remaining input.old) (I.remaining input.new)
+        (O.contents output.old) (O.contents output.new)) result }
+    ensures encode_lines { (file : Option (List ℕ)) → AsksToEncode file [] (map string_bytes words.now)
+        → AtTask (EncodesLines file (I.remaining input.old) (I.remaining input.new)
+        (O.contents output.old) (O.contents output.new)) result }
+    ensures encode { (file : Option (List ℕ)) (text : List ℕ) → AsksToEncode file (32 ∷ text) (map string_bytes words.now)
+        → (input.new ≡ input.old) × AtTask (EncodesTextOn file text (O.contents output.old) (O.contents output.new)) result }
     ensures codes { (code : Option ℕ) → AsksForCodes code (map string_bytes words.now)
         → (input.new ≡ input.old) × AtTask (TellsCodes code (O.contents output.old) (O.contents output.new)) result }
     ensures batch_page { topic_in (map string_bytes words.now) ≡ Some Topic.Batch
@@ -193,6 +206,13 @@ where
         → DecodesLong word (O.contents output.old) (O.contents output.new) result }
     ensures unread { (word : List ℕ) (long : Bool) → IsDecode word long task.entry
         → (input.new ≡ input.old) × IsUntouched result output.old output.new }
+    ensures decode_lines { IsDecodeLines task.entry → DecodesAllLines (I.remaining input.old) (I.remaining input.new)
+        (O.contents output.old) (O.contents output.new) result }
+    ensures encode_lines { (file : Option (List ℕ)) → IsEncode file [] task.entry
+        → EncodesLines file (I.remaining input.old) (I.remaining input.new)
+        (O.contents output.old) (O.contents output.new) result }
+    ensures encode { (file : Option (List ℕ)) (text : List ℕ) → IsEncode file (32 ∷ text) task.entry
+        → (input.new ≡ input.old) × EncodesTextOn file text (O.contents output.old) (O.contents output.new) result }
     ensures check { (file : List ℕ) → IsCheckOf file task.entry → (input.new ≡ input.old) × Checks result }
     ensures codes { (code : Option ℕ) → IsCodesOf code task.entry
         → (input.new ≡ input.old) × TellsCodes code (O.contents output.old) (O.contents output.new) result }
@@ -246,13 +266,16 @@ where
         }
         Task::Picture { track, after } => picture_file(rt, track, after, input, output),
         Task::Check { track, other_keys } => check_file(rt, track, other_keys, output),
-        Task::Decode { word, long } => {
-            if long {
-                decode_long(rt.alloc(), word, output)
-            } else {
-                decode(rt.alloc(), word, output)
-            }
-        }
+        Task::Encode { track, words } => encode_task(rt, track, words, input, output),
+        Task::Decode { word: None, .. } => decode_input(rt.alloc(), input, output),
+        Task::Decode {
+            word: Some(word),
+            long: true,
+        } => decode_long(rt.alloc(), word, output),
+        Task::Decode {
+            word: Some(word),
+            long: false,
+        } => decode(rt.alloc(), word, output),
         Task::Codes { code } => write_codes(rt.alloc(), code, output),
         Task::Page(topic) => show(output, page_on(topic).as_bytes()),
     }
@@ -426,6 +449,45 @@ where
 {
     let text = track_text(rt, file)?;
     picture_text(rt.alloc(), text.as_str(), after, input, output)
+}
+
+/// Writes the bytes of the message whose text stands among the arguments, or, if none stands there, the lines of the
+/// input with the bytes of their messages. The track file is read first, if one is named.
+fn encode_task<R, I, O>(
+    rt: &R,
+    file: Option<&str>,
+    words: &[String],
+    input: &mut I,
+    output: &mut O,
+) -> Result<(), Fault>
+where
+    R: AllocGlobal + Files,
+    I: Read,
+    O: Write,
+    ensures lines { spaced_text (map string_bytes words.now) ≡ [] → EncodesLines (name_given file) (I.remaining input.old)
+        (I.remaining input.new) (O.contents output.old) (O.contents output.new) result }
+    ensures text { (text : List ℕ) → spaced_text (map string_bytes words.now) ≡ 32 ∷ text
+        → (input.new ≡ input.old) × EncodesTextOn (name_given file) text (O.contents output.old) (O.contents output.new) result }
+    ensures keeps { Keeps result input.old input.new output.old output.new }
+{
+    let track = track_given(rt, file)?;
+    let text = spaced_text(rt.alloc(), words)?;
+    match text.split_first() {
+        Some((_, text)) => encode_text(rt.alloc(), text, output),
+        None => encode_input(rt.alloc(), track.as_ref(), input, output),
+    }
+}
+
+/// The track in the file of a name, if there is a name.
+fn track_given<R: AllocGlobal + Files>(rt: &R, file: Option<&str>) -> Result<Option<Track>, Fault>
+    ensures ok { IfOk result (IsTrackGiven (name_given file)) }
+    ensures err { IfErr result (IsNoTrackGiven (name_given file)) }
+{
+    let Some(file) = file else {
+        return Ok(None);
+    };
+    let text = track_text(rt, file)?;
+    Ok(Some(track_from_toml(rt.alloc(), text.as_str())?))
 }
 
 /// The text of a track file. The error is `OutOfMemory` or `TrackUnreadable`.

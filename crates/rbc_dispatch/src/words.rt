@@ -12,7 +12,9 @@ ghost use Rattle.rbc_dispatch.specs.Words.{AsksForCodes, AsksToCheck, AsksToDeco
 ghost use Rattle.rbc_dispatch.specs.Words.{AsksToLive, AsksToRun, IsCheckOf, IsCodesOf, IsDecode, IsExplainOn};
 ghost use Rattle.rbc_dispatch.specs.Words.{IsFound, IsLiveOn, IsNoTask, IsPictureOn, IsRunOn, IsTakenFor, IsTaskOf};
 ghost use Rattle.rbc_dispatch.specs.Words.{IsWantOfMemory, alarms_rule, bare_line, by_train_rule, code_rule};
-ghost use Rattle.rbc_dispatch.specs.Words.{codes_shape, command_line, count_after, decode_shape, fault_in};
+ghost use Rattle.rbc_dispatch.specs.Words.{AsksToDecodeLines, AsksToEncode, HasWords, IsDecodeLines, IsEncode};
+ghost use Rattle.rbc_dispatch.specs.Words.{codes_shape, command_line, count_after, decode_shape, encode_shape};
+ghost use Rattle.rbc_dispatch.specs.Words.{fault_in, known_track_rule, text_rule};
 ghost use Rattle.rbc_dispatch.specs.Words.{finding_in, flag_after, hex_rule, input_after, is_named, is_set};
 ghost use Rattle.rbc_dispatch.specs.Words.{live_shape, long_rule, number_after, other_keys_rule, run_shape};
 ghost use Rattle.rbc_dispatch.specs.Words.{stats_rule, track_rule, word_after};
@@ -74,10 +76,18 @@ pub enum Task<'a> {
         track: &'a str,
         other_keys: bool,
     },
+    /// `dispatch encode --track FILE TEXT ..`: write the bytes of the message whose text these words are, or, if there
+    /// are none, put the bytes of messages in place of their text in the lines on standard input. Reports are placed
+    /// on the track in the file of this name. `words` are all arguments.
+    Encode {
+        track: Option<&'a str>,
+        words: &'a [String],
+    },
     /// `dispatch decode HEX --long`: write the text of the message whose bytes this word gives, in one line or, with
-    /// the option, in a line for each variable.
+    /// the option, in a line for each variable. Without a word, put the text of messages in place of their bytes in the
+    /// lines on standard input.
     Decode {
-        word: &'a str,
+        word: Option<&'a str>,
         long: bool,
     },
     /// `dispatch codes CODE`: list what each code and each fault means, or this code alone.
@@ -111,6 +121,7 @@ const AFTER_HELP: &str = "\
 First:    dispatch check --track FILE                 what the track file says
 Then:     dispatch run --track FILE < BATCH           results and messages, as bytes
 Or:       dispatch live --track FILE                  the same, an answer as each line comes
+To write: dispatch encode --track FILE < LINES        a batch, from messages and places in words
 To read:  dispatch explain --track FILE < BATCH       the same run in words
           dispatch picture --track FILE < BATCH > out.svg
 Pages:    `dispatch help batch` on the lines of a batch, `dispatch help track` on track files
@@ -195,15 +206,42 @@ Exit status: 0 good, without a warning; 1 refused (`track: RULE` on standard err
 it), or good with warnings (`track: N warnings`); 2 bad arguments.",
 };
 
+const ENCODE: &Page = &Page {
+    name: "encode",
+    about: "Write messages from trains as bytes, from their text or from a place",
+    after_help: "\
+Without TEXT, reads lines from standard input and writes each as soon as it is read:
+  recv TEXT                 becomes `recv HEX`; TEXT is what `decode` writes of a message from a
+                            train, and begins with 136, 146 or 147
+  report ENGINE STAMP LINE:PLACE WAY [DOUBT]
+                            becomes `recv HEX`: a train whose front is at PLACE on LINE and that
+                            faces WAY, `up` or `down`, give or take DOUBT; places and DOUBT in units
+                            of 10 cm, on the track that --track names
+  any other line            stays as it is
+So `dispatch encode --track FILE < LINES | dispatch run --track FILE` runs what a person wrote.
+
+With TEXT, one word or several, writes the bytes of this one message, to a train or from one:
+
+  dispatch encode 16 stamp 2 ack 0 lrbg 16777215 em 1
+  1002800000009FFFFFE2
+
+Exit status: 0 done; 1 a fault, one line on standard error, as in `encode: line 3, word 8: 'scale'`;
+2 bad arguments. What was written before a fault stands.",
+};
+
 const DECODE: &Page = &Page {
     name: "decode",
-    about: "Show what the bytes of one message mean",
+    about: "Show what the bytes of messages mean",
     after_help: "\
 Messages 15, 16, 18 and 24 are read as messages to a train, all others as messages from one.
 Writes one line: the message's number, then each variable with its value.
 
   dispatch decode 1002800000009FFFFFE2
   16 stamp 2 ack 0 lrbg 16777215 em 1
+
+Without HEX, reads lines from standard input and writes each as soon as it is read, with the text of
+its message in place of the bytes: in lines of a batch (`recv HEX`), in lines of the output of `run`
+and `live` (`ENGINE INPUT HEX`), and where HEX stands alone. Any other line stays as it is.
 
 With --long, writes one line for each variable, and for the bits that are none: the place of its
 first bit, its width in bits, its name in SUBSET-026, its value, and what that means.
@@ -262,7 +300,8 @@ fn command<'a>(alloc: Global) -> Result<Command<'a>, AllocError>
     let with_picture = with_subcommand(with_explain, with_track(alloc, PICTURE, drawn));
     let other_keys = other_keys_option(alloc);
     let with_check = with_subcommand(with_picture, with_track(alloc, CHECK, other_keys));
-    let with_decode = with_subcommand(with_check, decode_command(alloc));
+    let with_encode = with_subcommand(with_check, encode_command(alloc));
+    let with_decode = with_subcommand(with_encode, decode_command(alloc));
     with_subcommand(with_decode, codes_command(alloc))
 }
 
@@ -288,7 +327,7 @@ fn bare_command<'a>(alloc: Global) -> Result<Command<'a>, AllocError>
 {
     Command::new(alloc, "dispatch")
         .no_binary_name(true)
-        .version("3.9.0, rules 3")
+        .version("3.10.0, rules 3")
         .about(
             "Emergency stops and speed restrictions, from a signaller's batch to each train's messages",
         )
@@ -316,6 +355,16 @@ fn live_command<'a>(alloc: Global) -> Result<Command<'a>, AllocError>
 {
     let answer = number_option(alloc, FIRST_ANSWER);
     with_track(alloc, LIVE, answer)?.arg(alarms_option(alloc))
+}
+
+/// `encode`, with its option and its words.
+fn encode_command<'a>(alloc: Global) -> Result<Command<'a>, AllocError>
+    ensures shape { IfOk result (λ command. shape_of command ≡ encode_shape) }
+    ensures local { IfOk result (λ command. (fields_of command).has_globals ≡ false) }
+{
+    subcommand(alloc, ENCODE)
+        .arg(known_track_option(alloc))?
+        .arg(text_words(alloc))
 }
 
 /// `decode`, with its word and its option.
@@ -367,6 +416,25 @@ fn track_option<'a>(alloc: Global) -> Arg<'a>
         .value_name("FILE")
         .required(true)
         .help("The track file, a TOML document")
+}
+
+fn known_track_option<'a>(alloc: Global) -> Arg<'a>
+    ensures rule { rule_of result ≡ known_track_rule }
+    ensures local { result.global ≡ false }
+{
+    Arg::new(alloc, "track")
+        .long("track")
+        .value_name("FILE")
+        .help("The track file that reports are placed on, a TOML document")
+}
+
+fn text_words<'a>(alloc: Global) -> Arg<'a>
+    ensures rule { rule_of result ≡ text_rule }
+    ensures local { result.global ≡ false }
+{
+    Arg::new(alloc, "TEXT")
+        .num_args(1..)
+        .help("The text of one message, in one word or several; lines are read if there is none")
 }
 
 fn number_option<'a>(alloc: Global, option: &NumberOption) -> Arg<'a>
@@ -450,8 +518,7 @@ fn hex_word<'a>(alloc: Global) -> Arg<'a>
     ensures local { result.global ≡ false }
 {
     Arg::new(alloc, "HEX")
-        .required(true)
-        .help("The bytes of the message, two hexadecimal digits each")
+        .help("The bytes of one message, two hexadecimal digits each; lines are read if there are none")
 }
 
 /// The arguments, as words. They are bad if one of them is not UTF-8.
@@ -502,6 +569,9 @@ pub fn parse<'a>(alloc: Global, words: &'a [String]) -> Result<Task<'a>, NoTask>
         → IsTakenFor (IsPictureOn file after) result }
     ensures decode { (word : List ℕ) (long : Bool) → AsksToDecode word long (map string_bytes words.now)
         → IsTakenFor (IsDecode word long) result }
+    ensures lines { AsksToDecodeLines (map string_bytes words.now) → IsTakenFor IsDecodeLines result }
+    ensures encode { (track : Option (List ℕ)) (text : List ℕ) → AsksToEncode track text (map string_bytes words.now)
+        → IsTakenFor (IsEncode track text) result }
     ensures check { (file : List ℕ) → AsksToCheck file (map string_bytes words.now)
         → IsTakenFor (IsCheckOf file) result }
     ensures codes { (code : Option ℕ) → AsksForCodes code (map string_bytes words.now)
@@ -528,6 +598,9 @@ fn parse_command<'a>(alloc: Global, words: &'a [String]) -> Result<Task<'a>, NoT
         → IsTakenFor (IsPictureOn file after) result }
     ensures decode { (word : List ℕ) (long : Bool) → AsksToDecode word long (map string_bytes words.now)
         → IsTakenFor (IsDecode word long) result }
+    ensures lines { AsksToDecodeLines (map string_bytes words.now) → IsTakenFor IsDecodeLines result }
+    ensures encode { (track : Option (List ℕ)) (text : List ℕ) → AsksToEncode track text (map string_bytes words.now)
+        → IsTakenFor (IsEncode track text) result }
     ensures check { (file : List ℕ) → AsksToCheck file (map string_bytes words.now)
         → IsTakenFor (IsCheckOf file) result }
     ensures codes { (code : Option ℕ) → AsksForCodes code (map string_bytes words.now)
@@ -536,7 +609,14 @@ fn parse_command<'a>(alloc: Global, words: &'a [String]) -> Result<Task<'a>, NoT
     ensures task { IfOk result (IsFound (finding_in (map string_bytes words.now))) }
 {
     let matches = command(alloc)?.try_get_matches_from(words)?;
-    match task_of(&matches) {
+    match task_of(&matches, words) {
+        Some(Task::Decode {
+            word: None,
+            long: true,
+        }) => {
+            let message = "--long asks for one message: give its HEX";
+            Err(refuse(alloc, ErrorKind::MissingRequiredArgument, message))
+        }
         Some(task) => Ok(task),
         // Never reached: clap requires a subcommand, and each subcommand requires its word.
         None => Err(refuse(alloc, ErrorKind::MissingSubcommand, "no task was named")),
@@ -544,8 +624,9 @@ fn parse_command<'a>(alloc: Global, words: &'a [String]) -> Result<Task<'a>, NoT
 }
 
 // The task that the words name, by what was found in them.
-fn task_of<'a>(matches: &ArgMatches<'a>) -> Option<Task<'a>>
+fn task_of<'a>(matches: &ArgMatches<'a>, words: &'a [String]) -> Option<Task<'a>>
     ensures found { IfSome result (IsFound (subcommand_rows_of matches.now)) }
+    ensures words { IfSome result (HasWords (map string_bytes words.now)) }
     ensures none { IfNone result (IsNoTask (subcommand_rows_of matches.now)) }
 {
     if let Some(track) = word_after(matches, "run", "track") {
@@ -578,7 +659,12 @@ fn task_of<'a>(matches: &ArgMatches<'a>) -> Option<Task<'a>>
         let after = input_after(matches, "picture", "after");
         return Some(Task::Picture { track, after });
     }
-    if let Some(word) = word_after(matches, "decode", "HEX") {
+    if is_named(matches, "encode") {
+        let track = word_after(matches, "encode", "track");
+        return Some(Task::Encode { track, words });
+    }
+    if is_named(matches, "decode") {
+        let word = word_after(matches, "decode", "HEX");
         let long = has_flag_after(matches, "decode", "long");
         return Some(Task::Decode { word, long });
     }

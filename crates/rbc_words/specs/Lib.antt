@@ -1,2 +1,14 @@
+pub mod Calls
+pub mod Decoding
+pub mod Encoding
+pub mod FaultTexts
+pub mod Filters
+pub mod LastWord
+pub mod Lines
+pub mod ReportWords
 pub mod Rows
+pub mod Rules
+pub mod TextLaw
+pub mod TextWitnesses
+pub mod UnderWay
 pub mod Units

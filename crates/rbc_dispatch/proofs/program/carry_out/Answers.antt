@@ -1,7 +1,8 @@
-use Rattle.std.proofs.Common.{sym, subst, ◌∙◌, false, true, ℕ, Bool, Option}
+use Rattle.std.proofs.Common.{◌≡◌, [], ◌∷◌, sym, subst, ◌∙◌, false, true, ℕ, Bool, List, Option, inl}
 use Rattle.rbc_explain.specs.AccountTelling.{TooFewFor, TooLate}
-use Rattle.rbc_dispatch.specs.Words.{IsExplainOn, IsLiveOn, IsPictureOn, IsRunOn}
+use Rattle.rbc_dispatch.specs.Words.{IsEncode, IsExplainOn, IsLiveOn, IsPictureOn, IsRunOn}
 use Rattle.rbc_dispatch.specs.declared.words.Task.{Task}
+use Rattle.rbc_dispatch.specs.Filtering.{EncodesLines, EncodesTextOn}
 use Rattle.rbc_dispatch.specs.Living.{Lives}
 use Rattle.rbc_dispatch.specs.Running.{Runs}
 use Rattle.rbc_dispatch.specs.Showing.{IsLogFrom, IsPictureAfter, Shows}
@@ -46,3 +47,16 @@ returns-in-Picture-clause-picture g c = λ file after asked.
     let taken = subst (λ (task : Task). IsPictureOn file after task) c.in-Picture.is asked in
     subst (λ (n : Option ℕ). Shows {E = Unit {0}} (TooFewFor n) (IsPictureAfter n) (g.I.Read.remaining c.args.input.now) (g.I.Read.remaining c.picture_file.new.input)
     (g.O.Write.contents c.args.output.now) (g.O.Write.contents c.picture_file.new.output) c.picture_file.result) taken.1 c.picture_file.ensures.shows
+
+-- lines and a text, on the track that the task names
+pub returns-in-Encode-clause-encode_lines : goal.returns-in-Encode-clause-encode_lines
+returns-in-Encode-clause-encode_lines g c = λ file asked.
+    let taken = subst (λ (task : Task). IsEncode file [] task) c.in-Encode.is asked in
+    subst (λ (name : Option (List ℕ)). EncodesLines {E = Unit {0}} name (g.I.Read.remaining c.args.input.now) (g.I.Read.remaining c.encode_task.new.input)
+    (g.O.Write.contents c.args.output.now) (g.O.Write.contents c.encode_task.new.output) c.encode_task.result) taken.0 (c.encode_task.ensures.lines taken.1)
+
+pub returns-in-Encode-clause-encode : goal.returns-in-Encode-clause-encode
+returns-in-Encode-clause-encode g c = λ file text asked.
+    let taken = subst (λ (task : Task). IsEncode file (32 ∷ text) task) c.in-Encode.is asked in
+    let done = c.encode_task.ensures.text text taken.1 in
+    (done.0, subst (λ (name : Option (List ℕ)). EncodesTextOn {E = Unit {0}} name text (g.O.Write.contents c.args.output.now) (g.O.Write.contents c.encode_task.new.output) c.encode_task.result) taken.0 done.1)

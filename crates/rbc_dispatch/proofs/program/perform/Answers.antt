@@ -1,7 +1,8 @@
-use Rattle.std.proofs.Common.{false, true, inr, map, refl, string_bytes}
+use Rattle.std.proofs.Common.{false, true, inl, inr, [], ◌∷◌, map, refl, string_bytes}
 use Rattle.rbc_explain.specs.AccountTelling.{TooFewFor, TooLate}
 use Rattle.rbc_dispatch.specs.Checking.{Checks}
 use Rattle.rbc_dispatch.specs.Decoding.{Decodes, DecodesLong, IsUntouched}
+use Rattle.rbc_dispatch.specs.Filtering.{DecodesAllLines, EncodesLines, EncodesTextOn}
 use Rattle.rbc_dispatch.specs.Living.{Lives}
 use Rattle.rbc_dispatch.specs.Running.{Keeps, Runs}
 use Rattle.rbc_dispatch.specs.Showing.{IsLogFrom, IsPictureAfter, Shows}
@@ -210,3 +211,41 @@ returns-in_err-task-clause-picture g c = λ file after asked.
 pub returns-in_err-task-clause-check : goal.returns-in_err-task-clause-check
 returns-in_err-task-clause-check g c = λ file asked.
     (refl, at_memory _ (Checks {E = Unit {0}}) c.in_err-task.field-0.0 c.from_residual.ensures.1 (c.in_err-task.ensures.check file asked) (inr (inr refl)))
+
+-- lines through `encode` and `decode`, and a text
+
+pub returns-in_err-carry_out-clause-decode_lines : goal.returns-in_err-carry_out-clause-decode_lines
+returns-in_err-carry_out-clause-decode_lines g c = λ asked.
+    at_handed_on _ (DecodesAllLines {E = Unit {0}} _ _ _ _) _ c.from_residual-in_err-carry_out.ensures.1
+    (c.in_err-carry_out.ensures.decode_lines (c.in_ok-task.ensures.lines asked))
+
+pub returns-in_err-carry_out-clause-encode_lines : goal.returns-in_err-carry_out-clause-encode_lines
+returns-in_err-carry_out-clause-encode_lines g c = λ file asked.
+    at_handed_on _ (EncodesLines {E = Unit {0}} file _ _ _ _) _ c.from_residual-in_err-carry_out.ensures.1
+    (c.in_err-carry_out.ensures.encode_lines file (c.in_ok-task.ensures.encode file [] asked))
+
+pub returns-in_err-carry_out-clause-encode : goal.returns-in_err-carry_out-clause-encode
+returns-in_err-carry_out-clause-encode g c = λ file text asked.
+    let done = c.in_err-carry_out.ensures.encode file text (c.in_ok-task.ensures.encode file (32 ∷ text) asked) in
+    (done.0, at_handed_on _ (EncodesTextOn {E = Unit {0}} file text _ _) _ c.from_residual-in_err-carry_out.ensures.1 done.1)
+
+pub returns-clause-decode_lines : goal.returns-clause-decode_lines
+returns-clause-decode_lines g c = λ asked. c.in_ok-carry_out.ensures.decode_lines (c.in_ok-task.ensures.lines asked)
+
+pub returns-clause-encode_lines : goal.returns-clause-encode_lines
+returns-clause-encode_lines g c = λ file asked. c.in_ok-carry_out.ensures.encode_lines file (c.in_ok-task.ensures.encode file [] asked)
+
+pub returns-clause-encode : goal.returns-clause-encode
+returns-clause-encode g c = λ file text asked. c.in_ok-carry_out.ensures.encode file text (c.in_ok-task.ensures.encode file (32 ∷ text) asked)
+
+pub returns-in_err-task-clause-decode_lines : goal.returns-in_err-task-clause-decode_lines
+returns-in_err-task-clause-decode_lines g c = λ asked.
+    at_memory _ (DecodesAllLines {E = Unit {0}} _ _ _ _) c.in_err-task.field-0.0 c.from_residual.ensures.1 (c.in_err-task.ensures.lines asked) (inr (inr refl))
+
+pub returns-in_err-task-clause-encode_lines : goal.returns-in_err-task-clause-encode_lines
+returns-in_err-task-clause-encode_lines g c = λ file asked.
+    at_memory _ (EncodesLines {E = Unit {0}} file _ _ _ _) c.in_err-task.field-0.0 c.from_residual.ensures.1 (c.in_err-task.ensures.encode file [] asked) (inr (inr refl))
+
+pub returns-in_err-task-clause-encode : goal.returns-in_err-task-clause-encode
+returns-in_err-task-clause-encode g c = λ file text asked.
+    (refl, at_memory _ (EncodesTextOn {E = Unit {0}} file text _ _) c.in_err-task.field-0.0 c.from_residual.ensures.1 (c.in_err-task.ensures.encode file (32 ∷ text) asked) (inl tt))

@@ -24,3 +24,9 @@ returns-in-Some-clause-check c = λ file asked. page_refused _ c.in-Some.topic (
 
 pub returns-in-Some-clause-codes : goal.returns-in-Some-clause-codes
 returns-in-Some-clause-codes c = λ code asked. page_refused _ c.in-Some.topic (sym c.topic_in.ensures ∙ c.in-Some.is) asked.0
+
+pub returns-in-Some-clause-lines : goal.returns-in-Some-clause-lines
+returns-in-Some-clause-lines c = λ asked. page_refused _ c.in-Some.topic (sym c.topic_in.ensures ∙ c.in-Some.is) asked.0
+
+pub returns-in-Some-clause-encode : goal.returns-in-Some-clause-encode
+returns-in-Some-clause-encode c = λ track text asked. page_refused _ c.in-Some.topic (sym c.topic_in.ensures ∙ c.in-Some.is) asked.0

@@ -13,11 +13,12 @@ use Rattle.clap.specs.declared.parser.matches.ArgMatches.{ArgMatches}
 use Rattle.clap.proofs.OnLiterals.{clap_on_literals}
 use Rattle.rbc_live.specs.declared.wanted.Wanted.{Wanted}
 use Rattle.rbc_dispatch.specs.NoTask.{no_task_of}
-use Rattle.rbc_dispatch.specs.Words.{Finding, IsCheckOf, IsCodesOf, IsDecode, IsExplainOn, IsFound, IsLiveOn, IsPictureOn, IsRunOn, IsTakenFor, IsWantOfMemory, command_line, count_after, finding_in, flag_after, input_after, is_named, is_set, number_after, word_after}
+use Rattle.rbc_dispatch.specs.TextWords.{spaced_text}
+use Rattle.rbc_dispatch.specs.Words.{Finding, IsCheckOf, IsCodesOf, IsDecode, IsDecodeLines, IsEncode, IsExplainOn, IsFound, IsLiveOn, IsPictureOn, IsRunOn, IsTakenFor, HasWords, IsWantOfMemory, command_line, count_after, finding_in, flag_after, input_after, is_named, is_set, number_after, word_after}
 use Rattle.rbc_dispatch.specs.declared.no_task.NoTask.{NoTask}
 use Rattle.rbc_dispatch.specs.declared.no_task.NoTask.TheVariants.{OutOfMemory}
 use Rattle.rbc_dispatch.specs.declared.words.Task.{Task}
-use Rattle.rbc_dispatch.specs.declared.words.Task.TheVariants.{Run, Live, Explain, Picture, Check, Decode, Codes, Page}
+use Rattle.rbc_dispatch.specs.declared.words.Task.TheVariants.{Run, Live, Explain, Picture, Check, Encode, Decode, Codes, Page}
 use Rattle.rbc_dispatch.proofs.words.parse_command.Goals as goal
 
 line_is_simple_and_free : is_simple_and_free command_line ≡ true
@@ -59,6 +60,21 @@ not_named name other id (Some p) word apart first second =
     let bad : bytes_eq name other ≡ true = subst (λ (n : Text). bytes_eq n other ≡ true) is second in
     cc
 
+two_names : (name other : Text) (found : Finding) → bytes_eq name other ≡ false → is_named name found ≡ true → is_named other found ≡ true → ⊥
+two_names name other None apart first second = cc
+two_names name other (Some p) apart first second =
+    let is : p.0 ≡ name = (bytes_eq-Decides p.0 name).0 first in
+    let bad : bytes_eq name other ≡ true = subst (λ (n : Text). bytes_eq n other ≡ true) is second in
+    cc
+
+-- a word stands behind a name that was named
+unnamed_word : (name id : Text) (found : Finding) (word : Text) → is_named name found ≡ false → word_after name id found ≡ Some word → ⊥
+unnamed_word name id None word not asked = cc
+unnamed_word name id (Some p) word not asked = let is = chosen _ p.1 (first_of id) word asked in cc
+
+is_no_name : (name : Text) (found : Finding) → is_named name found ≡ false → is_named name found ≡ true → ⊥
+is_no_name name found not is = cc
+
 -- what was not found was not asked for
 not_found : (o : Option Text) (word : Text) → o ≡ None → o ≡ Some word → ⊥
 not_found None word none some = cc
@@ -76,7 +92,8 @@ run_found found (Live track from alarms) is file workers wanted asked count flag
 run_found found (Explain track first) is file workers wanted asked count flag = not_both (codes "run") (codes "explain") (codes "track") (codes "track") found file track.now refl asked is.0
 run_found found (Picture track after) is file workers wanted asked count flag = not_both (codes "run") (codes "picture") (codes "track") (codes "track") found file track.now refl asked is.0
 run_found found (Check track other) is file workers wanted asked count flag = not_found _ file is.0.0 asked
-run_found found (Decode hex long) is file workers wanted asked count flag = not_both (codes "run") (codes "decode") (codes "track") (codes "HEX") found file hex.now refl asked is.0
+run_found found (Encode track words) is file workers wanted asked count flag = not_named (codes "run") (codes "encode") (codes "track") found file refl asked is.0
+run_found found (Decode hex long) is file workers wanted asked count flag = not_named (codes "run") (codes "decode") (codes "track") found file refl asked is.0
 run_found found (Codes code) is file workers wanted asked count flag = not_named (codes "run") (codes "codes") (codes "track") found file refl asked is.0
 run_found found (Page topic) is file workers wanted asked count flag = absurd is
 
@@ -88,7 +105,8 @@ live_found found (Live track first alarms) is file wanted asked count flag = (so
 live_found found (Explain track first) is file wanted asked count flag = not_both (codes "live") (codes "explain") (codes "track") (codes "track") found file track.now refl asked is.0
 live_found found (Picture track after) is file wanted asked count flag = not_both (codes "live") (codes "picture") (codes "track") (codes "track") found file track.now refl asked is.0
 live_found found (Check track other) is file wanted asked count flag = not_found _ file is.0.1 asked
-live_found found (Decode hex long) is file wanted asked count flag = not_both (codes "live") (codes "decode") (codes "track") (codes "HEX") found file hex.now refl asked is.0
+live_found found (Encode track words) is file wanted asked count flag = not_named (codes "live") (codes "encode") (codes "track") found file refl asked is.0
+live_found found (Decode hex long) is file wanted asked count flag = not_named (codes "live") (codes "decode") (codes "track") found file refl asked is.0
 live_found found (Codes code) is file wanted asked count flag = not_named (codes "live") (codes "codes") (codes "track") found file refl asked is.0
 live_found found (Page topic) is file wanted asked count flag = absurd is
 
@@ -99,7 +117,8 @@ explain_found found (Live track first alarms) is file from asked count = not_bot
 explain_found found (Explain track first) is file from asked count = (some_now _ _ (sym is.0 ∙ asked), sym is.1 ∙ count)
 explain_found found (Picture track after) is file from asked count = not_both (codes "explain") (codes "picture") (codes "track") (codes "track") found file track.now refl asked is.0
 explain_found found (Check track other) is file from asked count = not_found _ file is.0.3 asked
-explain_found found (Decode hex long) is file from asked count = not_both (codes "explain") (codes "decode") (codes "track") (codes "HEX") found file hex.now refl asked is.0
+explain_found found (Encode track words) is file from asked count = not_named (codes "explain") (codes "encode") (codes "track") found file refl asked is.0
+explain_found found (Decode hex long) is file from asked count = not_named (codes "explain") (codes "decode") (codes "track") found file refl asked is.0
 explain_found found (Codes code) is file from asked count = not_named (codes "explain") (codes "codes") (codes "track") found file refl asked is.0
 explain_found found (Page topic) is file from asked count = absurd is
 
@@ -110,7 +129,8 @@ picture_found found (Live track from alarms) is file after asked count = not_bot
 picture_found found (Explain track from) is file after asked count = not_both (codes "explain") (codes "picture") (codes "track") (codes "track") found track.now file refl is.0 asked
 picture_found found (Picture track inputs) is file after asked count = (some_now _ _ (sym is.0 ∙ asked), sym is.1 ∙ count)
 picture_found found (Check track other) is file after asked count = not_found _ file is.0.4 asked
-picture_found found (Decode hex long) is file after asked count = not_both (codes "picture") (codes "decode") (codes "track") (codes "HEX") found file hex.now refl asked is.0
+picture_found found (Encode track words) is file after asked count = not_named (codes "picture") (codes "encode") (codes "track") found file refl asked is.0
+picture_found found (Decode hex long) is file after asked count = not_named (codes "picture") (codes "decode") (codes "track") found file refl asked is.0
 picture_found found (Codes code) is file after asked count = not_named (codes "picture") (codes "codes") (codes "track") found file refl asked is.0
 picture_found found (Page topic) is file after asked count = absurd is
 
@@ -120,8 +140,10 @@ decode_found found (Run track number by_train stats alarms) is word long asked f
 decode_found found (Live track from alarms) is word long asked flag = not_both (codes "live") (codes "decode") (codes "track") (codes "HEX") found track.now word refl is.0 asked
 decode_found found (Explain track first) is word long asked flag = not_both (codes "explain") (codes "decode") (codes "track") (codes "HEX") found track.now word refl is.0 asked
 decode_found found (Picture track after) is word long asked flag = not_both (codes "picture") (codes "decode") (codes "track") (codes "HEX") found track.now word refl is.0 asked
-decode_found found (Check track other) is word long asked flag = not_found _ word is.0.2 asked
-decode_found found (Decode hex by_variable) is word long asked flag = (some_now _ _ (sym is.0 ∙ asked), sym is.1 ∙ flag)
+decode_found found (Check track other) is word long asked flag = absurd (unnamed_word (codes "decode") (codes "HEX") found word is.0.2 asked)
+decode_found found (Encode track words) is word long asked flag = not_named (codes "decode") (codes "encode") (codes "HEX") found word refl asked is.0
+decode_found found (Decode None by_variable) is word long asked flag = absurd (not_found _ word is.1 asked)
+decode_found found (Decode (Some hex) by_variable) is word long asked flag = (some_now _ _ (sym is.1 ∙ asked), sym is.2 ∙ flag)
 decode_found found (Codes code) is word long asked flag = not_named (codes "decode") (codes "codes") (codes "HEX") found word refl asked is.0
 decode_found found (Page topic) is word long asked flag = absurd is
 
@@ -132,7 +154,8 @@ check_found found (Live track from alarms) is file asked = not_both (codes "live
 check_found found (Explain track first) is file asked = not_both (codes "explain") (codes "check") (codes "track") (codes "track") found track.now file refl is.0 asked
 check_found found (Picture track after) is file asked = not_both (codes "picture") (codes "check") (codes "track") (codes "track") found track.now file refl is.0 asked
 check_found found (Check track other) is file asked = some_now _ _ (sym is.1 ∙ asked)
-check_found found (Decode hex long) is file asked = not_both (codes "decode") (codes "check") (codes "HEX") (codes "track") found hex.now file refl is.0 asked
+check_found found (Encode track words) is file asked = not_named (codes "check") (codes "encode") (codes "track") found file refl asked is.0
+check_found found (Decode hex long) is file asked = not_named (codes "check") (codes "decode") (codes "track") found file refl asked is.0
 check_found found (Codes code) is file asked = not_named (codes "check") (codes "codes") (codes "track") found file refl asked is.0
 check_found found (Page topic) is file asked = absurd is
 
@@ -143,9 +166,35 @@ codes_found found (Live track from alarms) is code asked count = not_named (code
 codes_found found (Explain track first) is code asked count = not_named (codes "explain") (codes "codes") (codes "track") found track.now refl is.0 asked
 codes_found found (Picture track after) is code asked count = not_named (codes "picture") (codes "codes") (codes "track") found track.now refl is.0 asked
 codes_found found (Check track other) is code asked count = not_named (codes "check") (codes "codes") (codes "track") found track.now refl is.1 asked
-codes_found found (Decode hex long) is code asked count = not_named (codes "decode") (codes "codes") (codes "HEX") found hex.now refl is.0 asked
+codes_found found (Encode track words) is code asked count = absurd (two_names (codes "encode") (codes "codes") found refl is.0 asked)
+codes_found found (Decode hex long) is code asked count = absurd (two_names (codes "decode") (codes "codes") found refl is.0 asked)
 codes_found found (Codes named) is code asked count = sym is.1 ∙ count
 codes_found found (Page topic) is code asked count = absurd is
+
+decode_lines_found : (found : Finding) (task : Task) → IsFound found task → is_named (codes "decode") found ≡ true → word_after (codes "decode") (codes "HEX") found ≡ None
+    → is_set (flag_after (codes "decode") (codes "long") found) ≡ false → IsDecodeLines task
+decode_lines_found found (Run track number by_train stats alarms) is asked none flag = not_named (codes "run") (codes "decode") (codes "track") found track.now refl is.0 asked
+decode_lines_found found (Live track from alarms) is asked none flag = not_named (codes "live") (codes "decode") (codes "track") found track.now refl is.0 asked
+decode_lines_found found (Explain track from) is asked none flag = not_named (codes "explain") (codes "decode") (codes "track") found track.now refl is.0 asked
+decode_lines_found found (Picture track after) is asked none flag = not_named (codes "picture") (codes "decode") (codes "track") found track.now refl is.0 asked
+decode_lines_found found (Check track other) is asked none flag = is_no_name (codes "decode") found is.0.2 asked
+decode_lines_found found (Encode track words) is asked none flag = two_names (codes "encode") (codes "decode") found refl is.0 asked
+decode_lines_found found (Decode None long) is asked none flag = sym is.2 ∙ flag
+decode_lines_found found (Decode (Some hex) long) is asked none flag = not_found _ hex.now none is.1
+decode_lines_found found (Codes code) is asked none flag = two_names (codes "codes") (codes "decode") found refl is.0 asked
+decode_lines_found found (Page topic) is asked none flag = is
+
+encode_found : (found : Finding) (words : List Text) (task : Task) → IsFound found task → HasWords words task → (track : Option Text) (text : List ℕ) → is_named (codes "encode") found ≡ true
+    → word_after (codes "encode") (codes "track") found ≡ track → spaced_text words ≡ text → IsEncode track text task
+encode_found found words (Run track number by_train stats alarms) is has file text asked given spaced = not_named (codes "run") (codes "encode") (codes "track") found track.now refl is.0 asked
+encode_found found words (Live track from alarms) is has file text asked given spaced = not_named (codes "live") (codes "encode") (codes "track") found track.now refl is.0 asked
+encode_found found words (Explain track from) is has file text asked given spaced = not_named (codes "explain") (codes "encode") (codes "track") found track.now refl is.0 asked
+encode_found found words (Picture track after) is has file text asked given spaced = not_named (codes "picture") (codes "encode") (codes "track") found track.now refl is.0 asked
+encode_found found words (Check track other) is has file text asked given spaced = is_no_name (codes "encode") found is.0.5 asked
+encode_found found words (Encode track kept) is has file text asked given spaced = (sym is.1 ∙ given, ap spaced_text has ∙ spaced)
+encode_found found words (Decode hex long) is has file text asked given spaced = two_names (codes "decode") (codes "encode") found refl is.0 asked
+encode_found found words (Codes code) is has file text asked given spaced = two_names (codes "codes") (codes "encode") found refl is.0 asked
+encode_found found words (Page topic) is has file text asked given spaced = is
 
 -- words without a fault are not taken only where memory runs out
 memory_alone : (e : Error) → HasKind [] e → IsWantOfMemory (no_task_of e)
@@ -194,6 +243,18 @@ returns-in-Some-clause-decode c = λ word long asked.
     let found = found_here _ words _ c.in_ok-command.ensures c.in_ok-matches.ensures.matches in
     decode_found (finding_in words) _ (subst (λ (f : Finding). IsFound f c.in-Some.task) found c.in-Some.ensures.found) word long asked.1 asked.2
 
+pub returns-in-Some-clause-lines : goal.returns-in-Some-clause-lines
+returns-in-Some-clause-lines c = λ asked.
+    let words = map string_bytes c.args.words.now in
+    let found = found_here _ words _ c.in_ok-command.ensures c.in_ok-matches.ensures.matches in
+    decode_lines_found (finding_in words) _ (subst (λ (f : Finding). IsFound f c.in-Some.task) found c.in-Some.ensures.found) asked.1 asked.2 asked.3
+
+pub returns-in-Some-clause-encode : goal.returns-in-Some-clause-encode
+returns-in-Some-clause-encode c = λ track text asked.
+    let words = map string_bytes c.args.words.now in
+    let found = found_here _ words _ c.in_ok-command.ensures c.in_ok-matches.ensures.matches in
+    encode_found (finding_in words) words _ (subst (λ (f : Finding). IsFound f c.in-Some.task) found c.in-Some.ensures.found) c.in-Some.ensures.words track text asked.1 asked.2 asked.3
+
 pub returns-in-Some-clause-check : goal.returns-in-Some-clause-check
 returns-in-Some-clause-check c = λ file asked.
     let words = map string_bytes c.args.words.now in
@@ -223,6 +284,18 @@ returns-in_err-matches-clause-decode c = λ word long asked.
     let e = c.in_err-matches.field-0.0 in
     let kinds = kinds_here _ (map string_bytes c.args.words.now) (λ ks. HasKind ks e) c.in_ok-command.ensures c.in_err-matches.ensures.kinds in
     only_memory _ (IsDecode word long) (no_task_of e) c.from_residual-in_err-matches.ensures.1 (memory_alone e (subst (λ (ks : List ErrorKind). HasKind ks e) asked.0 kinds))
+
+pub returns-in_err-matches-clause-lines : goal.returns-in_err-matches-clause-lines
+returns-in_err-matches-clause-lines c = λ asked.
+    let e = c.in_err-matches.field-0.0 in
+    let kinds = kinds_here _ (map string_bytes c.args.words.now) (λ ks. HasKind ks e) c.in_ok-command.ensures c.in_err-matches.ensures.kinds in
+    only_memory _ IsDecodeLines (no_task_of e) c.from_residual-in_err-matches.ensures.1 (memory_alone e (subst (λ (ks : List ErrorKind). HasKind ks e) asked.0 kinds))
+
+pub returns-in_err-matches-clause-encode : goal.returns-in_err-matches-clause-encode
+returns-in_err-matches-clause-encode c = λ track text asked.
+    let e = c.in_err-matches.field-0.0 in
+    let kinds = kinds_here _ (map string_bytes c.args.words.now) (λ ks. HasKind ks e) c.in_ok-command.ensures c.in_err-matches.ensures.kinds in
+    only_memory _ (IsEncode track text) (no_task_of e) c.from_residual-in_err-matches.ensures.1 (memory_alone e (subst (λ (ks : List ErrorKind). HasKind ks e) asked.0 kinds))
 
 pub returns-in_err-matches-clause-explain : goal.returns-in_err-matches-clause-explain
 returns-in_err-matches-clause-explain c = λ file from asked.
@@ -270,6 +343,12 @@ returns-in_err-command-clause-picture c = λ file after asked. only_memory _ (Is
 pub returns-in_err-command-clause-decode : goal.returns-in_err-command-clause-decode
 returns-in_err-command-clause-decode c = λ word long asked. only_memory _ (IsDecode word long) OutOfMemory c.from_residual.ensures.1 refl
 
+pub returns-in_err-command-clause-lines : goal.returns-in_err-command-clause-lines
+returns-in_err-command-clause-lines c = λ asked. only_memory _ IsDecodeLines OutOfMemory c.from_residual.ensures.1 refl
+
+pub returns-in_err-command-clause-encode : goal.returns-in_err-command-clause-encode
+returns-in_err-command-clause-encode c = λ track text asked. only_memory _ (IsEncode track text) OutOfMemory c.from_residual.ensures.1 refl
+
 pub returns-in_err-command-clause-check : goal.returns-in_err-command-clause-check
 returns-in_err-command-clause-check c = λ file asked. only_memory _ (IsCheckOf file) OutOfMemory c.from_residual.ensures.1 refl
 
@@ -296,7 +375,7 @@ returns-clause-picture c = λ file after asked.
 pub returns-clause-decode : goal.returns-clause-decode
 returns-clause-decode c = λ word long asked.
     let found = found_here _ (map string_bytes c.args.words.now) _ c.in_ok-command.ensures c.in_ok-matches.ensures.matches in
-    none_asked _ _ (codes "decode") (codes "HEX") word found c.in-None.ensures.none.0.2 asked.1
+    absurd (unnamed_word (codes "decode") (codes "HEX") _ word c.in-None.ensures.none.0.2 (ap (word_after (codes "decode") (codes "HEX")) found ∙ asked.1))
 
 pub returns-clause-check : goal.returns-clause-check
 returns-clause-check c = λ file asked.
@@ -312,3 +391,13 @@ pub returns-clause-codes : goal.returns-clause-codes
 returns-clause-codes c = λ code asked.
     let found = found_here _ (map string_bytes c.args.words.now) _ c.in_ok-command.ensures c.in_ok-matches.ensures.matches in
     absurd (unnamed _ _ (ap (is_named (codes "codes")) found) c.in-None.ensures.none.2 asked.1)
+
+pub returns-clause-lines : goal.returns-clause-lines
+returns-clause-lines c = λ asked.
+    let found = found_here _ (map string_bytes c.args.words.now) _ c.in_ok-command.ensures c.in_ok-matches.ensures.matches in
+    absurd (unnamed _ _ (ap (is_named (codes "decode")) found) c.in-None.ensures.none.0.2 asked.1)
+
+pub returns-clause-encode : goal.returns-clause-encode
+returns-clause-encode c = λ track text asked.
+    let found = found_here _ (map string_bytes c.args.words.now) _ c.in_ok-command.ensures c.in_ok-matches.ensures.matches in
+    absurd (unnamed _ _ (ap (is_named (codes "encode")) found) c.in-None.ensures.none.0.5 asked.1)

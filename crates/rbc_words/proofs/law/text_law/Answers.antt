@@ -1,0 +1,17 @@
+use Rattle.rbc_words.proofs.TextLaws.{each_is_encoded, each_encoded_is_described, each_described_is_of_a_message, one_message_each, one_encoding_each}
+use Rattle.rbc_words.proofs.law.text_law.Goals as goal
+
+pub returns-clause-encoded : goal.returns-clause-encoded
+returns-clause-encoded c = each_is_encoded
+
+pub returns-clause-described : goal.returns-clause-described
+returns-clause-described c = each_encoded_is_described
+
+pub returns-clause-of_a_message : goal.returns-clause-of_a_message
+returns-clause-of_a_message c = each_described_is_of_a_message
+
+pub returns-clause-one_message : goal.returns-clause-one_message
+returns-clause-one_message c = one_message_each
+
+pub returns-clause-one_encoding : goal.returns-clause-one_encoding
+returns-clause-one_encoding c = one_encoding_each
