@@ -1,13 +1,15 @@
 -- A message from a train as fields (own layout; SUBSET-026, 7.4.3, 7.5 and 8.6 for the variables).
-use Rattle.std.specs.Prelude.{◌≡◌, ℕ, List, Option, Some, None}
+use Rattle.std.specs.Prelude.{◌≡◌, ◌⊎◌, ℕ, ◌<◌, ◌≤◌, List, length, Option, Some, None, if◌then◌else◌, ◌==◌}
 use Rattle.ertms_codec.specs.declared.from_train.Position.{Position}
 use Rattle.ertms_codec.specs.declared.from_train.FromTrain.{FromTrain}
 use Rattle.ertms_codec.specs.declared.from_train.FromTrain.TheVariants.{Report, Ack, StopAck}
 use Rattle.ertms_codec.specs.declared.error.DecodeError.{DecodeError}
 use Rattle.ertms_codec.specs.FromTrain.{Spells}
+use Rattle.ertms_codec.specs.FromTrainWritten.{IsInRange, spelling_of}
 use Rattle.ertms_codec.specs.RefusalsFromTrain.{Refuses}
 use Rattle.ertms_c.specs.declared.from_train.FromTrainFields.{FromTrainFields}
-use Rattle.ertms_c.specs.Faults.{code_of}
+use Rattle.ertms_c.specs.Faults.{code_of, done, no_message, room}
+use Rattle.ertms_c.specs.Given.{fronted}
 
 -- the fields of a kind of message, its stamp and its engine, with no other
 abbrev pub begun : ℕ → ℕ → ℕ → FromTrainFields
@@ -42,6 +44,26 @@ fields_of (Report stamp engine position) = placed position (begun 136 stamp engi
 fields_of (Ack stamp engine acked) = record (begun 146 stamp engine) { acked = acked }
 fields_of (StopAck stamp engine id answer position) = record (placed position (begun 147 stamp engine)) { id = id; answer = answer }
 
+-- the message that fields name by their kind
+abbrev pub position_in : FromTrainFields → Position
+position_in fields = record {
+  previous = if fields.packet == 1 then Some fields.previous else None;
+  scale = fields.scale;
+  lrbg = fields.lrbg;
+  distance = fields.distance;
+  dir = fields.dir;
+  side = fields.side;
+  over = fields.over;
+  under = fields.under;
+}
+
+abbrev pub named_by : FromTrainFields → Option FromTrain
+named_by fields =
+    if fields.kind == 136 then Some (Report fields.stamp fields.engine (position_in fields))
+    else (if fields.kind == 146 then Some (Ack fields.stamp fields.engine fields.acked)
+    else (if fields.kind == 147 then Some (StopAck fields.stamp fields.engine fields.id fields.answer (position_in fields))
+    else None))
+
 -- the bytes spell a message, and these are its fields
 abbrev pub AreRead : List ℕ → FromTrainFields → Type 0
 AreRead bytes fields = (m : FromTrain) × Spells bytes m × (fields ≡ fields_of m)
@@ -49,3 +71,20 @@ AreRead bytes fields = (m : FromTrain) × Spells bytes m × (fields ≡ fields_o
 -- the bytes spell no message, and this is the number of the first step that fails
 abbrev pub IsRefused : List ℕ → ℕ → Type 0
 IsRefused bytes code = (e : DecodeError) × Refuses bytes e × (code ≡ code_of e)
+
+-- no message in range has these fields
+abbrev pub AreOfNone : FromTrainFields → Type 0
+AreOfNone fields = (m : FromTrain) → IsInRange m → fields ≡ fields_of m → ⊥
+
+-- these are the fields of a message in range, and the bytes are its spelling
+abbrev pub AreWritten : FromTrainFields → List ℕ → Type 0
+AreWritten fields bytes = (m : FromTrain) × IsInRange m × (fields ≡ fields_of m) × (bytes ≡ spelling_of m)
+
+-- What writing a message leaves, by its code. If it is done, all its bytes stand at the front, and the rest stays; if there is too little room, all
+-- stays but the count. The count is how many bytes the message has.
+pub record Writes (fields : FromTrainFields) (out : List ℕ) (before code : ℕ) (written : List ℕ) (count : ℕ) : Type 0 where
+  pub codes : (code ≡ done) ⊎ ((code ≡ no_message) ⊎ (code ≡ room))
+  pub given : code ≡ done → (bytes : List ℕ) × AreWritten fields bytes × (count ≡ length bytes) × (length bytes ≤ length out) × (written ≡ fronted bytes out)
+  pub short : code ≡ room → (bytes : List ℕ) × AreWritten fields bytes × (count ≡ length bytes) × (length out < length bytes)
+  pub none : code ≡ no_message → AreOfNone fields × (count ≡ before)
+  pub stays : 0 < code → written ≡ out
