@@ -97,5 +97,6 @@ fn names_track(word: &str) -> bool
     ensures { result ≡ names_track word.now }
 {
     let bytes = word.as_bytes();
-    bytes[..bytes.len().min(8)] == *b"--track=".as_slice()
+    let front = &bytes[..bytes.len().min(8)];
+    front == b"--track=".as_slice()
 }
