@@ -10,8 +10,9 @@ use Rattle.ertms_codec.specs.declared.from_train.Position.{Position}
 use Rattle.ertms_codec.specs.declared.from_train.FromTrain.{FromTrain}
 use Rattle.ertms_codec.specs.declared.from_train.FromTrain.TheVariants.{Report, Ack, StopAck}
 use Rattle.ertms_codec.specs.declared.to_train.ToTrain.{ToTrain}
+use Rattle.ertms_codec.specs.declared.wrong_word.WrongWord.{WrongWord}
 use Rattle.ertms_codec.specs.declared.to_train.ToTrain.TheVariants.{StopAt, Stop, Revoke, General}
-use Rattle.ertms_codec.specs.Encoding.{IsInRangeToTrain, EncodesToTrain, EncodesFromTrain}
+use Rattle.ertms_codec.specs.Encoding.{Encodes, IsInRangeToTrain, EncodesToTrain, EncodesFromTrain}
 use Rattle.ertms_codec.specs.FromTrain as from_train
 use Rattle.ertms_codec.specs.FromTrain.{Train, PositionFits, fields_of_position}
 use Rattle.ertms_codec.specs.FromTrainWritten as from_train_written
@@ -20,15 +21,15 @@ use Rattle.ertms_codec.specs.Layout.{Field, width_of, bits_of_fields, bytes_of_f
 use Rattle.ertms_codec.specs.Texts.{HasTextOf, is_to_train, text_to_train, text_from_train}
 use Rattle.ertms_codec.specs.ToTrain as to_train
 use Rattle.ertms_codec.specs.Variables.{nid_message}
-use Rattle.ertms_codec.specs.Grammar.{is_to_train_word}
+use Rattle.ertms_codec.specs.Grammar.{Grammar, Ends, Word, Stops, FirstWrong, message, is_to_train_word}
 use Rattle.ertms_codec.specs.Words.{kind_to_train, words_to_train, kind_from_train, words_from_train}
 use Rattle.ertms_codec.proofs.Fields.{width_of-cons}
 use Rattle.ertms_codec.proofs.SameWords.{same_from_train}
 use Rattle.ertms_codec.proofs.NumberWords.{false_is_not_true}
 use Rattle.ertms_codec.proofs.TextWords.{from_train_split}
-use Rattle.ertms_codec.proofs.ToTrainTexts.{to_train_split}
+use Rattle.ertms_codec.proofs.ToTrainTexts.{to_train_split, never_to_train, never_of_train}
 use Rattle.rbc_words.proofs.SameTexts.{same_to_train}
-use Rattle.rbc_words.specs.TextLaw.{IsTextOfAMessage, EachIsEncoded, EachEncodedIsDescribed, EachDescribedIsOfAMessage, OneMessageEach, OneEncodingEach}
+use Rattle.rbc_words.specs.TextLaw.{IsTextOfAMessage, EachIsEncoded, EachEncodedIsDescribed, EachDescribedIsOfAMessage, OneMessageEach, OneEncodingEach, OneWrongWordEach}
 use Rattle.rbc_words.proofs.Spellings.{position_of, to_train_spelled, from_train_spelled}
 
 pub each_is_encoded : EachIsEncoded
@@ -178,3 +179,30 @@ one_encoding_each text bytes others (inr e) (inr f) =
     e.bytes_are ∙ ap from_train_written.spelling_of same ∙ sym f.bytes_are
 one_encoding_each text bytes others (inl e) (inr f) = absurd (not_both e.message f.message (of_encoded e) f.range (sym e.text_is ∙ f.text_is))
 one_encoding_each text bytes others (inr e) (inl f) = absurd (not_both f.message e.message (of_encoded f) e.range (sym f.text_is ∙ e.text_is))
+
+-- reading stops at one word at most
+one_stop : (grammar : Grammar) (words : List (List ℕ)) (index : ℕ) (wrong other : WrongWord) → Stops index grammar words wrong → Stops index grammar words other → wrong ≡ other
+one_stop Ends [] index wrong other first second = absurd first
+one_stop Ends (word ∷ words) index wrong other first second = first ∙ sym second
+one_stop (Word may_end expected next) [] index wrong other first second = first.1 ∙ sym second.1
+one_stop (Word may_end expected next) (word ∷ words) index wrong other (inl x) (inl y) = x.1 ∙ sym y.1
+one_stop (Word may_end expected next) (word ∷ words) index wrong other (inl x) (inr y) = absurd (x.0 y.0)
+one_stop (Word may_end expected next) (word ∷ words) index wrong other (inr x) (inl y) = absurd (y.0 x.0)
+one_stop (Word may_end expected next) (word ∷ words) index wrong other (inr x) (inr y) = one_stop (next word) words (index + 1) wrong other x.1 y.1
+
+none_encoded : (text bytes : List ℕ) (wrong : WrongWord) → Encodes text bytes → FirstWrong 1 message (slice_split (λ byte. byte == 32) text) wrong → ⊥
+none_encoded text bytes wrong (inl e) first =
+    let words : slice_split (λ byte. byte == 32) text ≡ kind_to_train e.message ∷ words_to_train e.message =
+    ap (slice_split (λ byte. byte == 32)) e.text_is ∙ to_train_split e.message (of_encoded e) in
+    never_to_train e.message 1 wrong (of_encoded e) (subst (λ these. FirstWrong 1 message these wrong) words first)
+none_encoded text bytes wrong (inr e) first =
+    let words : slice_split (λ byte. byte == 32) text ≡ kind_from_train e.message ∷ words_from_train e.message =
+    ap (slice_split (λ byte. byte == 32)) e.text_is ∙ from_train_split e.message e.range in
+    never_of_train e.message 1 wrong e.range (subst (λ these. FirstWrong 1 message these wrong) words first)
+
+pub one_wrong_word_each : OneWrongWordEach
+one_wrong_word_each =
+    record {
+      one = λ text wrong other first second. one_stop message (slice_split (λ byte. byte == 32) text) 1 wrong other first.is second.is;
+      none = none_encoded;
+    }

@@ -1,11 +1,14 @@
 -- What the texts of messages and their bytes have to do with each other (own rule).
-use Rattle.std.specs.Prelude.{◌≡◌, ◌⊎◌, ℕ, List, ◌++◌, codes}
+use Rattle.std.specs.Prelude.{◌≡◌, ◌⊎◌, ◌==◌, ℕ, List, ◌++◌, codes}
+use Rattle.std.specs.List.{slice_split}
 use Rattle.ertms_codec.specs.declared.from_train.FromTrain.{FromTrain}
 use Rattle.ertms_codec.specs.declared.to_train.ToTrain.{ToTrain}
+use Rattle.ertms_codec.specs.declared.wrong_word.WrongWord.{WrongWord}
 use Rattle.ertms_codec.specs.Encoding.{Encodes, IsInRangeToTrain}
 use Rattle.ertms_codec.specs.FromTrain as from_train
 use Rattle.ertms_codec.specs.FromTrainWritten as from_train_written
 use Rattle.ertms_codec.specs.FromTrainWritten.{IsInRange}
+use Rattle.ertms_codec.specs.Grammar.{FirstWrong, message}
 use Rattle.ertms_codec.specs.Texts.{HasText, text_to_train, text_from_train}
 use Rattle.ertms_codec.specs.ToTrain as to_train
 
@@ -51,3 +54,12 @@ pub record OneMessageEach : Type 0 where
 -- so a text is encoded to the same bytes whenever it is
 abbrev pub OneEncodingEach : Type 0
 OneEncodingEach = (text bytes others : List ℕ) → Encodes text bytes → Encodes text others → bytes ≡ others
+
+-- the first word of a text that is wrong is this one
+abbrev pub IsFirstWrong : List ℕ → WrongWord → Type 0
+IsFirstWrong text wrong = FirstWrong 1 message (slice_split (λ byte. byte == 32) text) wrong
+
+-- a text has one first wrong word at most, and a text that is encoded has none
+pub record OneWrongWordEach : Type 0 where
+  pub one : (text : List ℕ) (wrong other : WrongWord) → IsFirstWrong text wrong → IsFirstWrong text other → wrong ≡ other
+  pub none : (text bytes : List ℕ) (wrong : WrongWord) → Encodes text bytes → IsFirstWrong text wrong → ⊥

@@ -1,7 +1,7 @@
 //! The law on texts.
 
 ghost use Rattle.rbc_words.specs.TextLaw.{EachIsEncoded, EachEncodedIsDescribed, EachDescribedIsOfAMessage};
-ghost use Rattle.rbc_words.specs.TextLaw.{OneMessageEach, OneEncodingEach};
+ghost use Rattle.rbc_words.specs.TextLaw.{OneMessageEach, OneEncodingEach, OneWrongWordEach};
 
 /// How texts and bytes of messages belong together.
 ///
@@ -10,10 +10,12 @@ ghost use Rattle.rbc_words.specs.TextLaw.{OneMessageEach, OneEncodingEach};
 /// - A text that bytes are described as is that of a message whose variables are in their ranges, and the bytes
 ///   spell it.
 /// - Two messages with the same text are the same. So a text is encoded to the same bytes whenever it is.
+/// - A text has one first wrong word at most, and a text that is encoded has none.
 pub fn text_law()
     ensures encoded { EachIsEncoded }
     ensures described { EachEncodedIsDescribed }
     ensures of_a_message { EachDescribedIsOfAMessage }
     ensures one_message { OneMessageEach }
     ensures one_encoding { OneEncodingEach }
+    ensures one_wrong_word { OneWrongWordEach }
 {}
