@@ -26,7 +26,7 @@ pub fn encode_input<I: Read, O: Write>(
     input: &mut I,
     output: &mut O,
 ) -> Result<(), Fault>
-    ensures { EncodesLinesBy (plan_given track) (I.remaining input.old) (I.remaining input.new)
+    ensures { EncodesLinesBy (plan_given track.entry) (I.remaining input.old) (I.remaining input.new)
         (O.contents output.old) (O.contents output.new) result }
 {
     encode_lines(alloc, track, input, output)?;

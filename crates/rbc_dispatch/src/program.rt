@@ -464,10 +464,10 @@ where
     R: AllocGlobal + Files,
     I: Read,
     O: Write,
-    ensures lines { spaced_text (map string_bytes words.now) ≡ [] → EncodesLines (name_given file) (I.remaining input.old)
+    ensures lines { spaced_text (map string_bytes words.now) ≡ [] → EncodesLines (name_given file.entry) (I.remaining input.old)
         (I.remaining input.new) (O.contents output.old) (O.contents output.new) result }
     ensures text { (text : List ℕ) → spaced_text (map string_bytes words.now) ≡ 32 ∷ text
-        → (input.new ≡ input.old) × EncodesTextOn (name_given file) text (O.contents output.old) (O.contents output.new) result }
+        → (input.new ≡ input.old) × EncodesTextOn (name_given file.entry) text (O.contents output.old) (O.contents output.new) result }
     ensures keeps { Keeps result input.old input.new output.old output.new }
 {
     let track = track_given(rt, file)?;
@@ -480,8 +480,8 @@ where
 
 /// The track in the file of a name, if there is a name.
 fn track_given<R: AllocGlobal + Files>(rt: &R, file: Option<&str>) -> Result<Option<Track>, Fault>
-    ensures ok { IfOk result (IsTrackGiven (name_given file)) }
-    ensures err { IfErr result (IsNoTrackGiven (name_given file)) }
+    ensures ok { IfOk result (IsTrackGiven (name_given file.entry)) }
+    ensures err { IfErr result (IsNoTrackGiven (name_given file.entry)) }
 {
     let Some(file) = file else {
         return Ok(None);

@@ -243,7 +243,7 @@ Without HEX, reads lines from standard input and writes each as soon as it is re
 its message in place of the bytes: in lines of a batch (`recv HEX`), in lines of the output of `run`
 and `live` (`ENGINE INPUT HEX`), and where HEX stands alone. Any other line stays as it is.
 
-With --long, writes one line for each variable, and for the bits that are none: the place of its
+With HEX and --long, writes one line for each variable, and for the bits that are none: the place of its
 first bit, its width in bits, its name in SUBSET-026, its value, and what that means.
 
 Exit status: 0 done; 1 a fault: `bad hex`, or `decode: NAME` with NAME Length, Message, Packet or
@@ -610,13 +610,6 @@ fn parse_command<'a>(alloc: Global, words: &'a [String]) -> Result<Task<'a>, NoT
 {
     let matches = command(alloc)?.try_get_matches_from(words)?;
     match task_of(&matches, words) {
-        Some(Task::Decode {
-            word: None,
-            long: true,
-        }) => {
-            let message = "--long asks for one message: give its HEX";
-            Err(refuse(alloc, ErrorKind::MissingRequiredArgument, message))
-        }
         Some(task) => Ok(task),
         // Never reached: clap requires a subcommand, and each subcommand requires its word.
         None => Err(refuse(alloc, ErrorKind::MissingSubcommand, "no task was named")),

@@ -1,15 +1,15 @@
-//! What people read and write in words: places, lengths and counts, what each result code and each fault means, and lines
-//! with messages in words.
+//! What people read and write in words: places, lengths and counts, what each result code and each fault means, and
+//! lines with messages in words.
 //!
 //! It stands on rbc_rule for the refusals, on ertms_codec for messages, and on rbc_track and rbc_place for reports.
 //! rbc_track_report, rbc_explain and rbc_picture write places and counts with it, and rbc_dispatch its faults, the list
-//! of `dispatch codes`, and the lines of `dispatch encode` and `dispatch decode`. They rest on `row_of`, which gives each
-//! refusal its own code, name, meaning and what to do (specs/Rows.antt), on the texts of [`Km`], [`Metres`] and [`Count`]
-//! (specs/Units.antt), and on [`decode_lines`] and [`encode_lines`]: what is out is what the lines become
+//! of `dispatch codes`, and the lines of `dispatch encode` and `dispatch decode`. They rest on `row_of`, which gives
+//! each refusal its own code, name, meaning and what to do (specs/Rows.antt), on the texts of [`Km`], [`Metres`] and
+//! [`Count`] (specs/Units.antt), and on [`decode_lines`] and [`encode_lines`]: what is out is what the lines become
 //! (specs/Filters.antt). `text_law` says that the text of a message and its bytes give each other back.
 //!
-//! Begin with units.rt and codes.rt; faults.rt has the faults, list.rt the whole list. Of the lines, begin with rule.rt,
-//! which says what a filter does to a line; filter.rt goes from a reader to a writer.
+//! Begin with units.rt and codes.rt; faults.rt has the faults, list.rt the whole list. Of the lines, begin with
+//! rule.rt, which says what a filter does to a line; filter.rt goes from a reader to a writer.
 //!
 //! A function that cannot report a lack of memory takes none. `AllocError` means that memory was refused.
 #![tactic(auto)]

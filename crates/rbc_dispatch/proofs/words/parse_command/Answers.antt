@@ -375,7 +375,7 @@ returns-clause-picture c = λ file after asked.
 pub returns-clause-decode : goal.returns-clause-decode
 returns-clause-decode c = λ word long asked.
     let found = found_here _ (map string_bytes c.args.words.now) _ c.in_ok-command.ensures c.in_ok-matches.ensures.matches in
-    absurd (unnamed_word (codes "decode") (codes "HEX") _ word c.in-None.ensures.none.0.2 (ap (word_after (codes "decode") (codes "HEX")) found ∙ asked.1))
+    absurd (unnamed_word (codes "decode") (codes "HEX") (finding_in (map string_bytes c.args.words.now)) word (sym (ap (is_named (codes "decode")) found) ∙ c.in-None.ensures.none.0.2) asked.1)
 
 pub returns-clause-check : goal.returns-clause-check
 returns-clause-check c = λ file asked.

@@ -1,4 +1,4 @@
-use Rattle.rbc_words.proofs.TextLaws.{each_is_encoded, each_encoded_is_described, each_described_is_of_a_message, one_message_each, one_encoding_each}
+use Rattle.rbc_words.proofs.TextLaws.{each_is_encoded, each_encoded_is_described, each_described_is_of_a_message, one_message_each, one_encoding_each, one_wrong_word_each}
 use Rattle.rbc_words.proofs.law.text_law.Goals as goal
 
 pub returns-clause-encoded : goal.returns-clause-encoded
@@ -15,3 +15,6 @@ returns-clause-one_message c = one_message_each
 
 pub returns-clause-one_encoding : goal.returns-clause-one_encoding
 returns-clause-one_encoding c = one_encoding_each
+
+pub returns-clause-one_wrong_word : goal.returns-clause-one_wrong_word
+returns-clause-one_wrong_word c = one_wrong_word_each
