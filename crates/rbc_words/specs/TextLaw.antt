@@ -1,5 +1,5 @@
 -- What the texts of messages and their bytes have to do with each other (own rule).
-use Rattle.std.specs.Prelude.{◌≡◌, ◌⊎◌, ◌==◌, ℕ, List, ◌++◌, codes}
+use Rattle.std.specs.Prelude.{◌≡◌, ◌⊎◌, ◌==◌, ℕ, List, ◌∷◌, ◌++◌, codes}
 use Rattle.std.specs.List.{slice_split}
 use Rattle.ertms_codec.specs.declared.from_train.FromTrain.{FromTrain}
 use Rattle.ertms_codec.specs.declared.to_train.ToTrain.{ToTrain}
@@ -11,6 +11,7 @@ use Rattle.ertms_codec.specs.FromTrainWritten.{IsInRange}
 use Rattle.ertms_codec.specs.Grammar.{FirstWrong, message}
 use Rattle.ertms_codec.specs.Texts.{HasText, text_to_train, text_from_train}
 use Rattle.ertms_codec.specs.ToTrain as to_train
+use Rattle.ertms_codec.specs.Words.{kind_from_train, words_from_train}
 
 -- bytes are described as a text: that is its line, with a line feed at its end
 abbrev pub IsDescribed : List ℕ → List ℕ → Type 0
@@ -54,6 +55,10 @@ pub record OneMessageEach : Type 0 where
 -- so a text is encoded to the same bytes whenever it is
 abbrev pub OneEncodingEach : Type 0
 OneEncodingEach = (text bytes others : List ℕ) → Encodes text bytes → Encodes text others → bytes ≡ others
+
+-- the words of the text of a message from a train, between single spaces, are these
+abbrev pub EachHasItsWords : Type 0
+EachHasItsWords = (m : FromTrain) → IsInRange m → slice_split (λ byte. byte == 32) (text_from_train m) ≡ kind_from_train m ∷ words_from_train m
 
 -- the first word of a text that is wrong is this one
 abbrev pub IsFirstWrong : List ℕ → WrongWord → Type 0

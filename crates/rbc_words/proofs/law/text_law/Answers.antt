@@ -1,3 +1,4 @@
+use Rattle.ertms_codec.proofs.TextWords.{from_train_split}
 use Rattle.rbc_words.proofs.TextLaws.{each_is_encoded, each_encoded_is_described, each_described_is_of_a_message, one_message_each, one_encoding_each, one_wrong_word_each}
 use Rattle.rbc_words.proofs.law.text_law.Goals as goal
 
@@ -18,3 +19,6 @@ returns-clause-one_encoding c = one_encoding_each
 
 pub returns-clause-one_wrong_word : goal.returns-clause-one_wrong_word
 returns-clause-one_wrong_word c = one_wrong_word_each
+
+pub returns-clause-words : goal.returns-clause-words
+returns-clause-words c = from_train_split
