@@ -1,10 +1,10 @@
 //! The bytes of messages in place of their text.
 
-ghost use Rattle.std.specs.Prelude.{◌≡◌, ◌++◌, IfOk, OnOk, OnErr, map, string_bytes};
+ghost use Rattle.std.specs.Prelude.{◌≡◌, ◌∷◌, ◌++◌, ℕ, List, IfOk, OnOk, map, string_bytes};
 ghost use Rattle.std.specs.List.{flat_map};
 ghost use Rattle.rbc_dispatch.specs.Decoding.{IsUntouched};
 ghost use Rattle.rbc_dispatch.specs.Filtering.{EncodesLinesBy, EncodesText};
-ghost use Rattle.rbc_dispatch.specs.TextWords.{names_track, spaced, spaced_text};
+ghost use Rattle.rbc_dispatch.specs.TextWords.{names_track, spaced, spaced_text, texts_in};
 ghost use Rattle.rbc_words.specs.Encoding.{plan_given};
 
 use crate::fault::Fault;
@@ -48,6 +48,17 @@ pub fn encode_text<O: Write>(alloc: Global, text: &[u8], output: &mut O) -> Resu
     show(output, line.as_bytes())
 }
 
+/// What the next argument is.
+#[derive(Clone, Copy, Debug, PartialEq, Eq)]
+pub enum Next {
+    /// A word of the text, or an option.
+    Word,
+    /// The name of the track file.
+    File,
+    /// A word of the text, as all that follow.
+    Rest,
+}
+
 /// The words of the text among all arguments, each with a space before it: those behind the name of the command without
 /// `--track FILE`, `--track=FILE` and the first `--`.
 pub fn spaced_text(alloc: Global, words: &[String]) -> Result<Vec<u8>, AllocError>
@@ -57,31 +68,40 @@ pub fn spaced_text(alloc: Global, words: &[String]) -> Result<Vec<u8>, AllocErro
     let Some((_, mut left)) = words.split_first() else {
         return Ok(text);
     };
-    let mut is_file = false;
+    let mut next = Next::Word;
     while let Some((word, behind)) = left.split_first() {
-        if is_file {
-            is_file = false;
-        } else if word.as_str() == "--" {
-            push_words(&mut text, behind)?;
-            return Ok(text);
-        } else if word.as_str() == "--track" {
-            is_file = true;
-        } else if !names_track(word.as_str()) {
-            push_word(&mut text, word.as_str())?;
-        }
+        next = read_word(&mut text, next, word.as_str())?;
         left = behind;
     }
     Ok(text)
 }
 
-/// Puts words behind a text, each with a space before it.
-fn push_words(text: &mut Vec<u8>, words: &[String]) -> Result<(), AllocError>
-    ensures { OnOk result (text.new.items ≡ text.old.items ++ flat_map spaced (map string_bytes words.now)) }
+/// Puts a word behind a text, with a space before it, if it is one of the text, and says what comes next.
+fn read_word(text: &mut Vec<u8>, next: Next, word: &str) -> Result<Next, AllocError>
+    ensures { IfOk result (λ after. (words : List (List ℕ))
+        → text.new.items ++ flat_map spaced (texts_in after words)
+        ≡ text.old.items ++ flat_map spaced (texts_in next (word.now ∷ words))) }
 {
-    for word in words {
-        push_word(text, word.as_str())?;
+    match next {
+        Next::File => Ok(Next::Word),
+        Next::Rest => {
+            push_word(text, word)?;
+            Ok(Next::Rest)
+        }
+        Next::Word => {
+            if word == "--" {
+                return Ok(Next::Rest);
+            }
+            if word == "--track" {
+                return Ok(Next::File);
+            }
+            if names_track(word) {
+                return Ok(Next::Word);
+            }
+            push_word(text, word)?;
+            Ok(Next::Word)
+        }
     }
-    Ok(())
 }
 
 /// Puts a word behind a text, with a space before it.
