@@ -432,9 +432,9 @@ fn text_words<'a>(alloc: Global) -> Arg<'a>
     ensures rule { rule_of result ≡ text_rule }
     ensures local { result.global ≡ false }
 {
-    Arg::new(alloc, "TEXT")
-        .num_args(1..)
-        .help("The text of one message, in one word or several; lines are read if there is none")
+    Arg::new(alloc, "TEXT").num_args(1..).help(
+        "The text of one message, in one word or several; lines are read if there is none",
+    )
 }
 
 fn number_option<'a>(alloc: Global, option: &NumberOption) -> Arg<'a>
@@ -517,8 +517,9 @@ fn hex_word<'a>(alloc: Global) -> Arg<'a>
     ensures rule { rule_of result ≡ hex_rule }
     ensures local { result.global ≡ false }
 {
-    Arg::new(alloc, "HEX")
-        .help("The bytes of one message, two hexadecimal digits each; lines are read if there are none")
+    Arg::new(alloc, "HEX").help(
+        "The bytes of one message, two hexadecimal digits each; lines are read if there are none",
+    )
 }
 
 /// The arguments, as words. They are bad if one of them is not UTF-8.
