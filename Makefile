@@ -34,7 +34,7 @@ LIBRARIES = $(MADE)/librbc.a $(MADE)/libertms.a $(MADE)/librbc.so.$(RBC_ABI) $(M
 PACKAGES = $(MADE)/rbc.pc $(MADE)/ertms.pc
 PAGES = $(wildcard docs/*.1)
 DOCUMENTS = README.md CHANGELOG.md $(wildcard docs/*.md docs/*.svg)
-EXAMPLES = $(wildcard examples/*.toml examples/*.batch examples/*.expected examples/c/*.c)
+EXAMPLES = $(wildcard examples/*.toml examples/*.txt examples/*.batch examples/*.expected examples/c/*.c)
 SHARED = bash-completion/completions/dispatch zsh/site-functions/_dispatch fish/vendor_completions.d/dispatch.fish \
 	wireshark/ertms.lua
 BINDINGS = $(wildcard bindings/cpp/*.cpp bindings/ada/*.ad? bindings/python/*.py) \

@@ -29,8 +29,9 @@ bash python3 Prelude ci must-fail edits check doc fail fmt lemma must plant prog
 
 # of batches, outputs, tracks, texts of messages and command lines
 FORMATS = """
-AGAIN CODE COMMAND COUNT CRATE ENGINE FILE FROM FRONT HEX INPUT LENGTH LINE MODULE NAME NAME_tests NOT NUMBER SEGMENT SPEED TO TOLD WAYS WORD bad be both dispatch down em enrol
-fault group halt help horizon lift line long many memory out recv refused release restrict stop too track tsr unreadable up warning warnings withdraw write zz
+AGAIN CODE COMMAND COUNT CRATE DOUBT ENGINE EXPECTED FILE FROM FRONT HEX INPUT LENGTH LINE MAX MODULE NAME NAME_tests NOT NUMBER PLACE SEGMENT SPEED STAMP TEXT TO TOLD WAY WAYS WORD
+bad balise be both dispatch down em enrol fault group halt help horizon lift line long many memory needs or out recv refused release report restrict stop the too track tsr unreadable up
+warning warnings withdraw write zz
 """
 
 KNOWN = set(" ".join([RUST, ANTT, PORTED, TOOL, FORMATS]).split())

@@ -83,6 +83,30 @@ def at_batches(words, runs):
             runs.check(told, (0, words.SOME, b""), f"over {name}", batch=batch)
 
 
+def at_filters(words, runs):
+    """Lines that no filter changes, 100 MB of them: both pass them on as they are, in little memory."""
+    little = words.allow(24 * MIB)
+    random = JUNK // MIB * (os.urandom(MIB - 1).replace(b"recv ", b"").replace(b"report ", b"") + b"\n")
+    for name, lines in (
+        ("random bytes", random),
+        ("NULs", bytes(JUNK)),
+        ("line feeds", JUNK * b"\n"),
+        ("digits", JUNK * b"8"),
+        ("a message", b"recv 88" + JUNK * b"0"),
+        ("two decimals", JUNK * b"7" + b" 2 1002800000005FFFFFE0"),
+        ("words", JUNK // 2 * b" 7"),
+    ):
+        text = lines if lines.endswith(b"\n") else lines + b"\n"
+        for task in ("encode", "decode"):
+            runs.check([task], (0, text, b""), f"over {len(lines)} bytes: {name}", batch=lines, preexec_fn=little)
+    for line, fault in (
+        (b"recv 136 " + JUNK * b"x", b"encode: line 1, word 3: 'stamp'\n"),
+        (b"recv 146 stamp 1 engine 7 acked 5" + JUNK * b" ", b"encode: line 1, word 9: the end of the line\n"),
+        (b"report " + JUNK * b"0", b"encode: line 1, word 2: a number, 0 to 16777215\n"),
+    ):
+        runs.check(["encode"], (1, b"", fault), f"over {len(line)} bytes", batch=line, preexec_fn=little)
+
+
 def at_streams(words, runs):
     """Standard input and output byte by byte, and standard output cut after each number of bytes."""
     words_of = ["run", "--track", f"{words.ROOT}/examples/main_line.toml"]
@@ -125,6 +149,7 @@ def main():
         runs = words.Runs(program_of(root), folder)
         at_tracks(words, runs)
         at_batches(words, runs)
+        at_filters(words, runs)
         at_streams(words, runs)
     most = resource.getrusage(resource.RUSAGE_CHILDREN).ru_maxrss // 1024
     seconds = time.monotonic() - begun

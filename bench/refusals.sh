@@ -4,10 +4,11 @@
 # Each run is refused one allocation more than the last, the Nth alone, until there is no Nth. The program, on messages by `decode` and on each
 # batch of examples/ by `run`, `explain` and `picture`, must end with status 0 and the expected output, or with status 1, a line that tells of
 # lack of memory, and no output; `run` by one worker, and by 2, 4 and 16 on the book and with --by-train. On three batches of golden/alarms
-# `run --alarms` must end likewise, and `live --alarms` with whole answers before the fault. That of the golden batches, whose
-# workers share a book or do windows of messages, must find the output right or end with an error that tells of lack of memory. Then both are
-# run by 2, 4 and 16 workers, in both ways, where the Nth thread cannot be started, alone and with all behind it, for each N: the output must
-# be the right one. Whatever else comes is printed, and the script then ends with status 1.
+# `run --alarms` must end likewise, and `live --alarms` with whole answers before the fault. `encode TEXT` must end as `decode` does, and the filters
+# `encode` and `decode` with whole lines before the fault. That of the golden batches, whose workers share a book or do windows of messages, must find
+# the output right or end with an error that tells of lack of memory. Then both are run by 2, 4 and 16 workers, in both ways, where the Nth thread
+# cannot be started, alone and with all behind it, for each N: the output must be the right one. Whatever else comes is printed, and the script then
+# ends with status 1.
 #
 # It prints one line a program: how many allocations were refused, one a run, and how many of these runs ended with the fault
 # for want of memory, with that of the track, which is read first, and with the right answer all the same.

@@ -35,6 +35,9 @@ WAYS_OF_PROGRAM = {"on the book": (), "by train": ("--by-train",)}
 # batches of golden/alarms to which memory is refused
 ALARMED = ("sixteenth-stop", "answered-late", "from-restart")
 
+# lines of golden/encoded and golden/decoded to filters of which memory is refused
+FILTERED = ("reports.out", "vectors.out", "hundred-packets", "decimals")
+
 # golden batches to which memory is refused, and those to which threads are, with their tracks. Behind the latter stand the numbers of workers
 # that do windows of them: each window starts its threads anew, and each thread takes two runs.
 SMALL = ("example-unanswered main_line.toml", "example-several main_line.toml")
@@ -100,6 +103,17 @@ def end_of_live(ended, expected):
     return "refused" if begins and ended.errors == b"out of memory\n" else None
 
 
+def end_of_filter(ended, expected):
+    """The same of a filter, which has written whole lines before a fault."""
+    if ended.status == 0:
+        return "answered" if ended.output == expected and not ended.errors else None
+    if ended.status != 1 or not expected.startswith(ended.output) or ended.output[-1:] not in (b"", b"\n"):
+        return None
+    if ended.errors == OF_TRACK:
+        return "beside" if not ended.output else None
+    return "refused" if ended.errors == b"out of memory\n" else None
+
+
 def end_of_golden(ended, right):
     """The same of the program of the golden batches, which says that an output is right, or ends with an error. A window that is refused memory
     leaves its messages to one worker; how many, the program says."""
@@ -154,6 +168,9 @@ def at_program(root, refuse):
     for message, text in DESCRIBED.items():
         name = f"the program on message {text.split()[0].decode()}, {len(message) // 2} bytes"
         wrong += count(name, [program, "decode", message], b"", refuse, lambda ended: end_of_program(ended, text))
+        name = f"the program on the text of message {text.split()[0].decode()}, {len(text) - 1} bytes"
+        words, spelled_out = [program, "encode", text[:-1]], f"{message}\n".encode()
+        wrong += count(name, words, b"", refuse, lambda ended: end_of_program(ended, spelled_out))
     for file in sorted(glob.glob(f"{root}/examples/*.expected")):
         batch = file.removesuffix("expected") + "batch"
         text, expected = read(batch), read(file)
@@ -182,6 +199,19 @@ def at_alarms(root, refuse):
             words = [program, *words.split()]
             expected = subprocess.run(words, input=text, capture_output=True, check=True, cwd=root).stdout
             wrong += count(f"`{task} --alarms` on {name}", words, text, refuse, lambda ended, e=end_of, x=expected: e(ended, x), root)
+    return wrong
+
+
+def at_filters(root, refuse):
+    """Refuses memory to `encode` and `decode` on lines whose results are known."""
+    program, wrong = program_of(root), 0
+    calls = [row.split("\t") for row in read(f"{root}/golden/encoded/cases.tsv").decode().splitlines()[1:]]
+    calls += [(os.path.basename(file)[:-3], "decode", os.path.relpath(file, root)) for file in sorted(glob.glob(f"{root}/golden/decoded/*.in"))]
+    for name, words, lines in calls:
+        if name in FILTERED:
+            text, words = read(f"{root}/{lines}"), [program, *words.split()]
+            expected = subprocess.run(words, input=text, capture_output=True, check=True, cwd=root).stdout
+            wrong += count(f"`{words[1]}` on {name}", words, text, refuse, lambda ended, x=expected: end_of_filter(ended, x), root)
     return wrong
 
 
@@ -256,7 +286,7 @@ def read(file):
 def main():
     root, refuse = sys.argv[1:]
     print("| call | tried | refused | refused beside it | answered |\n|---|---|---|---|---|")
-    wrong = at_program(root, refuse) + at_alarms(root, refuse)
+    wrong = at_program(root, refuse) + at_alarms(root, refuse) + at_filters(root, refuse)
     with tempfile.TemporaryDirectory() as folder:
         shutil.copytree(f"{root}/crates/rbc_tests/data", f"{folder}/golden")
         wrong += at_golden(root, refuse, f"{folder}/golden")

@@ -69,8 +69,14 @@ def zsh_option(option):
     return f"'({' '.join(option.words)})'{{{','.join(option.words)}}}'[{does}]{value}'"
 
 
+def zsh_argument(argument):
+    """An argument as _arguments takes it: a second colon where it may be left out, a star where it may be there many times."""
+    count = {"?": ":", "*": "*", "": ""}[argument.count]
+    return f"'{count}:{argument.value}:'"
+
+
 def zsh_command(found):
-    rows = [*map(zsh_option, found.options), *(f"':{argument.value}:'" for argument in found.arguments)]
+    rows = [*map(zsh_option, found.options), *map(zsh_argument, found.arguments)]
     return f"                {found.name})\n                    _arguments {' '.join(rows)}\n                    ;;\n"
 
 

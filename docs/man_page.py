@@ -13,8 +13,9 @@ from pathlib import Path
 
 # a subcommand: its name, the first line of its help, its usage, its arguments and options, and the paragraphs of its help
 Command = namedtuple("Command", "name about usage arguments options texts")
-# an option or an argument: its words, as `-h`, `--help` or `--track`; what its value is called, or nothing; what it does
-Option = namedtuple("Option", "words value does")
+# an option or an argument: its words, as `-h`, `--help` or `--track`; what its value is called, or nothing; what it does; and `?` or `*` for an
+# argument that may be left out, or be there many times
+Option = namedtuple("Option", "words value does count")
 
 LISTS = ("Commands:", "Arguments:", "Options:")
 EXAMPLE = re.compile(r"(?:\S[^:]*:)? +(dispatch .*?)(?: {2,}(\S.*))?")
@@ -50,8 +51,9 @@ def listed(parts, title):
 def options(parts, title):
     """The options or arguments below a title."""
     for words, does in listed(parts, title):
-        value = re.search(r"<(\w+)>", words)
-        yield Option(re.findall(r"--?[\w-]+", words), value and value[1], does)
+        value = re.search(r"[<[](\w+)[]>]", words)
+        count = "*" if words.endswith("...") else "?" if words.startswith("[") else ""
+        yield Option(re.findall(r"--?[\w-]+", words), value and value[1], does, count)
 
 
 def command(program, name):
