@@ -20,7 +20,7 @@ use Rattle.clap.proofs.OnLiterals.{clap_on_literals}
 use Rattle.clap.proofs.ValueTestLemmas.{Accepts-accepts}
 use Rattle.clap.proofs.WalkLemmas.{byte_read}
 use Rattle.rbc_dispatch.specs.Forms.{AfterAllByDefault, AlarmsOfLive, AlarmsOfRun, AsManyAsNamed, BeginAtOneByDefault, FromOneByDefault, LongIfAsked, NoFiguresByDefault, NotByTrainByDefault, OneByDefault, OneLineByDefault, WritesByte}
-use Rattle.rbc_dispatch.specs.Words.{AsksToDecode, AsksToDraw, AsksToExplain, AsksToLive, AsksToRun, alarms_rule, by_train_rule, check_shape, codes_shape, command_line, count_or_one, decode_shape, explain_shape, finding_in, flag_after, found_after, is_set, live_shape, picture_shape, stats_rule, track_rule, word_after, workers_rule}
+use Rattle.rbc_dispatch.specs.Words.{AsksToDecode, AsksToDraw, AsksToExplain, AsksToLive, AsksToRun, alarms_rule, by_train_rule, check_shape, codes_shape, command_line, count_or_one, decode_shape, encode_shape, explain_shape, finding_in, flag_after, found_after, is_set, live_shape, picture_shape, stats_rule, track_rule, word_after, workers_rule}
 
 no_hyphen : (c : ℕ) → c ≢ 45 → (c == 45) ≡ false
 no_hyphen c plain = ne_eqb c 45 plain
@@ -31,7 +31,7 @@ line_with q =
     let run = (with_rule (with_rule (with_rule (with_rule (with_rule (new_app (codes "run")) track_rule) (record workers_rule { parser = Some q })) by_train_rule) stats_rule) alarms_rule).top in
     let without_name = on_top (λ top. record top { no_binary_name = true; subcommand_required = true; has_version = true }) in
     let inputs = with_subcommand (with_subcommand (with_subcommand (with_subcommand (without_name (new_app (codes "dispatch"))) run) live_shape) explain_shape) picture_shape in
-    with_subcommand (with_subcommand (with_subcommand inputs check_shape) decode_shape) codes_shape
+    with_subcommand (with_subcommand (with_subcommand (with_subcommand inputs check_shape) encode_shape) decode_shape) codes_shape
 
 -- words without a fault name the file, this word as the number of workers, and no alarms
 abbrev Finds : ValueParser → Text → Text → List Text → Type 0
