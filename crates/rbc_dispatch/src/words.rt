@@ -208,19 +208,18 @@ it), or good with warnings (`track: N warnings`); 2 bad arguments.",
 
 const ENCODE: &Page = &Page {
     name: "encode",
-    about: "Write messages from trains as bytes, from their text or from a place",
+    about: "Turn readable lines of trains into a batch, or one text into a message",
     after_help: "\
 Without TEXT, reads lines from standard input and writes each as soon as it is read:
-  recv TEXT                 becomes `recv HEX`; TEXT is what `decode` writes of a message from a
-                            train, and begins with 136, 146 or 147
-  report ENGINE STAMP LINE:PLACE WAY [DOUBT]
-                            becomes `recv HEX`: a train whose front is at PLACE on LINE and that
-                            faces WAY, `up` or `down`, give or take DOUBT; places and DOUBT in units
-                            of 10 cm, on the track that --track names
-  any other line            stays as it is
+  recv TEXT                                    a message from a train, as `decode` writes it
+  report ENGINE STAMP LINE:PLACE WAY [DOUBT]   the report of a train whose front is at PLACE
+Each becomes `recv HEX`; any other line stays as it is. WAY, `up` or `down`, is where the train
+faces. PLACE and DOUBT are in units of 10 cm. The front may be as far as DOUBT from PLACE; DOUBT is
+0 if it is left out. A report needs --track, and a balise group at the train or behind it.
 So `dispatch encode --track FILE < LINES | dispatch run --track FILE` runs what a person wrote.
 
-With TEXT, one word or several, writes the bytes of this one message, to a train or from one:
+With TEXT, one word or several, writes the bytes of this one message, to a train or from one. Write
+-- before a TEXT of several words if one of them begins with a hyphen.
 
   dispatch encode 16 stamp 2 ack 0 lrbg 16777215 em 1
   1002800000009FFFFFE2
@@ -239,12 +238,12 @@ Writes one line: the message's number, then each variable with its value.
   dispatch decode 1002800000009FFFFFE2
   16 stamp 2 ack 0 lrbg 16777215 em 1
 
-Without HEX, reads lines from standard input and writes each as soon as it is read, with the text of
-its message in place of the bytes: in lines of a batch (`recv HEX`), in lines of the output of `run`
-and `live` (`ENGINE INPUT HEX`), and where HEX stands alone. Any other line stays as it is.
+Without HEX, reads lines from standard input and writes each as soon as it is read. The bytes of a
+message become its text where they stand alone, behind `recv` or behind `ENGINE INPUT`. All else
+stays as it is. So `dispatch run .. | dispatch decode` shows the messages in words.
 
-With HEX and --long, writes one line for each variable, and for the bits that are none: the place of its
-first bit, its width in bits, its name in SUBSET-026, its value, and what that means.
+With HEX and --long, writes one line for each variable, and for the bits that are none: the place of
+its first bit, its width in bits, its name in SUBSET-026, its value, and what that means.
 
 Exit status: 0 done; 1 a fault: `bad hex`, or `decode: NAME` with NAME Length, Message, Packet or
 Field; 2 bad arguments.",
