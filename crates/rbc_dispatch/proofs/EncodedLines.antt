@@ -5,7 +5,7 @@ use denote.Ref.{Bor}
 use Rattle.std.specs.Result.{IsErrAnd}
 use Rattle.rbc_words.specs.Encoding.{plan_given}
 use Rattle.rbc_track.specs.Plan.{Plan}
-use Rattle.rbc_dispatch.specs.Filtering.{EncodesLines, EncodesLinesBy, EncodesLinesOn, IsNoTrackGiven, IsTrackGiven}
+use Rattle.rbc_dispatch.specs.Filtering.{EncodesLines, EncodesLinesBy, IsNoTrackGiven, IsTrackGiven}
 use Rattle.rbc_dispatch.specs.declared.fault.Fault.{Fault}
 use Rattle.rbc_dispatch.specs.declared.fault.Fault.TheVariants.{Track}
 

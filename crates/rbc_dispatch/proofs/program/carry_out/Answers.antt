@@ -1,4 +1,4 @@
-use Rattle.std.proofs.Common.{◌≡◌, [], ◌∷◌, sym, subst, ◌∙◌, false, true, ℕ, Bool, List, Option, inl}
+use Rattle.std.proofs.Common.{[], ◌∷◌, sym, subst, ◌∙◌, false, true, ℕ, Bool, List, Option}
 use Rattle.rbc_explain.specs.AccountTelling.{TooFewFor, TooLate}
 use Rattle.rbc_dispatch.specs.Words.{IsEncode, IsExplainOn, IsLiveOn, IsPictureOn, IsRunOn}
 use Rattle.rbc_dispatch.specs.declared.words.Task.{Task}

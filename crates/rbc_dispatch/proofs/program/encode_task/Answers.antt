@@ -1,6 +1,5 @@
-use Rattle.std.proofs.Common.{subst}
 use Rattle.rbc_words.specs.Encoding.{plan_given}
-use Rattle.rbc_dispatch.specs.Filtering.{name_given, EncodesLinesBy}
+use Rattle.rbc_dispatch.specs.Filtering.{name_given}
 use Rattle.rbc_dispatch.proofs.EncodedLines.{no_track, plan_is, with_track}
 use Rattle.rbc_dispatch.proofs.program.encode_task.Goals as goal
 
