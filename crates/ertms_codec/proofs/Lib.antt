@@ -5,6 +5,7 @@ pub mod FieldLists
 pub mod Fields
 pub mod FirstFailing
 pub mod FirstPlaces
+pub mod FirstWrongWord
 pub mod FromTrainAgain
 pub mod FromTrainLaws
 pub mod FromTrainSteps

@@ -1,5 +1,5 @@
 -- What comes of encoding the text of a message (own rule).
-use Rattle.std.specs.Prelude.{◌≡◌, ◌⊎◌, ℕ, List, ◌∷◌}
+use Rattle.std.specs.Prelude.{◌≡◌, ◌⊎◌, ℕ, List, [], ◌∷◌, Result, Err, codes}
 use Rattle.ertms_codec.specs.declared.from_train.FromTrain.{FromTrain}
 use Rattle.ertms_codec.specs.declared.to_train.ToTrain.{ToTrain}
 use Rattle.ertms_codec.specs.declared.wrong_word.WrongWord.{WrongWord}
@@ -58,3 +58,13 @@ EncodesWords words bytes = EncodesWordsToTrain words bytes ⊎ EncodesWordsFromT
 abbrev pub IsEncodeFault : (WrongWord → Type 0) → EncodeError → Type 0
 IsEncodeFault IsWrong (Word wrong) = IsWrong wrong
 IsEncodeFault IsWrong OutOfMemory = Unit {0}
+
+-- a text of these words is one of message 24
+abbrev pub IsOfGeneral : List (List ℕ) → Type 0
+IsOfGeneral [] = ⊥
+IsOfGeneral (word ∷ words) = word ≡ codes "24"
+
+-- memory ran out over a text of message 24, whose packets take memory before the next word is read
+pub record IsWantOfMemory {T : Type 0} (words : List (List ℕ)) (result : Result T EncodeError) : Type 0 where
+  pub general : IsOfGeneral words
+  pub is : result ≡ Err OutOfMemory

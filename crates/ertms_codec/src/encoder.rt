@@ -1,11 +1,12 @@
 //! From the text of a message to its bytes.
 
-ghost use Rattle.std.specs.Prelude.{◌≡◌, ◌≤◌, ◌==◌, IfOk, IfErr, take};
+ghost use Rattle.std.specs.Prelude.{◌≡◌, ◌≤◌, ◌==◌, ◌⊎◌, Err, IfOk, IfErr, take};
 ghost use Rattle.std.specs.List.{slice_split};
 ghost use Rattle.ertms_codec.specs.declared.from_train.FromTrain.{FromTrain as Received};
 ghost use Rattle.ertms_codec.specs.declared.to_train.ToTrain.{ToTrain as Sent};
-ghost use Rattle.ertms_codec.specs.declared.wrong_word.EncodeError.TheVariants.{OutOfMemory};
-ghost use Rattle.ertms_codec.specs.Encoding.{Encodes, EncodesWords, IsEncodeFault, IsInRangeToTrain};
+ghost use Rattle.ertms_codec.specs.declared.wrong_word.EncodeError.TheVariants.{OutOfMemory, Word};
+ghost use Rattle.ertms_codec.specs.declared.wrong_word.WrongWord.{WrongWord};
+ghost use Rattle.ertms_codec.specs.Encoding.{Encodes, EncodesWords, IsEncodeFault, IsInRangeToTrain, IsOfGeneral, IsWantOfMemory};
 ghost use Rattle.ertms_codec.specs.FromTrainWritten.{IsInRange};
 ghost use Rattle.ertms_codec.specs.Grammar.{FirstWrong, message};
 ghost use Rattle.ertms_codec.specs.Texts.{text_from_train, text_to_train, is_number_to_train};
@@ -34,6 +35,9 @@ pub fn encode(alloc: Global, text: &[u8]) -> Result<Vec<u8>, EncodeError>
     // A refusal is the first word that is wrong.
     ensures refused { IfErr result (IsEncodeFault
         (FirstWrong 1 message (slice_split (λ byte. byte == 32) text.now))) }
+    // A text with a wrong word is refused with it, unless memory runs out over the packets of message 24.
+    ensures wrong { (wrong : WrongWord) → FirstWrong 1 message (slice_split (λ byte. byte == 32) text.now) wrong
+        → (result ≡ Err (Word wrong)) ⊎ IsWantOfMemory (slice_split (λ byte. byte == 32) text.now) result }
 {
     let mut buffer = [0; 1024];
     let used = write_message(alloc, &mut Words::new(text), &mut buffer)?;
@@ -53,6 +57,7 @@ fn write_message(
     ensures within { IfOk result (λ used. used ≤ 1024) }
     ensures ok { IfOk result (λ used. EncodesWords words.old.words (take used buffer.new)) }
     ensures err { IfErr result (IsEncodeFault (FirstWrong words.old.next message words.old.words)) }
+    ensures memory { IfErr result (λ e. e ≡ OutOfMemory → IsOfGeneral words.old.words) }
 {
     let number = words.number(Expected::Message)?;
     if is_to_train(number) {

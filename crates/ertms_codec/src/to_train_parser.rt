@@ -15,6 +15,7 @@ ghost use Rattle.ertms_codec.specs.Words.{Passes, body_words, head_words, kind_t
 ghost use Rattle.ertms_codec.specs.Words.{part_number, part_words};
 ghost use Rattle.ertms_codec.specs.declared.wrong_word.Expected.TheVariants.{Packet as a_packet};
 ghost use Rattle.ertms_codec.specs.declared.name.Name.TheVariants.{Em};
+ghost use Rattle.ertms_codec.specs.declared.wrong_word.EncodeError.TheVariants.{OutOfMemory};
 
 use crate::name::Name;
 use crate::packets::{MOST_PACKETS, Packets, Part};
@@ -35,6 +36,8 @@ pub fn message_of(alloc: Global, words: &mut Words<'_>, number: u32) -> Result<T
     ensures ok { IfOk result (λ m. words.old.words ≡ words_to_train m) }
     ensures err { IfErr result (IsEncodeFault
         (FirstWrong words.old.next (behind_to_train (decimal number)) words.old.words)) }
+    // Only packets take memory.
+    ensures memory { IfErr result (λ e. e ≡ OutOfMemory → number ≡ 24) }
 {
     let head = head(words)?;
     match number {

@@ -1,6 +1,7 @@
 use Rattle.std.proofs.Common.{sym, ◌∙◌}
 use Rattle.ertms_codec.specs.Grammar.{FirstWrong, message}
 use Rattle.ertms_codec.proofs.ToTrainTexts.{wrong_to_train, wrong_from_train, wrong_behind, other_half}
+use Rattle.ertms_codec.proofs.FirstWrongWord.{of_general}
 use Rattle.ertms_codec.proofs.WordsLeft.{about_fault, handed_on}
 use Rattle.ertms_codec.proofs.encoder.write_message.Goals as goal
 
@@ -24,3 +25,8 @@ returns-in_err-end-clause-err c =
     let read = c.in_ok-message-2.ensures in
     handed_on c.from_residual-in_err-end.result _ _ c.from_residual-in_err-end.ensures.1
     (wrong_behind c.in_ok-message-2.message c.in_ok-number.number _ (other_half _ _ c.in_ok-number.ensures.ok.0 (sym c.is_to_train.ensures ∙ c.if-is_to_train.false)) c.in_ok-number.ensures.ok read.range read.kind read.ok c.in_err-end.ensures.err)
+
+pub returns-in_err-message-clause-memory : goal.returns-in_err-message-clause-memory
+returns-in_err-message-clause-memory c =
+    handed_on c.from_residual-in_err-message.result _ _ c.from_residual-in_err-message.ensures.1
+    (λ is. of_general c.in_ok-number.number c.in_ok-number.ensures.ok.1 (c.in_err-message.ensures.memory is))
