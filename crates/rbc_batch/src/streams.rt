@@ -61,7 +61,7 @@ pub(crate) fn write_texts<W: Write>(writer: &mut W, texts: &[Vec<u8>]) -> Result
     for text in texts {
         match write_on(writer, text, &mut interruptions) {
             Ok(()) => sent += text.len(),
-            Err(more) => return Err(sent + more),
+            Err(unwritten) => return Err(sent + unwritten.sent),
         }
     }
     Ok(())

@@ -24,7 +24,8 @@ pub fn check_text<O: Write>(
     ensures unreported { IsUnreported result output.old output.new }
 {
     let report = check(alloc, text, other_keys)?;
-    if let Err(sent) = write_text(output, report.text.as_bytes()) {
+    if let Err(unwritten) = write_text(output, report.text.as_bytes()) {
+        let sent = unwritten.sent;
         return Err(Fault::Write { sent });
     }
     match report.verdict {

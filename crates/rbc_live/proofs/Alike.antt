@@ -13,9 +13,10 @@ use Rattle.rbc_text.specs.BatchText.{Line, Spelled, is_space, words_of, message_
 use Rattle.ertms_codec.specs.Pieces.{pieces_behind}
 use Rattle.rbc_live.specs.History.{IsFed}
 use Rattle.rbc_live.specs.GoingOn.{ActsAs, GoesOnAs}
-use Rattle.rbc_live.specs.UnderWay.{Shows, joined}
+use Rattle.rbc_live.specs.UnderWay.{Shows}
+use Rattle.rbc_text.specs.EndedLines.{joined}
 use Rattle.rbc_live.specs.declared.line.UnfinishedLine.{UnfinishedLine}
-use Rattle.rbc_live.proofs.Pieces.{first_piece, one_piece_more}
+use Rattle.rbc_text.proofs.LinePieces.{first_piece, one_piece_more}
 use Rattle.rbc_live.proofs.Words.{room_of, room_of_pieces, long_words, spells_nothing}
 
 -- the same line

@@ -1,12 +1,11 @@
 -- How the calls of a reader stand at the end.
 use Rattle.std.proofs.Common.{◌≡◌, ℕ, ◌≤◌, ◌⊎◌, Bool, true, false, not, ◌&&◌, nat_lt, List, Option, Result, Ok, Err, inl, inr, refl, subst, sym, arith}
 use Rattle.std.specs.Prelude.{IsErrAnd}
-use Rattle.std.proofs.lemmas.Bool.Decides.{nat_tests}
 use Rattle.rbc_track.specs.Plan.{Plan}
 use Rattle.rbc_live.specs.declared.wanted.Wanted.{Wanted}
 use Rattle.rbc_live.specs.UnderWay.{IsEnded, GoesOn}
-use Rattle.rbc_live.specs.Calls.{max_calls, AreCallsAt}
-use Rattle.rbc_live.specs.declared.calls.Calls.{Calls}
+use Rattle.rbc_live.specs.Calls.{AreCallsAt}
+use Rattle.rbc_text.specs.declared.calls.Calls.{Calls}
 use Rattle.rbc_live.specs.declared.prompt.PromptError.{PromptError}
 use Rattle.rbc_live.specs.declared.prompt.PromptError.TheVariants.{Read, Memory, Write}
 
@@ -26,11 +25,3 @@ module _ (plan : Plan) (wanted : Wanted) (lines : List (List ℕ)) (old new : Op
   pub called_to_fault : {E : Type 0} (r : Result E PromptError) (fault : PromptError) → IsErrAnd r (λ other. other ≡ fault) → IsEnded plan wanted lines old new fault → AreCallsAt r calls
   called_to_fault (Ok done) fault same is = absurd same
   called_to_fault {E} (Err other) fault same is = subst (λ (f : PromptError). AreCallsAt {E = E} (Err f) calls) (sym same) (not_reading E fault is)
-
--- no call is made any more
-over : (failed : Bool) (made : ℕ) → made ≤ max_calls → not failed && nat_lt made max_calls ≡ false → (failed ≡ true) ⊎ (made ≡ max_calls)
-over true made few none = inl refl
-over false made few none = inr (grind (arith, nat_tests))
-
-pub given_up : (calls : Calls) → calls.made ≤ max_calls → not calls.failed && nat_lt calls.made max_calls ≡ false → (calls.failed ≡ true) ⊎ (calls.made ≡ max_calls)
-given_up calls few none = over calls.failed calls.made few none

@@ -3,11 +3,12 @@ use Rattle.std.proofs.Common.{◌≡◌, ℕ, List, [], ◌∷◌, ◌++◌, Opt
 use Rattle.std.specs.Prelude.{OnOk, IsErrAnd}
 use Rattle.rbc_track.specs.Plan.{Plan}
 use Rattle.rbc_live.specs.declared.wanted.Wanted.{Wanted}
-use Rattle.rbc_live.specs.Lines.{but_last}
-use Rattle.rbc_live.specs.UnderWay.{IsUnderWay, IsEnded, GoesOn, HasTaken, joined}
+use Rattle.rbc_text.specs.EndedLines.{but_last}
+use Rattle.rbc_live.specs.UnderWay.{IsUnderWay, IsEnded, GoesOn, HasTaken}
+use Rattle.rbc_text.specs.EndedLines.{joined}
 use Rattle.rbc_live.specs.declared.session.Session.{Session}
 use Rattle.rbc_live.specs.declared.prompt.PromptError.{PromptError}
-use Rattle.rbc_live.proofs.Pieces.{but_last_behind, but_one, line_more}
+use Rattle.rbc_text.proofs.LinePieces.{but_last_behind, but_one, line_more}
 use Rattle.rbc_live.proofs.Writing.{ended_of_more}
 
 -- a fault at a line behind which there is more

@@ -7,13 +7,14 @@ use Rattle.rbc_track.specs.Plan.{Plan}
 use Rattle.rbc_text.specs.BatchText.{is_line_feed, without_empty_end, lines_of}
 use Rattle.rbc_text.specs.Streams.{IsAllRead}
 use Rattle.rbc_live.specs.declared.wanted.Wanted.{Wanted}
-use Rattle.rbc_live.specs.Lines.{but_last, AreAnswers}
+use Rattle.rbc_text.specs.EndedLines.{but_last}
+use Rattle.rbc_live.specs.Lines.{AreAnswers}
 use Rattle.rbc_live.specs.Answers.{Answers}
 use Rattle.rbc_live.specs.UnderWay.{IsUnderWay, IsWaiting, IsDone, IsEnded, GoesOn}
 use Rattle.rbc_live.specs.declared.session.Session.{Session}
 use Rattle.rbc_live.specs.declared.prompt.PromptError.{PromptError}
 use Rattle.rbc_live.specs.declared.prompt.PromptError.TheVariants.{Read, Memory, Write}
-use Rattle.rbc_live.proofs.Pieces.{but_one, lines_beyond}
+use Rattle.rbc_text.proofs.LinePieces.{but_one, lines_beyond}
 use Rattle.rbc_live.proofs.Writing.{nothing_left, ended_of_more}
 
 module _ (plan : Plan) (wanted : Wanted) (read_old read_new old new : Option (List ℕ)) where

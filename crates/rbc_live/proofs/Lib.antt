@@ -2,9 +2,7 @@ pub mod Steps
 mod Witness
 pub mod Runs
 pub mod Counts
-mod Pieces
 mod Words
-mod LastSpaces
 mod Alike
 mod LongMessages
 mod LongStops

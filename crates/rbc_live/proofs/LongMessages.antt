@@ -22,8 +22,8 @@ use Rattle.rbc_rule.specs.Codes.{code_of}
 use Rattle.rbc_rule.specs.Step.{step}
 use Rattle.rbc_text.specs.BatchText.{Line, Spelled, Heard, is_space, words_of, is_hex_word, line_of_hex, message_of, line_of_words, line_of, refusal_of, AreHeard}
 use Rattle.rbc_live.specs.GoingOn.{ActsAs, GoesOnAs}
-use Rattle.rbc_live.specs.UnderWay.{joined}
-use Rattle.rbc_live.proofs.Pieces.{first_piece, one_piece_more}
+use Rattle.rbc_text.specs.EndedLines.{joined}
+use Rattle.rbc_text.proofs.LinePieces.{first_piece, one_piece_more}
 use Rattle.rbc_live.proofs.Words.{digits_are_one}
 use Rattle.rbc_live.proofs.Alike.{acts_same, acts_at, bad_whatever_follows}
 

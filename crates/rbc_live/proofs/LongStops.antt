@@ -18,9 +18,10 @@ use Rattle.rbc_rule.specs.Effect.{then_do, after_adding}
 use Rattle.rbc_rule.specs.Step.{after, step}
 use Rattle.rbc_text.specs.BatchText.{Line, Spelled, is_space, words_of, decimal_of, segment_of, onto_all, segments_of, stop_from, stop_of, line_of_words, line_of, IsInput}
 use Rattle.rbc_live.specs.GoingOn.{ActsAs, GoesOnAs, is_stop}
-use Rattle.rbc_live.specs.UnderWay.{joined}
-use Rattle.rbc_live.proofs.Pieces.{first_piece, one_piece_more}
-use Rattle.rbc_live.proofs.Words.{at_space, room_of, room_of_pieces, long_decimal, long_segment}
+use Rattle.rbc_text.specs.EndedLines.{joined}
+use Rattle.rbc_text.proofs.LinePieces.{first_piece, one_piece_more}
+use Rattle.rbc_text.proofs.LastSpaces.{at_space}
+use Rattle.rbc_live.proofs.Words.{room_of, room_of_pieces, long_decimal, long_segment}
 use Rattle.rbc_live.proofs.Alike.{acts_same, acts_at, bad_whatever_follows}
 
 -- ---- the rule

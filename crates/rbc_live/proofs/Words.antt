@@ -15,24 +15,13 @@ use Rattle.rbc_zones.specs.declared.limit.Dirs.TheVariants.{Up, Down, Both}
 use Rattle.rbc_rule.specs.declared.input.Input.{Input}
 use Rattle.rbc_rule.specs.declared.input.Input.TheVariants.{Bad}
 use Rattle.rbc_text.specs.BatchText.{is_space, is_colon, is_dash, is_digit, words_of, value_of, decimal_of, segment_from, segment_of, enrolment_from, enrolment_of, withdrawal_from, withdrawal_of, number_of, dirs_of, front_of, restriction_from, restriction_of, Line, Spelled, message_of, stop_of, line_of_words, line_of}
-use Rattle.rbc_live.proofs.Pieces.{first_piece, glued, split_glued}
+use Rattle.rbc_text.proofs.LinePieces.{first_piece}
 
 -- ---- pieces
 
 abbrev first_of : {X : Type 0} → List (List X) → List X
 first_of [] = []
 first_of (piece ∷ pieces) = piece
-
-glued_blank : (front pieces : List (List ℕ)) (first : List ℕ) (more : List (List ℕ)) → front ≡ first ∷ more → glued front ([] ∷ pieces) ≡ front ++ pieces
-glued_blank [] pieces first more e = cc
-glued_blank (last ∷ []) pieces first more e = ap (λ (word : List ℕ). word ∷ pieces) (append-nil last)
-glued_blank (piece ∷ other ∷ front) pieces first more e = ap (λ (all : List (List ℕ)). piece ∷ all) (glued_blank (other ∷ front) pieces other front refl)
-
--- the words of a text with a space in it
-pub at_space : (front behind : List ℕ) → words_of (front ++ 32 ∷ behind) ≡ words_of front ++ words_of behind
-at_space front behind =
-    let is = first_piece is_space front in
-    split_glued is_space front (32 ∷ behind) ∙ glued_blank (words_of front) (words_of behind) is.0 is.1 is.2
 
 piece_step : {X : Type 0} (p : X → Bool) (x : X) (xs first begun : List X) (more rest : List (List X)) (b : Bool) → p x ≡ b → slice_split p xs ≡ begun ∷ rest → slice_split p begun ≡ begun ∷ []
     → cond b ([] ∷ slice_split p xs) (onto_first x (slice_split p xs)) ≡ first ∷ more → slice_split p first ≡ first ∷ []

@@ -9,8 +9,10 @@ use Rattle.rbc_live.specs.declared.wanted.Wanted.{Wanted}
 use Rattle.rbc_live.specs.History.{IsSerialOf}
 use Rattle.rbc_live.specs.Watching.{IsWatchFor}
 use Rattle.rbc_live.specs.Lines.{AreAnswers, AreFirstAnswers}
-use Rattle.rbc_live.specs.Answers.{count_of}
-use Rattle.rbc_live.specs.UnderWay.{Shows, ArePending, IsUnderWay, IsWaiting, IsDone, IsCutShort, IsEnded, GoesOn}
+use Rattle.rbc_text.specs.declared.outlet.WriteFault.{WriteFault}
+use Rattle.rbc_text.specs.Streams.{count_of}
+use Rattle.rbc_live.specs.UnderWay.{Shows, ArePending, IsUnderWay, IsWaiting, IsDone, IsEnded, GoesOn}
+use Rattle.rbc_text.specs.Streams.{IsCutShort}
 use Rattle.rbc_live.specs.declared.session.Session.{Session}
 use Rattle.rbc_live.specs.declared.prompt.PromptError.{PromptError}
 use Rattle.rbc_live.specs.declared.prompt.PromptError.TheVariants.{Read, Memory, Write}
@@ -83,32 +85,23 @@ part_out plan wanted text sent old mid new ended part count are few out counted 
       ),
     )
 
-pub cut_short : (plan : Plan) (wanted : Wanted) (text : List ℕ) (sent : ℕ) (old mid new : Option (List ℕ)) (ended : List (List ℕ)) (fault : PromptError)
-    → ArePending plan wanted text sent old mid ended → IsCutShort sent text mid new fault → IsEnded plan wanted ended old new fault
-cut_short plan wanted text sent old mid new ended fault are (part, few, out, same) =
-    subst (IsEnded plan wanted ended old new) (sym same) (part_out plan wanted text sent old mid new ended part (count_of (sent + part)) are few out refl)
+pub cut_short : (plan : Plan) (wanted : Wanted) (text : List ℕ) (sent : ℕ) (old mid new : Option (List ℕ)) (ended : List (List ℕ)) (fault : WriteFault)
+    → ArePending plan wanted text sent old mid ended → IsCutShort sent text mid new fault → IsEnded plan wanted ended old new (Write fault.sent)
+cut_short plan wanted text sent old mid new ended fault are (part, few, out, same) = part_out plan wanted text sent old mid new ended part fault.sent are few out same
 
 -- all of it was written
-all_out : (plan : Plan) (wanted : Wanted) (text : List ℕ) (sent : ℕ) (old mid last new : Option (List ℕ)) (ended : List (List ℕ))
+pub all_out : (plan : Plan) (wanted : Wanted) (text : List ℕ) (sent : ℕ) (old mid last new : Option (List ℕ)) (ended : List (List ℕ))
     → ArePending plan wanted text sent old mid ended → Appends mid last text → Keeps last new → IsDone plan wanted ended old new
 all_out plan wanted text sent old mid last new ended are out kept =
     (are.written ++ text, answers plan wanted text sent old mid ended are, Appends-kept old last new (are.written ++ text) (Appends-trans old mid last are.written text are.out out) kept)
 
 -- all of it was written, and is not given to the system
-not_flushed : (plan : Plan) (wanted : Wanted) (text : List ℕ) (sent : ℕ) (old mid last new : Option (List ℕ)) (ended : List (List ℕ)) (count : ℕ)
+pub not_flushed : (plan : Plan) (wanted : Wanted) (text : List ℕ) (sent : ℕ) (old mid last new : Option (List ℕ)) (ended : List (List ℕ)) (count : ℕ)
     → ArePending plan wanted text sent old mid ended → Appends mid last text → Keeps last new → count ≡ count_of (sent + length text)
     → IsEnded plan wanted ended old new (Write count)
 not_flushed plan wanted text sent old mid last new ended count are out kept counted =
     part_out plan wanted text sent old mid new ended (length text) count are (omega arith)
     (subst (Appends mid new) (sym (take-length text)) (Appends-kept mid last new text out kept)) counted
-
--- all of it was written, and is given to the system or not
-pub given_on : {E : Type 0} (plan : Plan) (wanted : Wanted) (text : List ℕ) (sent : ℕ) (old mid last new : Option (List ℕ)) (ended : List (List ℕ)) (count : ℕ) (r : Result E PromptError)
-    → ArePending plan wanted text sent old mid ended → Appends mid last text → Keeps last new → count ≡ count_of (sent + length text) → IfErr r (λ fault. fault ≡ Write count)
-    → GoesOn plan wanted ended old new r (IsDone plan wanted ended old new)
-given_on plan wanted text sent old mid last new ended count (Ok done) are out kept counted same = all_out plan wanted text sent old mid last new ended are out kept
-given_on plan wanted text sent old mid last new ended count (Err fault) are out kept counted same =
-    subst (IsEnded plan wanted ended old new) (sym same) (not_flushed plan wanted text sent old mid last new ended count are out kept counted)
 
 -- nothing is left to be written
 pub nothing_left : (plan : Plan) (wanted : Wanted) (session : Session) (old new : Option (List ℕ)) (ended : List (List ℕ)) (rest : List ℕ)

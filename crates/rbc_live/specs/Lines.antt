@@ -1,26 +1,14 @@
 -- The lines of what was read, and the text of the answers to them (own rule).
 use Rattle.std.specs.Prelude.{◌≡◌, ℕ, ◌+◌, nat_le, if◌then◌else◌, List, [], ◌∷◌, ◌++◌, map}
-use Rattle.std.specs.List.{slice_split}
 use Rattle.rbc_track.specs.Plan.{Plan}
 use Rattle.rbc_records.specs.declared.record.Key.{Key}
 use Rattle.rbc_records.specs.declared.record.Rec.{Rec}
 use Rattle.rbc_rule.specs.declared.input.Input.{Input}
 use Rattle.rbc_text.specs.Serial.{Desk, step, new_desk}
-use Rattle.rbc_text.specs.BatchText.{is_line_feed}
 use Rattle.rbc_text.specs.OutputText.{answer_of}
 use Rattle.rbc_live.specs.declared.wanted.Wanted.{Wanted}
 use Rattle.rbc_live.specs.Alarms.{alarms_shown}
 use Rattle.rbc_live.specs.History.{Taken, IsSerialOf}
-
--- all but the last one
-abbrev pub but_last : List (List ℕ) → List (List ℕ)
-but_last [] = []
-but_last (last ∷ []) = []
-but_last (line ∷ more ∷ lines) = line ∷ but_last (more ∷ lines)
-
--- the lines of a text that a line feed has ended
-abbrev pub ended_lines_of : List ℕ → List (List ℕ)
-ended_lines_of text = but_last (slice_split is_line_feed text)
 
 -- the answer to a line of this number, if answers are written from that number on
 abbrev pub shown : ℕ → ℕ → Taken → List ℕ

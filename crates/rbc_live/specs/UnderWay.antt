@@ -10,8 +10,9 @@ use Rattle.rbc_text.specs.Serial.{new_desk}
 use Rattle.rbc_live.specs.History.{Taken, IsSerialOf, posted}
 use Rattle.rbc_live.specs.Watching.{IsWatchFor}
 use Rattle.rbc_live.specs.declared.wanted.Wanted.{Wanted}
-use Rattle.rbc_live.specs.Lines.{but_last, answers_from, AreAnswers, AreFirstAnswers}
-use Rattle.rbc_live.specs.Answers.{count_of, IsPartOut}
+use Rattle.rbc_text.specs.EndedLines.{but_last}
+use Rattle.rbc_live.specs.Lines.{answers_from, AreAnswers, AreFirstAnswers}
+use Rattle.rbc_text.specs.Streams.{count_of, IsPartOut}
 use Rattle.rbc_live.specs.GoingOn.{GoesOnAs, max_kept}
 use Rattle.rbc_live.specs.declared.line.UnfinishedLine.{UnfinishedLine}
 use Rattle.rbc_live.specs.declared.session.Session.{Session}
@@ -59,10 +60,6 @@ pub record IsUnderWay (plan : Plan) (wanted : Wanted) (session : Session) (old n
 abbrev pub IsWaiting : Session → Type 0
 IsWaiting session = (session.text.items ≡ []) × (session.outlet.flushed ≡ true)
 
--- the first bytes of a text are out, after this many others; the fault counts them all
-abbrev pub IsCutShort : ℕ → List ℕ → Option (List ℕ) → Option (List ℕ) → PromptError → Type 0
-IsCutShort sent text old new fault = (part : ℕ) × (part ≤ length text) × Appends old new (take part text) × (fault ≡ Write (count_of (sent + part)))
-
 -- a fault in mid-course: the answers to the first of these lines are out, or at a write fault the first bytes of them
 abbrev pub IsEnded : Plan → Wanted → List (List ℕ) → Option (List ℕ) → Option (List ℕ) → PromptError → Type 0
 IsEnded plan wanted lines old new Read = ⊥
@@ -73,11 +70,6 @@ IsEnded plan wanted lines old new (Write sent) = (text : List ℕ) × AreFirstAn
 abbrev pub GoesOn : {E : Type 0} → Plan → Wanted → List (List ℕ) → Option (List ℕ) → Option (List ℕ) → Result E PromptError → Type 0 → Type 0
 GoesOn plan wanted lines old new (Ok done) P = P
 GoesOn plan wanted lines old new (Err fault) P = IsEnded plan wanted lines old new fault
-
--- pieces, the first of which goes on from what stands before it
-abbrev pub joined : List ℕ → List (List ℕ) → List (List ℕ)
-joined rest [] = rest ∷ []
-joined rest (first ∷ more) = (rest ++ first) ∷ more
 
 -- the answers to all these lines are out
 abbrev pub IsDone : Plan → Wanted → List (List ℕ) → Option (List ℕ) → Option (List ℕ) → Type 0

@@ -2,7 +2,7 @@
 //! alarms of trains that are not told what concerns them, and a session that answers lines as they come from a reader.
 //!
 //! It stands on rbc_text, which reads a line and decides its input. rbc_batch follows alarms with it; rbc_account, the
-//! C library by rbc_handle, and the program `dispatch` call it.
+//! C library rbc_c, and the program `dispatch` call it.
 //!
 //! The storey above rests on the contract of `LiveDesk::feed` (desk.rt): the answer, the messages and the records after
 //! a line are those of the rule's step, and nothing is changed if there is no answer. `history_law` says what follows
@@ -14,11 +14,9 @@
 #![tactic(auto)]
 
 mod alarm;
-mod calls;
 mod desk;
 mod law;
 mod line;
-mod outlet;
 mod prompt;
 mod record_lookup;
 mod session;

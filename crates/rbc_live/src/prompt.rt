@@ -4,10 +4,10 @@ ghost use Rattle.std.specs.Prelude.{◌≡◌, []};
 ghost use Rattle.rbc_live.specs.Answers.{Answers};
 ghost use Rattle.rbc_live.specs.Calls.{AreCallsAt};
 
-use crate::calls::Calls;
 use crate::desk::LiveDesk;
 use crate::session::Session;
 use crate::wanted::Wanted;
+use rbc_text::{Calls, WriteFault};
 use std::alloc::Global;
 use std::error::Error;
 use std::fmt;
@@ -44,6 +44,17 @@ impl fmt::Display for PromptError {
 }
 
 impl Error for PromptError {}
+
+impl From<WriteFault> for PromptError {
+    ghost use Rattle.std.specs.Prelude.{◌≡◌};
+    ghost use Rattle.rbc_live.specs.declared.prompt.PromptError.TheVariants.{Write};
+
+    ghost from_gives = { λ fault e. e ≡ Write fault.sent };
+
+    fn from(fault: WriteFault) -> PromptError {
+        PromptError::Write { sent: fault.sent }
+    }
+}
 
 /// Reads lines to the end of the reader, and takes each on a desk that has taken none. What is wanted of them, the
 /// answers from a number on and alarms, is written and flushed before the reader is asked for more. The last line may

@@ -4,19 +4,17 @@ ghost use Rattle.std.specs.Prelude.{◌≡◌, ◌≤◌, ◌<◌, ◌+◌, ◌^
 ghost use Rattle.std.specs.List.{slice_split};
 ghost use Rattle.rbc_track.specs.Plan.{Plan};
 ghost use Rattle.rbc_text.specs.BatchText.{is_line_feed, without_empty_end};
-ghost use Rattle.rbc_live.specs.Lines.{but_last};
+ghost use Rattle.rbc_text.specs.EndedLines.{but_last, joined};
 ghost use Rattle.rbc_live.specs.UnderWay.{ArePending, IsUnderWay, IsWaiting, IsDone, GoesOn, IsEnded, HasTaken};
-ghost use Rattle.rbc_live.specs.UnderWay.{joined};
 ghost use Rattle.rbc_live.specs.declared.wanted.Wanted.{Wanted};
 
 use crate::desk::{LiveDesk, LiveFault};
 use crate::line::UnfinishedLine;
-use crate::outlet::Outlet;
 use crate::prompt::PromptError;
 use crate::wanted::Wanted;
 use crate::watch::{Watch, alarm_part, watch_for};
 use ertms_codec::cut;
-use rbc_text::render_answer;
+use rbc_text::{Outlet, render_answer};
 use std::alloc::{AllocError, Global};
 use std::io::Write;
 
@@ -107,7 +105,8 @@ impl Session {
     {
         self.outlet.write(writer, &self.text)?;
         self.text.clear();
-        self.outlet.flush(writer)
+        self.outlet.flush(writer)?;
+        Ok(())
     }
 
     /// The fault of a line for which memory was refused. The answers to the lines before it are written first.

@@ -1,16 +1,16 @@
 //! A short line that stands in for a long one that has not ended: however both go on, they lead to the same result.
 
 ghost use Rattle.std.specs.Prelude.{◌≡◌, ◌≤◌, ◌<◌, ◌+◌, ◌==◌, ◌∷◌, ◌++◌, [], ℕ, List, codes, length};
-ghost use Rattle.std.specs.Prelude.{if◌then◌else◌, false, true, IfOk, IfSome, IfNone};
+ghost use Rattle.std.specs.Prelude.{if◌then◌else◌, false, true, IfOk};
 ghost use Rattle.std.specs.List.{list_all};
 ghost use Rattle.hex.specs.Hex.{is_hex_digit};
 ghost use Rattle.rbc_text.specs.BatchText.{words_of};
 ghost use Rattle.rbc_live.specs.GoingOn.{GoesOnAs, is_stop, max_kept};
 
 use ertms_codec::cut;
-use memchr::{memchr, memrchr};
+use memchr::memchr;
 use rbc_rule::Input;
-use rbc_text::parse_line;
+use rbc_text::{last_word, parse_line};
 use std::alloc::{AllocError, Global};
 
 /// How many digits are kept of a long message, and one more if their number is odd. They spell more bytes than
@@ -38,19 +38,6 @@ fn bad_line(alloc: Global) -> Result<Vec<u8>, AllocError>
     ensures { IfOk result (λ kept. kept.items ≡ 32 ∷ []) }
 {
     joined(alloc, b" ", b"")
-}
-
-/// What stands before the last space of a line, and the word after it. `None` if there is no space.
-fn last_word(line: &[u8]) -> Option<(&[u8], &[u8])>
-    ensures words { IfSome result (λ parts. words_of line.now ≡ words_of parts.0.now ++ parts.1.now ∷ []) }
-    ensures whole { IfSome result (λ parts. words_of parts.1.now ≡ parts.1.now ∷ []) }
-    ensures lengths { IfSome result (λ parts. length parts.0.now + length parts.1.now + 1 ≡ length line.now) }
-    ensures none { IfNone result (words_of line.now ≡ line.now ∷ []) }
-{
-    match memrchr(b' ', line) {
-        Some(at) => Some((&line[..at], &line[at + 1..])),
-        None => None,
-    }
 }
 
 /// The second word of a line, or an empty one if there is none.

@@ -1,6 +1,9 @@
 mod LineFits
 mod LineWords
 mod Texts
+pub mod Calling
+pub mod LastSpaces
+pub mod LinePieces
 pub mod ResultLines
 pub mod HexDigits
 pub mod HexWords

@@ -1,4 +1,6 @@
 pub mod BatchText
+pub mod Calls
+pub mod EndedLines
 pub mod OutputText
 pub mod Streams
 pub use Rattle.rbc_desk.specs.Held

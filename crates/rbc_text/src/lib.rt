@@ -13,16 +13,20 @@
 //! function was changing is then of no further use, unless its docstring says what is left.
 #![tactic(auto)]
 
+mod calls;
 mod line;
 mod messages;
+mod outlet;
 mod output;
 mod words;
 mod writing;
 
+pub use calls::Calls;
 pub use line::parse_line;
+pub use outlet::{Outlet, WriteFault};
 pub use output::{
     push_decimal, push_result, render, render_answer, render_outboxes, render_results,
 };
 pub use rbc_desk::{decide, step_law};
-pub use words::{decimal, first_line};
-pub use writing::{write_on, write_text};
+pub use words::{decimal, first_line, halves, last_word};
+pub use writing::{Unwritten, write_on, write_text};

@@ -1,12 +1,13 @@
 //! Cutting a text at separators, and what the words after a command spell.
 
-ghost use Rattle.std.specs.Prelude.{◌≡◌, ◌∷◌, ◌<◌, length, IfSome, IfNone, ◌==◌, IfOk};
+ghost use Rattle.std.specs.Prelude.{◌≡◌, ◌∷◌, ◌++◌, [], ◌<◌, ◌+◌, length, IfSome, IfNone, ◌==◌, IfOk};
 ghost use Rattle.std.specs.List.{position, slice_split, before_first, after_first};
 ghost use Rattle.rbc_text.specs.BatchText.{lines_of, decimal_of, segment_from, segment_of, segments_of, number_of};
 ghost use Rattle.rbc_text.specs.BatchText.{dirs_of, front_of, words_of};
 ghost use Rattle.ertms_codec.specs.Pieces.{pieces_behind, text_behind};
 
 use ertms_codec::cut;
+use memchr::memrchr;
 use rbc_rule::Segments;
 use rbc_zones::{Dirs, Segment};
 use std::alloc::{AllocError, Global};
@@ -24,8 +25,21 @@ pub fn first_line(text: &[u8]) -> (&[u8], &[u8])
     }
 }
 
+/// What stands before the last space of a line, and the word after it. `None` if there is no space.
+pub fn last_word(line: &[u8]) -> Option<(&[u8], &[u8])>
+    ensures words { IfSome result (λ parts. words_of line.now ≡ words_of parts.0.now ++ parts.1.now ∷ []) }
+    ensures whole { IfSome result (λ parts. words_of parts.1.now ≡ parts.1.now ∷ []) }
+    ensures lengths { IfSome result (λ parts. length parts.0.now + length parts.1.now + 1 ≡ length line.now) }
+    ensures none { IfNone result (words_of line.now ≡ line.now ∷ []) }
+{
+    match memrchr(b' ', line) {
+        Some(at) => Some((&line[..at], &line[at + 1..])),
+        None => None,
+    }
+}
+
 /// The text before the first separator, and the text after it. Without a separator: the whole text, and an empty one.
-fn halves(text: &[u8], separator: u8) -> (&[u8], &[u8])
+pub fn halves(text: &[u8], separator: u8) -> (&[u8], &[u8])
     ensures before { result.0.now ≡ before_first (λ b. b == separator) text.now }
     ensures behind { result.1.now ≡ after_first (λ b. b == separator) text.now }
 {

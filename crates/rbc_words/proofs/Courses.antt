@@ -3,7 +3,8 @@ use Rattle.std.proofs.Common.{◌≡◌, ℕ, ◌+◌, ◌≤◌, List, [], ◌�
 use Rattle.std.specs.Prelude.{OnOk, IfErr, IsErrAnd, false}
 use Rattle.std.specs.Io.KnownBytes.{Appends}
 use Rattle.rbc_text.specs.BatchText.{without_empty_end}
-use Rattle.rbc_words.specs.Filters.{count_of, AreTurned, AreFirstTurned, IsFirstWrong}
+use Rattle.rbc_text.specs.Streams.{count_of}
+use Rattle.rbc_words.specs.Filters.{AreTurned, AreFirstTurned, IsFirstWrong}
 use Rattle.rbc_words.specs.UnderWay.{ArePending, IsUnderWay, IsWaiting, IsDone, IsWriteFault, IsStop, IsEnded, GoesOn, IsPutBehind, IsShownBy, IsStopped, IsStoppedMidway, passed_on}
 use Rattle.rbc_words.specs.declared.rule.RuleError.{RuleError}
 use Rattle.rbc_words.specs.declared.line.UnfinishedLine.{UnfinishedLine}

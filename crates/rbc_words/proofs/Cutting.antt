@@ -3,11 +3,13 @@ use Rattle.std.proofs.Common.{◌≡◌, ℕ, ◌+◌, List, [], ◌∷◌, ◌+
 use Rattle.std.specs.Prelude.{OnOk, IfErr, IsErrAnd}
 use Rattle.std.specs.Io.KnownBytes.{Appends}
 use Rattle.rbc_text.specs.BatchText.{without_empty_end}
-use Rattle.rbc_words.specs.Filters.{count_of, IsBegun}
-use Rattle.rbc_words.specs.UnderWay.{IsUnderWay, IsWaiting, IsWriteFault, IsEnded, HasTaken, joined, passed_on}
+use Rattle.rbc_text.specs.Streams.{count_of}
+use Rattle.rbc_words.specs.Filters.{IsBegun}
+use Rattle.rbc_text.specs.EndedLines.{joined}
+use Rattle.rbc_words.specs.UnderWay.{IsUnderWay, IsWaiting, IsWriteFault, IsEnded, HasTaken, passed_on}
 use Rattle.rbc_words.specs.declared.session.Session.{Session}
 use Rattle.rbc_words.specs.declared.filter.FilterError.{FilterError}
-use Rattle.rbc_words.proofs.Pieces.{line_more}
+use Rattle.rbc_text.proofs.LinePieces.{line_more}
 use Rattle.rbc_words.proofs.Turning.{end_front, first_lines, begun_part}
 use Rattle.rbc_words.proofs.Delivered.{ended_of_more}
 use Rattle.rbc_words.proofs.Courses.{written_out, not_written}

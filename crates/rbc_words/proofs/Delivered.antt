@@ -4,8 +4,11 @@ use Rattle.std.specs.Prelude.{OnOk}
 use Rattle.std.specs.Io.KnownBytes.{Appends}
 use Rattle.std.proofs.Math.Seq.{take-append-add}
 use Rattle.std.proofs.KnownBytes.{Appends-trans}
-use Rattle.rbc_words.specs.Filters.{count_of, AreFirstTurned, IsFirstWrong}
-use Rattle.rbc_words.specs.UnderWay.{ArePending, IsDone, IsCutShort, IsStop, IsEnded, IsPutBehind, fault_of}
+use Rattle.rbc_text.specs.declared.outlet.WriteFault.{WriteFault}
+use Rattle.rbc_text.specs.Streams.{count_of}
+use Rattle.rbc_words.specs.Filters.{AreFirstTurned, IsFirstWrong}
+use Rattle.rbc_text.specs.Streams.{IsCutShort}
+use Rattle.rbc_words.specs.UnderWay.{ArePending, IsDone, IsStop, IsEnded, IsPutBehind, fault_of}
 use Rattle.rbc_words.specs.declared.rule.RuleError.{RuleError}
 use Rattle.rbc_words.specs.declared.rule.RuleError.TheVariants as refusal
 use Rattle.rbc_words.specs.declared.session.Session.{Session}
@@ -72,10 +75,10 @@ module _ (becomes : List ℕ → List ℕ → Type 0) where
         of_more (Line number fault) is = (is.0, wrong_of_more becomes is_wrong lines more is.0 number fault is.1, is.2)
 
     -- the writer failed after a part of the text
-    pub cut_short : (lines : List (List ℕ)) (text : List ℕ) (sent : ℕ) (old mid new : Option (List ℕ)) (ended : List (List ℕ)) (begun : List ℕ) (count : ℕ)
-        (are : ArePending becomes text sent old mid ended begun) → AreFirstTurned becomes lines (are.turned ++ begun) → IsCutShort sent text mid new count
-        → IsEnded becomes is_wrong lines old new (Write count)
-    cut_short lines text sent old mid new ended begun count are first (part, few, out, counted) =
+    pub cut_short : (lines : List (List ℕ)) (text : List ℕ) (sent : ℕ) (old mid new : Option (List ℕ)) (ended : List (List ℕ)) (begun : List ℕ) (fault : WriteFault)
+        (are : ArePending becomes text sent old mid ended begun) → AreFirstTurned becomes lines (are.turned ++ begun) → IsCutShort sent text mid new fault
+        → IsEnded becomes is_wrong lines old new (Write fault.sent)
+    cut_short lines text sent old mid new ended begun fault are first (part, few, out, counted) =
         let whole = length-append are.written text in (
           are.written ++ text,
           subst (AreFirstTurned becomes lines) (sym are.all) first,

@@ -6,15 +6,16 @@ use Rattle.std.specs.Io.KnownBytes.{Consumes, Appends}
 use Rattle.std.proofs.lemmas.Bool.Decides.{nat_tests}
 use Rattle.rbc_text.specs.BatchText.{is_line_feed, without_empty_end, lines_of}
 use Rattle.rbc_text.specs.Streams.{IsAllRead}
-use Rattle.rbc_words.specs.Lines.{but_last, last_of}
+use Rattle.rbc_text.specs.EndedLines.{but_last}
+use Rattle.rbc_words.specs.Lines.{last_of}
 use Rattle.rbc_words.specs.Filters.{Filters, AreTurned, IsPassedOn}
-use Rattle.rbc_words.specs.Calls.{max_calls, AreCallsAt}
+use Rattle.rbc_words.specs.Calls.{AreCallsAt}
 use Rattle.rbc_words.specs.UnderWay.{IsUnderWay, IsWaiting, IsDone, IsEnded, GoesOn, passed_on}
-use Rattle.rbc_words.specs.declared.calls.Calls.{Calls}
+use Rattle.rbc_text.specs.declared.calls.Calls.{Calls}
 use Rattle.rbc_words.specs.declared.session.Session.{Session}
 use Rattle.rbc_words.specs.declared.filter.FilterError.{FilterError}
 use Rattle.rbc_words.specs.declared.filter.FilterError.TheVariants.{Read, Memory, Write, Line}
-use Rattle.rbc_words.proofs.Pieces.{but_one}
+use Rattle.rbc_text.proofs.LinePieces.{but_one}
 use Rattle.rbc_words.proofs.Turning.{all_passed}
 use Rattle.rbc_words.proofs.Delivered.{pending_out}
 
@@ -86,11 +87,3 @@ module _ (becomes : List ℕ → List ℕ → Type 0) {F : Type 0} (is_wrong : L
   pub called_to_fault : {E : Type 0} (r : Result E (FilterError F)) (fault : FilterError F) → IsErrAnd r (λ other. other ≡ fault) → IsEnded becomes is_wrong lines old new fault → AreCallsAt r calls
   called_to_fault (Ok done) fault same is = absurd same
   called_to_fault {E} (Err other) fault same is = subst (λ (f : FilterError F). AreCallsAt {E = E} (Err f) calls) (sym same) (not_reading E fault is)
-
--- no call is made any more
-over : (failed : Bool) (made : ℕ) → made ≤ max_calls → not failed && nat_lt made max_calls ≡ false → (failed ≡ true) ⊎ (made ≡ max_calls)
-over true made few none = inl refl
-over false made few none = inr (grind (arith, nat_tests))
-
-pub given_up : (calls : Calls) → calls.made ≤ max_calls → not calls.failed && nat_lt calls.made max_calls ≡ false → (calls.failed ≡ true) ⊎ (calls.made ≡ max_calls)
-given_up calls few none = over calls.failed calls.made few none

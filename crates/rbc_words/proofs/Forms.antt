@@ -9,7 +9,7 @@ use Rattle.rbc_text.specs.BatchText.{is_space, words_of}
 use Rattle.rbc_words.specs.Encoding.{is_number, has_number}
 use Rattle.rbc_words.proofs.FirstWrongWord.{stops_within}
 use Rattle.rbc_words.proofs.LastWords.{total, total_of_line}
-use Rattle.rbc_words.proofs.Pieces.{first_piece}
+use Rattle.rbc_text.proofs.LinePieces.{first_piece}
 use denote.Ref.{Bor}
 
 -- a second word is there

@@ -19,7 +19,7 @@ use Rattle.rbc_words.specs.Lines.{last_of}
 use Rattle.rbc_words.specs.Decoding.{Decodes, EndsInMessage, HasText, Says, digits_in, is_to_train}
 use Rattle.rbc_words.specs.declared.decode.Direction.{Direction}
 use Rattle.rbc_words.specs.declared.decode.Direction.TheVariants as ways
-use Rattle.rbc_words.proofs.Pieces.{first_piece}
+use Rattle.rbc_text.proofs.LinePieces.{first_piece}
 
 -- ---- words
 

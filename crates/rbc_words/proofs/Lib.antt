@@ -4,11 +4,9 @@ mod Delivered
 mod Ending
 mod FirstWrongWord
 mod Forms
-mod LastSpaces
 mod LastWords
 mod Outlooks
 mod Passing
-mod Pieces
 mod Refused
 mod Settled
 mod ShortWords

@@ -12,14 +12,14 @@ use Rattle.rbc_words.specs.Rules.{Foretells, StaysItself}
 use Rattle.rbc_words.specs.Encoding.{Encodes, IsWrongLine, IsWrongText, IsOther, is_number, has_number, is_text, is_report}
 use Rattle.rbc_words.specs.LastWord.{IsOutlookBy}
 use Rattle.rbc_words.specs.ReportWords.{report_of}
-use Rattle.rbc_words.specs.UnderWay.{joined}
+use Rattle.rbc_text.specs.EndedLines.{joined}
 use Rattle.rbc_words.specs.declared.line_fault.LineWord.TheVariants as ways
 use Rattle.rbc_words.specs.declared.line_fault.LineFault.{LineFault}
 use Rattle.rbc_words.specs.declared.line_fault.LineFault.TheVariants.{Word}
 use Rattle.rbc_words.specs.declared.report.Report.{Report}
 use Rattle.rbc_words.specs.declared.rule.Outlook.{Outlook}
 use Rattle.rbc_words.specs.declared.rule.Outlook.TheVariants.{Open, Itself, Wrong}
-use Rattle.rbc_words.proofs.Pieces.{first_piece, one_piece_more, glued, split_glued}
+use Rattle.rbc_text.proofs.LinePieces.{first_piece, one_piece_more, glued, split_glued}
 use Rattle.rbc_words.proofs.LastWords.{total, total_of_line}
 use Rattle.rbc_words.proofs.FirstWrongWord.{stops_before, stops_at}
 use Rattle.rbc_words.proofs.Settled.{report_keeps}

@@ -2,39 +2,31 @@
 use Rattle.std.specs.Prelude.{◌≡◌, ◌⊎◌, ◌≤◌, ◌-◌, ◌+◌, ◌^◌, ℕ, min, List, [], ◌∷◌, ◌++◌, Option, Result, Ok, Err, take, length}
 use Rattle.std.specs.Io.KnownBytes.{Appends, Consumes}
 use Rattle.rbc_text.specs.BatchText.{lines_of}
-use Rattle.rbc_text.specs.Streams.{IsAllRead}
-use Rattle.rbc_words.specs.Lines.{ended_lines_of, begun_line_of}
+use Rattle.rbc_text.specs.EndedLines.{ended_lines_of}
+use Rattle.rbc_text.specs.Streams.{IsAllRead, IsPartOut}
+use Rattle.rbc_words.specs.Lines.{begun_line_of}
 use Rattle.rbc_words.specs.Rules.{StaysItself}
 use Rattle.rbc_words.specs.declared.filter.FilterError.{FilterError}
 use Rattle.rbc_words.specs.declared.filter.FilterError.TheVariants.{Read, Memory, Write, Line}
 
--- a number as it is counted, up to 2 ^ 64 - 1
-abbrev pub count_of : ℕ → ℕ
-count_of number = min number (2 ^ 64 - 1)
+-- the text is what the lines become, one after another, with a line feed behind each
+abbrev pub AreTurned : (List ℕ → List ℕ → Type 0) → List (List ℕ) → List ℕ → Type 0
+AreTurned becomes [] text = text ≡ []
+AreTurned becomes (line ∷ lines) text = (first rest : List ℕ) × becomes line first × AreTurned becomes lines rest × (text ≡ first ++ 10 ∷ rest)
 
--- the first bytes of a text are out, so many of them
-abbrev pub IsPartOut : Option (List ℕ) → Option (List ℕ) → List ℕ → ℕ → Type 0
-IsPartOut old new text sent = (out : ℕ) × (out ≤ length text) × (sent ≡ count_of out) × Appends old new (take out text)
+-- nothing is out of a line that has begun, or all of it, since it becomes itself however it goes on
+abbrev pub IsPassedOn : (List ℕ → List ℕ → Type 0) → List ℕ → List ℕ → Type 0
+IsPassedOn becomes line text = (text ≡ []) ⊎ ((text ≡ line) × StaysItself becomes text)
 
-module _ (becomes : List ℕ → List ℕ → Type 0) where
-  -- the text is what the lines become, one after another, with a line feed behind each
-  abbrev pub AreTurned : List (List ℕ) → List ℕ → Type 0
-  AreTurned [] text = text ≡ []
-  AreTurned (line ∷ lines) text = (first rest : List ℕ) × becomes line first × AreTurned lines rest × (text ≡ first ++ 10 ∷ rest)
+-- nothing is out of a line, or its first bytes, since a line that begins so becomes itself
+abbrev pub IsBegun : (List ℕ → List ℕ → Type 0) → List ℕ → List ℕ → Type 0
+IsBegun becomes line text = (text ≡ []) ⊎ ((more : List ℕ) × (line ≡ text ++ more) × StaysItself becomes text)
 
-  -- nothing is out of a line that has begun, or all of it, since it becomes itself however it goes on
-  abbrev pub IsPassedOn : List ℕ → List ℕ → Type 0
-  IsPassedOn line text = (text ≡ []) ⊎ ((text ≡ line) × StaysItself becomes text)
-
-  -- nothing is out of a line, or its first bytes, since a line that begins so becomes itself
-  abbrev pub IsBegun : List ℕ → List ℕ → Type 0
-  IsBegun line text = (text ≡ []) ⊎ ((more : List ℕ) × (line ≡ text ++ more) × StaysItself becomes text)
-
-  -- the text is what the first of these lines become, and what is out of the line behind them
-  abbrev pub AreFirstTurned : List (List ℕ) → List ℕ → Type 0
-  AreFirstTurned [] text = text ≡ []
-  AreFirstTurned (line ∷ lines) text =
-      IsBegun line text ⊎ ((first rest : List ℕ) × becomes line first × AreFirstTurned lines rest × (text ≡ first ++ 10 ∷ rest))
+-- the text is what the first of these lines become, and what is out of the line behind them
+abbrev pub AreFirstTurned : (List ℕ → List ℕ → Type 0) → List (List ℕ) → List ℕ → Type 0
+AreFirstTurned becomes [] text = text ≡ []
+AreFirstTurned becomes (line ∷ lines) text =
+    IsBegun becomes line text ⊎ ((first rest : List ℕ) × becomes line first × AreFirstTurned becomes lines rest × (text ≡ first ++ 10 ∷ rest))
 
 -- the line of this number is the first of these lines that is wrong, and the text is what the lines before it become
 abbrev pub IsFirstWrong : {F : Type 0} → (List ℕ → List ℕ → Type 0) → (List ℕ → F → Type 0) → List (List ℕ) → List ℕ → ℕ → F → Type 0

@@ -5,15 +5,13 @@ use Rattle.rbc_text.specs.BatchText.{without_empty_end}
 use Rattle.rbc_words.specs.Rules.{StaysItself}
 use Rattle.rbc_words.specs.declared.rule.RuleError.{RuleError}
 use Rattle.rbc_words.specs.declared.rule.RuleError.TheVariants as refusal
-use Rattle.rbc_words.specs.Filters.{count_of, IsPartOut, AreTurned, AreFirstTurned, IsFirstWrong}
+use Rattle.rbc_text.specs.Streams.{count_of, IsCutShort, IsPartOut}
+use Rattle.rbc_text.specs.declared.outlet.WriteFault.{WriteFault}
+use Rattle.rbc_words.specs.Filters.{AreTurned, AreFirstTurned, IsFirstWrong}
 use Rattle.rbc_words.specs.declared.line.UnfinishedLine.{UnfinishedLine}
 use Rattle.rbc_words.specs.declared.session.Session.{Session}
 use Rattle.rbc_words.specs.declared.filter.FilterError.{FilterError}
 use Rattle.rbc_words.specs.declared.filter.FilterError.TheVariants.{Read, Memory, Write, Line}
-
--- the first bytes of a text are out, behind so many others; `count` counts them all
-abbrev pub IsCutShort : ℕ → List ℕ → Option (List ℕ) → Option (List ℕ) → ℕ → Type 0
-IsCutShort sent text old new count = (part : ℕ) × (part ≤ length text) × Appends old new (take part text) × (count ≡ count_of (sent + part))
 
 -- all of a line that has begun is kept, or it was passed on, since it becomes itself however it goes on
 abbrev pub IsShownBy : (List ℕ → List ℕ → Type 0) → List ℕ → UnfinishedLine → Type 0
@@ -47,11 +45,6 @@ IsWaiting session = (session.text.items ≡ []) × (session.outlet.flushed ≡ t
 abbrev pub IsDone : (List ℕ → List ℕ → Type 0) → List (List ℕ) → List ℕ → Option (List ℕ) → Option (List ℕ) → Type 0
 IsDone becomes ended begun old new = (text : List ℕ) × AreTurned becomes ended text × Appends old new (text ++ begun)
 
--- pieces, of which the first goes on from what stands before it
-abbrev pub joined : List ℕ → List (List ℕ) → List (List ℕ)
-joined rest [] = rest ∷ []
-joined rest (first ∷ more) = (rest ++ first) ∷ more
-
 -- text was put behind other text, so that the part of a line that was there is now this one
 abbrev pub IsPutBehind : List ℕ → List ℕ → List ℕ → List ℕ → Type 0
 IsPutBehind old new part_old part_new = (more : List ℕ) × (new ≡ old ++ more) × (part_old ++ more ≡ part_new)
@@ -73,7 +66,7 @@ IsRefusedUnless passed is_wrong line (refusal.Wrong fault) = (passed ≡ false) 
 
 -- the writer failed after a part of the text that is not written yet
 abbrev pub IsWriteFault : {F : Type 0} → Session → Option (List ℕ) → Option (List ℕ) → FilterError F → Type 0
-IsWriteFault session old new fault = (sent : ℕ) × IsCutShort session.outlet.sent session.text.items old new sent × (fault ≡ Write sent)
+IsWriteFault session old new fault = (out : WriteFault) × IsCutShort session.outlet.sent session.text.items old new out × (fault ≡ Write out.sent)
 
 -- the fault of a line of this number
 abbrev pub fault_of : {F : Type 0} → ℕ → RuleError F → FilterError F

@@ -4,9 +4,9 @@ ghost use Rattle.std.specs.Prelude.{◌≡◌};
 ghost use Rattle.rbc_words.specs.Filters.{Filters};
 ghost use Rattle.rbc_words.specs.Calls.{AreCallsAt};
 
-use crate::calls::Calls;
 use crate::rule::LineRule;
 use crate::session::Session;
+use rbc_text::Calls;
 use std::alloc::Global;
 use std::fmt;
 use std::io::{Read, Write};

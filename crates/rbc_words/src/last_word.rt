@@ -5,7 +5,7 @@ ghost use Rattle.std.specs.List.{count_by};
 ghost use Rattle.rbc_text.specs.BatchText.{is_space, words_of};
 ghost use Rattle.rbc_words.specs.LastWord.{IsSettled};
 
-use memchr::memrchr;
+use rbc_text::last_word;
 
 /// No word that can stand in a message or a report is longer: `LINE:PLACE`, with 10 digits each.
 const LONGEST_WORD: usize = 21;
@@ -20,16 +20,6 @@ pub fn is_settled(begun: &[u8], index: u64) -> bool
     };
     let before = count_words(front);
     index <= before || index == before + 1 && last.len() > LONGEST_WORD
-}
-
-/// What stands before the last space of a line, and the word behind it. Nothing where there is no space.
-fn last_word(line: &[u8]) -> Option<(&[u8], &[u8])>
-    ensures { IfSome result (λ parts. words_of line.now ≡ words_of parts.0.now ++ parts.1.now ∷ []) }
-{
-    match memrchr(b' ', line) {
-        Some(at) => Some((&line[..at], &line[at + 1..])),
-        None => None,
-    }
 }
 
 /// The number of words of a text.

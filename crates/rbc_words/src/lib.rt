@@ -14,7 +14,6 @@
 //! A function that cannot report a lack of memory takes none. `AllocError` means that memory was refused.
 #![tactic(auto)]
 
-mod calls;
 mod codes;
 mod decode;
 mod encode;
@@ -25,7 +24,6 @@ mod law;
 mod line;
 mod line_fault;
 mod list;
-mod outlet;
 mod report;
 mod rule;
 mod session;

@@ -5,15 +5,16 @@ ghost use Rattle.std.specs.Prelude.{length, OnOk, IfErr, false};
 ghost use Rattle.std.specs.Io.KnownBytes.{Appends};
 ghost use Rattle.std.specs.List.{slice_split};
 ghost use Rattle.rbc_text.specs.BatchText.{is_line_feed, without_empty_end};
-ghost use Rattle.rbc_words.specs.Filters.{count_of};
-ghost use Rattle.rbc_words.specs.UnderWay.{IsUnderWay, IsWaiting, IsDone, GoesOn, HasTaken, IsCutShort, IsStop};
-ghost use Rattle.rbc_words.specs.UnderWay.{IsWriteFault, fault_of, joined};
+ghost use Rattle.rbc_text.specs.EndedLines.{joined};
+ghost use Rattle.rbc_text.specs.Streams.{IsCutShort, count_of};
+ghost use Rattle.rbc_words.specs.UnderWay.{IsUnderWay, IsWaiting, IsDone, GoesOn, HasTaken, IsStop};
+ghost use Rattle.rbc_words.specs.UnderWay.{IsWriteFault, fault_of};
 
 use crate::filter::FilterError;
 use crate::line::UnfinishedLine;
-use crate::outlet::Outlet;
 use crate::rule::{LineRule, RuleError};
 use ertms_codec::cut;
+use rbc_text::{Outlet, WriteFault};
 use std::alloc::Global;
 use std::io::Write;
 
@@ -51,8 +52,8 @@ impl Session {
     ///
     /// # Errors
     ///
-    /// The number of bytes that are out, of all, or 2 ^ 64 - 1 where there are more.
-    fn deliver<W: Write>(&mut self, writer: &mut W) -> Result<(), u64>
+    /// `WriteFault`.
+    fn deliver<W: Write>(&mut self, writer: &mut W) -> Result<(), WriteFault>
         ensures whole { OnOk result (Appends (W.contents writer.old) (W.contents writer.new) self.old.text.items) }
         ensures part { IfErr result (IsCutShort self.old.outlet.sent self.old.text.items
             (W.contents writer.old) (W.contents writer.new)) }
@@ -84,7 +85,7 @@ impl Session {
     {
         match self.deliver(writer) {
             Ok(()) => Ok(()),
-            Err(sent) => Err(FilterError::Write { sent }),
+            Err(fault) => Err(FilterError::Write { sent: fault.sent }),
         }
     }
 

@@ -220,7 +220,8 @@ fn counts_interruptions_of_all_parts(rt: HostRuntime) {
             again,
         };
         let result = write_text(&mut writer, text);
-        same(&rt, result.err(), (again == 400).then_some(sent));
+        let unwritten = result.err().map(|unwritten| unwritten.sent);
+        same(&rt, unwritten, (again == 400).then_some(sent));
         same(&rt, writer.taken.as_slice(), &text[..sent]);
     }
 }

@@ -26,9 +26,9 @@ returns-in-Err-clause-part g c =
     let text = c.text-item.result in
     let at : slice_get texts c.loop-text.text-index ≡ Some text = slice_get_read _ _ _ _ refl c.loop-text-test.true c.text-item.is in
     let within = ends_within texts c.loop-text.text-index text at in
-    let few : c.in-Err.more ≤ length text.items = subst (λ (xs : List ℕ). c.in-Err.more ≤ length xs) c.deref.ensures.value c.in-Err.ensures.part.0 in
-    let out : Appends (g.W.Write.contents c.loop-text.writer) (g.W.Write.contents c.write_on.new.writer) (take c.in-Err.more text.items) =
-    subst (λ (xs : List ℕ). Appends (g.W.Write.contents c.loop-text.writer) (g.W.Write.contents c.write_on.new.writer) (take c.in-Err.more xs)) c.deref.ensures.value c.in-Err.ensures.part.1 in (
+    let few : c.in-Err.unwritten.sent ≤ length text.items = subst (λ (xs : List ℕ). c.in-Err.unwritten.sent ≤ length xs) c.deref.ensures.value c.in-Err.ensures.part.0 in
+    let out : Appends (g.W.Write.contents c.loop-text.writer) (g.W.Write.contents c.write_on.new.writer) (take c.in-Err.unwritten.sent text.items) =
+    subst (λ (xs : List ℕ). Appends (g.W.Write.contents c.loop-text.writer) (g.W.Write.contents c.write_on.new.writer) (take c.in-Err.unwritten.sent xs)) c.deref.ensures.value c.in-Err.ensures.part.1 in (
       omega (arith, within, few, c.loop-text.invariant.sent),
-      out_so_far (g.W.Write.contents c.args.writer.now) (g.W.Write.contents c.loop-text.writer) (g.W.Write.contents c.write_on.new.writer) texts c.loop-text.text-index text c.loop-text.sent c.in-Err.more at c.loop-text.invariant.sent few c.loop-text.invariant.out out,
+      out_so_far (g.W.Write.contents c.args.writer.now) (g.W.Write.contents c.loop-text.writer) (g.W.Write.contents c.write_on.new.writer) texts c.loop-text.text-index text c.loop-text.sent c.in-Err.unwritten.sent at c.loop-text.invariant.sent few c.loop-text.invariant.out out,
     )

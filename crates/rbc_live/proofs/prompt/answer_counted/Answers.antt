@@ -2,10 +2,11 @@ use Rattle.std.proofs.Common.{rules, ◌≡◌, ◌≤◌, ◌<◌, ◌++◌, �
 use Rattle.std.proofs.KnownBytes.{Consumes-nil, Consumes-trans, Consumes-kept}
 use Rattle.rbc_text.specs.Streams.{IsAllRead}
 use Rattle.rbc_text.specs.BatchText.{is_line_feed, without_empty_end}
-use Rattle.rbc_live.specs.Calls.{max_calls}
-use Rattle.rbc_live.proofs.Pieces.{one_piece_more}
+use Rattle.rbc_text.specs.Calls.{max_calls}
+use Rattle.rbc_text.proofs.LinePieces.{one_piece_more}
 use Rattle.rbc_live.proofs.Ending.{finished, stopped, not_read}
-use Rattle.rbc_live.proofs.Calling.{called_to_end, called_to_fault, given_up}
+use Rattle.rbc_text.proofs.Calling.{given_up}
+use Rattle.rbc_live.proofs.Calling.{called_to_end, called_to_fault}
 use Rattle.rbc_live.proofs.prompt.answer_counted.Goals as goal
 
 -- nothing is read

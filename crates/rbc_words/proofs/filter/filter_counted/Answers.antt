@@ -2,10 +2,11 @@ use Rattle.std.proofs.Common.{rules, ◌≡◌, ◌≤◌, ◌<◌, ◌++◌, �
 use Rattle.std.proofs.KnownBytes.{Appends-nil, Consumes-nil, Consumes-trans, Consumes-kept}
 use Rattle.rbc_text.specs.Streams.{IsAllRead}
 use Rattle.rbc_text.specs.BatchText.{is_line_feed, without_empty_end}
-use Rattle.rbc_words.specs.Calls.{max_calls}
-use Rattle.rbc_words.proofs.Pieces.{one_piece_more}
+use Rattle.rbc_text.specs.Calls.{max_calls}
+use Rattle.rbc_text.proofs.LinePieces.{one_piece_more}
 use Rattle.rbc_words.proofs.Courses.{at_start}
-use Rattle.rbc_words.proofs.Ending.{finished, stopped, not_read, called_to_end, called_to_fault, given_up}
+use Rattle.rbc_text.proofs.Calling.{given_up}
+use Rattle.rbc_words.proofs.Ending.{finished, stopped, not_read, called_to_end, called_to_fault}
 use Rattle.rbc_words.proofs.filter.filter_counted.Goals as goal
 
 -- nothing is read

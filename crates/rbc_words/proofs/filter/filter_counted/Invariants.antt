@@ -2,7 +2,7 @@ use Rattle.std.proofs.Common.{◌≡◌, ◌≤◌, ◌+◌, ◌-◌, ◌*◌, �
 use Rattle.std.specs.List.{slice_split}
 use Rattle.std.specs.Io.KnownBytes.{Consumes}
 use Rattle.rbc_text.specs.BatchText.{is_line_feed}
-use Rattle.rbc_words.specs.Calls.{max_calls}
+use Rattle.rbc_text.specs.Calls.{max_calls}
 use Rattle.rbc_words.specs.UnderWay.{IsUnderWay, IsWaiting}
 use Rattle.rbc_words.proofs.filter.filter_counted.Given as goal
 

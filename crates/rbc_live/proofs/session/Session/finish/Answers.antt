@@ -1,7 +1,7 @@
 use Rattle.std.proofs.Common.{rules, ◌≡◌, ◌++◌, ◌∷◌, ◌∙◌, [], List, ℕ, true, false, refl, sym, ap, subst, append-nil}
 use Rattle.rbc_text.specs.BatchText.{without_empty_end}
 use Rattle.rbc_live.specs.UnderWay.{IsDone, IsEnded, GoesOn}
-use Rattle.rbc_live.proofs.Pieces.{no_line_left, line_left}
+use Rattle.rbc_text.proofs.LinePieces.{no_line_left, line_left}
 use Rattle.rbc_live.proofs.Writing.{pending, nothing_left, handed_on}
 use Rattle.rbc_live.proofs.session.Session.finish.Goals as goal
 

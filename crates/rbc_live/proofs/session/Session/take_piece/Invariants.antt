@@ -4,7 +4,8 @@ use Rattle.rbc_track.specs.Plan.{Plan}
 use Rattle.rbc_text.specs.BatchText.{is_line_feed}
 use Rattle.ertms_codec.specs.Pieces.{pieces_behind, text_behind, length_left}
 use Rattle.rbc_live.specs.declared.wanted.Wanted.{Wanted}
-use Rattle.rbc_live.specs.UnderWay.{IsUnderWay, joined}
+use Rattle.rbc_live.specs.UnderWay.{IsUnderWay}
+use Rattle.rbc_text.specs.EndedLines.{joined}
 use Rattle.rbc_live.proofs.session.Session.take_piece.Given as goal
 
 -- what was taken of the piece, and the pieces of what is left, are the pieces of the whole

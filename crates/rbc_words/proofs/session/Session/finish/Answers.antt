@@ -1,7 +1,7 @@
 use Rattle.std.proofs.Common.{rules, ◌≡◌, ◌++◌, ◌∷◌, ◌∙◌, [], List, ℕ, sym, ap, subst, append-nil}
 use Rattle.rbc_text.specs.BatchText.{without_empty_end}
 use Rattle.rbc_words.specs.UnderWay.{IsDone, IsEnded, GoesOn}
-use Rattle.rbc_words.proofs.Pieces.{no_line_left, line_left}
+use Rattle.rbc_text.proofs.LinePieces.{no_line_left, line_left}
 use Rattle.rbc_words.proofs.Passing.{none_begun, some_begun}
 use Rattle.rbc_words.proofs.Courses.{nothing_more, last_written, handed_on}
 use Rattle.rbc_words.proofs.session.Session.finish.Goals as goal

@@ -2,7 +2,7 @@ use Rattle.std.proofs.Common.{rules, ◌≡◌, ◌<◌, ◌++◌, ◌∷◌, �
 use Rattle.std.specs.Prelude.{IfSome}
 use Rattle.rbc_text.specs.BatchText.{is_line_feed}
 use Rattle.ertms_codec.specs.Pieces.{pieces_behind, text_behind}
-use Rattle.rbc_words.proofs.Pieces.{first_piece, joined_whole, line_more, last_more}
+use Rattle.rbc_text.proofs.LinePieces.{first_piece, joined_whole, line_more, last_more}
 use Rattle.rbc_words.proofs.Cutting.{fault_before_more, fault_at_last, piece_taken, hands_on}
 use Rattle.rbc_words.proofs.session.Session.take_piece.Goals as goal
 

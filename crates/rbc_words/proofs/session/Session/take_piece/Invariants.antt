@@ -2,7 +2,8 @@ use Rattle.std.proofs.Common.{◌≡◌, ◌≤◌, ◌+◌, ◌++◌, ℕ, List
 use Rattle.std.specs.List.{slice_split}
 use Rattle.rbc_text.specs.BatchText.{is_line_feed}
 use Rattle.ertms_codec.specs.Pieces.{pieces_behind, text_behind, length_left}
-use Rattle.rbc_words.specs.UnderWay.{IsUnderWay, joined}
+use Rattle.rbc_text.specs.EndedLines.{joined}
+use Rattle.rbc_words.specs.UnderWay.{IsUnderWay}
 use Rattle.rbc_words.proofs.session.Session.take_piece.Given as goal
 
 -- what was taken of the piece, and the pieces of what is left, are the pieces of the whole

@@ -1,8 +1,8 @@
 use Rattle.std.proofs.Common.{◌≡◌, ◌++◌, ◌∷◌, ◌-◌, ◌+◌, [], ℕ, List, length, take, drop, arith, sym, ap, ◌∙◌, subst}
 use Rattle.std.proofs.lemmas.List.{take_all, length-drop}
 use Rattle.rbc_text.specs.BatchText.{words_of}
-use Rattle.rbc_live.proofs.LastSpaces.{no_space, last_word_is, words_around}
-use Rattle.rbc_live.proofs.stand_in.last_word.Goals as goal
+use Rattle.rbc_text.proofs.LastSpaces.{no_space, last_word_is, words_around}
+use Rattle.rbc_text.proofs.words.last_word.Goals as goal
 
 -- what is left behind a place
 left : (line : List ℕ) (at : ℕ) → take (length line - (at + 1)) (drop (at + 1) line) ≡ drop (at + 1) line

@@ -2,8 +2,7 @@
 use Rattle.std.proofs.Common.{◌≡◌, ℕ, ◌≤◌, Bool, true, false, cond, List, [], ◌∷◌, ◌++◌, length, refl, sym, ap, ◌∙◌, append_assoc, append-nil, arith}
 use Rattle.std.specs.List.{slice_split, onto_first}
 use Rattle.rbc_text.specs.BatchText.{without_empty_end}
-use Rattle.rbc_words.specs.Lines.{but_last}
-use Rattle.rbc_words.specs.UnderWay.{joined}
+use Rattle.rbc_text.specs.EndedLines.{but_last, joined}
 
 -- there is always a first piece
 pub first_piece : {X : Type 0} (p : X → Bool) (xs : List X) → (first : List X) × (rest : List (List X)) × (slice_split p xs ≡ first ∷ rest)

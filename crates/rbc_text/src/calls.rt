@@ -3,7 +3,7 @@
 ghost use Rattle.std.specs.Prelude.{◌≡◌, ◌+◌, ◌<◌, ◌&&◌, ◌↔◌, not, nat_lt, false, IsTrue};
 ghost use Rattle.std.specs.Io.{ReadsAtMost};
 ghost use Rattle.std.specs.Io.KnownBytes.{ReadConsumes};
-ghost use Rattle.rbc_live.specs.Calls.{IsFailure, max_calls};
+ghost use Rattle.rbc_text.specs.Calls.{IsFailure, max_calls};
 
 use std::io;
 use std::io::{ErrorKind, Read};
@@ -14,8 +14,9 @@ const MAX_CALLS: u64 = 1 << 47;
 /// How many calls of a reader were made, and whether one failed. After a failure no call is made.
 #[derive(Drop)]
 pub struct Calls {
-    made: u64,
-    failed: bool,
+    pub made: u64,
+    /// Whether a call failed, other than by an interruption.
+    pub failed: bool,
 }
 
 impl Calls {

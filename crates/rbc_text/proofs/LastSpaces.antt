@@ -1,11 +1,23 @@
 -- The last space of a line, as a search finds it.
-use Rattle.std.proofs.Common.{◌≡◌, ℕ, ◌+◌, Bool, true, false, eqb, eqb-true, List, [], ◌∷◌, ◌++◌, length, take, drop, get_or, refl, sym, ap, ◌∙◌, subst, take-append-drop, get_or-drop, arith, length-drop}
+use Rattle.std.proofs.Common.{◌≡◌, ℕ, ◌+◌, Bool, true, false, eqb, eqb-true, List, [], ◌∷◌, ◌++◌, length, take, drop, get_or, refl, sym, ap, ◌∙◌, subst, append-nil, take-append-drop, get_or-drop, arith, length-drop}
 use Rattle.std.proofs.lemmas.List.{drop_more}
 use Rattle.std.proofs.lemmas.List.Elements.{All-from_get_or}
 use Rattle.std.proofs.lemmas.List.Splits.{slice_split_none}
 use Rattle.memchr.specs.Find.{NoneAfter, Nowhere, Passes, is_byte}
 use Rattle.rbc_text.specs.BatchText.{is_space, words_of}
-use Rattle.rbc_live.proofs.Words.{at_space}
+use Rattle.rbc_text.proofs.LinePieces.{glued, first_piece, split_glued}
+
+-- a blank piece before others
+glued_blank : (pieces more : List (List ℕ)) (first : List ℕ) (rest : List (List ℕ)) → pieces ≡ first ∷ rest → glued pieces ([] ∷ more) ≡ pieces ++ more
+glued_blank [] more first rest e = cc
+glued_blank (last ∷ []) more first rest e = ap (λ (l : List ℕ). l ∷ more) (append-nil last)
+glued_blank (piece ∷ other ∷ pieces) more first rest e = ap (λ (all : List (List ℕ)). piece ∷ all) (glued_blank (other ∷ pieces) more other pieces refl)
+
+-- the words of a text with a space in it
+pub at_space : (front behind : List ℕ) → words_of (front ++ 32 ∷ behind) ≡ words_of front ++ words_of behind
+at_space front behind =
+    let is = first_piece is_space front in
+    split_glued is_space front (32 ∷ behind) ∙ glued_blank (words_of front) (words_of behind) is.0 is.1 is.2
 
 fails : (b : Bool) → (b ≡ true → ⊥) → b ≡ false
 fails true never = absurd (never refl)
