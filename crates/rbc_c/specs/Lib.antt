@@ -10,3 +10,4 @@ pub mod Active
 pub mod Outstanding
 pub mod Checks
 pub mod Reasons
+pub mod DeskMemory

@@ -3,7 +3,8 @@
 ghost use Rattle.std.specs.Prelude.{◌≡◌, ◌==◌, Some, None, is_some, MatchOption};
 ghost use Rattle.rbc_c.specs.Versions.{this_version};
 
-use rbc_handle::{DeskPointer, RawBox};
+use crate::desk_pointer::DeskPointer;
+use crate::raw_box::RawBox;
 use rbc_live::LiveDesk;
 use std::alloc::Global;
 use std::mem;

@@ -1,4 +1,7 @@
-//! A live desk for callers in C. `rbc.h` is the header.
+//! A live desk for callers in C: the one crate with `unsafe`. `rbc.h` is the header.
+//!
+//! Who owns the memory of a desk is proved by hand (`live_at` of specs/DeskMemory.antt): a `DeskPointer` has the desk
+//! that it was given or none, and gives that desk back (desk_pointer.rt, raw_box.rt). Dropping a pointer frees nothing.
 //!
 //! A function that cannot report a lack of memory takes none. `AllocError` means that memory was refused; what the
 //! function was changing is then of no further use, unless its docstring says what is left.
@@ -19,12 +22,14 @@ ghost use Rattle.rbc_c.specs.Versions.{this_version, rules_number, Versioned};
 
 mod active;
 mod alarms;
+mod desk_pointer;
 mod faults;
 mod feed;
 mod given;
 mod handle;
 mod message;
 mod outstanding;
+mod raw_box;
 mod reason;
 mod track_check;
 mod trains;

@@ -12,8 +12,8 @@ use denote.Steps.{nothing}
 use denote.Struct.Struct.{within}
 use denote.Struct.Owning.{shape}
 use Rattle.rbc_live.specs.declared.desk.LiveDesk.{LiveDesk}
-use Rattle.rbc_handle.specs.DeskMemory.{live_at}
-use Rattle.rbc_handle.specs.contracts.desk_pointer.DeskPointer as slot
+use Rattle.rbc_c.specs.DeskMemory.{live_at}
+use Rattle.rbc_c.specs.contracts.desk_pointer.DeskPointer as slot
 
 abbrev pub alone : Val → Val
 alone v = vstruct (vcons v vnil)

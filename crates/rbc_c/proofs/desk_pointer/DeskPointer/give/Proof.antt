@@ -26,16 +26,16 @@ use Rattle.std.specs.Box.Ownership.{box_owns}
 use Rattle.std.specs.contracts.alloc.Global as heap
 use Rattle.std.proofs.alloc.Global.TheLaws as heap_laws
 use Rattle.std.specs.contracts.impls.GlobalAllocator.TheImpl.{ghosts}
-use Rattle.rbc_handle.proofs.RawBoxes.{both, al, raw_box_good, raw_box_in}
+use Rattle.rbc_c.proofs.RawBoxes.{both, al, raw_box_good, raw_box_in}
 use Rattle.rbc_live.specs.contracts.desk.LiveDesk as row
 use Rattle.rbc_live.specs.declared.desk.LiveDesk.{LiveDesk}
-use Rattle.rbc_handle.specs.DeskMemory.{chunk, live_at}
-use Rattle.rbc_handle.specs.contracts.desk_pointer.DeskPointer as slot
-use Rattle.rbc_handle.proofs.DeskPointers.{alone, which, slot_out}
-use Rattle.rbc_handle.specs.contracts.desk_pointer.DeskPointer.give.{ended, clauses}
-use Rattle.rbc_handle.specs.contracts.desk_pointer.DeskPointer.give.Key.{name as #self}
-use Rattle.rbc_handle.proofs.desk_pointer.DeskPointer.give.Statement.{statement}
-use Rattle.rbc_handle.proofs.desk_pointer.DeskPointer.give.Code as code
+use Rattle.rbc_c.specs.DeskMemory.{chunk, live_at}
+use Rattle.rbc_c.specs.contracts.desk_pointer.DeskPointer as slot
+use Rattle.rbc_c.proofs.DeskPointers.{alone, which, slot_out}
+use Rattle.rbc_c.specs.contracts.desk_pointer.DeskPointer.give.{ended, clauses}
+use Rattle.rbc_c.specs.contracts.desk_pointer.DeskPointer.give.Key.{name as #self}
+use Rattle.rbc_c.proofs.desk_pointer.DeskPointer.give.Statement.{statement}
+use Rattle.rbc_c.proofs.desk_pointer.DeskPointer.give.Code as code
 
 pub give_spec : {M : Type 1} → statement M
 give_spec 𝓤 𝓛 𝓜 𝓡 wired =

@@ -9,8 +9,8 @@ use Rattle.std.proofs.Crossing.{frees}
 use Rattle.rbc_live.specs.declared.desk.LiveDesk.{LiveDesk}
 use Rattle.rbc_live.specs.contracts.desk.LiveDesk as row
 use Rattle.rbc_live.proofs.desk.LiveDesk.TheSendSync as crossing
-use Rattle.rbc_handle.specs.DeskMemory.{heap, live_at}
-use Rattle.rbc_handle.specs.contracts.desk_pointer.DeskPointer.{the_row}
+use Rattle.rbc_c.specs.DeskMemory.{heap, live_at}
+use Rattle.rbc_c.specs.contracts.desk_pointer.DeskPointer.{the_row}
 
 at_keyless : (p : Ptr) (d : Option LiveDesk) → Keyless (live_at p d)
 at_keyless p None = tt

@@ -17,11 +17,11 @@ use denote.Steps.{nothing}
 use denote.Triple.Entry.{alive}
 use denote.Triple.Walked.{Stays, walk_of}
 use Rattle.std.proofs.raw_atomic.Walks.{proved_at, leaves}
-use Rattle.rbc_handle.proofs.DeskPointers.{alone, slot_in}
-use Rattle.rbc_handle.specs.contracts.desk_pointer.DeskPointer.none.{ended, clauses}
-use Rattle.rbc_handle.specs.contracts.desk_pointer.DeskPointer.none.Key.{name as #self}
-use Rattle.rbc_handle.proofs.desk_pointer.DeskPointer.none.Statement.{statement}
-use Rattle.rbc_handle.proofs.desk_pointer.DeskPointer.none.Code as code
+use Rattle.rbc_c.proofs.DeskPointers.{alone, slot_in}
+use Rattle.rbc_c.specs.contracts.desk_pointer.DeskPointer.none.{ended, clauses}
+use Rattle.rbc_c.specs.contracts.desk_pointer.DeskPointer.none.Key.{name as #self}
+use Rattle.rbc_c.proofs.desk_pointer.DeskPointer.none.Statement.{statement}
+use Rattle.rbc_c.proofs.desk_pointer.DeskPointer.none.Code as code
 
 pub none_spec : {M : Type 1} → statement M
 none_spec 𝓤 𝓛 𝓜 𝓡 wired =

@@ -32,13 +32,13 @@ use Rattle.std.specs.Box.Ownership.{box_owns}
 use Rattle.std.proofs.BoxSteps.Form as box
 use Rattle.std.proofs.BoxSteps.Steps.{box_out, box_in}
 use Rattle.std.proofs.raw_atomic.Walks.{proved_at, leaves}
-use Rattle.rbc_handle.proofs.RawBoxes.{both, raw_box_good, raw_box_in}
+use Rattle.rbc_c.proofs.RawBoxes.{both, raw_box_good, raw_box_in}
 use Rattle.std.specs.contracts.boxed.Box.into_raw_with_allocator as callee
 use Rattle.std.proofs.boxed.Box.into_raw_with_allocator.Met.{met}
-use Rattle.rbc_handle.specs.contracts.raw_box.RawBox.of.{ended, clauses}
-use Rattle.rbc_handle.specs.contracts.raw_box.RawBox.of.Key.{name as #self}
-use Rattle.rbc_handle.proofs.raw_box.RawBox.of.Statement.{statement}
-use Rattle.rbc_handle.proofs.raw_box.RawBox.of.Code as code
+use Rattle.rbc_c.specs.contracts.raw_box.RawBox.of.{ended, clauses}
+use Rattle.rbc_c.specs.contracts.raw_box.RawBox.of.Key.{name as #self}
+use Rattle.rbc_c.proofs.raw_box.RawBox.of.Statement.{statement}
+use Rattle.rbc_c.proofs.raw_box.RawBox.of.Code as code
 
 pub of_spec : {M : Type 1} → statement M
 of_spec 𝓤 𝓛 𝓜 𝓡 wired T A L LA g d dx dd allocator glue glued =

@@ -2,7 +2,7 @@
 
 ghost use Rattle.std.specs.Prelude.{◌≡◌, Option, Some, None, IsSome};
 ghost use Rattle.rbc_live.specs.declared.desk.LiveDesk as declared;
-ghost use Rattle.rbc_handle.specs.DeskMemory.{live_at};
+ghost use Rattle.rbc_c.specs.DeskMemory.{live_at};
 
 use crate::raw_box::RawBox;
 use rbc_live::LiveDesk;

@@ -31,13 +31,13 @@ use Rattle.std.proofs.cell.Inside.{Good}
 use Rattle.std.proofs.BoxSteps.Form as box
 use Rattle.std.proofs.BoxSteps.Steps.{box_out, box_in}
 use Rattle.std.proofs.raw_atomic.Walks.{proved_at, leaves}
-use Rattle.rbc_handle.proofs.RawBoxes.{both, RawBox, raw_box_good, raw_box_out}
+use Rattle.rbc_c.proofs.RawBoxes.{both, RawBox, raw_box_good, raw_box_out}
 use Rattle.std.specs.contracts.boxed.Box.from_raw as callee
 use Rattle.std.proofs.boxed.Box.from_raw.Met.{met}
-use Rattle.rbc_handle.specs.contracts.raw_box.RawBox.into_box.{ended, clauses}
-use Rattle.rbc_handle.specs.contracts.raw_box.RawBox.into_box.Key.{name as #self}
-use Rattle.rbc_handle.proofs.raw_box.RawBox.into_box.Statement.{statement}
-use Rattle.rbc_handle.proofs.raw_box.RawBox.into_box.Code as code
+use Rattle.rbc_c.specs.contracts.raw_box.RawBox.into_box.{ended, clauses}
+use Rattle.rbc_c.specs.contracts.raw_box.RawBox.into_box.Key.{name as #self}
+use Rattle.rbc_c.proofs.raw_box.RawBox.into_box.Statement.{statement}
+use Rattle.rbc_c.proofs.raw_box.RawBox.into_box.Code as code
 
 pub into_box_spec : {M : Type 1} → statement M
 into_box_spec 𝓤 𝓛 𝓜 𝓡 wired T A L LA g d dx dd allocator glue glued =

@@ -23,14 +23,14 @@ use Rattle.std.proofs.raw_atomic.Walks.{proved_at, leaves}
 use Rattle.std.specs.contracts.alloc.Global as heap
 use Rattle.std.proofs.alloc.Global.TheLaws as heap_laws
 use Rattle.std.specs.contracts.impls.GlobalAllocator.TheImpl.{ghosts}
-use Rattle.rbc_handle.proofs.RawBoxes.{both, RawBox, raw_box_good, raw_box_out}
+use Rattle.rbc_c.proofs.RawBoxes.{both, RawBox, raw_box_good, raw_box_out}
 use Rattle.rbc_live.specs.contracts.desk.LiveDesk as row
 use Rattle.rbc_live.specs.declared.desk.LiveDesk.{LiveDesk}
-use Rattle.rbc_handle.proofs.DeskPointers.{alone, slot_in}
-use Rattle.rbc_handle.specs.contracts.desk_pointer.DeskPointer.hold.{ended, clauses}
-use Rattle.rbc_handle.specs.contracts.desk_pointer.DeskPointer.hold.Key.{name as #self}
-use Rattle.rbc_handle.proofs.desk_pointer.DeskPointer.hold.Statement.{statement}
-use Rattle.rbc_handle.proofs.desk_pointer.DeskPointer.hold.Code as code
+use Rattle.rbc_c.proofs.DeskPointers.{alone, slot_in}
+use Rattle.rbc_c.specs.contracts.desk_pointer.DeskPointer.hold.{ended, clauses}
+use Rattle.rbc_c.specs.contracts.desk_pointer.DeskPointer.hold.Key.{name as #self}
+use Rattle.rbc_c.proofs.desk_pointer.DeskPointer.hold.Statement.{statement}
+use Rattle.rbc_c.proofs.desk_pointer.DeskPointer.hold.Code as code
 
 pub hold_spec : {M : Type 1} → statement M
 hold_spec 𝓤 𝓛 𝓜 𝓡 wired =

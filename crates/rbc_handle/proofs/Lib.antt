@@ -1,2 +1,0 @@
-pub mod RawBoxes
-pub mod DeskPointers
