@@ -3,7 +3,7 @@ use Rattle.std.proofs.Common.{◌≡◌, ap, Result, Ok, Err}
 use Rattle.std.specs.Result.{IsErrAnd, result_unwrap_or}
 use Rattle.rbc_dispatch.specs.declared.no_task.NoTask.{NoTask}
 use Rattle.rbc_dispatch.specs.declared.no_task.NoTask.TheVariants as words
-use Rattle.rbc_dispatch.specs.Ending.{AtTask, ending_of}
+use Rattle.rbc_dispatch.specs.Ending.{AtTask, IsRefusal, ending_of}
 use Rattle.rbc_dispatch.specs.declared.ending.Ending.{Ending}
 use Rattle.rbc_dispatch.specs.declared.ending.Ending.TheVariants.{Fault as at_fault}
 use Rattle.rbc_dispatch.specs.declared.fault.Fault.{Fault}
@@ -28,3 +28,8 @@ task_is x y same = ap (λ r. result_unwrap_or r x) same
 -- no task is had where there is one
 pub no_task_is : {A E P : Type 0} (e : E) (y : A) → ◌≡◌ {A = Result A E} (Err e) (Ok y) → P
 no_task_is e y same = absurd cc
+
+-- words that are refused are handed on
+pub refused_as : {E : Type 0} (r : Result E Ending) (no_task : NoTask) → IsErrAnd r (λ x. x ≡ ending_of no_task) → IsRefusal (ending_of no_task) → IsErrAnd r IsRefusal
+refused_as (Ok done) no_task same refused = absurd same
+refused_as (Err ending) no_task same refused = rw same refused

@@ -1,5 +1,5 @@
 -- How the program ends if its task was not done.
-use Rattle.std.specs.Prelude.{◌≢◌, ℕ, List, [], ◌∷◌, ◌++◌, Option, Result, Ok, Err}
+use Rattle.std.specs.Prelude.{◌≡◌, ◌⊎◌, ◌≢◌, ℕ, List, [], ◌∷◌, ◌++◌, Option, Result, Ok, Err}
 use Rattle.std.specs.Io.KnownBytes.{Appends}
 use Rattle.clap.specs.Words.{kind_of}
 use Rattle.rbc_dispatch.specs.NoTask.{status_of_kind}
@@ -25,6 +25,10 @@ status_of (Fault fault) = status_of_fault fault
 abbrev pub ending_of : NoTask → Ending
 ending_of (no_task.Words error) = Words error
 ending_of no_task.OutOfMemory = Fault OutOfMemory
+
+-- memory ran out, or the words are refused with status 2
+abbrev pub IsRefusal : Ending → Type 0
+IsRefusal ending = (ending ≡ Fault OutOfMemory) ⊎ (status_of ending ≡ 2)
 
 -- a fault adds its line, with a line feed, to what the stream held; a reader that went away is told nothing
 abbrev pub PrintsLine : AnyFault → Option (List ℕ) → Option (List ℕ) → Type 0

@@ -253,6 +253,14 @@ AsksToDecodeLines words = (fault_of command_line words ≡ [])
     × (word_after (codes "decode") (codes "HEX") (finding_in words) ≡ None)
     × (is_set (flag_after (codes "decode") (codes "long") (finding_in words)) ≡ false)
 
+-- a line for each variable is asked for, and no message is given
+abbrev pub LacksMessage : Finding → Type 0
+LacksMessage found = (word_after (codes "decode") (codes "HEX") found ≡ None) × (is_set (flag_after (codes "decode") (codes "long") found) ≡ true)
+
+-- words without a fault that ask for a line for each variable of no message: they do not go together
+abbrev pub AsksForLongLines : List Text → Type 0
+AsksForLongLines words = (fault_of command_line words ≡ []) × LacksMessage (finding_in words)
+
 -- words without a fault that ask for the bytes of messages: of the text that is given, each word with a space before it, or of lines where there is none
 abbrev pub AsksToEncode : Option Text → List ℕ → List Text → Type 0
 AsksToEncode track text words = (fault_of command_line words ≡ [])

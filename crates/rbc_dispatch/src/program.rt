@@ -1,12 +1,12 @@
 //! The program, over any streams.
 ghost use Rattle.std.specs.Prelude.{◌≡◌, ◌≢◌, ◌≤◌, ◌∷◌, ℕ, Bool, List, Option, [], IfErr, IfOk, OnOk, false, map};
-ghost use Rattle.std.specs.Prelude.{Some, string_bytes, true};
+ghost use Rattle.std.specs.Prelude.{IsErrAnd, Some, string_bytes, true};
 ghost use Rattle.std.specs.Process.{exit_status};
 ghost use Rattle.rbc_explain.specs.AccountTelling.{TooFewFor, TooLate};
 ghost use Rattle.rbc_live.specs.declared.wanted.Wanted.{Wanted as WantedAnswers};
 ghost use Rattle.rbc_dispatch.specs.Checking.{Checks, IsUnreported};
 ghost use Rattle.rbc_dispatch.specs.Decoding.{Decodes, DecodesLong, IsUntouched};
-ghost use Rattle.rbc_dispatch.specs.Ending.{AtTask, status_of};
+ghost use Rattle.rbc_dispatch.specs.Ending.{AtTask, IsRefusal, status_of};
 ghost use Rattle.rbc_dispatch.specs.Figures.{IsQuiet};
 ghost use Rattle.rbc_dispatch.specs.Filtering.{DecodesAllLines, EncodesLines, EncodesTextOn, IsNoTrackGiven, IsTrackGiven};
 ghost use Rattle.rbc_dispatch.specs.Filtering.{name_given};
@@ -18,7 +18,7 @@ ghost use Rattle.rbc_dispatch.specs.Telling.{TellsCodes, TellsPage};
 ghost use Rattle.rbc_dispatch.specs.Terminal.{IsSilent, SaysOnly};
 ghost use Rattle.rbc_dispatch.specs.TextWords.{spaced_text};
 ghost use Rattle.rbc_dispatch.specs.Words.{AsksToDecodeLines, AsksToEncode, IsDecodeLines, IsEncode};
-ghost use Rattle.rbc_dispatch.specs.Words.{AsksForCodes, AsksForNoBatch, AsksForNoFigures, AsksToCheck};
+ghost use Rattle.rbc_dispatch.specs.Words.{AsksForCodes, AsksForLongLines, AsksForNoBatch, AsksForNoFigures, AsksToCheck};
 ghost use Rattle.rbc_dispatch.specs.Words.{AsksToDecode, AsksToDraw, AsksToExplain, AsksToLive, AsksToRun};
 ghost use Rattle.rbc_dispatch.specs.Words.{IsCheckOf, IsCodesOf, IsDecode, IsExplainOn, IsLiveOn, IsPictureOn};
 ghost use Rattle.rbc_dispatch.specs.Words.{IsRunOn, fault_in};
@@ -157,6 +157,8 @@ where
     ensures only { OnOk result (fault_in (map string_bytes words.now) ≡ []) }
     ensures refused { fault_in (map string_bytes words.now) ≢ []
         → (input.new ≡ input.old) × (output.new ≡ output.old) × (errors.new ≡ errors.old) }
+    ensures long_lines { AsksForLongLines (map string_bytes words.now) → IsErrAnd result IsRefusal
+        × (input.new ≡ input.old) × (output.new ≡ output.old) × (errors.new ≡ errors.old) }
     ensures quiet { at_terminal ≡ false → AsksForNoFigures (map string_bytes words.now) → errors.new ≡ errors.old }
     ensures silent { AsksForNoBatch (map string_bytes words.now) → errors.new ≡ errors.old }
     ensures says { AsksForNoFigures (map string_bytes words.now)

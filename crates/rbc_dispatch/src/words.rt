@@ -1,18 +1,20 @@
 //! The arguments that the program takes.
 ghost use Rattle.std.specs.Prelude.{◌≡◌, ◌⊎◌, ℕ, Bool, List, Option, Some, [], codes, false, IfErr, IfNone, IfOk};
 ghost use Rattle.std.specs.Prelude.{IfSome};
-ghost use Rattle.std.specs.Prelude.{OnOk, map, option_map, string_bytes, true};
+ghost use Rattle.std.specs.Prelude.{IsErrAnd, OnOk, map, option_map, string_bytes, true};
 ghost use Rattle.clap.specs.Simple.{App, Shape, new_app, new_rule, with_rule, with_subcommand};
 ghost use Rattle.clap.specs.Walk.{Rule};
 ghost use Rattle.clap.specs.Words.{app_of, fault_of, kind_of, rule_of, shape_of, subcommand_rows_of};
 ghost use Rattle.clap.specs.declared.builder.command.Command.TheViews.{out-Command as fields_of};
+ghost use Rattle.rbc_dispatch.specs.Ending.{IsRefusal, ending_of};
 ghost use Rattle.rbc_dispatch.specs.NoTask.{status_of, status_of_kind};
 ghost use Rattle.rbc_dispatch.specs.Pages.{topic_in};
 ghost use Rattle.rbc_dispatch.specs.Words.{AsksForCodes, AsksToCheck, AsksToDecode, AsksToDraw, AsksToExplain};
 ghost use Rattle.rbc_dispatch.specs.Words.{AsksToLive, AsksToRun, IsCheckOf, IsCodesOf, IsDecode, IsExplainOn};
 ghost use Rattle.rbc_dispatch.specs.Words.{IsFound, IsLiveOn, IsNoTask, IsPictureOn, IsRunOn, IsTakenFor, IsTaskOf};
 ghost use Rattle.rbc_dispatch.specs.Words.{IsWantOfMemory, alarms_rule, bare_line, by_train_rule, code_rule};
-ghost use Rattle.rbc_dispatch.specs.Words.{AsksToDecodeLines, AsksToEncode, HasWords, IsDecodeLines, IsEncode};
+ghost use Rattle.rbc_dispatch.specs.Words.{AsksForLongLines, AsksToDecodeLines, AsksToEncode, HasWords, IsDecodeLines};
+ghost use Rattle.rbc_dispatch.specs.Words.{IsEncode, LacksMessage};
 ghost use Rattle.rbc_dispatch.specs.Words.{codes_shape, command_line, count_after, decode_shape, encode_shape};
 ghost use Rattle.rbc_dispatch.specs.Words.{fault_in, known_track_rule, text_rule};
 ghost use Rattle.rbc_dispatch.specs.Words.{finding_in, flag_after, hex_rule, input_after, is_named, is_set};
@@ -326,7 +328,7 @@ fn bare_command<'a>(alloc: Global) -> Result<Command<'a>, AllocError>
 {
     Command::new(alloc, "dispatch")
         .no_binary_name(true)
-        .version("3.10.0, rules 3")
+        .version("3.11.0, rules 3")
         .about(
             "Emergency stops and speed restrictions, from a signaller's batch to each train's messages",
         )
@@ -570,6 +572,7 @@ pub fn parse<'a>(alloc: Global, words: &'a [String]) -> Result<Task<'a>, NoTask>
     ensures decode { (word : List ℕ) (long : Bool) → AsksToDecode word long (map string_bytes words.now)
         → IsTakenFor (IsDecode word long) result }
     ensures lines { AsksToDecodeLines (map string_bytes words.now) → IsTakenFor IsDecodeLines result }
+    ensures long_lines { AsksForLongLines (map string_bytes words.now) → IsErrAnd result (λ no_task. IsRefusal (ending_of no_task)) }
     ensures encode { (track : Option (List ℕ)) (text : List ℕ) → AsksToEncode track text (map string_bytes words.now)
         → IsTakenFor (IsEncode track text) result }
     ensures check { (file : List ℕ) → AsksToCheck file (map string_bytes words.now)
@@ -599,6 +602,7 @@ fn parse_command<'a>(alloc: Global, words: &'a [String]) -> Result<Task<'a>, NoT
     ensures decode { (word : List ℕ) (long : Bool) → AsksToDecode word long (map string_bytes words.now)
         → IsTakenFor (IsDecode word long) result }
     ensures lines { AsksToDecodeLines (map string_bytes words.now) → IsTakenFor IsDecodeLines result }
+    ensures long_lines { AsksForLongLines (map string_bytes words.now) → IsErrAnd result (λ no_task. IsRefusal (ending_of no_task)) }
     ensures encode { (track : Option (List ℕ)) (text : List ℕ) → AsksToEncode track text (map string_bytes words.now)
         → IsTakenFor (IsEncode track text) result }
     ensures check { (file : List ℕ) → AsksToCheck file (map string_bytes words.now)
@@ -609,6 +613,10 @@ fn parse_command<'a>(alloc: Global, words: &'a [String]) -> Result<Task<'a>, NoT
     ensures task { IfOk result (IsFound (finding_in (map string_bytes words.now))) }
 {
     let matches = command(alloc)?.try_get_matches_from(words)?;
+    if lacks_message(&matches) {
+        let message = "--long needs the bytes of a message: dispatch decode --long HEX";
+        return Err(refuse(alloc, ErrorKind::MissingRequiredArgument, message));
+    }
     match task_of(&matches, words) {
         Some(task) => Ok(task),
         // Never reached: clap requires a subcommand, and each subcommand requires its word.
@@ -677,6 +685,14 @@ fn is_named<'a>(matches: &ArgMatches<'a>, name: &str) -> bool
     ensures { result ≡ is_named name.now (subcommand_rows_of matches.now) }
 {
     matches.subcommand_matches(name).is_some()
+}
+
+// Whether a line for each variable is asked for, and no message is given.
+fn lacks_message(matches: &ArgMatches<'_>) -> bool
+    ensures is { result ≡ true → LacksMessage (subcommand_rows_of matches.now) }
+    ensures asked { LacksMessage (subcommand_rows_of matches.now) → result ≡ true }
+{
+    word_after(matches, "decode", "HEX").is_none() && has_flag_after(matches, "decode", "long")
 }
 
 // The word that an argument was given after the subcommand of this name, if that one was named.

@@ -8,7 +8,7 @@ use Rattle.rbc_dispatch.specs.Running.{Keeps, Runs}
 use Rattle.rbc_dispatch.specs.Showing.{IsLogFrom, IsPictureAfter, Shows}
 use Rattle.rbc_dispatch.specs.Telling.{TellsCodes, TellsPage}
 use Rattle.rbc_dispatch.specs.declared.pages.Topic.TheVariants.{Batch, Track}
-use Rattle.rbc_dispatch.proofs.Ends.{at_handed_on, at_memory, no_task_is, task_is}
+use Rattle.rbc_dispatch.proofs.Ends.{at_handed_on, at_memory, no_task_is, refused_as, task_is}
 use Rattle.rbc_dispatch.proofs.Quiet.{quiet_task, silent_task}
 use Rattle.rbc_dispatch.proofs.Sending.{says_nothing}
 use Rattle.rbc_dispatch.proofs.program.perform.Goals as goal
@@ -249,3 +249,15 @@ returns-in_err-task-clause-encode_lines g c = λ file asked.
 pub returns-in_err-task-clause-encode : goal.returns-in_err-task-clause-encode
 returns-in_err-task-clause-encode g c = λ file text asked.
     (refl, at_memory _ (EncodesTextOn {E = Unit {0}} file text _ _) c.in_err-task.field-0.0 c.from_residual.ensures.1 (c.in_err-task.ensures.encode file (32 ∷ text) asked) (inl tt))
+
+-- a line for each variable of no message is asked for, and there is no task
+
+pub returns-in_err-task-clause-long_lines : goal.returns-in_err-task-clause-long_lines
+returns-in_err-task-clause-long_lines g c = λ asked.
+    (refused_as _ c.in_err-task.field-0.0 c.from_residual.ensures.1 (c.in_err-task.ensures.long_lines asked), refl, refl, refl)
+
+pub returns-in_err-carry_out-clause-long_lines : goal.returns-in_err-carry_out-clause-long_lines
+returns-in_err-carry_out-clause-long_lines g c = λ asked. absurd (c.in_ok-task.ensures.long_lines asked)
+
+pub returns-clause-long_lines : goal.returns-clause-long_lines
+returns-clause-long_lines g c = λ asked. absurd (c.in_ok-task.ensures.long_lines asked)

@@ -30,3 +30,6 @@ returns-in-Some-clause-lines c = λ asked. page_refused _ c.in-Some.topic (sym c
 
 pub returns-in-Some-clause-encode : goal.returns-in-Some-clause-encode
 returns-in-Some-clause-encode c = λ track text asked. page_refused _ c.in-Some.topic (sym c.topic_in.ensures ∙ c.in-Some.is) asked.0
+
+pub returns-in-Some-clause-long_lines : goal.returns-in-Some-clause-long_lines
+returns-in-Some-clause-long_lines c = λ asked. page_refused _ c.in-Some.topic (sym c.topic_in.ensures ∙ c.in-Some.is) asked.0

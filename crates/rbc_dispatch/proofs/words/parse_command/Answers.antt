@@ -1,22 +1,23 @@
-use Rattle.std.proofs.Common.{refl, sym, ap, subst, ◌∙◌, ◌≡◌, List, [], Option, Some, None, Bool, true, false, Result, Ok, Err, inl, inr, map, unwrap_or, ℕ, option_and_then, codes, string_bytes}
+use Rattle.std.proofs.Common.{refl, sym, ap, subst, ◌∙◌, ◌≡◌, ◌⊎◌, List, [], Option, Some, None, Bool, true, false, Result, Ok, Err, inl, inr, map, unwrap_or, ℕ, option_and_then, codes, string_bytes}
 use Rattle.std.specs.Prelude.{if◌then◌else◌}
 use Rattle.std.specs.Result.{IsErrAnd}
 use Rattle.std.specs.Str.{bytes_eq}
 use Rattle.std.proofs.lemmas.Slice.Eq.{bytes_eq-Decides}
 use Rattle.clap.specs.Kinds.{HasKind}
 use Rattle.clap.specs.Simple.{subcommand_of}
-use Rattle.clap.specs.Walk.{Row, first_of}
+use Rattle.clap.specs.Walk.{Row, first_of, one_of}
 use Rattle.clap.specs.Words.{App, HasMatchesOf, Text, fault_of, is_simple, is_simple_and_free, subcommand_rows_of}
 use Rattle.clap.specs.declared.error.Error.{Error}
 use Rattle.clap.specs.declared.error.kind.ErrorKind.{ErrorKind}
 use Rattle.clap.specs.declared.parser.matches.ArgMatches.{ArgMatches}
 use Rattle.clap.proofs.OnLiterals.{clap_on_literals}
 use Rattle.rbc_live.specs.declared.wanted.Wanted.{Wanted}
-use Rattle.rbc_dispatch.specs.NoTask.{no_task_of}
+use Rattle.rbc_dispatch.specs.Ending.{IsRefusal, ending_of}
+use Rattle.rbc_dispatch.specs.NoTask.{no_task_of, status_of}
 use Rattle.rbc_dispatch.specs.TextWords.{spaced_text}
-use Rattle.rbc_dispatch.specs.Words.{Finding, IsCheckOf, IsCodesOf, IsDecode, IsDecodeLines, IsEncode, IsExplainOn, IsFound, IsLiveOn, IsPictureOn, IsRunOn, IsTakenFor, HasWords, IsWantOfMemory, command_line, count_after, finding_in, flag_after, input_after, is_named, is_set, number_after, word_after}
+use Rattle.rbc_dispatch.specs.Words.{Finding, IsCheckOf, IsCodesOf, IsDecode, IsDecodeLines, IsEncode, IsExplainOn, IsFound, IsLiveOn, IsPictureOn, IsRunOn, IsTakenFor, HasWords, IsWantOfMemory, LacksMessage, command_line, count_after, finding_in, flag_after, input_after, is_named, is_set, number_after, word_after}
 use Rattle.rbc_dispatch.specs.declared.no_task.NoTask.{NoTask}
-use Rattle.rbc_dispatch.specs.declared.no_task.NoTask.TheVariants.{OutOfMemory}
+use Rattle.rbc_dispatch.specs.declared.no_task.NoTask.TheVariants.{OutOfMemory, Words}
 use Rattle.rbc_dispatch.specs.declared.words.Task.{Task}
 use Rattle.rbc_dispatch.specs.declared.words.Task.TheVariants.{Run, Live, Explain, Picture, Check, Encode, Decode, Codes, Page}
 use Rattle.rbc_dispatch.proofs.words.parse_command.Goals as goal
@@ -401,3 +402,121 @@ pub returns-clause-encode : goal.returns-clause-encode
 returns-clause-encode c = λ track text asked.
     let found = found_here _ (map string_bytes c.args.words.now) _ c.in_ok-command.ensures c.in_ok-matches.ensures.matches in
     absurd (unnamed _ _ (ap (is_named (codes "encode")) found) c.in-None.ensures.none.0.5 asked.1)
+
+-- where a line for each variable is asked for and no message is given, no task is
+
+flag_chosen : (b : Bool) (rows : List Row) (f : List Row → Option Text) → is_set (option_and_then f (if b then Some rows else None)) ≡ true → b ≡ true
+flag_chosen true rows f set = refl
+flag_chosen false rows f set = cc
+
+set_is_named : (name id : Text) (found : Finding) → is_set (flag_after name id found) ≡ true → is_named name found ≡ true
+set_is_named name id None set = cc
+set_is_named name id (Some p) set = flag_chosen _ p.1 (one_of id) set
+
+lacking : (found : Finding) → LacksMessage found → is_named (codes "decode") found ≡ true
+lacking found lacks = set_is_named (codes "decode") (codes "long") found lacks.1
+
+lacks_here : (words : List Text) (found : Finding) (b : Bool) → (b ≡ true → LacksMessage found) → b ≡ true → found ≡ finding_in words → LacksMessage (finding_in words)
+lacks_here words found b says is same = subst (λ (f : Finding). LacksMessage f) same (says is)
+
+has_all : (words : List Text) (found : Finding) (b : Bool) → (LacksMessage found → b ≡ true) → b ≡ false → found ≡ finding_in words → LacksMessage (finding_in words) → ⊥
+has_all words found b says is same lacks = let bad : b ≡ true = says (subst (λ (f : Finding). LacksMessage f) (sym same) lacks) in cc
+
+refused_memory : (r : Result Task NoTask) (no_task : NoTask) → IsErrAnd r (λ x. x ≡ no_task) → IsWantOfMemory no_task → IsErrAnd r (λ x. IsRefusal (ending_of x))
+refused_memory (Err x) no_task same memory = inl (ap ending_of (same ∙ memory))
+refused_memory (Ok x) no_task same memory = absurd same
+
+refusal_of : (no_task : NoTask) → IsWantOfMemory no_task ⊎ (status_of no_task ≡ 2) → IsRefusal (ending_of no_task)
+refusal_of no_task (inl memory) = inl (ap ending_of memory)
+refusal_of (Words error) (inr two) = inr two
+refusal_of OutOfMemory (inr two) = inl refl
+
+pub returns-in_err-command-clause-long_lines : goal.returns-in_err-command-clause-long_lines
+returns-in_err-command-clause-long_lines c = λ asked. refused_memory _ OutOfMemory c.from_residual.ensures.1 refl
+
+pub returns-in_err-matches-clause-long_lines : goal.returns-in_err-matches-clause-long_lines
+returns-in_err-matches-clause-long_lines c = λ asked.
+    let e = c.in_err-matches.field-0.0 in
+    let kinds = kinds_here _ (map string_bytes c.args.words.now) (λ ks. HasKind ks e) c.in_ok-command.ensures c.in_err-matches.ensures.kinds in
+    refused_memory _ (no_task_of e) c.from_residual-in_err-matches.ensures.1 (memory_alone e (subst (λ (ks : List ErrorKind). HasKind ks e) asked.0 kinds))
+
+both : (b : Bool) → b ≡ true → b ≡ false → ⊥
+both b is not = cc
+
+pub returns-then-lacks_message-clause-long_lines : goal.returns-then-lacks_message-clause-long_lines
+returns-then-lacks_message-clause-long_lines c = λ asked. refusal_of c.refuse.result c.refuse.ensures
+
+pub returns-then-lacks_message-clause-run : goal.returns-then-lacks_message-clause-run
+returns-then-lacks_message-clause-run c = λ file workers alarms asked.
+    let words = map string_bytes c.args.words.now in
+    let found = found_here _ words _ c.in_ok-command.ensures c.in_ok-matches.ensures.matches in
+    let lacks = lacks_here words _ _ c.lacks_message.ensures.is c.if-lacks_message.true found in
+    absurd (not_named (codes "run") (codes "decode") (codes "track") (finding_in words) file refl asked.1 (lacking (finding_in words) lacks))
+
+pub returns-then-lacks_message-clause-live : goal.returns-then-lacks_message-clause-live
+returns-then-lacks_message-clause-live c = λ file wanted asked.
+    let words = map string_bytes c.args.words.now in
+    let found = found_here _ words _ c.in_ok-command.ensures c.in_ok-matches.ensures.matches in
+    let lacks = lacks_here words _ _ c.lacks_message.ensures.is c.if-lacks_message.true found in
+    absurd (not_named (codes "live") (codes "decode") (codes "track") (finding_in words) file refl asked.1 (lacking (finding_in words) lacks))
+
+pub returns-then-lacks_message-clause-explain : goal.returns-then-lacks_message-clause-explain
+returns-then-lacks_message-clause-explain c = λ file from asked.
+    let words = map string_bytes c.args.words.now in
+    let found = found_here _ words _ c.in_ok-command.ensures c.in_ok-matches.ensures.matches in
+    let lacks = lacks_here words _ _ c.lacks_message.ensures.is c.if-lacks_message.true found in
+    absurd (not_named (codes "explain") (codes "decode") (codes "track") (finding_in words) file refl asked.1 (lacking (finding_in words) lacks))
+
+pub returns-then-lacks_message-clause-picture : goal.returns-then-lacks_message-clause-picture
+returns-then-lacks_message-clause-picture c = λ file after asked.
+    let words = map string_bytes c.args.words.now in
+    let found = found_here _ words _ c.in_ok-command.ensures c.in_ok-matches.ensures.matches in
+    let lacks = lacks_here words _ _ c.lacks_message.ensures.is c.if-lacks_message.true found in
+    absurd (not_named (codes "picture") (codes "decode") (codes "track") (finding_in words) file refl asked.1 (lacking (finding_in words) lacks))
+
+pub returns-then-lacks_message-clause-check : goal.returns-then-lacks_message-clause-check
+returns-then-lacks_message-clause-check c = λ file asked.
+    let words = map string_bytes c.args.words.now in
+    let found = found_here _ words _ c.in_ok-command.ensures c.in_ok-matches.ensures.matches in
+    let lacks = lacks_here words _ _ c.lacks_message.ensures.is c.if-lacks_message.true found in
+    absurd (not_named (codes "check") (codes "decode") (codes "track") (finding_in words) file refl asked.1 (lacking (finding_in words) lacks))
+
+pub returns-then-lacks_message-clause-decode : goal.returns-then-lacks_message-clause-decode
+returns-then-lacks_message-clause-decode c = λ word long asked.
+    let words = map string_bytes c.args.words.now in
+    let found = found_here _ words _ c.in_ok-command.ensures c.in_ok-matches.ensures.matches in
+    let lacks = lacks_here words _ _ c.lacks_message.ensures.is c.if-lacks_message.true found in
+    absurd (not_found _ word lacks.0 asked.1)
+
+pub returns-then-lacks_message-clause-lines : goal.returns-then-lacks_message-clause-lines
+returns-then-lacks_message-clause-lines c = λ asked.
+    let words = map string_bytes c.args.words.now in
+    let found = found_here _ words _ c.in_ok-command.ensures c.in_ok-matches.ensures.matches in
+    let lacks = lacks_here words _ _ c.lacks_message.ensures.is c.if-lacks_message.true found in
+    absurd (both _ lacks.1 asked.3)
+
+pub returns-then-lacks_message-clause-encode : goal.returns-then-lacks_message-clause-encode
+returns-then-lacks_message-clause-encode c = λ track text asked.
+    let words = map string_bytes c.args.words.now in
+    let found = found_here _ words _ c.in_ok-command.ensures c.in_ok-matches.ensures.matches in
+    let lacks = lacks_here words _ _ c.lacks_message.ensures.is c.if-lacks_message.true found in
+    absurd (two_names (codes "decode") (codes "encode") (finding_in words) refl (lacking (finding_in words) lacks) asked.1)
+
+pub returns-then-lacks_message-clause-codes : goal.returns-then-lacks_message-clause-codes
+returns-then-lacks_message-clause-codes c = λ code asked.
+    let words = map string_bytes c.args.words.now in
+    let found = found_here _ words _ c.in_ok-command.ensures c.in_ok-matches.ensures.matches in
+    let lacks = lacks_here words _ _ c.lacks_message.ensures.is c.if-lacks_message.true found in
+    absurd (two_names (codes "decode") (codes "codes") (finding_in words) refl (lacking (finding_in words) lacks) asked.1)
+
+pub returns-in-Some-clause-long_lines : goal.returns-in-Some-clause-long_lines
+returns-in-Some-clause-long_lines c = λ asked.
+    let words = map string_bytes c.args.words.now in
+    let found = found_here _ words _ c.in_ok-command.ensures c.in_ok-matches.ensures.matches in
+    has_all words _ _ c.lacks_message.ensures.asked c.if-lacks_message.false found asked.1
+
+pub returns-clause-long_lines : goal.returns-clause-long_lines
+returns-clause-long_lines c = λ asked.
+    let words = map string_bytes c.args.words.now in
+    let found = found_here _ words _ c.in_ok-command.ensures c.in_ok-matches.ensures.matches in
+    absurd (has_all words _ _ c.lacks_message.ensures.asked c.if-lacks_message.false found asked.1)
