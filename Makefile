@@ -33,8 +33,8 @@ MADE = $(OUT)/lib
 LIBRARIES = $(MADE)/librbc.a $(MADE)/libertms.a $(MADE)/librbc.so.$(RBC_ABI) $(MADE)/libertms.so.$(ERTMS_ABI)
 PACKAGES = $(MADE)/rbc.pc $(MADE)/ertms.pc
 PAGES = $(wildcard docs/*.1)
-DOCUMENTS = README.md CHANGELOG.md $(wildcard docs/*.md docs/*.svg)
-EXAMPLES = $(wildcard examples/*.toml examples/*.txt examples/*.batch examples/*.expected examples/c/*.c)
+DOCUMENTS = README.md CHANGELOG.md $(wildcard docs/*.md docs/*.svg docs/*.png)
+EXAMPLES = $(wildcard examples/*.toml examples/*.txt examples/*.batch examples/*.expected examples/c/*.c examples/desk/*.*)
 SHARED = bash-completion/completions/dispatch zsh/site-functions/_dispatch fish/vendor_completions.d/dispatch.fish \
 	wireshark/ertms.lua
 BINDINGS = $(wildcard bindings/cpp/*.cpp bindings/ada/*.ad? bindings/python/*.py) \
@@ -85,7 +85,7 @@ $(MADE)/ertms.pc: DESCRIPTION = The codec for ETCS messages of emergency stops, 
 install: compiler install-program install-libraries
 
 install-program: sums
-	install -d $(bin) $(share)/man/man1 $(doc)/docs $(doc)/examples/c $(addprefix $(share)/,$(dir $(SHARED)))
+	install -d $(bin) $(share)/man/man1 $(doc)/docs $(addprefix $(doc)/examples/,c desk) $(addprefix $(share)/,$(dir $(SHARED)))
 	install -m 755 release/dispatch $(bin)/dispatch
 	@for page in $(PAGES); do \
 		sed 's|/usr/local/share|$(PREFIX)/share|g' $$page > $(share)/man/man1/$${page#docs/} \
