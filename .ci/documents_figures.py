@@ -1,6 +1,6 @@
 """Checks figures that documents give: constants against the sources; speed, memory and counts of tests against bench/RESULTS.md.
 
-- bench/RESULTS.md and README.md say which version they are of: that of crates/rbc_dispatch/src/words.rt.
+- bench/RESULTS.md and README.md say which version they are of: that of crates/rbc_dispatch/src/command_line.rt.
 - The numbers with a unit of UNITS that a document of WITH_FIGURES gives are those that the table of RESULTS.md whose first column is
   GIVEN has for it, word for word. Where a table has a row of RESULTS.md, by its first cell, all its rows are such, with its numbers.
 - `NAME` (value), `NAME = value`, a value before (`NAME`, file), and a row of a table with constants, their values and their files say
@@ -44,11 +44,11 @@ def numbers(text):
 
 def version_faults(root, name, text):
     """RESULTS.md and README.md are of the version that the program prints."""
-    version = re.search(r'\.version\("([\d.]+), rules', (root / "crates/rbc_dispatch/src/words.rt").read_text()).group(1)
+    version = re.search(r'\.version\("([\d.]+), rules', (root / "crates/rbc_dispatch/src/command_line.rt").read_text()).group(1)
     pattern = {"bench/RESULTS.md": r"^Version (\d[\d.]*\d)", "README.md": r"says `dispatch (\d[\d.]*\d), rules"}.get(name)
     said = re.search(pattern, text, flags=re.M) if pattern else None
     if pattern and (said is None or said.group(1) != version):
-        yield said and said.start(), f"is not of version {version}, which crates/rbc_dispatch/src/words.rt says"
+        yield said and said.start(), f"is not of version {version}, which crates/rbc_dispatch/src/command_line.rt says"
 
 
 def figure_faults(results, name, text):
@@ -129,7 +129,7 @@ def limit_faults(constants, place, row):
 
 def options_of(root):
     """The options of the program and of the scripts."""
-    words = (root / "crates/rbc_dispatch/src/words.rt").read_text()
+    words = (root / "crates/rbc_dispatch/src/command_line.rt").read_text()
     texts = [f"--{name}" for name in re.findall(r'(?:\.long\(|name: )"([a-z-]+)"', words)]
     texts += [path.read_text() for pattern in SCRIPTS for path in root.glob(pattern) if path.is_file()]
     return set(re.findall(r"--[a-z][a-z-]*", " ".join(texts))) | {"--help", "--version", "--track", "--allow-holes"}

@@ -9,7 +9,7 @@ ANTT_NOISE = re.compile(r'--[^\n]*|"(?:\\.|[^"\\])*"', re.S)
 MOST_IN_GROUP = 4
 
 # the files of the program that read its words: of these public contracts alone count, as those of a library
-WORDS_OF_PROGRAM = {"words.rt", "no_task.rt"}
+WORDS_OF_PROGRAM = {"words.rt", "no_task.rt", "command_line.rt", "misuse.rt"}
 
 
 def blank(pattern, text):

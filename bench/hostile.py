@@ -77,8 +77,7 @@ def at_batches(words, runs):
     for workers in ("2", "16"):
         runs.check([*words.RUN, "--workers", workers], (1, b"", b"too many inputs\n"), f"over line feeds, {workers} workers", batch=most * b"\n")
     for told in (words.EXPLAIN, words.PICTURE):
-        runs.check(told, (1, b"", b"batch too long\n"), "over NULs, one more", batch=bytes(most + 1))
-        runs.check(told, (1, b"", b"too many inputs\n"), "over line feeds", batch=most * b"\n")
+        runs.check(told, (0, words.SOME, b""), "over NULs, one more", batch=bytes(most + 1))
         for name, batch in (("NULs", bytes(most)), ("two lines", two), ("a message", recv), ("segments", segments), ("good segments", stops)):
             runs.check(told, (0, words.SOME, b""), f"over {name}", batch=batch)
 

@@ -7,7 +7,7 @@ use Rattle.rbc_records.specs.declared.record.Key.{Key}
 use Rattle.rbc_records.specs.declared.record.Rec.{Rec}
 use Rattle.rbc_rule.specs.declared.outcome.Reply.{Reply}
 use Rattle.rbc_rule.specs.Inputs.{Fits}
-use Rattle.rbc_batch.specs.BatchText.{line_of, IsInput}
+use Rattle.rbc_text.specs.BatchText.{line_of, IsInput}
 use Rattle.rbc_live.specs.declared.desk.Answer.{Answer}
 use Rattle.rbc_live.specs.Serial.{IsSerial}
 use Rattle.rbc_live.specs.History.{IsFed, IsStepOf}

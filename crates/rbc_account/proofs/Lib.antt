@@ -1,4 +1,6 @@
-pub mod Openings
+pub mod Reading
+pub mod Logging
+pub mod Ending
 pub mod Adding
 pub mod Nearest
 pub mod Meetings

@@ -16,6 +16,11 @@ pub mod Runs
 pub mod Telling
 pub mod Witnesses
 pub mod Found
-pub use Rattle.rbc_batch.specs.Answers
-pub use Rattle.rbc_batch.specs.Process
+pub mod Faults
+pub mod Lines
+pub mod LogSections
+pub mod RunLogs
+pub mod UnderWay
+pub use Rattle.rbc_text.specs.Streams
+pub use Rattle.rbc_text.specs.EndedLines
 pub use Rattle.rbc_live.specs.History

@@ -19,8 +19,12 @@ use Rattle.clap.specs.declared.builder.value_parser.ValueParser.TheVariants as v
 use Rattle.clap.proofs.OnLiterals.{clap_on_literals}
 use Rattle.clap.proofs.ValueTestLemmas.{Accepts-accepts}
 use Rattle.clap.proofs.WalkLemmas.{byte_read}
-use Rattle.rbc_dispatch.specs.Forms.{AfterAllByDefault, AlarmsOfLive, AlarmsOfRun, AsManyAsNamed, BeginAtOneByDefault, FromOneByDefault, LongIfAsked, NoFiguresByDefault, NotByTrainByDefault, OneByDefault, OneLineByDefault, WritesByte}
-use Rattle.rbc_dispatch.specs.Words.{AsksToDecode, AsksToDraw, AsksToExplain, AsksToLive, AsksToRun, alarms_rule, by_train_rule, check_shape, codes_shape, command_line, count_or_one, decode_shape, encode_shape, explain_shape, finding_in, flag_after, found_after, is_set, live_shape, picture_shape, stats_rule, track_rule, word_after, workers_rule}
+use Rattle.rbc_dispatch.specs.Forms.{AfterAllByDefault, AlarmsOfLive, AlarmsOfRun, AsManyAsNamed, BeginAtOneByDefault, FromOneByDefault, LongIfAsked, OneByDefault, OneLineByDefault, WritesByte}
+use Rattle.rbc_account.specs.declared.log_form.LogParts.TheVariants as parts
+use Rattle.rbc_dispatch.specs.CommandLine.{alarms_rule, by_train_rule, check_shape, codes_shape, command_line, decode_shape, encode_shape, explain_shape, live_shape, picture_shape, stats_rule, track_rule, workers_rule}
+use Rattle.rbc_dispatch.specs.Words.{Asked, Asks, Run, Live, Explain, Picture, Decode, asked_in, byte_of, finding_in, flag_of, live_asked, run_asked}
+use Rattle.rbc_dispatch.specs.Pages.{topic_in}
+use Rattle.rbc_dispatch.proofs.Findings.{explain_by, found_after, live_by, picture_by, run_by}
 
 no_hyphen : (c : ℕ) → c ≢ 45 → (c == 45) ≡ false
 no_hyphen c plain = ne_eqb c 45 plain
@@ -33,11 +37,16 @@ line_with q =
     let inputs = with_subcommand (with_subcommand (with_subcommand (with_subcommand (without_name (new_app (codes "dispatch"))) run) live_shape) explain_shape) picture_shape in
     with_subcommand (with_subcommand (with_subcommand (with_subcommand inputs check_shape) encode_shape) decode_shape) codes_shape
 
--- words without a fault name the file, this word as the number of workers, and no alarms
+-- words without a fault, and in their rows the file, this word as the number of workers, and no flag
+pub record HasRows (q : ValueParser) (file word : Text) (rows : List Row) : Type 0 where
+  pub track : first_of (codes "track") rows ≡ Some file
+  pub workers : one_of (codes "workers") rows ≡ Some (read_as (reading_of q) word)
+  pub by_train : flag_of (codes "by-train") rows ≡ false
+  pub stats : flag_of (codes "stats") rows ≡ false
+  pub alarms : flag_of (codes "alarms") rows ≡ false
+
 abbrev Finds : ValueParser → Text → Text → List Text → Type 0
-Finds q file word words = (fault_of (line_with q) words ≡ []) × (word_after (codes "run") (codes "track") (subcommand_of (line_with q) words) ≡ Some file)
-    × (option_and_then (one_of (codes "workers")) (found_after (codes "run") (subcommand_of (line_with q) words)) ≡ Some (read_as (reading_of q) word))
-    × (is_set (flag_after (codes "run") (codes "alarms") (subcommand_of (line_with q) words)) ≡ false)
+Finds q file word words = (fault_of (line_with q) words ≡ []) × ((rows : List Row) × (found_after (codes "run") (subcommand_of (line_with q) words) ≡ Some rows) × HasRows q file word rows)
 
 -- ---- the walk is taken apart from what follows it
 
@@ -64,6 +73,22 @@ Takes line name words = walk_fault (part_of line name) [] (walk_from nothing_hel
 abbrev Leaves : App → Text → List Text → Type 0
 Leaves line name words = (end : Walk) → walk_over (part_of line name) words ≡ end
     → found_after name (subcommand_of line (name ∷ words)) ≡ Some (finished (part_of line name).rules end.held)
+
+run_leaves_two : (q : ValueParser) (a b : Text) → Leaves (line_with q) (codes "run") (a ∷ b ∷ [])
+unfolding clap_on_literals
+run_leaves_two q a b end is = rw is refl
+
+live_leaves_two : (a b : Text) → Leaves command_line (codes "live") (a ∷ b ∷ [])
+unfolding clap_on_literals
+live_leaves_two a b end is = rw is refl
+
+explain_leaves : (a b : Text) → Leaves command_line (codes "explain") (a ∷ b ∷ [])
+unfolding clap_on_literals
+explain_leaves a b end is = rw is refl
+
+picture_leaves : (a b : Text) → Leaves command_line (codes "picture") (a ∷ b ∷ [])
+unfolding clap_on_literals
+picture_leaves a b end is = rw is refl
 
 run_leaves_three : (q : ValueParser) (a b c : Text) → Leaves (line_with q) (codes "run") (a ∷ b ∷ c ∷ [])
 unfolding clap_on_literals
@@ -115,30 +140,33 @@ module _ (c : ℕ) (rest : Text) (plain : (c == 45) ≡ false) where
   abbrev track_pending : Walk
   track_pending = walk_from (record { rows = []; pending = Some (codes "track", (c ∷ rest) ∷ []); skip = 0 })
 
-  run_alone : AsksToRun (c ∷ rest) 1 false (codes "run" ∷ track_alone)
+  run_alone : Asks (Run (c ∷ rest) 1 false false false) (codes "run" ∷ track_alone)
   unfolding clap_on_literals
-  run_alone =
-      (run_takes_two (vp.Signed (pos 0) (pos 255)) (codes "--track") (c ∷ rest) (simp plain) track_pending (simp plain) refl, simp plain, simp plain, simp plain)
+  run_alone = record {
+    taken = run_takes_two (vp.Signed (pos 0) (pos 255)) (codes "--track") (c ∷ rest) (simp plain) track_pending (simp plain) refl;
+    is = run_by (codes "run" ∷ track_alone) (run_leaves_two (vp.Signed (pos 0) (pos 255)) (codes "--track") (c ∷ rest) track_pending (simp plain)) refl;
+  }
 
-  unasked_alone : flag_after (codes "run") (codes "stats") (finding_in (codes "run" ∷ track_alone)) ≡ Some (codes "false")
+  live_alone : Asks (Live (c ∷ rest) (record { from = 1; alarms = false })) (codes "live" ∷ track_alone)
   unfolding clap_on_literals
-  unasked_alone = simp plain
+  live_alone = record {
+    taken = live_takes (codes "--track") (c ∷ rest) (simp plain) track_pending (simp plain) refl;
+    is = live_by (codes "live" ∷ track_alone) (live_leaves_two (codes "--track") (c ∷ rest) track_pending (simp plain)) refl;
+  }
 
-  unshared_alone : flag_after (codes "run") (codes "by-train") (finding_in (codes "run" ∷ track_alone)) ≡ Some (codes "false")
+  explain_alone : Asks (Explain (c ∷ rest) (record { from = 1; to = None; parts = parts.All })) (codes "explain" ∷ track_alone)
   unfolding clap_on_literals
-  unshared_alone = simp plain
+  explain_alone = record {
+    taken = explain_takes (codes "--track") (c ∷ rest) (simp plain) track_pending (simp plain) refl;
+    is = explain_by (codes "explain" ∷ track_alone) (explain_leaves (codes "--track") (c ∷ rest) track_pending (simp plain)) refl;
+  }
 
-  live_alone : AsksToLive (c ∷ rest) (record { from = 1; alarms = false }) (codes "live" ∷ track_alone)
+  picture_alone : Asks (Picture (c ∷ rest) None) (codes "picture" ∷ track_alone)
   unfolding clap_on_literals
-  live_alone = (live_takes (codes "--track") (c ∷ rest) (simp plain) track_pending (simp plain) refl, simp plain, simp plain, simp plain)
-
-  explain_alone : AsksToExplain (c ∷ rest) 1 (codes "explain" ∷ track_alone)
-  unfolding clap_on_literals
-  explain_alone = (explain_takes (codes "--track") (c ∷ rest) (simp plain) track_pending (simp plain) refl, simp plain, simp plain)
-
-  picture_alone : AsksToDraw (c ∷ rest) None (codes "picture" ∷ track_alone)
-  unfolding clap_on_literals
-  picture_alone = (picture_takes (codes "--track") (c ∷ rest) (simp plain) track_pending (simp plain) refl, simp plain, simp plain)
+  picture_alone = record {
+    taken = picture_takes (codes "--track") (c ∷ rest) (simp plain) track_pending (simp plain) refl;
+    is = picture_by (codes "picture" ∷ track_alone) (picture_leaves (codes "--track") (c ∷ rest) track_pending (simp plain)) refl;
+  }
 
 -- ---- with `--alarms`
 
@@ -167,45 +195,33 @@ module _ (c : ℕ) (rest : Text) (plain : (c == 45) ≡ false) where
   unfolding clap_on_literals
   live_flag_first_ends = simp plain
 
-  run_with_flag_last : AsksToRun (c ∷ rest) 1 true (codes "run" ∷ codes "--track" ∷ (c ∷ rest) ∷ codes "--alarms" ∷ [])
+  run_with_flag_last : Asks (Run (c ∷ rest) 1 false false true) (codes "run" ∷ codes "--track" ∷ (c ∷ rest) ∷ codes "--alarms" ∷ [])
   unfolding clap_on_literals
-  run_with_flag_last =
-      let found = run_leaves_three (vp.Signed (pos 0) (pos 255)) (codes "--track") (c ∷ rest) (codes "--alarms") flag_last run_flag_last_ends in (
-        run_takes_three (vp.Signed (pos 0) (pos 255)) (codes "--track") (c ∷ rest) (codes "--alarms") (simp plain) flag_last run_flag_last_ends refl,
-        ap (option_and_then (first_of (codes "track"))) found,
-        ap (λ rows. option_map_or byte_or_zero (option_and_then (one_of (codes "workers")) rows) 0) found,
-        ap (λ rows. is_set (option_and_then (one_of (codes "alarms")) rows)) found,
-      )
+  run_with_flag_last = record {
+    taken = run_takes_three (vp.Signed (pos 0) (pos 255)) (codes "--track") (c ∷ rest) (codes "--alarms") (simp plain) flag_last run_flag_last_ends refl;
+    is = run_by (codes "run" ∷ codes "--track" ∷ (c ∷ rest) ∷ codes "--alarms" ∷ []) (run_leaves_three (vp.Signed (pos 0) (pos 255)) (codes "--track") (c ∷ rest) (codes "--alarms") flag_last run_flag_last_ends) refl;
+  }
 
-  run_with_flag_first : AsksToRun (c ∷ rest) 1 true (codes "run" ∷ codes "--alarms" ∷ codes "--track" ∷ (c ∷ rest) ∷ [])
+  run_with_flag_first : Asks (Run (c ∷ rest) 1 false false true) (codes "run" ∷ codes "--alarms" ∷ codes "--track" ∷ (c ∷ rest) ∷ [])
   unfolding clap_on_literals
-  run_with_flag_first =
-      let found = run_leaves_three (vp.Signed (pos 0) (pos 255)) (codes "--alarms") (codes "--track") (c ∷ rest) flag_first run_flag_first_ends in (
-        run_takes_three (vp.Signed (pos 0) (pos 255)) (codes "--alarms") (codes "--track") (c ∷ rest) (simp plain) flag_first run_flag_first_ends refl,
-        ap (option_and_then (first_of (codes "track"))) found,
-        ap (λ rows. option_map_or byte_or_zero (option_and_then (one_of (codes "workers")) rows) 0) found,
-        ap (λ rows. is_set (option_and_then (one_of (codes "alarms")) rows)) found,
-      )
+  run_with_flag_first = record {
+    taken = run_takes_three (vp.Signed (pos 0) (pos 255)) (codes "--alarms") (codes "--track") (c ∷ rest) (simp plain) flag_first run_flag_first_ends refl;
+    is = run_by (codes "run" ∷ codes "--alarms" ∷ codes "--track" ∷ (c ∷ rest) ∷ []) (run_leaves_three (vp.Signed (pos 0) (pos 255)) (codes "--alarms") (codes "--track") (c ∷ rest) flag_first run_flag_first_ends) refl;
+  }
 
-  live_with_flag_last : AsksToLive (c ∷ rest) (record { from = 1; alarms = true }) (codes "live" ∷ codes "--track" ∷ (c ∷ rest) ∷ codes "--alarms" ∷ [])
+  live_with_flag_last : Asks (Live (c ∷ rest) (record { from = 1; alarms = true })) (codes "live" ∷ codes "--track" ∷ (c ∷ rest) ∷ codes "--alarms" ∷ [])
   unfolding clap_on_literals
-  live_with_flag_last =
-      let found = live_leaves_three (codes "--track") (c ∷ rest) (codes "--alarms") flag_last live_flag_last_ends in (
-        live_takes_three (codes "--track") (c ∷ rest) (codes "--alarms") (simp plain) flag_last live_flag_last_ends refl,
-        ap (option_and_then (first_of (codes "track"))) found,
-        ap (λ rows. option_map_or count_or_one (option_and_then (one_of (codes "from")) rows) 1) found,
-        ap (λ rows. is_set (option_and_then (one_of (codes "alarms")) rows)) found,
-      )
+  live_with_flag_last = record {
+    taken = live_takes_three (codes "--track") (c ∷ rest) (codes "--alarms") (simp plain) flag_last live_flag_last_ends refl;
+    is = live_by (codes "live" ∷ codes "--track" ∷ (c ∷ rest) ∷ codes "--alarms" ∷ []) (live_leaves_three (codes "--track") (c ∷ rest) (codes "--alarms") flag_last live_flag_last_ends) refl;
+  }
 
-  live_with_flag_first : AsksToLive (c ∷ rest) (record { from = 1; alarms = true }) (codes "live" ∷ codes "--alarms" ∷ codes "--track" ∷ (c ∷ rest) ∷ [])
+  live_with_flag_first : Asks (Live (c ∷ rest) (record { from = 1; alarms = true })) (codes "live" ∷ codes "--alarms" ∷ codes "--track" ∷ (c ∷ rest) ∷ [])
   unfolding clap_on_literals
-  live_with_flag_first =
-      let found = live_leaves_three (codes "--alarms") (codes "--track") (c ∷ rest) flag_first live_flag_first_ends in (
-        live_takes_three (codes "--alarms") (codes "--track") (c ∷ rest) (simp plain) flag_first live_flag_first_ends refl,
-        ap (option_and_then (first_of (codes "track"))) found,
-        ap (λ rows. option_map_or count_or_one (option_and_then (one_of (codes "from")) rows) 1) found,
-        ap (λ rows. is_set (option_and_then (one_of (codes "alarms")) rows)) found,
-      )
+  live_with_flag_first = record {
+    taken = live_takes_three (codes "--alarms") (codes "--track") (c ∷ rest) (simp plain) flag_first live_flag_first_ends refl;
+    is = live_by (codes "live" ∷ codes "--alarms" ∷ codes "--track" ∷ (c ∷ rest) ∷ []) (live_leaves_three (codes "--alarms") (codes "--track") (c ∷ rest) flag_first live_flag_first_ends) refl;
+  }
 
 pub alarms_of_run : AlarmsOfRun
 alarms_of_run [] plain = absurd plain
@@ -223,14 +239,6 @@ pub one_by_default : OneByDefault
 one_by_default [] plain = absurd plain
 one_by_default (c ∷ rest) plain = run_alone c rest (no_hyphen c plain)
 
-pub no_figures_by_default : NoFiguresByDefault
-no_figures_by_default [] plain = absurd plain
-no_figures_by_default (c ∷ rest) plain = unasked_alone c rest (no_hyphen c plain)
-
-pub not_by_train_by_default : NotByTrainByDefault
-not_by_train_by_default [] plain = absurd plain
-not_by_train_by_default (c ∷ rest) plain = unshared_alone c rest (no_hyphen c plain)
-
 pub from_one_by_default : FromOneByDefault
 from_one_by_default [] plain = absurd plain
 from_one_by_default (c ∷ rest) plain = live_alone c rest (no_hyphen c plain)
@@ -246,17 +254,17 @@ after_all_by_default (c ∷ rest) plain = picture_alone c rest (no_hyphen c plai
 -- ---- a message
 
 module _ (c : ℕ) (rest : Text) (plain : (c == 45) ≡ false) where
-  decode_alone : AsksToDecode (c ∷ rest) false (codes "decode" ∷ (c ∷ rest) ∷ [])
+  decode_alone : Asks (Decode (c ∷ rest) false) (codes "decode" ∷ (c ∷ rest) ∷ [])
   unfolding clap_on_literals
-  decode_alone = (simp plain, simp plain, simp plain)
+  decode_alone = record { taken = simp plain; is = simp plain }
 
-  long_first : AsksToDecode (c ∷ rest) true (codes "decode" ∷ codes "--long" ∷ (c ∷ rest) ∷ [])
+  long_first : Asks (Decode (c ∷ rest) true) (codes "decode" ∷ codes "--long" ∷ (c ∷ rest) ∷ [])
   unfolding clap_on_literals
-  long_first = (simp plain, simp plain, simp plain)
+  long_first = record { taken = simp plain; is = simp plain }
 
-  long_last : AsksToDecode (c ∷ rest) true (codes "decode" ∷ (c ∷ rest) ∷ codes "--long" ∷ [])
+  long_last : Asks (Decode (c ∷ rest) true) (codes "decode" ∷ (c ∷ rest) ∷ codes "--long" ∷ [])
   unfolding clap_on_literals
-  long_last = (simp plain, simp plain, simp plain)
+  long_last = record { taken = simp plain; is = simp plain }
 
 pub one_line_by_default : OneLineByDefault
 one_line_by_default [] plain = absurd plain
@@ -272,14 +280,8 @@ ends_at first value id last = record (walk_from (record { rows = used (filled fi
 
 -- what is found where the words are taken, by the rows that are left
 finds : (q : ValueParser) (file word : Text) (words : List Text) (rows : List Row) → fault_of (line_with q) words ≡ []
-    → found_after (codes "run") (subcommand_of (line_with q) words) ≡ Some rows → first_of (codes "track") rows ≡ Some file
-    → one_of (codes "workers") rows ≡ Some (read_as (reading_of q) word) → is_set (one_of (codes "alarms") rows) ≡ false → Finds q file word words
-finds q file word words rows taken found track workers alarms = (
-  taken,
-  ap (option_and_then (first_of (codes "track"))) found ∙ track,
-  ap (option_and_then (one_of (codes "workers"))) found ∙ workers,
-  ap (λ o. is_set (option_and_then (one_of (codes "alarms")) o)) found ∙ alarms,
-)
+    → found_after (codes "run") (subcommand_of (line_with q) words) ≡ Some rows → HasRows q file word rows → Finds q file word words
+finds q file word words rows taken found has = (taken, (rows, found, has))
 
 -- ---- the number is in the option's own word
 
@@ -296,7 +298,7 @@ module _ (q : ValueParser) (c : ℕ) (rest word : Text) (plain : (c == 45) ≡ f
   unfolding clap_on_literals
   last_in_one = finds q (c ∷ rest) word (codes "run" ∷ codes "--track" ∷ (c ∷ rest) ∷ (codes "--workers=" ++ word) ∷ []) _
       (run_takes_three q (codes "--track") (c ∷ rest) (codes "--workers=" ++ word) (simp (plain, passes)) last_end last_one_ends refl)
-      (run_leaves_three q (codes "--track") (c ∷ rest) (codes "--workers=" ++ word) last_end last_one_ends) refl refl refl
+      (run_leaves_three q (codes "--track") (c ∷ rest) (codes "--workers=" ++ word) last_end last_one_ends) (record { track = refl; workers = refl; by_train = refl; stats = refl; alarms = refl })
 
   abbrev first_one_end : Walk
   first_one_end = ends_at (record workers_rule { parser = Some q }) word (codes "track") (c ∷ rest)
@@ -309,7 +311,7 @@ module _ (q : ValueParser) (c : ℕ) (rest word : Text) (plain : (c == 45) ≡ f
   unfolding clap_on_literals
   first_in_one = finds q (c ∷ rest) word (codes "run" ∷ (codes "--workers=" ++ word) ∷ codes "--track" ∷ (c ∷ rest) ∷ []) _
       (run_takes_three q (codes "--workers=" ++ word) (codes "--track") (c ∷ rest) (simp (plain, passes)) first_one_end first_one_ends refl)
-      (run_leaves_three q (codes "--workers=" ++ word) (codes "--track") (c ∷ rest) first_one_end first_one_ends) refl refl refl
+      (run_leaves_three q (codes "--workers=" ++ word) (codes "--track") (c ∷ rest) first_one_end first_one_ends) (record { track = refl; workers = refl; by_train = refl; stats = refl; alarms = refl })
 
 -- ---- the number is in the next word
 
@@ -333,7 +335,7 @@ module _ (q : ValueParser) (c d : ℕ) (rest more : Text) (plain : (c == 45) ≡
   unfolding clap_on_literals
   last_in_two passes = finds q (c ∷ rest) (d ∷ more) (codes "run" ∷ workers_last) _
       (run_takes_four q (codes "--track") (c ∷ rest) (codes "--workers") (d ∷ more) last_walks _ last_ends (last_rests passes))
-      (run_leaves_four q (codes "--track") (c ∷ rest) (codes "--workers") (d ∷ more) _ last_ends) refl refl refl
+      (run_leaves_four q (codes "--track") (c ∷ rest) (codes "--workers") (d ∷ more) _ last_ends) (record { track = refl; workers = refl; by_train = refl; stats = refl; alarms = refl })
 
   abbrev workers_first : List Text
   workers_first = codes "--workers" ∷ (d ∷ more) ∷ codes "--track" ∷ (c ∷ rest) ∷ []
@@ -357,7 +359,7 @@ module _ (q : ValueParser) (c d : ℕ) (rest more : Text) (plain : (c == 45) ≡
   unfolding clap_on_literals
   first_in_two passes = finds q (c ∷ rest) (d ∷ more) (codes "run" ∷ workers_first) _
       (run_takes_four q (codes "--workers") (d ∷ more) (codes "--track") (c ∷ rest) (first_walks passes) _ first_ends first_rests)
-      (run_leaves_four q (codes "--workers") (d ∷ more) (codes "--track") (c ∷ rest) _ first_ends) refl refl refl
+      (run_leaves_four q (codes "--workers") (d ∷ more) (codes "--track") (c ∷ rest) _ first_ends) (record { track = refl; workers = refl; by_train = refl; stats = refl; alarms = refl })
 
 -- ---- a number in decimal digits
 
@@ -378,16 +380,15 @@ byte_value word number same writes =
     sym (byte_read {E = ℕ} word (Ok number) (rw same ((writes.0, rw writes.1 writes.2), sym writes.1)))
 
 -- what is found is what the words ask for
-asks : (file : Text) (d : ℕ) (more : Text) (number : ℕ) (words : List Text) → WritesByte (d ∷ more) number
-    → Finds (vp.Signed (pos 0) (pos 255)) file (d ∷ more) words → AsksToRun file number false words
-asks file d more number words writes finds =
+asks : (file : Text) (d : ℕ) (more : Text) (number : ℕ) (words : List Text) → WritesByte (d ∷ more) number → topic_in words ≡ None
+    → Finds (vp.Signed (pos 0) (pos 255)) file (d ∷ more) words → Asks (Run file number false false false) words
+asks file d more number words writes topic (taken, (rows, found, has)) =
     let sign = no_sign d more writes.0 in
-    let bare : without_minus (d ∷ more) ≡ d ∷ more = rw sign.0 refl in (
-      finds.0,
-      finds.1,
-      ap (λ o. option_map_or byte_or_zero o 0) finds.2 ∙ ap byte_or_zero bare ∙ byte_value (d ∷ more) number (no_plus d more sign.1) writes,
-      finds.3,
-    )
+    let bare : without_minus (d ∷ more) ≡ d ∷ more = rw sign.0 refl in
+    let workers : byte_of (codes "workers") rows ≡ number =
+    ap (λ o. option_map_or byte_or_zero o 0) has.workers ∙ ap byte_or_zero bare ∙ byte_value (d ∷ more) number (no_plus d more sign.1) writes in
+    let asked : run_asked rows ≡ Some (Run file number false false false) = rw (has.track, workers, has.by_train, has.stats, has.alarms) refl in
+    record { taken = rw topic taken; is = rw topic (run_by words found asked) }
 
 pub as_many_as_named : AsManyAsNamed
 as_many_as_named [] word number plain writes = absurd plain
@@ -398,9 +399,9 @@ as_many_as_named (c ∷ rest) (d ∷ more) number plain writes =
     let sign = no_sign d more writes.0 in
     let passes = Accepts-accepts false q (d ∷ more) (in_range d more number writes) in
     let found = asks (c ∷ rest) d more number in (
-      found _ writes (last_in_two q c d rest more hyphen sign.0 passes),
+      found _ writes refl (last_in_two q c d rest more hyphen sign.0 passes),
       (
-        found _ writes (last_in_one q c rest (d ∷ more) hyphen passes),
-        (found _ writes (first_in_two q c d rest more hyphen sign.0 passes), (found _ writes (first_in_one q c rest (d ∷ more) hyphen passes), tt)),
+        found _ writes refl (last_in_one q c rest (d ∷ more) hyphen passes),
+        (found _ writes refl (first_in_two q c d rest more hyphen sign.0 passes), (found _ writes refl (first_in_one q c rest (d ∷ more) hyphen passes), tt)),
       ),
     )

@@ -10,7 +10,7 @@ use Rattle.clap.specs.declared.error.kind.ErrorKind.{ErrorKind}
 use Rattle.clap.specs.declared.error.kind.ErrorKind.TheVariants as kind
 use Rattle.clap.proofs.OnLiterals.{clap_on_literals}
 use Rattle.rbc_dispatch.specs.Pages.{topic_in, topic_named}
-use Rattle.rbc_dispatch.specs.Words.{command_line}
+use Rattle.rbc_dispatch.specs.CommandLine.{command_line}
 use Rattle.rbc_dispatch.specs.declared.pages.Topic.{Topic}
 use Rattle.rbc_dispatch.specs.declared.pages.Topic.TheVariants.{Batch, Track}
 

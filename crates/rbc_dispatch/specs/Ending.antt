@@ -2,6 +2,7 @@
 use Rattle.std.specs.Prelude.{◌≡◌, ◌⊎◌, ◌≢◌, ℕ, List, [], ◌∷◌, ◌++◌, Option, Result, Ok, Err}
 use Rattle.std.specs.Io.KnownBytes.{Appends}
 use Rattle.clap.specs.Words.{kind_of}
+use Rattle.rbc_account.specs.declared.fault.TellError.TheVariants as telling
 use Rattle.rbc_dispatch.specs.NoTask.{status_of_kind}
 use Rattle.rbc_dispatch.specs.declared.no_task.NoTask.{NoTask}
 use Rattle.rbc_dispatch.specs.declared.no_task.NoTask.TheVariants as no_task
@@ -9,11 +10,12 @@ use Rattle.rbc_dispatch.specs.Fault.{line_of}
 use Rattle.rbc_dispatch.specs.declared.ending.Ending.{Ending}
 use Rattle.rbc_dispatch.specs.declared.ending.Ending.TheVariants.{Words, Fault}
 use Rattle.rbc_dispatch.specs.declared.fault.Fault.{Fault as AnyFault}
-use Rattle.rbc_dispatch.specs.declared.fault.Fault.TheVariants.{OutOfMemory, ReaderGone}
+use Rattle.rbc_dispatch.specs.declared.fault.Fault.TheVariants.{OutOfMemory, ReaderGone, Tell}
 
 -- the exit status of a fault; it is 0 if the reader of a text for people went away
 abbrev pub status_of_fault : AnyFault → ℕ
 status_of_fault (ReaderGone sent) = 0
+status_of_fault (Tell (telling.ReaderGone sent)) = 0
 status_of_fault _ = 1
 
 -- the exit status of an ending
@@ -33,6 +35,7 @@ IsRefusal ending = (ending ≡ Fault OutOfMemory) ⊎ (status_of ending ≡ 2)
 -- a fault adds its line, with a line feed, to what the stream held; a reader that went away is told nothing
 abbrev pub PrintsLine : AnyFault → Option (List ℕ) → Option (List ℕ) → Type 0
 PrintsLine (ReaderGone sent) old new = Unit {0}
+PrintsLine (Tell (telling.ReaderGone sent)) old new = Unit {0}
 PrintsLine fault old new = Appends old new (line_of fault ++ 10 ∷ [])
 
 abbrev pub PrintsFault : Ending → Option (List ℕ) → Option (List ℕ) → Type 0

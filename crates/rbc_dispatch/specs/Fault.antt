@@ -1,5 +1,5 @@
 -- The causes of faults, and the line that each fault prints.
-use Rattle.std.specs.Prelude.{ℕ, List, ◌++◌, codes}
+use Rattle.std.specs.Prelude.{ℕ, Bool, true, false, List, ◌++◌, codes}
 use Rattle.std.specs.Fmt.{decimal}
 use Rattle.std.specs.declared.io.ErrorKind.{ErrorKind}
 use Rattle.std.specs.declared.io.ErrorKind.TheVariants as reading
@@ -11,8 +11,8 @@ use Rattle.ertms_codec.specs.declared.wrong_word.EncodeError.TheVariants as enco
 use Rattle.ertms_codec.specs.Grammar.{wrong_word_text}
 use Rattle.hex.specs.declared.error.FromHexError.{FromHexError}
 use Rattle.hex.specs.declared.error.FromHexError.TheVariants as hex
-use Rattle.rbc_explain.specs.TellError.{TellError}
-use Rattle.rbc_explain.specs.TellError.TheVariants as telling
+use Rattle.rbc_account.specs.declared.fault.TellError.{TellError}
+use Rattle.rbc_account.specs.declared.fault.TellError.TheVariants as telling
 use Rattle.rbc_batch.specs.Process.{fault_text}
 use Rattle.rbc_live.specs.Answers as prompt
 use Rattle.rbc_track.specs.Plan.{name_of as name_of_track}
@@ -20,12 +20,21 @@ use Rattle.rbc_words.specs.FaultTexts.{line_fault_text}
 use Rattle.rbc_words.specs.Units.{count_text}
 use Rattle.rbc_words.specs.declared.filter.FilterError.TheVariants as filter
 use Rattle.rbc_dispatch.specs.declared.fault.Fault.{Fault}
-use Rattle.rbc_dispatch.specs.declared.fault.Fault.TheVariants.{Batch, OnlyInputs, Live, Lines, Text, BadHex, Decode, Write, ReaderGone, OutOfMemory, Track, TrackUnreadable, TrackWarnings}
+use Rattle.rbc_dispatch.specs.declared.fault.Fault.TheVariants.{Batch, Tell, Live, Lines, Text, BadHex, Decode, Write, ReaderGone, OutOfMemory, Track, TrackUnreadable, TrackWarnings}
 
--- the line of a fault, without its line feed
+-- the line of a fault, without its line feed: of a run that is not told
+abbrev pub telling_text : TellError → List ℕ
+telling_text (telling.Track error) = codes "track: " ++ name_of_track error
+telling_text telling.Read = codes "read fault"
+telling_text telling.Memory = codes "out of memory"
+telling_text (telling.OnlyInputs count) = codes "only " ++ count_text count (codes "input")
+telling_text (telling.Write sent) = codes "write fault after " ++ decimal sent ++ codes " bytes"
+telling_text (telling.ReaderGone sent) = codes "reader gone after " ++ decimal sent ++ codes " bytes"
+
+-- and of any other
 abbrev pub line_of : Fault → List ℕ
 line_of (Batch error) = fault_text error
-line_of (OnlyInputs count) = codes "only " ++ count_text count (codes "input")
+line_of (Tell error) = telling_text error
 line_of (Live error) = prompt.fault_text error
 line_of (Lines (filter.Line number fault)) = codes "encode: line " ++ decimal number ++ line_fault_text fault
 line_of (Lines filter.Read) = codes "read fault"
@@ -40,12 +49,6 @@ line_of OutOfMemory = codes "out of memory"
 line_of (Track error) = codes "track: " ++ name_of_track error
 line_of TrackUnreadable = codes "track: unreadable"
 line_of (TrackWarnings count) = codes "track: " ++ count_text count (codes "warning")
-
--- the fault by why a run is not told
-abbrev pub fault_of_telling : TellError → Fault
-fault_of_telling (telling.Track error) = Track error
-fault_of_telling (telling.Batch error) = Batch error
-fault_of_telling (telling.OnlyInputs count) = OnlyInputs count
 
 -- the fault by what the hexadecimal decoder answers
 abbrev pub fault_of_hex : FromHexError → Fault
@@ -62,10 +65,10 @@ abbrev pub fault_of_describing : DescribeError → Fault
 fault_of_describing (describing.Decode error) = Decode error
 fault_of_describing describing.OutOfMemory = OutOfMemory
 
--- the fault by what writing a text for people answers, after its first bytes: a reader that went away is a fault of its own
-abbrev pub fault_of_writing : ErrorKind → ℕ → Fault
-fault_of_writing reading.BrokenPipe sent = ReaderGone sent
-fault_of_writing _ sent = Write sent
+-- the fault where a text for people is cut short, because its reader went away or not, after its first bytes
+abbrev pub fault_of_writing : Bool → ℕ → Fault
+fault_of_writing true sent = ReaderGone sent
+fault_of_writing false sent = Write sent
 
 -- the fault by what reading the track file answers
 abbrev pub fault_of_reading : ErrorKind → Fault

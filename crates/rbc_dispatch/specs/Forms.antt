@@ -1,9 +1,10 @@
 -- The forms of `run`, `live`, `explain` and `picture`, and what they ask for.
-use Rattle.std.specs.Prelude.{◌≡◌, ◌≢◌, ◌<◌, ℕ, true, false, List, [], ◌∷◌, ◌++◌, None, Some, codes}
+use Rattle.std.specs.Prelude.{◌≡◌, ◌≢◌, ◌<◌, ℕ, true, false, List, [], ◌∷◌, ◌++◌, None, codes}
 use Rattle.std.specs.List.{AllByRecursion}
 use Rattle.std.specs.Str.Parse.{IsNumeral, digits_value}
 use Rattle.clap.specs.Walk.{Text}
-use Rattle.rbc_dispatch.specs.Words.{AsksToDecode, AsksToDraw, AsksToExplain, AsksToLive, AsksToRun, finding_in, flag_after}
+use Rattle.rbc_account.specs.declared.log_form.LogParts.TheVariants as parts
+use Rattle.rbc_dispatch.specs.Words.{Asks, Run, Live, Explain, Picture, Decode}
 
 -- the word has a first byte, which is no hyphen
 abbrev pub IsPlain : Text → Type 0
@@ -22,33 +23,26 @@ forms_of file word =
     ∷ (codes "run" ∷ codes "--workers" ∷ word ∷ codes "--track" ∷ file ∷ [])
     ∷ (codes "run" ∷ (codes "--workers=" ++ word) ∷ codes "--track" ∷ file ∷ []) ∷ []
 
--- without a number there is one worker, and without `--alarms` no alarms are asked for
+-- without more words there is one worker, workers do not share by train, and neither figures nor alarms are asked for
 abbrev pub OneByDefault : Type 0
-OneByDefault = (file : Text) → IsPlain file → AsksToRun file 1 false (codes "run" ∷ codes "--track" ∷ file ∷ [])
-
--- without `--stats` no figures are asked for
-abbrev pub NoFiguresByDefault : Type 0
-NoFiguresByDefault = (file : Text) → IsPlain file → flag_after (codes "run") (codes "stats") (finding_in (codes "run" ∷ codes "--track" ∷ file ∷ [])) ≡ Some (codes "false")
-
--- without `--by-train` no sharing by train is asked for
-abbrev pub NotByTrainByDefault : Type 0
-NotByTrainByDefault = (file : Text) → IsPlain file → flag_after (codes "run") (codes "by-train") (finding_in (codes "run" ∷ codes "--track" ∷ file ∷ [])) ≡ Some (codes "false")
+OneByDefault = (file : Text) → IsPlain file → Asks (Run file 1 false false false) (codes "run" ∷ codes "--track" ∷ file ∷ [])
 
 -- without a number answers are written from the first one on, and without `--alarms` no alarms are
 abbrev pub FromOneByDefault : Type 0
-FromOneByDefault = (file : Text) → IsPlain file → AsksToLive file (record { from = 1; alarms = false }) (codes "live" ∷ codes "--track" ∷ file ∷ [])
+FromOneByDefault = (file : Text) → IsPlain file → Asks (Live file (record { from = 1; alarms = false })) (codes "live" ∷ codes "--track" ∷ file ∷ [])
 
--- without a number the log begins at the first input
+-- without more words all inputs are told, and the end
 abbrev pub BeginAtOneByDefault : Type 0
-BeginAtOneByDefault = (file : Text) → IsPlain file → AsksToExplain file 1 (codes "explain" ∷ codes "--track" ∷ file ∷ [])
+BeginAtOneByDefault = (file : Text) → IsPlain file
+    → Asks (Explain file (record { from = 1; to = None; parts = parts.All })) (codes "explain" ∷ codes "--track" ∷ file ∷ [])
 
 -- without a number the picture is drawn after all inputs
 abbrev pub AfterAllByDefault : Type 0
-AfterAllByDefault = (file : Text) → IsPlain file → AsksToDraw file None (codes "picture" ∷ codes "--track" ∷ file ∷ [])
+AfterAllByDefault = (file : Text) → IsPlain file → Asks (Picture file None) (codes "picture" ∷ codes "--track" ∷ file ∷ [])
 
--- with a number there are as many workers, and without `--alarms` no alarms are asked for
+-- with a number there are as many workers, and all else is as without it
 abbrev pub AsManyAsNamed : Type 0
-AsManyAsNamed = (file word : Text) (number : ℕ) → IsPlain file → WritesByte word number → AllByRecursion (AsksToRun file number false) (forms_of file word)
+AsManyAsNamed = (file word : Text) (number : ℕ) → IsPlain file → WritesByte word number → AllByRecursion (Asks (Run file number false false false)) (forms_of file word)
 
 -- a command with a track and `--alarms`: before the track or after it
 abbrev pub alarmed_forms_of : Text → Text → List (List Text)
@@ -58,17 +52,17 @@ alarmed_forms_of command file =
 
 -- `run` with `--alarms` asks for the batch with its alarms
 abbrev pub AlarmsOfRun : Type 0
-AlarmsOfRun = (file : Text) → IsPlain file → AllByRecursion (AsksToRun file 1 true) (alarmed_forms_of (codes "run") file)
+AlarmsOfRun = (file : Text) → IsPlain file → AllByRecursion (Asks (Run file 1 false false true)) (alarmed_forms_of (codes "run") file)
 
 -- `live` with `--alarms` asks for the answers with their alarms
 abbrev pub AlarmsOfLive : Type 0
-AlarmsOfLive = (file : Text) → IsPlain file → AllByRecursion (AsksToLive file (record { from = 1; alarms = true })) (alarmed_forms_of (codes "live") file)
+AlarmsOfLive = (file : Text) → IsPlain file → AllByRecursion (Asks (Live file (record { from = 1; alarms = true }))) (alarmed_forms_of (codes "live") file)
 
 -- without `--long` the text of a message is one line
 abbrev pub OneLineByDefault : Type 0
-OneLineByDefault = (word : Text) → IsPlain word → AsksToDecode word false (codes "decode" ∷ word ∷ [])
+OneLineByDefault = (word : Text) → IsPlain word → Asks (Decode word false) (codes "decode" ∷ word ∷ [])
 
 -- with `--long`, before the message or after it, it has a line for each variable
 abbrev pub LongIfAsked : Type 0
 LongIfAsked = (word : Text) → IsPlain word
-    → AllByRecursion (AsksToDecode word true) ((codes "decode" ∷ codes "--long" ∷ word ∷ []) ∷ (codes "decode" ∷ word ∷ codes "--long" ∷ []) ∷ [])
+    → AllByRecursion (Asks (Decode word true)) ((codes "decode" ∷ codes "--long" ∷ word ∷ []) ∷ (codes "decode" ∷ word ∷ codes "--long" ∷ []) ∷ [])

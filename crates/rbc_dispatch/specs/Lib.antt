@@ -1,6 +1,8 @@
 pub mod Checking
 pub mod Columns
+pub mod CommandLine
 pub mod Decoding
+pub mod Doing
 pub mod Ending
 pub mod Fault
 pub mod Figures

@@ -8,7 +8,8 @@ use Rattle.rbc_track.specs.Reading.{IsTrackOf, RefusesTrack}
 use Rattle.rbc_track.specs.declared.error.TrackError.{TrackError}
 use Rattle.rbc_track.specs.declared.error.TrackError.TheVariants as track
 use Rattle.rbc_dispatch.specs.declared.fault.Fault.{Fault}
-use Rattle.rbc_dispatch.specs.declared.fault.Fault.TheVariants.{Batch, OnlyInputs, Live, Lines, Write, ReaderGone, OutOfMemory, Track, TrackUnreadable}
+use Rattle.rbc_dispatch.specs.declared.fault.Fault.TheVariants.{Batch, Tell, Live, Lines, Write, ReaderGone, OutOfMemory, Track, TrackUnreadable}
+use Rattle.rbc_account.specs.Telling.{LeavesUnread}
 
 -- the batch is answered by this many workers, with its alarms or without; the counts of the run are not described
 abbrev pub AnswersBatch : Plan → ℕ → Bool → Option (List ℕ) → Option (List ℕ) → Option (List ℕ) → Option (List ℕ) → Result (Unit {0}) ProcessError → Type 0
@@ -48,7 +49,7 @@ Runs {E = E} workers alarms read_old read_new old new r = ((text : List ℕ) × 
 abbrev pub Keeps : {E I O : Type 0} → Result E Fault → I → I → O → O → Type 0
 Keeps (Ok done) read_old read_new old new = ⊤
 Keeps {E = E} (Err (Batch error)) read_old read_new old new = IsUnwritten {E = E} (Err error) old new
-Keeps (Err (OnlyInputs count)) read_old read_new old new = new ≡ old
+Keeps {E = E} (Err (Tell error)) read_old read_new old new = LeavesUnread {T = E} (Err error) read_old read_new × LeavesUnread {T = E} (Err error) old new
 Keeps (Err (Live error)) read_old read_new old new = ⊤
 Keeps (Err (Write sent)) read_old read_new old new = ⊤
 Keeps (Err (ReaderGone sent)) read_old read_new old new = ⊤

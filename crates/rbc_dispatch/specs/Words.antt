@@ -1,188 +1,56 @@
 -- What the words ask for.
-use Rattle.std.specs.Prelude.{◌≡◌, ◌⊎◌, ℕ, Bool, List, [], ◌∷◌, Option, Some, None, Result, MatchResult, option_and_then, option_map, map, string_bytes, unwrap_or, is_some, if◌then◌else◌, ◌&&◌, nat_lt, length, pos, true, false, codes}
+use Rattle.std.specs.Prelude.{◌≡◌, ℕ, Bool, List, [], Option, Some, None, Result, Ok, Err, MatchResult, option_and_then, option_map, map, string_bytes, unwrap_or, is_some, if◌then◌else◌, ◌&&◌, nat_lt, length, true, false, codes}
 use Rattle.std.specs.Option.{option_map_or}
 use Rattle.std.specs.List.{list_all}
 use Rattle.std.specs.Char.{digit_value}
 use Rattle.std.specs.Str.Parse.{digits_value, without_leading_plus}
 use Rattle.std.specs.Str.{bytes_eq}
-use Rattle.clap.specs.Lexer.{usize_max}
-use Rattle.clap.specs.Simple.{App, Shape, new_app, new_rule, on_top, subcommand_of, with_rule, with_subcommand}
-use Rattle.clap.specs.Walk.{Row, Rule, Text, byte_or_zero, first_of, one_of}
+use Rattle.clap.specs.Simple.{subcommand_of}
+use Rattle.clap.specs.Walk.{Row, Text, byte_or_zero, first_of, one_of}
 use Rattle.clap.specs.Words.{fault_of}
-use Rattle.clap.specs.declared.builder.action.ArgAction.TheVariants.{SetTrue}
-use Rattle.clap.specs.declared.builder.value_parser.ValueParser.TheVariants as vp
-use Rattle.rbc_live.specs.declared.wanted.Wanted.{Wanted}
 use Rattle.clap.specs.Kinds.{Kinds}
+use Rattle.rbc_account.specs.declared.log_form.LogParts.{LogParts}
+use Rattle.rbc_account.specs.declared.log_form.LogParts.TheVariants as parts
+use Rattle.rbc_account.specs.declared.log_form.LogWanted.{LogWanted}
+use Rattle.rbc_live.specs.declared.wanted.Wanted.{Wanted}
+use Rattle.rbc_dispatch.specs.CommandLine.{command_line}
 use Rattle.rbc_dispatch.specs.Pages.{topic_in}
 use Rattle.rbc_dispatch.specs.TextWords.{spaced_text}
+use Rattle.rbc_dispatch.specs.declared.misuse.Misuse.{Misuse}
+use Rattle.rbc_dispatch.specs.declared.misuse.Misuse.TheVariants as misuse
 use Rattle.rbc_dispatch.specs.declared.pages.Topic.{Topic}
 use Rattle.rbc_dispatch.specs.declared.no_task.NoTask.{NoTask}
 use Rattle.rbc_dispatch.specs.declared.no_task.NoTask.TheVariants.{OutOfMemory}
 use Rattle.rbc_dispatch.specs.declared.words.Task.{Task}
-use Rattle.rbc_dispatch.specs.declared.words.Task.TheVariants.{Run, Live, Explain, Picture, Check, Encode, Decode, Codes, Page}
+use Rattle.rbc_dispatch.specs.declared.words.Task.TheVariants as task
 
--- the option that names the track file
-abbrev pub track_rule : Rule
-track_rule = record (new_rule (codes "track")) { long = Some (codes "track"); value_names = 1; required = true }
+-- What the arguments ask for. The first text is the name of the track file.
+pub data Asked : Type 0 where
+  -- how many workers, whether they share by train, whether figures are reported, and whether alarms are written
+  Run : Text → ℕ → Bool → Bool → Bool → Asked
+  Live : Text → Wanted → Asked
+  Explain : Text → LogWanted → Asked
+  -- after how many inputs
+  Picture : Text → Option ℕ → Asked
+  -- whether unknown keys are notes
+  Check : Text → Bool → Asked
+  -- the text, each word with a space before it, or nothing for lines
+  Encode : Option Text → List ℕ → Asked
+  -- the bytes, and whether each variable has a line
+  Decode : Text → Bool → Asked
+  DecodeLines : Asked
+  -- one code or all
+  Codes : Option ℕ → Asked
+  Page : Topic → Asked
 
--- the option for the number of workers: a number up to 255, 1 by default
-abbrev pub workers_rule : Rule
-workers_rule = record (new_rule (codes "workers")) {
-  long = Some (codes "workers");
-  value_names = 1;
-  parser = Some (vp.Signed (pos 0) (pos 255));
-  defaults = codes "1" ∷ [];
-}
+-- ---- what was found for the arguments of a subcommand
 
--- the flag that has workers share messages by train
-abbrev pub by_train_rule : Rule
-by_train_rule = record (new_rule (codes "by-train")) { long = Some (codes "by-train"); action = Some SetTrue }
-
--- the flag that reports what the workers did
-abbrev pub stats_rule : Rule
-stats_rule = record (new_rule (codes "stats")) { long = Some (codes "stats"); action = Some SetTrue }
-
--- the flag that writes alarms
-abbrev pub alarms_rule : Rule
-alarms_rule = record (new_rule (codes "alarms")) { long = Some (codes "alarms"); action = Some SetTrue }
-
--- `run`, with its five options
-abbrev pub run_shape : Shape
-run_shape = (with_rule (with_rule (with_rule (with_rule (with_rule (new_app (codes "run")) track_rule) workers_rule) by_train_rule) stats_rule) alarms_rule).top
-
--- the option for the first answer that is written: a number from 1 on, 1 by default
-abbrev pub from_rule : Rule
-from_rule = record (new_rule (codes "from")) {
-  long = Some (codes "from");
-  value_names = 1;
-  parser = Some (vp.Unsigned 1 18446744073709551615);
-  defaults = codes "1" ∷ [];
-}
-
--- `live`, with its three options
-abbrev pub live_shape : Shape
-live_shape = (with_rule (with_rule (with_rule (new_app (codes "live")) track_rule) from_rule) alarms_rule).top
-
--- the option that says at which input the log begins: a number of 32 bits, from 1 on
-abbrev pub begin_rule : Rule
-begin_rule = record (new_rule (codes "from")) {
-  long = Some (codes "from");
-  value_names = 1;
-  parser = Some (vp.Signed (pos 1) (pos 4294967295));
-}
-
--- `explain`, with both options
-abbrev pub explain_shape : Shape
-explain_shape = (with_rule (with_rule (new_app (codes "explain")) track_rule) begin_rule).top
-
--- the option that says after how many inputs the picture is drawn: a number of 32 bits
-abbrev pub after_rule : Rule
-after_rule = record (new_rule (codes "after")) {
-  long = Some (codes "after");
-  value_names = 1;
-  parser = Some (vp.Signed (pos 0) (pos 4294967295));
-}
-
--- `picture`, with both options
-abbrev pub picture_shape : Shape
-picture_shape = (with_rule (with_rule (new_app (codes "picture")) track_rule) after_rule).top
-
--- the option by which unknown keys are notes
-abbrev pub other_keys_rule : Rule
-other_keys_rule = record (new_rule (codes "other-keys")) { long = Some (codes "other-keys"); action = Some SetTrue }
-
--- `check`, with both options
-abbrev pub check_shape : Shape
-check_shape = (with_rule (with_rule (new_app (codes "check")) track_rule) other_keys_rule).top
-
--- the word that names one code: a number from 1 to 16
-abbrev pub code_rule : Rule
-code_rule = record (new_rule (codes "CODE")) { parser = Some (vp.Signed (pos 1) (pos 16)) }
-
--- `codes`, with its word
-abbrev pub codes_shape : Shape
-codes_shape = (with_rule (new_app (codes "codes")) code_rule).top
-
--- the word that is a message
-abbrev pub hex_rule : Rule
-hex_rule = new_rule (codes "HEX")
-
--- the flag that writes a line for each variable
-abbrev pub long_rule : Rule
-long_rule = record (new_rule (codes "long")) { long = Some (codes "long"); action = Some SetTrue }
-
--- `decode`, with its word and its flag
-abbrev pub decode_shape : Shape
-decode_shape = (with_rule (with_rule (new_app (codes "decode")) hex_rule) long_rule).top
-
--- the option that may name a track file
-abbrev pub known_track_rule : Rule
-known_track_rule = record (new_rule (codes "track")) { long = Some (codes "track"); value_names = 1 }
-
--- the words of a text
-abbrev pub text_rule : Rule
-text_rule = record (new_rule (codes "TEXT")) { range = Some (record { start_inclusive = 1; end_inclusive = usize_max }) }
-
--- `encode`, with its option and its words
-abbrev pub encode_shape : Shape
-encode_shape = (with_rule (with_rule (new_app (codes "encode")) known_track_rule) text_rule).top
-
--- the command line without its subcommands, from the word after its name
-abbrev pub bare_line : App
-bare_line = on_top (λ top. record top { no_binary_name = true; subcommand_required = true; has_version = true }) (new_app (codes "dispatch"))
-
--- the command line with only the subcommands that take a track and inputs
-abbrev pub input_line : App
-input_line = with_subcommand (with_subcommand (with_subcommand (with_subcommand bare_line run_shape) live_shape) explain_shape) picture_shape
-
--- the command line with only the subcommands that take a track
-abbrev pub track_line : App
-track_line = with_subcommand input_line check_shape
-
--- the command line that the program takes: `run`, `live`, `explain`, `picture`, `check`, `encode`, `decode` or `codes`
-abbrev pub command_line : App
-command_line = with_subcommand (with_subcommand (with_subcommand track_line encode_shape) decode_shape) codes_shape
-
--- memory ran out
-abbrev pub IsWantOfMemory : NoTask → Type 0
-IsWantOfMemory no_task = no_task ≡ OutOfMemory
-
--- the name of a subcommand, and what was found for its arguments
-abbrev pub Finding : Type 0
-Finding = Option (Text × List Row)
-
--- what clap finds in the words
-abbrev pub finding_in : List Text → Finding
-finding_in words = subcommand_of command_line words
-
--- what was found for the arguments of the subcommand of this name
-abbrev pub found_after : Text → Finding → Option (List Row)
-found_after name None = None
-found_after name (Some p) = if bytes_eq p.0 name then Some p.1 else None
-
--- the subcommand of this name was named
-abbrev pub is_named : Text → Finding → Bool
-is_named name None = false
-is_named name (Some p) = bytes_eq p.0 name
-
--- the word that an argument was given after the subcommand of this name
-abbrev pub word_after : Text → Text → Finding → Option Text
-word_after name id found = option_and_then (first_of id) (found_after name found)
-
--- the number that an argument was given after the subcommand of this name, or 0 if it was given none
-abbrev pub number_after : Text → Text → Finding → ℕ
-number_after name id found = option_map_or byte_or_zero (option_and_then (one_of id) (found_after name found)) 0
-
--- `text.parse::<u64>().unwrap_or(1)`
-abbrev pub count_or_one : Text → ℕ
-count_or_one text =
+-- `text.parse::<u64>().ok()`
+abbrev pub count_in : Text → Option ℕ
+count_in text =
     let digits = without_leading_plus text in
     if nat_lt 0 (length digits) && list_all (λ digit. nat_lt (digit_value digit) 10) digits && nat_lt (digits_value 10 digits) 18446744073709551616
-    then digits_value 10 digits else 1
-
--- the count that an argument was given after the subcommand of this name, or 1 if it was given none
-abbrev pub count_after : Text → Text → Finding → ℕ
-count_after name id found = option_map_or count_or_one (option_and_then (one_of id) (found_after name found)) 1
+    then Some (digits_value 10 digits) else None
 
 -- `text.parse::<u32>().ok()`
 abbrev pub number_in : Text → Option ℕ
@@ -191,199 +59,152 @@ number_in text =
     if nat_lt 0 (length digits) && list_all (λ digit. nat_lt (digit_value digit) 10) digits && nat_lt (digits_value 10 digits) 4294967296
     then Some (digits_value 10 digits) else None
 
--- the number of an input, or the code, that an argument was given after the subcommand of this name, if it was given one
-abbrev pub input_after : Text → Text → Finding → Option ℕ
-input_after name id found = option_and_then number_in (option_and_then (one_of id) (found_after name found))
+-- the number below 256 that an argument was given, or 0 if it was given none
+abbrev pub byte_of : Text → List Row → ℕ
+byte_of id rows = option_map_or byte_or_zero (one_of id rows) 0
 
--- the text of a flag after the subcommand of this name: "true" if the flag stands there, else "false"
-abbrev pub flag_after : Text → Text → Finding → Option Text
-flag_after name id found = option_and_then (one_of id) (found_after name found)
+-- the number below 2 ^ 64, or below 2 ^ 32, that an argument was given, if it was given one
+abbrev pub count_of : Text → List Row → Option ℕ
+count_of id rows = option_and_then count_in (one_of id rows)
 
--- the text of a flag is "true"
-abbrev pub is_set : Option Text → Bool
-is_set text = option_map_or (λ word. bytes_eq word (codes "true")) text false
+abbrev pub number_of : Text → List Row → Option ℕ
+number_of id rows = option_and_then number_in (one_of id rows)
 
--- the flag is as its text says
-abbrev pub IsFlag : Option Text → Bool → Type 0
-IsFlag text flag = (text ≡ Some (codes "true") → flag ≡ true) × (text ≡ Some (codes "false") → flag ≡ false)
+-- a flag stands there
+abbrev pub flag_of : Text → List Row → Bool
+flag_of id rows = option_map_or (λ word. bytes_eq word (codes "true")) (one_of id rows) false
 
--- the words name no run, or not the flag that asks for figures, or that for alarms
-abbrev pub AsksForNoFigures : List Text → Type 0
-AsksForNoFigures words =
-    ((word_after (codes "run") (codes "track") (finding_in words) ≡ None) ⊎ (flag_after (codes "run") (codes "stats") (finding_in words) ≡ Some (codes "false")))
-    ⊎ (is_set (flag_after (codes "run") (codes "alarms") (finding_in words)) ≡ true)
+-- ---- what each subcommand asks for, by what was found for its arguments; nothing where they do not go together
 
--- words without a fault that ask for the batch, on the track in the file of this name, with this many workers, and with its alarms or without
-abbrev pub AsksToRun : Text → ℕ → Bool → List Text → Type 0
-AsksToRun file workers alarms words = (fault_of command_line words ≡ [])
-    × (word_after (codes "run") (codes "track") (finding_in words) ≡ Some file)
-    × (number_after (codes "run") (codes "workers") (finding_in words) ≡ workers)
-    × (is_set (flag_after (codes "run") (codes "alarms") (finding_in words)) ≡ alarms)
+abbrev pub run_asked : List Row → Option Asked
+run_asked rows =
+    option_map (λ file. Run file (byte_of (codes "workers") rows) (flag_of (codes "by-train") rows) (flag_of (codes "stats") rows) (flag_of (codes "alarms") rows))
+    (first_of (codes "track") rows)
 
--- words without a fault that ask for lines to be answered as they come, on the track in the file of this name: from which number on, and with
--- alarms or without
-abbrev pub AsksToLive : Text → Wanted → List Text → Type 0
-AsksToLive file wanted words = (fault_of command_line words ≡ [])
-    × (word_after (codes "live") (codes "track") (finding_in words) ≡ Some file)
-    × (count_after (codes "live") (codes "from") (finding_in words) ≡ wanted.from)
-    × (is_set (flag_after (codes "live") (codes "alarms") (finding_in words)) ≡ wanted.alarms)
+abbrev pub live_asked : List Row → Option Asked
+live_asked rows =
+    option_map (λ file. Live file (record { from = unwrap_or (count_of (codes "from") rows) 1; alarms = flag_of (codes "alarms") rows }))
+    (first_of (codes "track") rows)
 
--- words without a fault that ask for the log of the batch, on the track in the file of this name, from this input on
-abbrev pub AsksToExplain : Text → ℕ → List Text → Type 0
-AsksToExplain file from words = (fault_of command_line words ≡ [])
-    × (word_after (codes "explain") (codes "track") (finding_in words) ≡ Some file)
-    × (unwrap_or (input_after (codes "explain") (codes "from") (finding_in words)) 1 ≡ from)
+-- `--refused` and `--end` do not go together
+abbrev pub parts_asked : Bool → Bool → Option LogParts
+parts_asked true true = None
+parts_asked true false = Some parts.Refused
+parts_asked false true = Some parts.End
+parts_asked false false = Some parts.All
 
--- words without a fault that ask for the picture of the track in the file of this name, after this many inputs of the batch, or after all
-abbrev pub AsksToDraw : Text → Option ℕ → List Text → Type 0
-AsksToDraw file after words = (fault_of command_line words ≡ [])
-    × (word_after (codes "picture") (codes "track") (finding_in words) ≡ Some file)
-    × (input_after (codes "picture") (codes "after") (finding_in words) ≡ after)
+-- the last input is not before the first one
+abbrev pub is_before : Option ℕ → ℕ → Bool
+is_before None from = false
+is_before (Some to) from = nat_lt to from
 
--- words without a fault that ask for the text of the message that this word stands for, with a line for each variable or in one line
-abbrev pub AsksToDecode : Text → Bool → List Text → Type 0
-AsksToDecode word long words = (fault_of command_line words ≡ [])
-    × (word_after (codes "decode") (codes "HEX") (finding_in words) ≡ Some word)
-    × (is_set (flag_after (codes "decode") (codes "long") (finding_in words)) ≡ long)
+abbrev pub log_asked : ℕ → Option ℕ → LogParts → Option LogWanted
+log_asked from to parts = if is_before to from then None else Some (record { from = from; to = to; parts = parts })
 
--- words without a fault that ask for lines with the text of their messages: no word is given, and no line for each variable is asked for
-abbrev pub AsksToDecodeLines : List Text → Type 0
-AsksToDecodeLines words = (fault_of command_line words ≡ [])
-    × (is_named (codes "decode") (finding_in words) ≡ true)
-    × (word_after (codes "decode") (codes "HEX") (finding_in words) ≡ None)
-    × (is_set (flag_after (codes "decode") (codes "long") (finding_in words)) ≡ false)
+abbrev pub explain_asked : List Row → Option Asked
+explain_asked rows =
+    option_and_then (λ file. option_map (λ wanted. Explain file wanted)
+    (option_and_then (log_asked (unwrap_or (count_of (codes "from") rows) 1) (count_of (codes "to") rows))
+    (parts_asked (flag_of (codes "refused") rows) (flag_of (codes "end") rows))))
+    (first_of (codes "track") rows)
 
--- a line for each variable is asked for, and no message is given
-abbrev pub LacksMessage : Finding → Type 0
-LacksMessage found = (word_after (codes "decode") (codes "HEX") found ≡ None) × (is_set (flag_after (codes "decode") (codes "long") found) ≡ true)
+abbrev pub picture_asked : List Row → Option Asked
+picture_asked rows = option_map (λ file. Picture file (count_of (codes "after") rows)) (first_of (codes "track") rows)
 
--- words without a fault that ask for a line for each variable of no message: they do not go together
-abbrev pub AsksForLongLines : List Text → Type 0
-AsksForLongLines words = (fault_of command_line words ≡ []) × LacksMessage (finding_in words)
+abbrev pub check_asked : List Row → Option Asked
+check_asked rows = option_map (λ file. Check file (flag_of (codes "other-keys") rows)) (first_of (codes "track") rows)
 
--- words without a fault that ask for the bytes of messages: of the text that is given, each word with a space before it, or of lines where there is none
-abbrev pub AsksToEncode : Option Text → List ℕ → List Text → Type 0
-AsksToEncode track text words = (fault_of command_line words ≡ [])
-    × (is_named (codes "encode") (finding_in words) ≡ true)
-    × (word_after (codes "encode") (codes "track") (finding_in words) ≡ track)
-    × (spaced_text words ≡ text)
+-- `--long` needs a message
+abbrev pub decode_asked_by : Option Text → Bool → Option Asked
+decode_asked_by (Some word) long = Some (Decode word long)
+decode_asked_by None false = Some DecodeLines
+decode_asked_by None true = None
 
--- words without a fault that ask what codes mean: this code alone, or all of them
-abbrev pub AsksForCodes : Option ℕ → List Text → Type 0
-AsksForCodes code words = (fault_of command_line words ≡ [])
-    × (is_named (codes "codes") (finding_in words) ≡ true)
-    × (input_after (codes "codes") (codes "CODE") (finding_in words) ≡ code)
+abbrev pub decode_asked : List Row → Option Asked
+decode_asked rows = decode_asked_by (first_of (codes "HEX") rows) (flag_of (codes "long") rows)
+
+abbrev pub encode_asked : List Text → List Row → Option Asked
+encode_asked words rows = Some (Encode (first_of (codes "track") rows) (spaced_text words))
+
+abbrev pub codes_asked : List Row → Option Asked
+codes_asked rows = Some (Codes (number_of (codes "CODE") rows))
+
+-- ---- what words ask for
+
+abbrev pub asked_named : List Text → Text → List Row → Option Asked
+asked_named words name rows =
+    if bytes_eq name (codes "run") then run_asked rows
+    else if bytes_eq name (codes "live") then live_asked rows
+    else if bytes_eq name (codes "explain") then explain_asked rows
+    else if bytes_eq name (codes "picture") then picture_asked rows
+    else if bytes_eq name (codes "check") then check_asked rows
+    else if bytes_eq name (codes "encode") then encode_asked words rows
+    else if bytes_eq name (codes "decode") then decode_asked rows
+    else if bytes_eq name (codes "codes") then codes_asked rows
+    else None
+
+-- the name of a subcommand, and what was found for its arguments
+abbrev pub Finding : Type 0
+Finding = Option (Text × List Row)
+
+abbrev pub asked_in : List Text → Finding → Option Asked
+asked_in words None = None
+asked_in words (Some p) = asked_named words p.0 p.1
+
+-- what clap finds in the words
+abbrev pub finding_in : List Text → Finding
+finding_in words = subcommand_of command_line words
 
 -- What is wrong with words: nothing with those that ask for a page of help, and else what clap says of them.
 abbrev pub fault_in : List Text → Kinds
 fault_in words = if is_some (topic_in words) then [] else fault_of command_line words
 
--- the words name none of `run`, `live` and `explain`
-abbrev pub AsksForNoBatch : List Text → Type 0
-AsksForNoBatch words = (word_after (codes "run") (codes "track") (finding_in words) ≡ None)
-    × (word_after (codes "live") (codes "track") (finding_in words) ≡ None)
-    × (word_after (codes "explain") (codes "track") (finding_in words) ≡ None)
+-- what words ask for that clap takes: a page of help, or a task
+abbrev pub asked_on : Option Topic → List Text → Option Asked
+asked_on (Some topic) words = Some (Page topic)
+asked_on None words = asked_in words (finding_in words)
 
--- words without a fault that ask for the report on the track in the file of this name
-abbrev pub AsksToCheck : Text → List Text → Type 0
-AsksToCheck file words = (fault_of command_line words ≡ []) × (word_after (codes "check") (codes "track") (finding_in words) ≡ Some file)
+abbrev pub asked_by : List Text → Option Asked
+asked_by words = asked_on (topic_in words) words
 
--- no word was found for a run, for lines as they come, for a log or for a picture, and neither `decode` nor `encode` was named
-abbrev pub IsNeither : Finding → Type 0
-IsNeither found = (word_after (codes "run") (codes "track") found ≡ None)
-    × (word_after (codes "live") (codes "track") found ≡ None)
-    × (is_named (codes "decode") found ≡ false)
-    × (word_after (codes "explain") (codes "track") found ≡ None)
-    × (word_after (codes "picture") (codes "track") found ≡ None)
-    × (is_named (codes "encode") found ≡ false)
+-- words without a fault ask for this
+pub record Asks (asked : Asked) (words : List Text) : Type 0 where
+  pub taken : fault_in words ≡ []
+  pub is : asked_by words ≡ Some asked
 
--- the task is what was found
-abbrev pub IsFound : Finding → Task → Type 0
-IsFound found (Run track workers by_train stats alarms) = (word_after (codes "run") (codes "track") found ≡ Some track.now)
-    × (number_after (codes "run") (codes "workers") found ≡ workers)
-    × IsFlag (flag_after (codes "run") (codes "by-train") found) by_train
-    × IsFlag (flag_after (codes "run") (codes "stats") found) stats
-    × (is_set (flag_after (codes "run") (codes "alarms") found) ≡ alarms)
-IsFound found (Live track from alarms) = (word_after (codes "live") (codes "track") found ≡ Some track.now)
-    × (count_after (codes "live") (codes "from") found ≡ from)
-    × (is_set (flag_after (codes "live") (codes "alarms") found) ≡ alarms)
-IsFound found (Explain track from) = (word_after (codes "explain") (codes "track") found ≡ Some track.now)
-    × (unwrap_or (input_after (codes "explain") (codes "from") found) 1 ≡ from)
-IsFound found (Picture track after) = (word_after (codes "picture") (codes "track") found ≡ Some track.now)
-    × (input_after (codes "picture") (codes "after") found ≡ after)
-IsFound found (Check track other) = IsNeither found × (word_after (codes "check") (codes "track") found ≡ Some track.now)
-    × IsFlag (flag_after (codes "check") (codes "other-keys") found) other
-IsFound found (Codes code) = (is_named (codes "codes") found ≡ true)
-    × (input_after (codes "codes") (codes "CODE") found ≡ code)
-IsFound found (Encode track words) = (is_named (codes "encode") found ≡ true)
-    × (word_after (codes "encode") (codes "track") found ≡ option_map (λ file. file.now) track)
-IsFound found (Decode hex long) = (is_named (codes "decode") found ≡ true)
-    × (word_after (codes "decode") (codes "HEX") found ≡ option_map (λ word. word.now) hex)
-    × (is_set (flag_after (codes "decode") (codes "long") found) ≡ long)
-IsFound found (Page topic) = ⊥
+-- words without a fault ask for nothing, since they do not go together
+pub record DoNotFit (words : List Text) : Type 0 where
+  pub taken : fault_in words ≡ []
+  pub none : asked_by words ≡ None
 
--- a task that keeps the arguments keeps these
-abbrev pub HasWords : List Text → Task → Type 0
-HasWords words (Encode track kept) = map string_bytes kept.now ≡ words
-HasWords words _ = Unit {0}
+-- ---- tasks
 
--- the task is the page that the words ask for, or else what was found in them
-abbrev pub IsTaskBy : Option Topic → Finding → Task → Type 0
-IsTaskBy (Some topic) found task = task ≡ Page topic
-IsTaskBy None found task = IsFound found task
+-- what a task does
+abbrev pub asked_of : Task → Asked
+asked_of (task.Run track workers by_train stats alarms) = Run track.now workers by_train stats alarms
+asked_of (task.Live track wanted) = Live track.now wanted
+asked_of (task.Explain track wanted) = Explain track.now wanted
+asked_of (task.Picture track after) = Picture track.now after
+asked_of (task.Check track other) = Check track.now other
+asked_of (task.Encode track words) = Encode (option_map (λ file. file.now) track) (spaced_text (map string_bytes words.now))
+asked_of (task.Decode hex long) = Decode hex.now long
+asked_of task.DecodeLines = DecodeLines
+asked_of (task.Codes code) = Codes code
+asked_of (task.Page topic) = Page topic
 
-abbrev pub IsTaskOf : List Text → Task → Type 0
-IsTaskOf words task = IsTaskBy (topic_in words) (finding_in words) task
+-- nothing is asked for
+abbrev pub IsUnfit : {A : Type 0} → Option A → Misuse → Type 0
+IsUnfit asked (misuse.Words says) = asked ≡ None
 
--- no word was found for any task
-abbrev pub IsNoTask : Finding → Type 0
-IsNoTask found = IsNeither found × (word_after (codes "check") (codes "track") found ≡ None) × (is_named (codes "codes") found ≡ false)
+-- the task is what is asked for, and there is none only where nothing is asked for
+abbrev pub IsFor : Option Asked → Result Task Misuse → Type 0
+IsFor asked (Ok done) = asked ≡ Some (asked_of done)
+IsFor asked (Err unfit) = IsUnfit asked unfit
 
--- the task is the batch, on the track in the file of this name, with this many workers, and with its alarms or without
-abbrev pub IsRunOn : Text → ℕ → Bool → Task → Type 0
-IsRunOn file workers alarms (Run track number by_train stats are_asked) = (track.now ≡ file) × (number ≡ workers) × (are_asked ≡ alarms)
-IsRunOn file workers alarms _ = ⊥
+-- memory ran out
+abbrev pub IsWantOfMemory : NoTask → Type 0
+IsWantOfMemory no_task = no_task ≡ OutOfMemory
 
--- the task is lines as they come, on the track in the file of this name: from which number on, and with alarms or without
-abbrev pub IsLiveOn : Text → Wanted → Task → Type 0
-IsLiveOn file wanted (Live track first are_asked) = (track.now ≡ file) × (first ≡ wanted.from) × (are_asked ≡ wanted.alarms)
-IsLiveOn file wanted _ = ⊥
-
--- the task is the log of the batch, on the track in the file of this name, from this input on
-abbrev pub IsExplainOn : Text → ℕ → Task → Type 0
-IsExplainOn file from (Explain track first) = (track.now ≡ file) × (first ≡ from)
-IsExplainOn file from _ = ⊥
-
--- the task is the picture of the track in the file of this name, after this many inputs of the batch, or after all
-abbrev pub IsPictureOn : Text → Option ℕ → Task → Type 0
-IsPictureOn file after (Picture track count) = (track.now ≡ file) × (count ≡ after)
-IsPictureOn file after _ = ⊥
-
--- the task is the text of the message that this word stands for, with a line for each variable or in one line
-abbrev pub IsDecode : Text → Bool → Task → Type 0
-IsDecode word long (Decode (Some hex) by_variable) = (hex.now ≡ word) × (by_variable ≡ long)
-IsDecode word long _ = ⊥
-
--- the task is lines with the text of their messages
-abbrev pub IsDecodeLines : Task → Type 0
-IsDecodeLines (Decode None long) = long ≡ false
-IsDecodeLines _ = ⊥
-
--- the task is the bytes of the message with this text, or of those of lines, with the track in the file of this name
-abbrev pub IsEncode : Option Text → List ℕ → Task → Type 0
-IsEncode file text (Encode track words) = (option_map (λ name. name.now) track ≡ file) × (spaced_text (map string_bytes words.now) ≡ text)
-IsEncode file text _ = ⊥
-
--- the task is what codes mean: this code alone, or all of them
-abbrev pub IsCodesOf : Option ℕ → Task → Type 0
-IsCodesOf code (Codes named) = named ≡ code
-IsCodesOf code _ = ⊥
-
--- the task is the report on the track in the file of this name
-abbrev pub IsCheckOf : Text → Task → Type 0
-IsCheckOf file (Check track other) = track.now ≡ file
-IsCheckOf file _ = ⊥
-
--- the words are taken for a task, unless memory runs out
-abbrev pub IsTakenFor : (Task → Type 0) → Result Task NoTask → Type 0
-IsTakenFor P r = MatchResult r P IsWantOfMemory
+-- the words are taken for what they ask for, unless memory runs out
+abbrev pub IsTakenFor : Asked → Result Task NoTask → Type 0
+IsTakenFor asked result = MatchResult result (λ done. asked_of done ≡ asked) IsWantOfMemory

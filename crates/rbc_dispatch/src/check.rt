@@ -1,9 +1,9 @@
-//! What a track file says, in words.
+//! What a track file says.
 
 ghost use Rattle.rbc_dispatch.specs.Checking.{ChecksText, IsUnreported};
 
 use crate::fault::Fault;
-use rbc_batch::write_text;
+use rbc_text::write_text;
 use rbc_track_report::{Verdict, check};
 use std::alloc::Global;
 use std::io::Write;
@@ -25,7 +25,7 @@ pub fn check_text<O: Write>(
 {
     let report = check(alloc, text, other_keys)?;
     if let Err(unwritten) = write_text(output, report.text.as_bytes()) {
-        let sent = unwritten.sent;
+        let sent = unwritten.sent as u64;
         return Err(Fault::Write { sent });
     }
     match report.verdict {

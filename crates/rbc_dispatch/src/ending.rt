@@ -1,6 +1,7 @@
 //! How the program ends if its task was not done.
 use crate::fault::Fault;
 use crate::no_task::NoTask;
+use rbc_explain::TellError;
 use std::io;
 use std::io::Write;
 use std::process::ExitCode;
@@ -28,6 +29,7 @@ impl Ending {
             Ending::Words(error) if !error.use_stderr() => ExitCode::SUCCESS,
             Ending::Words(_) => ExitCode::from(2),
             Ending::Fault(Fault::ReaderGone { .. }) => ExitCode::SUCCESS,
+            Ending::Fault(Fault::Tell(TellError::ReaderGone { .. })) => ExitCode::SUCCESS,
             Ending::Fault(_) => ExitCode::FAILURE,
         }
     }
@@ -44,6 +46,7 @@ impl Ending {
             Ending::Words(error) if !error.use_stderr() => write!(output, "{error}"),
             Ending::Words(error) => write!(errors, "{error}"),
             Ending::Fault(Fault::ReaderGone { .. }) => Ok(()),
+            Ending::Fault(Fault::Tell(TellError::ReaderGone { .. })) => Ok(()),
             Ending::Fault(fault) => writeln!(errors, "{fault}"),
         }
     }

@@ -4,6 +4,7 @@ use hex::FromHexError;
 use rbc_batch::ProcessError;
 use rbc_explain::TellError;
 use rbc_live::PromptError;
+use rbc_text::Unwritten;
 use rbc_track::TrackError;
 use rbc_words::{Count, FilterError, LineFault};
 use std::alloc::AllocError;
@@ -20,8 +21,8 @@ pub enum Fault {
     TrackWarnings { count: usize },
     /// The batch was not processed.
     Batch(ProcessError),
-    /// The batch was read, and lacks the input that was asked for: it has only this many. Nothing was written.
-    OnlyInputs { count: usize },
+    /// The run was not told, or not to its end, or not drawn. What was written before stands.
+    Tell(TellError),
     /// Not all lines were answered. What was written before stands.
     Live(PromptError),
     /// Not all lines went through `encode` or `decode`. What was written before stands.
@@ -33,10 +34,10 @@ pub enum Fault {
     /// The bytes are not a message.
     Decode(DecodeError),
     /// Standard output took no more than the first `sent` bytes of the text.
-    Write { sent: usize },
+    Write { sent: u64 },
     /// The reader of standard output went away after the first `sent` bytes of a text that is written for people. The
     /// program then ends quietly.
-    ReaderGone { sent: usize },
+    ReaderGone { sent: u64 },
     /// Memory ran out before anything was written.
     OutOfMemory,
 }
@@ -59,13 +60,7 @@ impl fmt::Display for Fault {
                 write!(f, "track: {warnings}")
             }
             Fault::Batch(error) => write!(f, "{error}"),
-            Fault::OnlyInputs { count } => {
-                let inputs = Count {
-                    number: *count,
-                    noun: "input",
-                };
-                write!(f, "only {inputs}")
-            }
+            Fault::Tell(error) => write!(f, "{}", TellLine(*error)),
             Fault::Live(error) => write!(f, "{error}"),
             Fault::Lines(error @ FilterError::Line { .. }) => write!(f, "encode: {error}"),
             Fault::Lines(error) => write!(f, "{error}"),
@@ -79,10 +74,38 @@ impl fmt::Display for Fault {
     }
 }
 
+/// The line for the user if a run is not told.
+#[derive(Clone, Copy)]
+struct TellLine(TellError);
+
+impl fmt::Display for TellLine {
+    ghost use Rattle.std.specs.Prelude.{Some};
+    ghost use Rattle.rbc_dispatch.specs.Fault.{telling_text};
+
+    ghost output = { λ line. Some (telling_text line.0) };
+
+    fn fmt<W: fmt::Write>(&self, f: &mut fmt::Formatter<W>) -> fmt::Result {
+        match self.0 {
+            TellError::Track(error) => write!(f, "track: {}", error.name()),
+            TellError::Read => write!(f, "read fault"),
+            TellError::Memory => write!(f, "out of memory"),
+            TellError::OnlyInputs { count } => {
+                let inputs = Count {
+                    number: count as usize,
+                    noun: "input",
+                };
+                write!(f, "only {inputs}")
+            }
+            TellError::Write { sent } => write!(f, "write fault after {sent} bytes"),
+            TellError::ReaderGone { sent } => write!(f, "reader gone after {sent} bytes"),
+        }
+    }
+}
+
 impl Fault {
     ghost use Rattle.std.specs.Prelude.{◌≡◌};
     ghost use Rattle.std.specs.IoError.{error_kind};
-    ghost use Rattle.rbc_dispatch.specs.Fault.{fault_of_reading, fault_of_writing};
+    ghost use Rattle.rbc_dispatch.specs.Fault.{fault_of_reading};
 
     /// The fault for an error in reading the track file.
     pub fn of_reading(error: &io::Error) -> Fault
@@ -91,16 +114,6 @@ impl Fault {
         match error.kind() {
             io::ErrorKind::OutOfMemory => Fault::OutOfMemory,
             _ => Fault::TrackUnreadable,
-        }
-    }
-
-    /// The fault for an error in writing a text for people, after its first `sent` bytes.
-    pub fn of_writing(error: &io::Error, sent: usize) -> Fault
-        ensures { result ≡ fault_of_writing (error_kind error.now) sent }
-    {
-        match error.kind() {
-            io::ErrorKind::BrokenPipe => Fault::ReaderGone { sent },
-            _ => Fault::Write { sent },
         }
     }
 }
@@ -138,18 +151,30 @@ impl From<ProcessError> for Fault {
     }
 }
 
+impl From<Unwritten> for Fault {
+    ghost use Rattle.std.specs.Prelude.{◌≡◌};
+    ghost use Rattle.rbc_dispatch.specs.Fault.{fault_of_writing};
+
+    ghost from_gives = { λ unwritten fault. fault ≡ fault_of_writing unwritten.gone unwritten.sent };
+
+    fn from(unwritten: Unwritten) -> Fault {
+        let sent = unwritten.sent as u64;
+        if unwritten.gone {
+            Fault::ReaderGone { sent }
+        } else {
+            Fault::Write { sent }
+        }
+    }
+}
+
 impl From<TellError> for Fault {
     ghost use Rattle.std.specs.Prelude.{◌≡◌};
-    ghost use Rattle.rbc_dispatch.specs.Fault.{fault_of_telling};
+    ghost use Rattle.rbc_dispatch.specs.declared.fault.Fault.TheVariants.{Tell};
 
-    ghost from_gives = { λ error fault. fault ≡ fault_of_telling error };
+    ghost from_gives = { λ error fault. fault ≡ Tell error };
 
     fn from(error: TellError) -> Fault {
-        match error {
-            TellError::Track(rule) => Fault::Track(rule),
-            TellError::Batch(error) => Fault::Batch(error),
-            TellError::OnlyInputs { count } => Fault::OnlyInputs { count },
-        }
+        Fault::Tell(error)
     }
 }
 

@@ -2,18 +2,15 @@
 
 ghost use Rattle.rbc_dispatch.specs.Forms.{AfterAllByDefault, AlarmsOfLive, AlarmsOfRun, AsManyAsNamed};
 ghost use Rattle.rbc_dispatch.specs.Forms.{BeginAtOneByDefault};
-ghost use Rattle.rbc_dispatch.specs.Forms.{FromOneByDefault, NoFiguresByDefault, NotByTrainByDefault};
-ghost use Rattle.rbc_dispatch.specs.Forms.{LongIfAsked, OneByDefault, OneLineByDefault};
+ghost use Rattle.rbc_dispatch.specs.Forms.{FromOneByDefault, LongIfAsked, OneByDefault, OneLineByDefault};
 
 /// `run` with a track asks for one worker, without sharing by train, without figures and without alarms; with a number
 /// of workers, it asks for that many. `live` with a track is taken for the answers from the first one on, without
-/// alarms, `explain` for the log from the first input on, and `picture` for what stands after all inputs. `run` and
-/// `live` with `--alarms` ask for alarms. `decode` asks for one line, and with `--long` for one for each variable.
+/// alarms, `explain` for all of the log, and `picture` for the picture after all inputs. `run` and `live` with
+/// `--alarms` ask for alarms. `decode` asks for one line, and with `--long` for one for each variable.
 pub fn forms_law()
     ensures one { OneByDefault }
     ensures named { AsManyAsNamed }
-    ensures unasked { NoFiguresByDefault }
-    ensures unshared { NotByTrainByDefault }
     ensures first { FromOneByDefault }
     ensures log { BeginAtOneByDefault }
     ensures drawn { AfterAllByDefault }

@@ -1,7 +1,6 @@
 //! Lines, answered as they come.
 
-ghost use Rattle.std.specs.Prelude.{◌≡◌, false};
-ghost use Rattle.rbc_dispatch.specs.Terminal.{SaysOnly};
+ghost use Rattle.rbc_dispatch.specs.Doing.{Announces};
 ghost use Rattle.rbc_dispatch.specs.Living.{LivesOn};
 ghost use Rattle.rbc_dispatch.specs.Running.{Keeps};
 
@@ -30,8 +29,8 @@ pub fn live_text<I: Read, O: Write, E: Write>(
     ensures lives { LivesOn text.now wanted (I.remaining input.old) (I.remaining input.new)
         (O.contents output.old) (O.contents output.new) result }
     ensures keeps { Keeps result input.old input.new output.old output.new }
-    ensures silent { at_terminal ≡ false → errors.new ≡ errors.old }
-    ensures says { SaysOnly NOTICE.now (E.contents errors.old) (E.contents errors.new) }
+    ensures errors { Announces at_terminal NOTICE.now errors.old errors.new
+        (E.contents errors.old) (E.contents errors.new) }
 {
     let desk = LiveDesk::open(alloc, text)?;
     announce(at_terminal, errors);

@@ -1,18 +1,20 @@
 //! `dispatch`, the program. `dispatch run --track FILE` runs a batch, `live` answers one line at a time, `explain`
-//! tells a run in words, `picture` draws what stands after it, `check` says what a track file says, `decode` writes the
-//! text of one message, and `codes` what each code means (words.rt has the help of each, and the options; pages.rt the
-//! pages of help that belong to no command).
+//! tells a run in words, `picture` draws what stands after it, `check` says what a track file says, `encode` and `decode`
+//! turn the text of messages into bytes and back, and `codes` says what each code means (command_line.rt has the options
+//! and the help of each; pages.rt the pages of help that belong to no command).
 //!
 //! It stands on the crates that do the tasks. However many workers run a batch, and however they share it, the output
 //! is the same. The exit status is 0 if the task was done, for help and for the version, 1 for a fault, which is one
 //! line on standard error, and 2 for bad arguments. It is also 0 if the reader of a text for people went away.
 //!
-//! Begin with program.rt: the contract of `perform` says what words ask for, and what each task leaves on the streams.
+//! Begin with program.rt: the contract of `perform` says that what words ask for (`asked_by`, specs/Words.antt) is done
+//! (`Does`, specs/Doing.antt).
 #![tactic(auto)]
 
 mod attempts;
 mod check;
 mod codes;
+mod command_line;
 mod decode;
 mod encode;
 mod ending;
@@ -23,6 +25,7 @@ mod law;
 mod live;
 mod long;
 mod meaning;
+mod misuse;
 mod no_task;
 mod pages;
 mod picture;

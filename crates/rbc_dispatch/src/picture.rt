@@ -1,8 +1,8 @@
 //! What stands on the track, as a picture.
 
-ghost use Rattle.rbc_explain.specs.AccountTelling.{TooFewFor};
+ghost use Rattle.rbc_dispatch.specs.Decoding.{IsUntouched};
 ghost use Rattle.rbc_dispatch.specs.Running.{Keeps};
-ghost use Rattle.rbc_dispatch.specs.Showing.{IsPictureAfter, ShowsOn};
+ghost use Rattle.rbc_dispatch.specs.Showing.{DrawsOn};
 
 use crate::fault::Fault;
 use crate::show::show;
@@ -10,24 +10,24 @@ use rbc_picture::picture;
 use std::alloc::Global;
 use std::io::{Read, Write};
 
-/// Writes the picture of the state after the first `after` inputs of a batch, which the reader gives, or after all of
-/// them. The text is that of the track file. The track is read before the batch, and nothing is written before the
-/// whole picture is known.
+/// Writes the picture of the state after the first `after` inputs of a log, which the reader gives, or after all of
+/// them. The text is that of the track file. The track is read before the log, and nothing is written before the whole
+/// picture is known.
 ///
 /// # Errors
 ///
-/// `Track`, with nothing read or written; `Batch` or `OnlyInputs`, with nothing written; or that the picture was cut
-/// short.
+/// `Tell`, with nothing written, and with nothing read if the track is refused; or that the picture was cut short.
 pub fn picture_text<I: Read, O: Write>(
     alloc: Global,
     text: &str,
-    after: Option<u32>,
+    after: Option<u64>,
     input: &mut I,
     output: &mut O,
 ) -> Result<(), Fault>
-    ensures shows { ShowsOn (TooFewFor after) (IsPictureAfter after) text.now
-        (I.remaining input.old) (I.remaining input.new) (O.contents output.old) (O.contents output.new) result }
+    ensures draws { DrawsOn text.now after (I.remaining input.old) (I.remaining input.new)
+        (O.contents output.old) (O.contents output.new) result }
     ensures keeps { Keeps result input.old input.new output.old output.new }
+    ensures untouched { IsUntouched result output.old output.new }
 {
     let drawing = picture(alloc, text, input, after)?;
     show(output, drawing.as_bytes())

@@ -1,27 +1,19 @@
 //! The program, over any streams.
-ghost use Rattle.std.specs.Prelude.{◌≡◌, ◌≢◌, ◌≤◌, ◌∷◌, ℕ, Bool, List, Option, [], IfErr, IfOk, OnOk, false, map};
-ghost use Rattle.std.specs.Prelude.{IsErrAnd, Some, string_bytes, true};
+ghost use Rattle.std.specs.Prelude.{◌≡◌, ◌≤◌, ◌∷◌, ℕ, List, Option, [], IfErr, IfOk, IsErrAnd, OnOk, Some, false, map};
+ghost use Rattle.std.specs.Prelude.{string_bytes, true};
 ghost use Rattle.std.specs.Process.{exit_status};
-ghost use Rattle.rbc_explain.specs.AccountTelling.{TooFewFor, TooLate};
-ghost use Rattle.rbc_live.specs.declared.wanted.Wanted.{Wanted as WantedAnswers};
 ghost use Rattle.rbc_dispatch.specs.Checking.{Checks, IsUnreported};
-ghost use Rattle.rbc_dispatch.specs.Decoding.{Decodes, DecodesLong, IsUntouched};
+ghost use Rattle.rbc_dispatch.specs.Decoding.{IsUntouched};
+ghost use Rattle.rbc_dispatch.specs.Doing.{Announces, Does, LeavesErrors};
 ghost use Rattle.rbc_dispatch.specs.Ending.{AtTask, IsRefusal, status_of};
-ghost use Rattle.rbc_dispatch.specs.Figures.{IsQuiet};
-ghost use Rattle.rbc_dispatch.specs.Filtering.{DecodesAllLines, EncodesLines, EncodesTextOn, IsNoTrackGiven, IsTrackGiven};
-ghost use Rattle.rbc_dispatch.specs.Filtering.{name_given};
+ghost use Rattle.rbc_dispatch.specs.Filtering.{EncodesLines, EncodesTextOn, IsNoTrackGiven, IsTrackGiven, name_given};
 ghost use Rattle.rbc_dispatch.specs.Living.{Lives};
-ghost use Rattle.rbc_dispatch.specs.Running.{IsUnread, Keeps, Runs, RunsOn};
-ghost use Rattle.rbc_dispatch.specs.Showing.{IsLogFrom, IsPictureAfter, Shows};
 ghost use Rattle.rbc_dispatch.specs.Pages.{topic_in};
-ghost use Rattle.rbc_dispatch.specs.Telling.{TellsCodes, TellsPage};
-ghost use Rattle.rbc_dispatch.specs.Terminal.{IsSilent, SaysOnly};
+ghost use Rattle.rbc_dispatch.specs.Running.{IsUnread, Keeps, Runs, RunsOn};
+ghost use Rattle.rbc_dispatch.specs.Showing.{DrawsPicture, TellsLog};
+ghost use Rattle.rbc_dispatch.specs.Telling.{TellsPage};
 ghost use Rattle.rbc_dispatch.specs.TextWords.{spaced_text};
-ghost use Rattle.rbc_dispatch.specs.Words.{AsksToDecodeLines, AsksToEncode, IsDecodeLines, IsEncode};
-ghost use Rattle.rbc_dispatch.specs.Words.{AsksForCodes, AsksForLongLines, AsksForNoBatch, AsksForNoFigures, AsksToCheck};
-ghost use Rattle.rbc_dispatch.specs.Words.{AsksToDecode, AsksToDraw, AsksToExplain, AsksToLive, AsksToRun};
-ghost use Rattle.rbc_dispatch.specs.Words.{IsCheckOf, IsCodesOf, IsDecode, IsExplainOn, IsLiveOn, IsPictureOn};
-ghost use Rattle.rbc_dispatch.specs.Words.{IsRunOn, fault_in};
+ghost use Rattle.rbc_dispatch.specs.Words.{Asked, Asks, DoNotFit, Page, asked_of};
 
 use crate::attempts::Attempts;
 use crate::check::check_text;
@@ -42,6 +34,7 @@ use crate::words::Task;
 use rbc_batch::{
     OpenGate, PACE, Windows, process, process_by_train, process_with_alarms, process_with_desk,
 };
+use rbc_explain::LogWanted;
 use rbc_live::Wanted;
 use rbc_track::{Track, track_from_toml};
 use std::env::Env;
@@ -93,8 +86,7 @@ where
     }
 }
 
-/// Does the task that the arguments ask for. Arguments that are refused leave the streams untouched. On `errors` a task
-/// writes only the figures of a run that is to report them, and the notice at a terminal.
+/// Does the task that the arguments ask for. Arguments that ask for none leave the streams untouched.
 fn perform<R, I, O, E>(
     rt: &R,
     words: &[String],
@@ -108,61 +100,20 @@ where
     I: Read,
     O: Write,
     E: Write,
-    ensures run { (file : List ℕ) (workers : ℕ) (alarms : Bool)
-        → AsksToRun file workers alarms (map string_bytes words.now)
-        → AtTask (Runs workers alarms (I.remaining input.old) (I.remaining input.new)
-        (O.contents output.old) (O.contents output.new)) result }
-    ensures keeps { (file : List ℕ) (workers : ℕ) (alarms : Bool)
-        → AsksToRun file workers alarms (map string_bytes words.now)
-        → AtTask (λ r. Keeps r input.old input.new output.old output.new) result }
-    ensures live { (file : List ℕ) (wanted : WantedAnswers) → AsksToLive file wanted (map string_bytes words.now)
-        → AtTask (Lives wanted (I.remaining input.old) (I.remaining input.new)
-        (O.contents output.old) (O.contents output.new)) result }
-    ensures not_begun { (file : List ℕ) (wanted : WantedAnswers) → AsksToLive file wanted (map string_bytes words.now)
-        → AtTask (λ r. Keeps r input.old input.new output.old output.new) result }
-    ensures explain { (file : List ℕ) (from : ℕ) → AsksToExplain file from (map string_bytes words.now)
-        → AtTask (Shows (TooLate from) (IsLogFrom from) (I.remaining input.old) (I.remaining input.new)
-        (O.contents output.old) (O.contents output.new)) result }
-    ensures not_told { (file : List ℕ) (from : ℕ) → AsksToExplain file from (map string_bytes words.now)
-        → AtTask (λ r. Keeps r input.old input.new output.old output.new) result }
-    ensures picture { (file : List ℕ) (after : Option ℕ) → AsksToDraw file after (map string_bytes words.now)
-        → AtTask (Shows (TooFewFor after) (IsPictureAfter after) (I.remaining input.old) (I.remaining input.new)
-        (O.contents output.old) (O.contents output.new)) result }
-    ensures not_drawn { (file : List ℕ) (after : Option ℕ) → AsksToDraw file after (map string_bytes words.now)
-        → AtTask (λ r. Keeps r input.old input.new output.old output.new) result }
-    ensures decode { (word : List ℕ) → AsksToDecode word false (map string_bytes words.now)
-        → AtTask (Decodes word (O.contents output.old) (O.contents output.new)) result }
-    ensures long { (word : List ℕ) → AsksToDecode word true (map string_bytes words.now)
-        → AtTask (DecodesLong word (O.contents output.old) (O.contents output.new)) result }
-    ensures unread { (word : List ℕ) (long : Bool) → AsksToDecode word long (map string_bytes words.now)
-        → (input.new ≡ input.old) × AtTask (λ r. IsUntouched r output.old output.new) result }
-    ensures decode_lines { AsksToDecodeLines (map string_bytes words.now)
-        → AtTask (DecodesAllLines (I.remaining input.old) (I.remaining input.new)
-        (O.contents output.old) (O.contents output.new)) result }
-    ensures encode_lines { (file : Option (List ℕ)) → AsksToEncode file [] (map string_bytes words.now)
-        → AtTask (EncodesLines file (I.remaining input.old) (I.remaining input.new)
-        (O.contents output.old) (O.contents output.new)) result }
-    ensures encode { (file : Option (List ℕ)) (text : List ℕ) → AsksToEncode file (32 ∷ text) (map string_bytes words.now)
-        → (input.new ≡ input.old) × AtTask (EncodesTextOn file text (O.contents output.old) (O.contents output.new)) result }
-    ensures codes { (code : Option ℕ) → AsksForCodes code (map string_bytes words.now)
-        → (input.new ≡ input.old) × AtTask (TellsCodes code (O.contents output.old) (O.contents output.new)) result }
+    ensures does { (asked : Asked) → Asks asked (map string_bytes words.now)
+        → AtTask (Does asked (I.remaining input.old) (I.remaining input.new) (O.contents output.old)
+        (O.contents output.new) input.old input.new output.old output.new) result }
+    ensures errors { (asked : Asked) → Asks asked (map string_bytes words.now)
+        → LeavesErrors asked at_terminal NOTICE.now errors.old errors.new
+        (E.contents errors.old) (E.contents errors.new) }
     ensures batch_page { topic_in (map string_bytes words.now) ≡ Some Topic.Batch
-        → (input.new ≡ input.old) × AtTask (TellsPage BATCH_PAGE.now
-        (O.contents output.old) (O.contents output.new)) result }
+        → AtTask (TellsPage BATCH_PAGE.now (O.contents output.old) (O.contents output.new)) result }
     ensures track_page { topic_in (map string_bytes words.now) ≡ Some Topic.Track
-        → (input.new ≡ input.old) × AtTask (TellsPage TRACK_PAGE.now
-        (O.contents output.old) (O.contents output.new)) result }
-    ensures check { (file : List ℕ) → AsksToCheck file (map string_bytes words.now)
-        → (input.new ≡ input.old) × AtTask Checks result }
-    ensures only { OnOk result (fault_in (map string_bytes words.now) ≡ []) }
-    ensures refused { fault_in (map string_bytes words.now) ≢ []
+        → AtTask (TellsPage TRACK_PAGE.now (O.contents output.old) (O.contents output.new)) result }
+    ensures only { OnOk result ((asked : Asked) × Asks asked (map string_bytes words.now)) }
+    ensures refused { ((asked : Asked) → Asks asked (map string_bytes words.now) → ⊥)
         → (input.new ≡ input.old) × (output.new ≡ output.old) × (errors.new ≡ errors.old) }
-    ensures long_lines { AsksForLongLines (map string_bytes words.now) → IsErrAnd result IsRefusal
-        × (input.new ≡ input.old) × (output.new ≡ output.old) × (errors.new ≡ errors.old) }
-    ensures quiet { at_terminal ≡ false → AsksForNoFigures (map string_bytes words.now) → errors.new ≡ errors.old }
-    ensures silent { AsksForNoBatch (map string_bytes words.now) → errors.new ≡ errors.old }
-    ensures says { AsksForNoFigures (map string_bytes words.now)
-        → SaysOnly NOTICE.now (E.contents errors.old) (E.contents errors.new) }
+    ensures unfit { DoNotFit (map string_bytes words.now) → IsErrAnd result IsRefusal }
 {
     let task = crate::words::parse(rt.alloc(), words)?;
     Ok(carry_out(rt, task, at_terminal, input, output, errors)?)
@@ -182,50 +133,16 @@ where
     I: Read,
     O: Write,
     E: Write,
-    ensures run { (file : List ℕ) (workers : ℕ) (alarms : Bool) → IsRunOn file workers alarms task.entry
-        → Runs workers alarms (I.remaining input.old) (I.remaining input.new)
-        (O.contents output.old) (O.contents output.new) result }
-    ensures keeps { (file : List ℕ) (workers : ℕ) (alarms : Bool) → IsRunOn file workers alarms task.entry
-        → Keeps result input.old input.new output.old output.new }
-    ensures live { (file : List ℕ) (wanted : WantedAnswers) → IsLiveOn file wanted task.entry
-        → Lives wanted (I.remaining input.old) (I.remaining input.new)
-        (O.contents output.old) (O.contents output.new) result }
-    ensures not_begun { (file : List ℕ) (wanted : WantedAnswers) → IsLiveOn file wanted task.entry
-        → Keeps result input.old input.new output.old output.new }
-    ensures explain { (file : List ℕ) (from : ℕ) → IsExplainOn file from task.entry
-        → Shows (TooLate from) (IsLogFrom from) (I.remaining input.old) (I.remaining input.new)
-        (O.contents output.old) (O.contents output.new) result }
-    ensures not_told { (file : List ℕ) (from : ℕ) → IsExplainOn file from task.entry
-        → Keeps result input.old input.new output.old output.new }
-    ensures picture { (file : List ℕ) (after : Option ℕ) → IsPictureOn file after task.entry
-        → Shows (TooFewFor after) (IsPictureAfter after) (I.remaining input.old) (I.remaining input.new)
-        (O.contents output.old) (O.contents output.new) result }
-    ensures not_drawn { (file : List ℕ) (after : Option ℕ) → IsPictureOn file after task.entry
-        → Keeps result input.old input.new output.old output.new }
-    ensures decode { (word : List ℕ) → IsDecode word false task.entry
-        → Decodes word (O.contents output.old) (O.contents output.new) result }
-    ensures long { (word : List ℕ) → IsDecode word true task.entry
-        → DecodesLong word (O.contents output.old) (O.contents output.new) result }
-    ensures unread { (word : List ℕ) (long : Bool) → IsDecode word long task.entry
-        → (input.new ≡ input.old) × IsUntouched result output.old output.new }
-    ensures decode_lines { IsDecodeLines task.entry → DecodesAllLines (I.remaining input.old) (I.remaining input.new)
-        (O.contents output.old) (O.contents output.new) result }
-    ensures encode_lines { (file : Option (List ℕ)) → IsEncode file [] task.entry
-        → EncodesLines file (I.remaining input.old) (I.remaining input.new)
-        (O.contents output.old) (O.contents output.new) result }
-    ensures encode { (file : Option (List ℕ)) (text : List ℕ) → IsEncode file (32 ∷ text) task.entry
-        → (input.new ≡ input.old) × EncodesTextOn file text (O.contents output.old) (O.contents output.new) result }
-    ensures check { (file : List ℕ) → IsCheckOf file task.entry → (input.new ≡ input.old) × Checks result }
-    ensures codes { (code : Option ℕ) → IsCodesOf code task.entry
-        → (input.new ≡ input.old) × TellsCodes code (O.contents output.old) (O.contents output.new) result }
-    ensures batch_page { task.entry ≡ Task.Page Topic.Batch
-        → (input.new ≡ input.old) × TellsPage BATCH_PAGE.now (O.contents output.old) (O.contents output.new) result }
-    ensures track_page { task.entry ≡ Task.Page Topic.Track
-        → (input.new ≡ input.old) × TellsPage TRACK_PAGE.now (O.contents output.old) (O.contents output.new) result }
-    ensures quiet { at_terminal ≡ false → IsQuiet task.entry → errors.new ≡ errors.old }
-    ensures silent { IsSilent task.entry → errors.new ≡ errors.old }
-    ensures says { IsQuiet task.entry → SaysOnly NOTICE.now (E.contents errors.old) (E.contents errors.new) }
+    ensures does { Does (asked_of task.entry) (I.remaining input.old) (I.remaining input.new) (O.contents output.old)
+        (O.contents output.new) input.old input.new output.old output.new result }
+    ensures errors { LeavesErrors (asked_of task.entry) at_terminal NOTICE.now errors.old errors.new
+        (E.contents errors.old) (E.contents errors.new) }
+    ensures batch_page { asked_of task.entry ≡ Page Topic.Batch
+        → TellsPage BATCH_PAGE.now (O.contents output.old) (O.contents output.new) result }
+    ensures track_page { asked_of task.entry ≡ Page Topic.Track
+        → TellsPage TRACK_PAGE.now (O.contents output.old) (O.contents output.new) result }
 {
+    let alloc = rt.alloc();
     match task {
         Task::Run {
             track,
@@ -250,35 +167,19 @@ where
                 )
             }
         }
-        Task::Live {
-            track,
-            from,
-            alarms,
-        } => live_file(
-            rt,
-            track,
-            Wanted { from, alarms },
-            at_terminal,
-            input,
-            output,
-            errors,
-        ),
-        Task::Explain { track, from } => {
-            explain_file(rt, track, from, at_terminal, input, output, errors)
+        Task::Live { track, wanted } => {
+            live_file(rt, track, wanted, at_terminal, input, output, errors)
+        }
+        Task::Explain { track, wanted } => {
+            explain_file(rt, track, wanted, at_terminal, input, output, errors)
         }
         Task::Picture { track, after } => picture_file(rt, track, after, input, output),
         Task::Check { track, other_keys } => check_file(rt, track, other_keys, output),
         Task::Encode { track, words } => encode_task(rt, track, words, input, output),
-        Task::Decode { word: None, .. } => decode_input(rt.alloc(), input, output),
-        Task::Decode {
-            word: Some(word),
-            long: true,
-        } => decode_long(rt.alloc(), word, output),
-        Task::Decode {
-            word: Some(word),
-            long: false,
-        } => decode(rt.alloc(), word, output),
-        Task::Codes { code } => write_codes(rt.alloc(), code, output),
+        Task::Decode { word, long: true } => decode_long(alloc, word, output),
+        Task::Decode { word, long: false } => decode(alloc, word, output),
+        Task::DecodeLines => decode_input(alloc, input, output),
+        Task::Codes { code } => write_codes(alloc, code, output),
         Task::Page(topic) => show(output, page_on(topic).as_bytes()),
     }
 }
@@ -313,8 +214,8 @@ where
     ensures runs { Runs workers true (I.remaining input.old) (I.remaining input.new)
         (O.contents output.old) (O.contents output.new) result }
     ensures keeps { Keeps result input.old input.new output.old output.new }
-    ensures silent { at_terminal ≡ false → errors.new ≡ errors.old }
-    ensures says { SaysOnly NOTICE.now (E.contents errors.old) (E.contents errors.new) }
+    ensures errors { Announces at_terminal NOTICE.now errors.old errors.new
+        (E.contents errors.old) (E.contents errors.new) }
 {
     let text = track_text(rt, file)?;
     run_with_alarms_on(
@@ -348,8 +249,8 @@ where
     ensures runs { Runs workers false (I.remaining input.old) (I.remaining input.new)
         (O.contents output.old) (O.contents output.new) result }
     ensures keeps { Keeps result input.old input.new output.old output.new }
-    ensures quiet { at_terminal ≡ false → stats ≡ false → errors.new ≡ errors.old }
-    ensures says { stats ≡ false → SaysOnly NOTICE.now (E.contents errors.old) (E.contents errors.new) }
+    ensures errors { stats ≡ false → Announces at_terminal NOTICE.now errors.old errors.new
+        (E.contents errors.old) (E.contents errors.new) }
 {
     let text = track_text(rt, file)?;
     run_on(
@@ -384,8 +285,8 @@ where
     ensures lives { Lives wanted (I.remaining input.old) (I.remaining input.new)
         (O.contents output.old) (O.contents output.new) result }
     ensures keeps { Keeps result input.old input.new output.old output.new }
-    ensures silent { at_terminal ≡ false → errors.new ≡ errors.old }
-    ensures says { SaysOnly NOTICE.now (E.contents errors.old) (E.contents errors.new) }
+    ensures errors { Announces at_terminal NOTICE.now errors.old errors.new
+        (E.contents errors.old) (E.contents errors.new) }
 {
     let text = track_text(rt, file)?;
     live_text(
@@ -399,11 +300,11 @@ where
     )
 }
 
-/// Tells a batch in words, from this input on, on the track in a file. The track is read before the batch.
+/// Tells a log in words, on the track in a file. The track is read before the log.
 fn explain_file<R, I, O, E>(
     rt: &R,
     file: &str,
-    from: u32,
+    wanted: LogWanted,
     at_terminal: bool,
     input: &mut I,
     output: &mut O,
@@ -414,17 +315,17 @@ where
     I: Read,
     O: Write,
     E: Write,
-    ensures shows { Shows (TooLate from) (IsLogFrom from) (I.remaining input.old) (I.remaining input.new)
+    ensures tells { TellsLog wanted (I.remaining input.old) (I.remaining input.new)
         (O.contents output.old) (O.contents output.new) result }
     ensures keeps { Keeps result input.old input.new output.old output.new }
-    ensures silent { at_terminal ≡ false → errors.new ≡ errors.old }
-    ensures says { SaysOnly NOTICE.now (E.contents errors.old) (E.contents errors.new) }
+    ensures errors { Announces at_terminal NOTICE.now errors.old errors.new
+        (E.contents errors.old) (E.contents errors.new) }
 {
     let text = track_text(rt, file)?;
     explain_text(
         rt.alloc(),
         text.as_str(),
-        from,
+        wanted,
         at_terminal,
         input,
         output,
@@ -432,12 +333,12 @@ where
     )
 }
 
-/// Draws the state after the first `after` inputs of a batch, or after all of them, on the track in a file. The track
-/// is read before the batch.
+/// Draws the state after the first `after` inputs of a log, or after all of them, on the track in a file. The track is
+/// read before the log.
 fn picture_file<R, I, O>(
     rt: &R,
     file: &str,
-    after: Option<u32>,
+    after: Option<u64>,
     input: &mut I,
     output: &mut O,
 ) -> Result<(), Fault>
@@ -445,9 +346,10 @@ where
     R: AllocGlobal + Files,
     I: Read,
     O: Write,
-    ensures shows { Shows (TooFewFor after) (IsPictureAfter after) (I.remaining input.old) (I.remaining input.new)
+    ensures draws { DrawsPicture after (I.remaining input.old) (I.remaining input.new)
         (O.contents output.old) (O.contents output.new) result }
     ensures keeps { Keeps result input.old input.new output.old output.new }
+    ensures untouched { IsUntouched result output.old output.new }
 {
     let text = track_text(rt, file)?;
     picture_text(rt.alloc(), text.as_str(), after, input, output)
@@ -520,8 +422,8 @@ where
     ensures runs { RunsOn text.now workers true (I.remaining input.old) (I.remaining input.new)
         (O.contents output.old) (O.contents output.new) result }
     ensures keeps { Keeps result input.old input.new output.old output.new }
-    ensures silent { at_terminal ≡ false → errors.new ≡ errors.old }
-    ensures says { SaysOnly NOTICE.now (E.contents errors.old) (E.contents errors.new) }
+    ensures errors { Announces at_terminal NOTICE.now errors.old errors.new
+        (E.contents errors.old) (E.contents errors.new) }
 {
     let track = track_from_toml(rt.alloc(), text)?;
     announce(at_terminal, errors);
@@ -551,8 +453,8 @@ where
     ensures runs { RunsOn text.now workers false (I.remaining input.old) (I.remaining input.new)
         (O.contents output.old) (O.contents output.new) result }
     ensures keeps { Keeps result input.old input.new output.old output.new }
-    ensures quiet { at_terminal ≡ false → stats ≡ false → errors.new ≡ errors.old }
-    ensures says { stats ≡ false → SaysOnly NOTICE.now (E.contents errors.old) (E.contents errors.new) }
+    ensures errors { stats ≡ false → Announces at_terminal NOTICE.now errors.old errors.new
+        (E.contents errors.old) (E.contents errors.new) }
 {
     let track = track_from_toml(rt.alloc(), text)?;
     announce(at_terminal, errors);

@@ -3,7 +3,7 @@
 ghost use Rattle.std.specs.Prelude.{◌≡◌, false};
 ghost use Rattle.rbc_dispatch.specs.Terminal.{SaysOnly};
 
-use rbc_batch::write_text;
+use rbc_text::write_text;
 use std::io::Write;
 
 /// The notice that a batch is read from a terminal. It tells the user that the program waits for input.

@@ -1,69 +1,93 @@
-//! Worked cases of the law of forms, right ones and wrong ones.
+//! Worked cases of what words ask for, right ones and wrong ones.
 
-ghost use Rattle.std.specs.Prelude.{[], ◌∷◌, None, Some, codes};
-ghost use Rattle.rbc_dispatch.specs.Witnesses.{AskByFlag, AskByTrain, AskFor, AskForAlarms, AskForNone, AskFrom};
-ghost use Rattle.rbc_dispatch.specs.Witnesses.{AskFromNone, AskFromWithAlarms, AskToDraw, AskToDrawNone};
-ghost use Rattle.rbc_dispatch.specs.Witnesses.{AskForCode, AskForNoCode, AskForPage, AskToExplain, AskToExplainNone};
-ghost use Rattle.rbc_dispatch.specs.declared.pages.Topic.TheVariants.{Batch, Track};
+ghost use Rattle.std.specs.Prelude.{[], ◌∷◌, None, Some, codes, false, true};
+ghost use Rattle.rbc_account.specs.declared.log_form.LogParts.TheVariants as parts;
+ghost use Rattle.rbc_dispatch.specs.Witnesses.{AskFor, AskForNothing, AskForRun, AskFrom, AskToDraw, AskToExplain};
+ghost use Rattle.rbc_dispatch.specs.Witnesses.{on_track};
+ghost use Rattle.rbc_dispatch.specs.Words.{Asks, Codes, Decode, DecodeLines, DoNotFit, Page};
+ghost use Rattle.rbc_dispatch.specs.declared.pages.Topic.TheVariants as topic;
 
-/// What words after `run --track t` ask for.
+/// What words after `run --track t` and `live --track t` ask for.
 ///
 /// - No word asks for one worker, and not for two. `--workers 16` asks for 16 workers, and `--workers=007` for 7.
 /// - `--workers 0` asks for none, which the run refuses. `--workers 2` does not ask for one.
-/// - `--workers 256`, `--workers -1`, `--workers x` and a number that is named twice ask for no run.
-/// - The text of the flag is "false" if no word asks for figures, and "true" with `--stats`, which leaves the number of
-///   workers as it is. `--stats` twice asks for no run.
-/// - `--by-train` asks for sharing by train, and leaves the number of workers as it is. `--by-train` twice asks for no
-///   run.
-/// - `--alarms` asks for alarms, and leaves the number of workers as it is. Without it none are asked for. `--alarms`
-///   twice asks for no run.
-///
-/// After `live --track t`, `--from 7` asks for the answers from number 7 on, and `--from 0` for none; `--alarms` asks
-/// for alarms, before `--from 7` or after it, and `--alarms` twice for no answers. After `explain --track t`,
-/// `--from 4294967295` asks for the log from that input on, and `--from 0` for none. After `picture --track t`,
-/// `--after 0` asks for the picture before all inputs, and `--after 4294967296` for none.
-///
-/// `codes` asks for all codes, `codes 12` for code 12, and `codes 0` and `codes 17` for nothing. `help batch` and
-/// `help track` ask for a page; `help run` and `help batch batch` for none.
-pub fn forms_law_witnesses()
+/// - `--workers 256`, `--workers -1`, `--workers x` and a number that is named twice ask for nothing.
+/// - `--stats`, `--by-train` and `--alarms` each leave the number of workers as it is. A flag that is named twice asks
+///   for nothing.
+/// - After `live`, `--from 7` asks for the answers from number 7 on, and `--from 0` for nothing; `--alarms` asks for
+///   alarms, before `--from 7` or after it, and `--alarms` twice for nothing.
+pub fn run_words_witnesses()
     ensures one { AskFor 1 [] }
     ensures sixteen { AskFor 16 (codes "--workers" ∷ codes "16" ∷ []) }
     ensures leading_zeros { AskFor 7 (codes "--workers=007" ∷ []) }
     ensures zero { AskFor 0 (codes "--workers" ∷ codes "0" ∷ []) }
     ensures two_by_default { AskFor 2 [] → ⊥ }
     ensures one_whatever_is_named { AskFor 1 (codes "--workers" ∷ codes "2" ∷ []) → ⊥ }
-    ensures too_great { AskForNone (codes "--workers" ∷ codes "256" ∷ []) }
-    ensures below_zero { AskForNone (codes "--workers" ∷ codes "-1" ∷ []) }
-    ensures no_number { AskForNone (codes "--workers" ∷ codes "x" ∷ []) }
-    ensures twice { AskForNone (codes "--workers" ∷ codes "1" ∷ codes "--workers" ∷ codes "1" ∷ []) }
-    ensures no_figures { AskByFlag (codes "false") [] }
-    ensures figures { AskByFlag (codes "true") (codes "--stats" ∷ []) }
-    ensures figures_of_four { AskFor 4 (codes "--stats" ∷ codes "--workers" ∷ codes "4" ∷ []) }
-    ensures figures_twice { AskForNone (codes "--stats" ∷ codes "--stats" ∷ []) }
-    ensures by_train { AskByTrain (codes "true") (codes "--by-train" ∷ []) }
-    ensures by_train_of_four { AskFor 4 (codes "--workers" ∷ codes "4" ∷ codes "--by-train" ∷ []) }
-    ensures by_train_twice { AskForNone (codes "--by-train" ∷ codes "--by-train" ∷ []) }
-    ensures alarms { AskForAlarms 1 (codes "--alarms" ∷ []) }
-    ensures alarms_of_four { AskForAlarms 4 (codes "--alarms" ∷ codes "--workers" ∷ codes "4" ∷ []) }
-    ensures alarms_unasked { AskForAlarms 1 [] → ⊥ }
-    ensures alarms_twice { AskForNone (codes "--alarms" ∷ codes "--alarms" ∷ []) }
-    ensures from_seven { AskFrom 7 (codes "--from" ∷ codes "7" ∷ []) }
-    ensures from_zero { AskFromNone (codes "--from" ∷ codes "0" ∷ []) }
-    ensures alarms_from_seven { AskFromWithAlarms 7 (codes "--alarms" ∷ codes "--from" ∷ codes "7" ∷ []) }
-    ensures from_seven_alarms { AskFromWithAlarms 7 (codes "--from" ∷ codes "7" ∷ codes "--alarms" ∷ []) }
-    ensures live_alarms_unasked { AskFromWithAlarms 1 [] → ⊥ }
-    ensures live_alarms_twice { AskFromNone (codes "--alarms" ∷ codes "--alarms" ∷ []) }
-    ensures log_from_last { AskToExplain 4294967295 (codes "--from" ∷ codes "4294967295" ∷ []) }
-    ensures log_from_zero { AskToExplainNone (codes "--from" ∷ codes "0" ∷ []) }
-    ensures drawn_at_first { AskToDraw (Some 0) (codes "--after" ∷ codes "0" ∷ []) }
-    ensures drawn_too_late { AskToDrawNone (codes "--after" ∷ codes "4294967296" ∷ []) }
-    ensures all_codes { AskForCode None [] }
-    ensures code_twelve { AskForCode (Some 12) (codes "12" ∷ []) }
-    ensures another_code { AskForCode (Some 13) (codes "12" ∷ []) → ⊥ }
-    ensures code_zero { AskForNoCode (codes "0" ∷ []) }
-    ensures code_seventeen { AskForNoCode (codes "17" ∷ []) }
-    ensures batch_page { AskForPage (Some Batch) (codes "help" ∷ codes "batch" ∷ []) }
-    ensures track_page { AskForPage (Some Track) (codes "help" ∷ codes "track" ∷ []) }
-    ensures help_of_run { AskForPage None (codes "help" ∷ codes "run" ∷ []) → ⊥ }
-    ensures page_and_more { AskForPage (Some Batch) (codes "help" ∷ codes "batch" ∷ codes "batch" ∷ []) → ⊥ }
+    ensures too_great { AskForNothing (on_track (codes "run") (codes "--workers" ∷ codes "256" ∷ [])) }
+    ensures below_zero { AskForNothing (on_track (codes "run") (codes "--workers" ∷ codes "-1" ∷ [])) }
+    ensures no_number { AskForNothing (on_track (codes "run") (codes "--workers" ∷ codes "x" ∷ [])) }
+    ensures twice { AskForNothing (on_track (codes "run")
+        (codes "--workers" ∷ codes "1" ∷ codes "--workers" ∷ codes "1" ∷ [])) }
+    ensures figures { AskForRun 1 false true false (codes "--stats" ∷ []) }
+    ensures figures_unasked { AskForRun 1 false true false [] → ⊥ }
+    ensures figures_of_four { AskForRun 4 false true false (codes "--stats" ∷ codes "--workers" ∷ codes "4" ∷ []) }
+    ensures figures_twice { AskForNothing (on_track (codes "run") (codes "--stats" ∷ codes "--stats" ∷ [])) }
+    ensures by_train_of_four { AskForRun 4 true false false
+        (codes "--workers" ∷ codes "4" ∷ codes "--by-train" ∷ []) }
+    ensures by_train_unasked { AskForRun 1 true false false [] → ⊥ }
+    ensures alarms_of_four { AskForRun 4 false false true (codes "--alarms" ∷ codes "--workers" ∷ codes "4" ∷ []) }
+    ensures alarms_unasked { AskForRun 1 false false true [] → ⊥ }
+    ensures from_seven { AskFrom 7 false (codes "--from" ∷ codes "7" ∷ []) }
+    ensures from_zero { AskForNothing (on_track (codes "live") (codes "--from" ∷ codes "0" ∷ [])) }
+    ensures alarms_from_seven { AskFrom 7 true (codes "--alarms" ∷ codes "--from" ∷ codes "7" ∷ []) }
+    ensures from_seven_alarms { AskFrom 7 true (codes "--from" ∷ codes "7" ∷ codes "--alarms" ∷ []) }
+    ensures live_alarms_unasked { AskFrom 1 true [] → ⊥ }
+    ensures live_alarms_twice { AskForNothing (on_track (codes "live") (codes "--alarms" ∷ codes "--alarms" ∷ [])) }
+{}
+
+/// What words after `explain --track t` and `picture --track t` ask for.
+///
+/// - `--from 18446744073709551615` asks for the log from that input on, and `--from 0` for nothing. `--to 9` asks for
+///   the log to input 9, `--to 9 --from 9` for input 9 alone, and `--from 9 --to 8` for nothing. `--refused` and
+///   `--end` each ask for what they name, and both together for nothing.
+/// - After `picture`, `--after 0` asks for the picture before all inputs, `--after 18446744073709551615` for the one
+///   after that many, and `--after -1` for nothing.
+pub fn telling_words_witnesses()
+    ensures from_last { AskToExplain 18446744073709551615 None parts.All
+        (codes "--from" ∷ codes "18446744073709551615" ∷ []) }
+    ensures from_zero { AskForNothing (on_track (codes "explain") (codes "--from" ∷ codes "0" ∷ [])) }
+    ensures to_nine { AskToExplain 1 (Some 9) parts.All (codes "--to" ∷ codes "9" ∷ []) }
+    ensures to_nine_from_nine { AskToExplain 9 (Some 9) parts.All
+        (codes "--to" ∷ codes "9" ∷ codes "--from" ∷ codes "9" ∷ []) }
+    ensures ended_before { DoNotFit (on_track (codes "explain")
+        (codes "--from" ∷ codes "9" ∷ codes "--to" ∷ codes "8" ∷ [])) }
+    ensures refused { AskToExplain 1 None parts.Refused (codes "--refused" ∷ []) }
+    ensures end { AskToExplain 1 None parts.End (codes "--end" ∷ []) }
+    ensures refused_end { DoNotFit (on_track (codes "explain") (codes "--refused" ∷ codes "--end" ∷ [])) }
+    ensures all_for_the_end { AskToExplain 1 None parts.All (codes "--end" ∷ []) → ⊥ }
+    ensures at_first { AskToDraw (Some 0) (codes "--after" ∷ codes "0" ∷ []) }
+    ensures at_last { AskToDraw (Some 18446744073709551615)
+        (codes "--after" ∷ codes "18446744073709551615" ∷ []) }
+    ensures before_first { AskForNothing (on_track (codes "picture") (codes "--after" ∷ codes "-1" ∷ [])) }
+    ensures all_for_the_first { AskToDraw None (codes "--after" ∷ codes "0" ∷ []) → ⊥ }
+{}
+
+/// What words ask for that name no track.
+///
+/// - `codes` asks for all codes, `codes 12` for code 12, and `codes 0` and `codes 17` for nothing.
+/// - `decode` asks for lines, `decode 00` for one message, and `decode --long` for nothing.
+/// - `help batch` and `help track` ask for a page; `help run` and `help batch batch` for nothing.
+pub fn other_words_witnesses()
+    ensures all_codes { Asks (Codes None) (codes "codes" ∷ []) }
+    ensures code_twelve { Asks (Codes (Some 12)) (codes "codes" ∷ codes "12" ∷ []) }
+    ensures another_code { Asks (Codes (Some 13)) (codes "codes" ∷ codes "12" ∷ []) → ⊥ }
+    ensures code_zero { AskForNothing (codes "codes" ∷ codes "0" ∷ []) }
+    ensures code_seventeen { AskForNothing (codes "codes" ∷ codes "17" ∷ []) }
+    ensures lines { Asks DecodeLines (codes "decode" ∷ []) }
+    ensures message { Asks (Decode (codes "00") false) (codes "decode" ∷ codes "00" ∷ []) }
+    ensures long_lines { DoNotFit (codes "decode" ∷ codes "--long" ∷ []) }
+    ensures batch_page { Asks (Page topic.Batch) (codes "help" ∷ codes "batch" ∷ []) }
+    ensures track_page { Asks (Page topic.Track) (codes "help" ∷ codes "track" ∷ []) }
+    ensures help_of_run { AskForNothing (codes "help" ∷ codes "run" ∷ []) }
+    ensures page_and_more { AskForNothing (codes "help" ∷ codes "batch" ∷ codes "batch" ∷ []) }
 {}

@@ -1,6 +1,7 @@
 pub mod Lines
 pub mod Marking
 pub mod Meaning
-pub mod OneMore
+pub mod InWords
+pub mod Explaining
 pub mod Sentenced
 pub mod Told

@@ -1,7 +1,9 @@
--- The sentences of the log on messages (own rule). Places are in units of 10 cm.
+-- The sentences of the log on messages, and on all inputs (own rule). Places are in units of 10 cm.
 use Rattle.std.specs.Prelude.{ℕ, List, ◌++◌, if◌then◌else◌, codes}
 use Rattle.std.specs.Fmt.{decimal}
-use Rattle.rbc_words.specs.Units.{km_text}
+use Rattle.rbc_words.specs.Units.{km_text, count_text}
+use Rattle.rbc_account.specs.declared.account.Sums.{Sums}
+use Rattle.rbc_account.specs.Sums.{input_count}
 use Rattle.rbc_explain.specs.declared.said.Spot.{Spot}
 use Rattle.rbc_explain.specs.declared.said.Spoken.{Spoken}
 use Rattle.rbc_explain.specs.declared.said.Spoken.TheVariants.{StopAtOnce, StopBefore, StopRevoked, IdentifierRevoked, Restriction, RestrictionRevoked}
@@ -33,3 +35,9 @@ restriction_sentence engine number said =
 -- the sentence on one of several packets
 abbrev pub packet_sentence : ℕ → Spoken → List ℕ
 packet_sentence number said = codes "  For restriction " ++ (decimal number ++ (codes ": " ++ (spoken_text said ++ codes "\n")))
+
+-- the first line of the end of a log: how many inputs there were, and what came of them
+abbrev pub sums_text : Sums → List ℕ
+sums_text sums =
+    codes "AT THE END, after " ++ (count_text (input_count sums) (codes "input") ++ (codes ": " ++ (decimal sums.accepted
+    ++ (codes " accepted, " ++ (decimal sums.refused ++ (codes " refused, " ++ (count_text sums.messages (codes "message") ++ codes " sent.\n")))))))

@@ -19,6 +19,9 @@ use rbc_words::Count;
 use std::alloc::{AllocError, Global};
 use std::fmt::Write;
 
+/// The room for what is said of most inputs, in bytes. A text that needs more grows.
+const ROOM: usize = 256;
+
 /// The track of a run.
 #[derive(Clone, Copy)]
 pub(crate) struct TrackOfRun<'a> {
@@ -87,7 +90,8 @@ fn told_of(told: &[Told], index: usize) -> &Told
 /// The line of an input with its number, after an empty line.
 fn heading(alloc: Global, line: &[u8], block: &Block) -> Result<String, AllocError> {
     let number = block.number;
-    let mut text = format!(in alloc; "\nINPUT {number}: ")?;
+    let mut text = String::with_capacity(alloc, ROOM)?;
+    write!(text, "\nINPUT {number}: ")?;
     push_echo(alloc, &mut text, line)?;
     text.push_str("\n")?;
     Ok(text)
@@ -100,7 +104,7 @@ fn outcome(
     line: &[u8],
     block: &Block,
 ) -> Result<String, AllocError> {
-    let mut text = String::new(alloc);
+    let mut text = String::with_capacity(alloc, ROOM)?;
     match (block.reply, &block.deed) {
         (Reply::Done(sent), deed) => {
             push_accepted(&mut text, sent)?;

@@ -1,9 +1,9 @@
 //! A run told in words, as a log: each input with what came of it, each message with what it says and why it was sent,
 //! and what stands at the end. Each line of the output of a run stands in it, with `= ` before it.
 //!
-//! It stands on rbc_account, which tells the run as values; rbc_dispatch calls `explain`. What that call rests on is
-//! `IsLogOfRun` (specs/Log.antt), with `Tells` (specs/Telling.antt) of each message. Begin with telling.rt; then
-//! input_block.rt has one input, and message.rt one message.
+//! It stands on rbc_account, which tells the run as values and writes the log as it goes; rbc_dispatch calls `explain`.
+//! What that call rests on is `Explains` (specs/Log.antt), with `Tells` (specs/Telling.antt) of each message. Begin with
+//! telling.rt, and words.rt for the parts of a log; then input_block.rt has one input, and message.rt one message.
 //!
 //! A function that cannot report a lack of memory takes none. `AllocError` means that memory was refused; what the
 //! function was changing is then of no further use, unless its docstring says what is left. A docstring names each
@@ -27,6 +27,7 @@ mod sentence;
 mod stop_reason;
 mod telling;
 mod waiting_in_words;
+mod words;
 
-pub use rbc_account::TellError;
+pub use rbc_account::{LogParts, LogWanted, TellError};
 pub use telling::explain;

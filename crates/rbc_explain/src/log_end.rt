@@ -1,5 +1,8 @@
 //! The end of a log: the state after the last input.
 
+ghost use Rattle.std.specs.Prelude.{◌≡◌, IfOk, string_bytes};
+ghost use Rattle.rbc_explain.specs.Sentences.{sums_text};
+
 use crate::figures::{Stretch, Whereabouts, push_segments};
 use crate::waiting_in_words::push_waiting;
 use rbc_account::{Account, Sharing, Standing, TrainStanding};
@@ -13,27 +16,10 @@ use std::fmt::Write;
 /// How many reports without an answer are counted.
 const MOST_REPORTS: u8 = 3;
 
-/// The end of the log: the state after the last input.
-pub(crate) fn end(
-    alloc: Global,
-    account: &Account,
-    standing: &Standing,
-) -> Result<String, AllocError> {
-    let mut text = String::new(alloc);
-    push_sums(&mut text, account)?;
-    push_stops(&mut text, account, &standing.stops)?;
-    push_limits(&mut text, account, &standing.limits)?;
-    let trains = standing.trains.len();
-    write!(text, "Trains: {trains} enrolled.\n")?;
-    for train in &standing.trains {
-        push_train(&mut text, account, train)?;
-    }
-    push_owing(&mut text, standing)?;
-    Ok(text)
-}
-
-/// Adds how many inputs there were, and what came of them.
-fn push_sums(text: &mut String, account: &Account) -> Result<(), AllocError> {
+/// The first line of the end: how many inputs there were, and what came of them.
+pub(crate) fn sums(alloc: Global, account: &Account) -> Result<String, AllocError>
+    ensures { IfOk result (λ text. string_bytes text ≡ sums_text account.now.sums) }
+{
     let (accepted, refused) = (account.sums.accepted, account.sums.refused);
     let inputs = Count {
         number: account.inputs() as usize,
@@ -43,10 +29,27 @@ fn push_sums(text: &mut String, account: &Account) -> Result<(), AllocError> {
         number: account.sums.messages as usize,
         noun: "message",
     };
-    write!(
-        text,
-        "\nAT THE END, after {inputs}: {accepted} accepted, {refused} refused, {messages} sent.\n"
+    format!(in alloc;
+        "AT THE END, after {inputs}: {accepted} accepted, {refused} refused, {messages} sent.\n"
     )
+}
+
+/// The rest of the end: the state after the last input.
+pub(crate) fn end(
+    alloc: Global,
+    account: &Account,
+    standing: &Standing,
+) -> Result<String, AllocError> {
+    let mut text = String::new(alloc);
+    push_stops(&mut text, account, &standing.stops)?;
+    push_limits(&mut text, account, &standing.limits)?;
+    let trains = standing.trains.len();
+    write!(text, "Trains: {trains} enrolled.\n")?;
+    for train in &standing.trains {
+        push_train(&mut text, account, train)?;
+    }
+    push_owing(&mut text, standing)?;
+    Ok(text)
 }
 
 fn push_stops(text: &mut String, account: &Account, sharing: &[Sharing]) -> Result<(), AllocError> {

@@ -9,7 +9,7 @@ use std::fmt::Write;
 const RULES: usize = 3;
 
 /// The head of a log that begins at an input.
-pub(crate) fn head(alloc: Global, track: &NamedTrack, from: u32) -> Result<String, AllocError> {
+pub(crate) fn head(alloc: Global, track: &NamedTrack, from: u64) -> Result<String, AllocError> {
     let mut text = String::new(alloc);
     write!(
         text,
@@ -70,7 +70,7 @@ fn push_name(text: &mut String, name: &Option<String>) -> Result<(), AllocError>
 }
 
 /// Adds which inputs were run before the first one that is told.
-fn push_skipped(text: &mut String, from: u32) -> Result<(), AllocError> {
+fn push_skipped(text: &mut String, from: u64) -> Result<(), AllocError> {
     let last = from.saturating_sub(1);
     match last {
         0 => Ok(()),

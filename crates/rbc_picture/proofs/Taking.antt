@@ -1,20 +1,27 @@
 -- An account that takes lines.
-use Rattle.std.proofs.Common.{take, get_or, Bor, ◌≡◌, ◌⊎◌, inl, inr, ℕ, zero, suc, ◌+◌, ◌-◌, ◌^◌, ◌<◌, ◌≤◌, min, List, [], ◌∷◌, ◌++◌, length, Option, Some, None, refl, sym, ap, ◌∙◌, subst, arith}
-use Rattle.std.proofs.lemmas.List.{map-append, length-map, length-take, take-map, take_more}
+use Rattle.std.proofs.Common.{take, ◌≡◌, ◌⊎◌, inl, inr, ℕ, zero, suc, ◌-◌, ◌^◌, ◌<◌, ◌≤◌, min, List, [], ◌∷◌, ◌++◌, length, Option, Some, None, Result, Ok, Err, OnOk, refl, sym, ap, ◌∙◌, subst, arith}
+use Rattle.std.proofs.lemmas.List.{map-append, length-map, length-take}
+use Rattle.std.proofs.Math.Seq.{take-nil}
 use Rattle.std.proofs.lemmas.Option.{slice_get_within}
+use Rattle.std.proofs.lemmas.Result.{on_ok_weaker}
 use Rattle.std.specs.List.{slice_get}
+use Rattle.std.specs.Prelude.{IsErrAnd}
 use Rattle.rbc_track.specs.Plan.{Plan}
+use Rattle.rbc_track.specs.Reading.{IsTrackOf}
+use Rattle.rbc_text.specs.BatchText.{lines_of}
 use Rattle.rbc_records.specs.declared.record.Key.{Key}
 use Rattle.rbc_records.specs.declared.record.Rec.{Rec}
 use Rattle.rbc_records.specs.Notes.{record_in}
-use Rattle.rbc_account.specs.Answers.{max_inputs}
-use Rattle.ertms_codec.specs.Pieces.{texts_of}
-use Rattle.rbc_account.specs.History.{IsFed, Taken, IsHistory}
+use Rattle.rbc_live.specs.History.{IsFed, Taken, IsHistory}
+use Rattle.rbc_account.specs.Lines.{AreAllLines}
+use Rattle.rbc_account.specs.Telling.{LeavesUnread, Tells}
+use Rattle.rbc_account.specs.declared.fault.TellError.{TellError}
+use Rattle.rbc_account.specs.declared.fault.TellError.TheVariants.{Track, Read, Memory, OnlyInputs, Write, ReaderGone}
 use Rattle.rbc_account.specs.declared.account.Sums.{Sums}
 use Rattle.rbc_account.specs.declared.account.Account.{Account}
 use Rattle.rbc_account.specs.Sums.{no_sums, counted}
 use Rattle.rbc_account.specs.Runs.{sums_after, EachAccountIsTrue}
-use Rattle.rbc_picture.specs.Drawn.{HasTaken, IsPictureOf, shown}
+use Rattle.rbc_picture.specs.Drawn.{lines_taken, AreTakenTo, HasTaken, IsPictureOf, IsPictureOfRun, shown}
 use Rattle.rbc_picture.specs.Shown.{StandIn}
 
 -- a line behind others
@@ -56,7 +63,7 @@ takes_one plan before after lines line one is has fed track sums = record {
 }
 
 -- the picture after the last line
-pub drawn_after : (plan : Plan) (account : Account) (count : ℕ) (lines : List (List ℕ)) (svg : List ℕ) → EachAccountIsTrue → length lines ≤ max_inputs
+pub drawn_after : (plan : Plan) (account : Account) (count : ℕ) (lines : List (List ℕ)) (svg : List ℕ) → EachAccountIsTrue → length lines < 2 ^ 64
     → HasTaken plan account lines → count ≡ length account.desk.track.lines
     → StandIn (shown account.desk.track.horizon count account.desk.records) svg → IsPictureOf plan lines svg
 drawn_after plan account count lines svg law few has is drawn =
@@ -71,25 +78,17 @@ drawn_after plan account count lines svg law few has is drawn =
           (subst (λ (n : ℕ). StandIn (shown account.desk.track.horizon n account.desk.records) svg) is drawn);
     }
 
--- the lines up to one more
-pub lines_more : (lines : List (Bor (List ℕ))) (index : ℕ) (line : Bor (List ℕ)) → index < length lines → get_or lines index line ≡ line
-    → texts_of (take (index + 1) lines) ≡ texts_of (take index lines) ++ line.now ∷ []
-lines_more lines index line within is =
-    ap (λ (ls : List (Bor (List ℕ))). texts_of ls) (take_more lines index line within ∙ ap (λ (l : Bor (List ℕ)). take index lines ++ l ∷ []) is)
-    ∙ map-append (λ (slice : Bor (List ℕ)). slice.now) (take index lines) (line ∷ [])
+-- one line more, among the first ones, unless memory was refused
+pub taken_among : {T E : Type 0} (r : Result T E) (plan : Plan) (after : Option ℕ) (before account : Account) (lines : List (List ℕ)) (line : List ℕ)
+    → HasTaken plan before (lines_taken after lines) → (lines_taken after lines ≡ lines) × (lines_taken after (lines ++ line ∷ []) ≡ lines ++ line ∷ [])
+    → (HasTaken plan before lines → OnOk r (HasTaken plan account (lines ++ line ∷ []))) → OnOk r (HasTaken plan account (lines_taken after (lines ++ line ∷ [])))
+taken_among r plan after before account lines line has same takes =
+    on_ok_weaker r (λ now. subst (HasTaken plan account) (sym same.1) now) (takes (subst (HasTaken plan before) same.0 has))
 
--- the first lines, as texts
-pub first_lines : (plan : Plan) (account : Account) (taken : ℕ) (lines : List (Bor (List ℕ))) → HasTaken plan account (texts_of (take taken lines))
-    → HasTaken plan account (take taken (texts_of lines))
-first_lines plan account taken lines has =
-    subst (λ (ls : List (List ℕ)). HasTaken plan account ls) (sym (take-map (λ (slice : Bor (List ℕ)). slice.now) taken lines)) has
-
--- they are few
-pub few_first : (taken : ℕ) (lines : List (Bor (List ℕ))) → length lines ≤ max_inputs → length (take taken (texts_of lines)) ≤ max_inputs
-few_first taken lines few =
-    let all : length (texts_of lines) ≡ length lines = length-map lines (λ slice. slice.now) in
-    let cut : length (take taken (texts_of lines)) ≡ min taken (length (texts_of lines)) = length-take taken (texts_of lines) in
-    omega (arith, all, cut, few)
+-- no line is taken of none
+pub none_taken : (after : Option ℕ) → lines_taken after [] ≡ []
+none_taken None = refl
+none_taken (Some after) = take-nil after
 
 -- something is there
 abbrev IsThere : Option ℕ → Type 0
@@ -114,3 +113,74 @@ so_many lines count none (inr last) =
     let beyond : length lines ≤ count = past lines count none in
     let within : count - 1 < length lines = slice_get_within lines (count - 1) last.0 last.1 in
     omega (arith, within, beyond)
+
+-- ---- how the lines of a reader come to their end
+
+-- the lines could not be read, or memory was refused
+not_taken_at : (T : Type 0) (Missing : ℕ → Type 0) (text : List ℕ) (plan : Plan) (after : Option ℕ) (account : Account) (old new : Option (List ℕ)) (fault : TellError)
+    → AreTakenTo plan after account old new (Err fault) → Tells {T = T} Missing text old new (Err fault)
+not_taken_at T Missing text plan after account old new (Track error) is = absurd is
+not_taken_at T Missing text plan after account old new Read is = tt
+not_taken_at T Missing text plan after account old new Memory is = tt
+not_taken_at T Missing text plan after account old new (OnlyInputs count) is = absurd is
+not_taken_at T Missing text plan after account old new (Write sent) is = absurd is
+not_taken_at T Missing text plan after account old new (ReaderGone sent) is = absurd is
+
+pub not_taken : {T : Type 0} (r : Result T TellError) (Missing : ℕ → Type 0) (text : List ℕ) (plan : Plan) (after : Option ℕ) (account : Account) (old new : Option (List ℕ)) (fault : TellError)
+    → IsErrAnd r (λ other. other ≡ fault) → AreTakenTo plan after account old new (Err fault) → Tells Missing text old new r
+not_taken (Ok told) Missing text plan after account old new fault bad is = absurd bad
+not_taken {T} (Err other) Missing text plan after account old new fault same is =
+    subst (λ (f : TellError). Tells {T = T} Missing text old new (Err f)) (sym same) (not_taken_at T Missing text plan after account old new fault is)
+
+-- a fault of the lines is not that the track is refused
+unread_at : (T R : Type 0) (plan : Plan) (after : Option ℕ) (account : Account) (read_old read_new : Option (List ℕ)) (fault : TellError) (old new : R)
+    → AreTakenTo plan after account read_old read_new (Err fault) → LeavesUnread {T = T} (Err fault) old new
+unread_at T R plan after account read_old read_new (Track error) old new is = absurd is
+unread_at T R plan after account read_old read_new Read old new is = tt
+unread_at T R plan after account read_old read_new Memory old new is = tt
+unread_at T R plan after account read_old read_new (OnlyInputs count) old new is = tt
+unread_at T R plan after account read_old read_new (Write sent) old new is = tt
+unread_at T R plan after account read_old read_new (ReaderGone sent) old new is = tt
+
+pub unread : {T R : Type 0} (r : Result T TellError) (plan : Plan) (after : Option ℕ) (account : Account) (read_old read_new : Option (List ℕ)) (fault : TellError) (old new : R)
+    → IsErrAnd r (λ other. other ≡ fault) → AreTakenTo plan after account read_old read_new (Err fault) → LeavesUnread r old new
+unread (Ok told) plan after account read_old read_new fault old new bad is = absurd bad
+unread {T} {R} (Err other) plan after account read_old read_new fault old new same is =
+    subst (λ (f : TellError). LeavesUnread {T = T} (Err f) old new) (sym same) (unread_at T R plan after account read_old read_new fault old new is)
+
+-- memory was refused
+pub not_drawn : {T : Type 0} (r : Result T TellError) (Missing : ℕ → Type 0) (text : List ℕ) (old new : Option (List ℕ)) → IsErrAnd r (λ fault. fault ≡ Memory) → Tells Missing text old new r
+not_drawn (Ok told) Missing text old new bad = absurd bad
+not_drawn {T} (Err fault) Missing text old new same = subst (λ (f : TellError). Tells {T = T} Missing text old new (Err f)) (sym same) tt
+
+-- all were counted
+counted_all : (old new : Option (List ℕ)) (lines : List (List ℕ)) (count : ℕ) (all : AreAllLines old new lines) → count ≡ length lines → count ≡ length (lines_of all.0)
+counted_all old new lines count all many = many ∙ ap (λ (ls : List (List ℕ)). length ls) (sym all.3)
+
+pub lacks : (T : Type 0) (Missing : ℕ → Type 0) (text : List ℕ) (plan : Plan) (after : Option ℕ) (account : Account) (old new : Option (List ℕ)) (count : ℕ)
+    → AreTakenTo plan after account old new (Ok count) → Missing count → Tells {T = T} Missing text old new (Err (OnlyInputs count))
+lacks T Missing text plan after account old new count (lines, all, many, few, has) missing =
+    (all.0, (all.1, all.2), counted_all old new lines count all many, missing)
+
+pub told : {T : Type 0} (made : T) (Missing : ℕ → Type 0) (text : List ℕ) (plan : Plan) (after : Option ℕ) (account : Account) (old new : Option (List ℕ)) (count : ℕ) → IsTrackOf text plan
+    → AreTakenTo plan after account old new (Ok count) → ¬ (Missing count) → Tells {T = T} Missing text old new (Ok made)
+told made Missing text plan after account old new count is (lines, all, many, few, has) there =
+    (plan, is, (all.0, (all.1, all.2), subst (λ (n : ℕ). ¬ (Missing n)) (counted_all old new lines count all many) there))
+
+-- fewer are taken than there are
+taken_few : (after : Option ℕ) (lines : List (List ℕ)) → length lines < 2 ^ 64 → length (lines_taken after lines) < 2 ^ 64
+taken_few None lines few = few
+taken_few (Some after) lines few = let cut : length (take after lines) ≡ min after (length lines) = length-take after lines in omega (arith, cut, few)
+
+-- the picture of what was read
+pub drawn_of : (text : List ℕ) (plan : Plan) (after : Option ℕ) (account : Account) (old new : Option (List ℕ)) (count : ℕ) (svg : List ℕ) → IsTrackOf text plan
+    → AreTakenTo plan after account old new (Ok count)
+    → ((lines : List (List ℕ)) → HasTaken plan account lines → length lines < 2 ^ 64 → IsPictureOf plan lines svg) → IsPictureOfRun text after old new svg
+drawn_of text plan after account old new count svg is (lines, all, many, few, has) draws = record {
+  plan = plan;
+  batch = all.0;
+  is_track = is;
+  read = (all.1, all.2);
+  picture = subst (λ (ls : List (List ℕ)). IsPictureOf plan (lines_taken after ls) svg) (sym all.3)
+      (draws (lines_taken after lines) has (taken_few after lines (subst (λ (n : ℕ). n < 2 ^ 64) many few)));
+}

@@ -1,5 +1,5 @@
 -- What the picture of a run shows (own rule).
-use Rattle.std.specs.Prelude.{◌≡◌, ℕ, zero, suc, List, [], ◌∷◌, ◌++◌, map, filter, take, length, Option, Some, None}
+use Rattle.std.specs.Prelude.{◌≡◌, ℕ, zero, suc, List, [], ◌∷◌, ◌++◌, map, filter, take, length, Option, Some, None, ◌<◌, ◌^◌, Result, Ok, Err}
 use Rattle.std.specs.Prelude.{is_none, option_map}
 use Rattle.std.specs.List.{flat_map, filter_map}
 use Rattle.rbc_track.specs.Plan.{Plan}
@@ -10,8 +10,11 @@ use Rattle.rbc_settle.specs.declared.train.TrainRec.{TrainRec}
 use Rattle.rbc_records.specs.declared.record.Key.{Key}
 use Rattle.rbc_records.specs.declared.record.Rec.{Rec}
 use Rattle.rbc_text.specs.BatchText.{lines_of}
-use Rattle.rbc_account.specs.Process.{IsAllRead}
-use Rattle.rbc_account.specs.History.{Taken, IsSerialRunOf}
+use Rattle.rbc_text.specs.Streams.{IsAllRead}
+use Rattle.rbc_account.specs.Lines.{AreAllLines}
+use Rattle.rbc_account.specs.declared.fault.TellError.{TellError}
+use Rattle.rbc_account.specs.declared.fault.TellError.TheVariants.{Track, Read, Memory, OnlyInputs, Write, ReaderGone}
+use Rattle.rbc_live.specs.History.{Taken, IsSerialRunOf}
 use Rattle.rbc_live.specs.Known.{train_in, engines_in, active_stops, active_limits}
 use Rattle.rbc_live.specs.Waits.{waiting_at}
 use Rattle.rbc_account.specs.Runs.{IsAccount}
@@ -86,3 +89,15 @@ pub record HasTaken (plan : Plan) (account : Account) (lines : List (List ℕ)) 
   pub fed : map (λ one. one.line) taken ≡ lines
   pub counted : IsAccount plan taken account.desk.records account.sums
   pub track : account.desk.track ≡ plan
+
+-- An account has taken the first of all lines that a reader had left, this many, or all, and all are counted; or the
+-- lines could not be read, or memory was refused.
+abbrev pub AreTakenTo : Plan → Option ℕ → Account → Option (List ℕ) → Option (List ℕ) → Result ℕ TellError → Type 0
+AreTakenTo plan after account old new (Ok count) =
+    (lines : List (List ℕ)) × AreAllLines old new lines × (count ≡ length lines) × (count < 2 ^ 64) × HasTaken plan account (lines_taken after lines)
+AreTakenTo plan after account old new (Err Read) = Unit
+AreTakenTo plan after account old new (Err Memory) = Unit
+AreTakenTo plan after account old new (Err (Track error)) = ⊥
+AreTakenTo plan after account old new (Err (OnlyInputs count)) = ⊥
+AreTakenTo plan after account old new (Err (Write sent)) = ⊥
+AreTakenTo plan after account old new (Err (ReaderGone sent)) = ⊥

@@ -1,26 +1,25 @@
-//! The picture after the inputs of a batch.
+//! The picture after the inputs of a reader.
 
-ghost use Rattle.std.specs.Prelude.{◌≡◌, ◌≤◌, ◌++◌, ◌∷◌, [], true, List, ℕ, IfOk, IfNone, IfSome, OnOk, OnSome};
-ghost use Rattle.std.specs.Prelude.{length, take, string_bytes};
+ghost use Rattle.std.specs.Prelude.{◌≡◌, ◌<◌, ◌^◌, ◌++◌, ◌∷◌, [], true, false, List, ℕ, IfOk, OnOk};
+ghost use Rattle.std.specs.Prelude.{length, string_bytes};
 ghost use Rattle.rbc_track.specs.Plan.{Plan};
-ghost use Rattle.rbc_account.specs.Answers.{max_inputs};
-ghost use Rattle.ertms_codec.specs.Pieces.{texts_of};
-ghost use Rattle.rbc_account.specs.Sums.{no_sums};
 ghost use Rattle.rbc_account.specs.Telling.{LeavesUnread, Tells, TooFewFor};
-ghost use Rattle.rbc_picture.specs.Drawn.{HasTaken, IsPictureOf, IsPictureOfRun, lines_taken, shown};
+ghost use Rattle.rbc_picture.specs.Drawn.{AreTakenTo, HasTaken, IsPictureOf, IsPictureOfRun, lines_taken, shown};
 ghost use Rattle.rbc_picture.specs.Shown.{StandIn};
 
 use crate::plan::document_of;
 use crate::scene::{Scene, Sums};
 use crate::train_state::trains_of;
-use rbc_account::{Account, TellError, account_law, lines_of_batch, read_batch};
+use rbc_account::{Account, LineReader, TellError, account_law};
 use rbc_track::Track;
 use rbc_track_report::{NamedTrack, named_track};
 use std::alloc::{AllocError, Global};
 use std::io::Read;
 
-/// Draws the track with its trains, stops and restrictions after the first `after` inputs of a batch, or after all of
-/// them, as an SVG document. `text` is the track file, a TOML document. The batch is read from `input` to its end.
+/// Draws the track with its trains, stops and restrictions after the first `after` inputs, or after all of them, as an
+/// SVG document. `text` is the track file, a TOML document. The lines are read from `input` to its end, and those after
+/// the first `after` are only counted. The memory depends on the trains, stops and restrictions and on the longest line,
+/// not on the number of lines.
 ///
 /// These texts stand in the document, in this order. For each line its number; for each active stretch of a stop on it
 /// what it is and where; for each train that is placed on it where the train may be, and each stop and restriction that
@@ -29,76 +28,97 @@ use std::io::Read;
 ///
 /// # Errors
 ///
-/// `Track` if the text is not a track; then nothing is read. `Batch` if the batch cannot be read, is too long or has
-/// too many inputs, or memory was refused. `OnlyInputs` if it has fewer inputs than `after`.
+/// `Track` if the text is not a track; then nothing is read. `Read` if the lines cannot be read. `Memory`. `OnlyInputs`
+/// if there are fewer inputs than `after`. Never `Write`.
 pub fn picture<R: Read>(
     alloc: Global,
     text: &str,
     input: &mut R,
-    after: Option<u32>,
+    after: Option<u64>,
 ) -> Result<String, TellError>
     ensures tells { Tells (TooFewFor after) text.now (R.remaining input.old) (R.remaining input.new) result }
     ensures unread { LeavesUnread result input.old input.new }
     ensures drawn { IfOk result (λ svg. IsPictureOfRun text.now after (R.remaining input.old) (R.remaining input.new)
         (string_bytes svg)) }
 {
-    let account = Account::open(alloc, text)?;
-    let batch = read_batch(alloc, input)?;
-    let lines = lines_of_batch(alloc, &batch)?;
-    let Some(taken) = taken_of(lines.len(), after) else {
-        return Err(TellError::OnlyInputs { count: lines.len() });
-    };
-    let picture = drawn(alloc, text, account, &lines, taken)?;
+    let mut account = Account::open(alloc, text)?;
+    let count = take_lines(alloc, &mut account, input, after)?;
+    if is_below(count, after) {
+        return Err(TellError::OnlyInputs { count });
+    }
+    let picture = drawn(alloc, text, &account, count)?;
     Ok(picture)
 }
 
-/// How many inputs are taken, or `None` if there are fewer than `after`.
-fn taken_of(inputs: usize, after: Option<u32>) -> Option<usize>
-    ensures few { IfNone result (TooFewFor after inputs) }
-    ensures enough { OnSome result (¬ (TooFewFor after inputs)) }
-    ensures within { IfSome result (λ taken. taken ≤ inputs) }
-    ensures first { IfSome result (λ taken. (lines : List (List ℕ)) → length lines ≡ inputs
-        → take taken lines ≡ lines_taken after lines) }
+/// Whether there are fewer inputs than `after`.
+fn is_below(count: u64, after: Option<u64>) -> bool
+    ensures few { result ≡ true → TooFewFor after count }
+    ensures enough { result ≡ false → ¬ (TooFewFor after count) }
 {
     match after {
-        None => Some(inputs),
-        Some(after) if after as usize <= inputs => Some(after as usize),
-        Some(_) => None,
+        Some(after) => after > count,
+        None => false,
     }
 }
 
-/// Takes the first lines of a batch, as many as `taken`, and draws what stands after them. Fails also if the text is
-/// not the track of the account.
-fn drawn(
+/// Takes the first `after` lines of a reader, or all of them, and counts all.
+fn take_lines<R: Read>(
     alloc: Global,
-    text: &str,
-    account: Account,
-    lines: &[&[u8]],
-    taken: usize,
-) -> Result<String, AllocError>
-    requires empty { account.desk.records ≡ [] }
-    requires sums { account.sums ≡ no_sums }
-    requires few { length lines.now ≤ max_inputs }
-    requires within { taken ≤ length lines.now }
-    ensures { IfOk result (λ svg. IsPictureOf account.desk.track (take taken (texts_of lines.now))
-        (string_bytes svg)) }
+    account: &mut Account,
+    input: &mut R,
+    after: Option<u64>,
+) -> Result<u64, TellError>
+    ensures { (plan : Plan) → HasTaken plan account.old []
+        → AreTakenTo plan after account.new (R.remaining input.old) (R.remaining input.new) result }
+{
+    let mut lines = LineReader::new(alloc);
+    let mut count = 0;
+    while lines.advance(input)? {
+        pass_among(alloc, account, lines.line(), count, after)?;
+        count += 1;
+    }
+    Ok(count)
+}
+
+/// Takes a line behind this many, if it is among the first `after`.
+fn pass_among(
+    alloc: Global,
+    account: &mut Account,
+    line: &[u8],
+    count: u64,
+    after: Option<u64>,
+) -> Result<(), AllocError>
+    ensures { (plan : Plan) (lines : List (List ℕ)) → length lines ≡ count → HasTaken plan account.old (lines_taken after lines)
+        → OnOk result (HasTaken plan account.new (lines_taken after (lines ++ line.now ∷ []))) }
+{
+    if !is_taken(count, after) {
+        return Ok(());
+    }
+    pass(alloc, account, line)
+}
+
+/// Whether the line behind this many is among the first `after`.
+fn is_taken(count: u64, after: Option<u64>) -> bool
+    ensures taken { result ≡ true → (lines : List (List ℕ)) (line : List ℕ) → length lines ≡ count
+        → (lines_taken after lines ≡ lines) × (lines_taken after (lines ++ line ∷ []) ≡ lines ++ line ∷ []) }
+    ensures left { result ≡ false → (lines : List (List ℕ)) (line : List ℕ) → length lines ≡ count
+        → lines_taken after (lines ++ line ∷ []) ≡ lines_taken after lines }
+{
+    match after {
+        Some(after) => count < after,
+        None => true,
+    }
+}
+
+/// Draws what stands after the lines that an account has taken, out of this many. Fails also if the text is not the
+/// track of the account.
+fn drawn(alloc: Global, text: &str, account: &Account, count: u64) -> Result<String, AllocError>
+    ensures { (plan : Plan) (lines : List (List ℕ)) → HasTaken plan account.now lines → length lines < 2 ^ 64
+        → IfOk result (λ svg. IsPictureOf plan lines (string_bytes svg)) }
 {
     account_law();
-    let mut account = account;
-    pass_all(alloc, &mut account, &lines[..taken])?;
     let named = names_of(alloc, text, account.track())?;
-    picture_of(alloc, &account, &named, lines.len())
-}
-
-/// Takes lines.
-fn pass_all(alloc: Global, account: &mut Account, lines: &[&[u8]]) -> Result<(), AllocError>
-    ensures { (plan : Plan) → HasTaken plan account.old []
-        → OnOk result (HasTaken plan account.new (texts_of lines.now)) }
-{
-    for line in lines {
-        pass(alloc, account, line)?;
-    }
-    Ok(())
+    picture_of(alloc, account, &named, count as usize)
 }
 
 /// Takes a line.

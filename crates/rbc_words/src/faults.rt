@@ -31,11 +31,11 @@ pub const FAULTS: &[FaultRow] = &[
     FaultRow {
         line: "read fault",
         sentence: "Standard input could not be read to its end.",
-        to_do: "Run again. Nothing was written, but what `live` wrote stands.",
+        to_do: "Run again. What was written stands; `run` and `picture` wrote nothing.",
     },
     FaultRow {
         line: "batch too long",
-        sentence: "The batch has more than 16777216 bytes.",
+        sentence: "run: the batch has more than 16777216 bytes. Other commands take any number.",
         to_do: "Nothing was written. See docs/GUIDE.md, \"Limits\".",
     },
     FaultRow {
@@ -45,18 +45,18 @@ pub const FAULTS: &[FaultRow] = &[
     },
     FaultRow {
         line: "too many inputs",
-        sentence: "The batch has more than 100000 inputs.",
+        sentence: "run: the batch has more than 100000 inputs. Other commands take any number.",
         to_do: "Nothing was written. See docs/GUIDE.md, \"Limits\".",
     },
     FaultRow {
         line: "only N inputs",
-        sentence: "explain --from and picture --after: the batch has fewer inputs than this number.",
+        sentence: "explain --from and picture --after: there are fewer inputs than this number.",
         to_do: "Nothing was written. Take a smaller number.",
     },
     FaultRow {
         line: "out of memory",
         sentence: "Memory was refused.",
-        to_do: "Run again with more memory. Nothing was written, but what `live` wrote stands.",
+        to_do: "Run again with more memory. What was written stands; `run` and `picture` wrote nothing.",
     },
     FaultRow {
         line: "out of memory after N inputs",

@@ -1,4 +1,4 @@
-use Rattle.rbc_dispatch.proofs.Forms.{after_all_by_default, alarms_of_live, alarms_of_run, as_many_as_named, begin_at_one_by_default, from_one_by_default, long_if_asked, no_figures_by_default, not_by_train_by_default, one_by_default, one_line_by_default}
+use Rattle.rbc_dispatch.proofs.Forms.{after_all_by_default, alarms_of_live, alarms_of_run, as_many_as_named, begin_at_one_by_default, from_one_by_default, long_if_asked, one_by_default, one_line_by_default}
 use Rattle.rbc_dispatch.proofs.law.forms_law.Goals as goal
 
 pub returns-clause-one : goal.returns-clause-one
@@ -6,12 +6,6 @@ returns-clause-one c = one_by_default
 
 pub returns-clause-named : goal.returns-clause-named
 returns-clause-named c = as_many_as_named
-
-pub returns-clause-unasked : goal.returns-clause-unasked
-returns-clause-unasked c = no_figures_by_default
-
-pub returns-clause-unshared : goal.returns-clause-unshared
-returns-clause-unshared c = not_by_train_by_default
 
 pub returns-clause-first : goal.returns-clause-first
 returns-clause-first c = from_one_by_default

@@ -1,13 +1,14 @@
 use Rattle.std.proofs.Common.{ℕ, List}
-use Rattle.rbc_explain.specs.AccountTelling.{TooFewFor}
-use Rattle.rbc_dispatch.specs.Showing.{IsPictureAfter}
-use Rattle.rbc_dispatch.proofs.Untold.{kept, not_told}
+use Rattle.rbc_dispatch.proofs.NotTold.{kept_undrawn, not_drawn, untouched}
 use Rattle.rbc_dispatch.proofs.picture.picture_text.Goals as goal
 
--- why there is no text is handed on
+-- why there is no picture is handed on
 
-pub returns-in_err-drawing-clause-shows : goal.returns-in_err-drawing-clause-shows
-returns-in_err-drawing-clause-shows g c = not_told (List ℕ) (TooFewFor c.args.after) (IsPictureAfter c.args.after) c.args.text.now _ _ _ _ c.in_err-drawing.field-0.0 c.from_residual.ensures.1 c.in_err-drawing.ensures.tells
+pub returns-in_err-drawing-clause-draws : goal.returns-in_err-drawing-clause-draws
+returns-in_err-drawing-clause-draws g c = not_drawn (List ℕ) c.args.text.now c.args.after _ _ _ _ _ c.in_err-drawing.field-0.0 c.from_residual.ensures.1 c.in_err-drawing.ensures.tells
 
 pub returns-in_err-drawing-clause-keeps : goal.returns-in_err-drawing-clause-keeps
-returns-in_err-drawing-clause-keeps g c = kept (List ℕ) _ _ _ _ c.in_err-drawing.field-0.0 c.from_residual.ensures.1 c.in_err-drawing.ensures.unread
+returns-in_err-drawing-clause-keeps g c = kept_undrawn (List ℕ) _ _ _ _ c.in_err-drawing.field-0.0 c.from_residual.ensures.1 c.in_err-drawing.ensures.unread
+
+pub returns-in_err-drawing-clause-untouched : goal.returns-in_err-drawing-clause-untouched
+returns-in_err-drawing-clause-untouched g c = untouched _ _ c.in_err-drawing.field-0.0 c.from_residual.ensures.1

@@ -1,5 +1,5 @@
 use Rattle.std.proofs.Common.{refl}
-use Rattle.rbc_account.specs.History.{Taken}
+use Rattle.rbc_live.specs.History.{Taken}
 use Rattle.rbc_picture.proofs.Taking.{takes_one}
 use Rattle.rbc_picture.proofs.batch_picture.pass.Goals as goal
 

@@ -1,0 +1,86 @@
+-- What comes of explaining lines.
+use Rattle.std.proofs.Common.{◌≡◌, ◌⊎◌, ℕ, false, List, [], Option, Some, None, Result, Ok, Err, inl, inr, refl, sym, subst, arith}
+use Rattle.std.specs.Prelude.{IsErrAnd}
+use Rattle.std.proofs.KnownBytes.{Appends-nil, Consumes-nil}
+use Rattle.rbc_track.specs.Plan.{Plan}
+use Rattle.rbc_track.specs.Reading.{IsTrackOf, RefusesTrack}
+use Rattle.rbc_track.specs.declared.error.TrackError.{TrackError}
+use Rattle.rbc_track.specs.declared.error.TrackError.TheVariants as track
+use Rattle.rbc_account.specs.declared.account.Account.{Account}
+use Rattle.rbc_account.specs.declared.fault.TellError.{TellError}
+use Rattle.rbc_account.specs.declared.fault.TellError.TheVariants.{Track, Read, Memory, OnlyInputs, Write, ReaderGone}
+use Rattle.rbc_account.specs.declared.log_form.LogWanted.{LogWanted}
+use Rattle.rbc_account.specs.RunLogs.{IsLogSoFar, IsOpenLog, IsWholeLog, IsWithin}
+use Rattle.rbc_account.specs.Runs.{EachAccountIsTrue}
+use Rattle.rbc_account.specs.Sums.{no_sums}
+use Rattle.rbc_account.specs.Telling.{ArePartTold, TellsLines}
+use Rattle.rbc_explain.specs.Log.{Explains, IsLogOf, IsPartExplained, IsInWords}
+use Rattle.rbc_explain.proofs.InWords.{log_so_far, whole_log}
+
+-- no input is within any number
+none_within : (to : Option ℕ) → IsWithin to 0
+none_within None = tt
+none_within (Some to) = omega arith
+
+module _ (text : List ℕ) (wanted : LogWanted) (start : Account) (read_old read_new old new : Option (List ℕ)) (law : EachAccountIsTrue) (is : IsTrackOf text start.desk.track)
+    (empty : start.desk.records ≡ []) (none : start.sums ≡ no_sums) where
+  -- a log of some first lines, whole or not
+  either : (lines : List (List ℕ)) (log : List ℕ) → (IsOpenLog IsInWords wanted start lines log ⊎ IsWholeLog IsInWords wanted start lines log) → IsLogOf start.desk.track wanted lines log
+  either lines log (inl open_log) = (log_so_far start.desk.track wanted start lines open_log.0 open_log.1 log law refl empty none open_log.2).told
+  either lines log (inr whole) = (whole_log start.desk.track wanted start lines log law refl empty none whole).told
+
+  part_told : (sent : ℕ) → ArePartTold IsInWords wanted start read_old read_new old new sent → IsPartExplained text wanted read_old read_new old new sent
+  part_told sent tells = (start.desk.track, is, (tells.0, tells.1, tells.2, tells.3, tells.4, tells.5, either tells.2 tells.1 tells.6, tells.7))
+
+  -- lines that are told in words are explained
+  pub explained : {T : Type 0} (r : Result T TellError) → TellsLines IsInWords wanted start read_old read_new old new r → Explains text wanted read_old read_new old new r
+  explained (Ok done) tells =
+      (start.desk.track, is, (tells.0, tells.1, tells.2, whole_log start.desk.track wanted start tells.0 tells.1 law refl empty none tells.3, tells.4))
+  explained (Err (Track error)) tells = absurd tells
+  explained (Err Read) tells =
+      (start.desk.track, is, (tells.0, tells.1, tells.2, (log_so_far start.desk.track wanted start _ tells.3.0 tells.3.1 tells.1 law refl empty none tells.3.2).told, tells.4))
+  explained (Err Memory) tells = (
+    start.desk.track,
+    is,
+    (
+      tells.0,
+      tells.1,
+      tells.2,
+      tells.3,
+      tells.4,
+      tells.5,
+      (log_so_far start.desk.track wanted start tells.2 tells.6.0 tells.6.1 tells.1 law refl empty none tells.6.2).told,
+      tells.7,
+    ),
+  )
+  explained (Err (OnlyInputs count)) tells = tells
+  explained (Err (Write sent)) tells = part_told sent tells
+  explained (Err (ReaderGone sent)) tells = part_told sent tells
+
+  -- memory was refused before any line was read
+  pub refused_at_first : {T : Type 0} (r : Result T TellError) → IsErrAnd r (λ fault. fault ≡ Memory) → read_new ≡ read_old → new ≡ old → Explains text wanted read_old read_new old new r
+  refused_at_first (Ok done) bad unread unwritten = absurd bad
+  refused_at_first {T} (Err fault) same unread unwritten =
+      let begun : IsLogSoFar IsInWords wanted start [] start false [] = record {
+        head = [];
+        blocks = [];
+        all = refl;
+        begun = (refl, refl);
+        told = (refl, refl);
+        few = omega arith;
+        within = none_within wanted.to;
+      } in
+      subst (λ (f : TellError). Explains {T = T} text wanted read_old read_new old new (Err f)) (sym same)
+      (subst (λ (o : Option (List ℕ)). Explains {T = T} text wanted read_old o old new (Err Memory)) (sym unread)
+      (subst (λ (o : Option (List ℕ)). Explains {T = T} text wanted read_old read_old old o (Err Memory)) (sym unwritten) (
+        start.desk.track,
+        is,
+        ([], [], [], [], Consumes-nil read_old, refl, (log_so_far start.desk.track wanted start [] start false [] law refl empty none begun).told, Appends-nil old),
+      )))
+
+-- the track is refused
+pub track_refused : {T : Type 0} (text : List ℕ) (wanted : LogWanted) (read_old read_new old new : Option (List ℕ)) (r : Result T TellError) (error : TrackError)
+    → IsErrAnd r (λ fault. fault ≡ Track error) → (error ≡ track.OutOfMemory) ⊎ RefusesTrack text error → Explains text wanted read_old read_new old new r
+track_refused text wanted read_old read_new old new (Ok done) error bad refused = absurd bad
+track_refused {T} text wanted read_old read_new old new (Err fault) error same refused =
+    subst (λ (f : TellError). Explains {T = T} text wanted read_old read_new old new (Err f)) (sym same) refused
