@@ -1,12 +1,17 @@
 -- What comes of a task, by what was asked for.
 use Rattle.std.proofs.Common.{◌≡◌, ◌⊎◌, ◌++◌, refl, inl, inr, subst, sym, ◌∙◌, ℕ, Bool, true, false, List, [], ◌∷◌, Option, Some, None, Result, Ok, Err}
 use Rattle.std.specs.List.{flat_map}
+use denote.Ref.{Bor}
 use Rattle.clap.specs.Walk.{Text}
+use Rattle.rbc_picture.specs.declared.selection.LinePart.{LinePart}
+use Rattle.rbc_picture.specs.declared.selection.Selection.{Selection}
+use Rattle.rbc_picture.specs.declared.selection.Selection.TheVariants as selection
 use Rattle.rbc_dispatch.specs.Doing.{Announces, Does, LeavesErrors}
 use Rattle.rbc_dispatch.specs.Filtering.{EncodesLines, EncodesTextOn}
 use Rattle.rbc_dispatch.specs.Running.{Runs}
+use Rattle.rbc_dispatch.specs.Showing.{DrawsPicture}
 use Rattle.rbc_dispatch.specs.TextWords.{spaced, spaced_text, texts_in}
-use Rattle.rbc_dispatch.specs.Words.{Asked, Asks, DoNotFit, Run, Live, Explain, Picture, Check, Encode, Decode, DecodeLines, Codes, Page}
+use Rattle.rbc_dispatch.specs.Words.{Asked, Asks, Chosen, IsSelected, All, Busy, Lines, Train, DoNotFit, Run, Live, Explain, Picture, Check, Encode, Decode, DecodeLines, Codes, Page}
 use Rattle.rbc_dispatch.specs.declared.encode.Next.TheVariants.{Word}
 use Rattle.rbc_dispatch.specs.declared.fault.Fault.{Fault}
 use Rattle.rbc_dispatch.specs.declared.fault.Fault.TheVariants.{OutOfMemory}
@@ -14,12 +19,21 @@ use Rattle.rbc_dispatch.proofs.Sending.{says_nothing}
 
 -- ---- memory runs out over the words, and nothing is read or written
 
+-- what holds of each selection holds of the one that is made
+is_selected : (chosen : Chosen) (P : Selection → Type 0) → ((one : Selection) → P one) → IsSelected chosen P
+is_selected All P holds = holds selection.All
+is_selected Busy P holds = holds selection.Busy
+is_selected (Lines lines) P holds =
+    let parts : Bor (List LinePart) = record { ref_ptr = (0, 0); now = lines } in (parts, refl, holds (selection.Lines parts))
+is_selected (Train engine) P holds = holds (selection.Train engine)
+
 pub does_nothing : (E : Type 0) {I O : Type 0} (asked : Asked) (read old : Option (List ℕ)) (input : I) (output : O)
     → Does {E = E} asked read read old old input input output output (Err OutOfMemory)
 does_nothing E (Run file workers by_train stats alarms) read old input output = (inr (inr refl), (refl, refl))
 does_nothing E (Live file wanted) read old input output = (inr (inr refl), (refl, refl))
 does_nothing E (Explain file wanted) read old input output = (inr (inr refl), (refl, refl))
-does_nothing E (Picture file after) read old input output = (inr (inr refl), (refl, refl), refl)
+does_nothing E (Picture file after chosen) read old input output =
+    (is_selected chosen (λ one. DrawsPicture {E = E} after one read read old old (Err OutOfMemory)) (λ one. inr (inr refl)), (refl, refl), refl)
 does_nothing E (Check file other) read old input output = (refl, inr (inr refl), refl)
 does_nothing E (Encode file []) read old input output = inr (inr refl)
 does_nothing E (Encode file (space ∷ text)) read old input output = (refl, inl tt)
@@ -40,7 +54,7 @@ leaves_errors (Run file workers by_train true true) at_terminal notice errors he
 leaves_errors (Run file workers by_train false true) at_terminal notice errors held = announces_nothing at_terminal notice errors held
 leaves_errors (Live file wanted) at_terminal notice errors held = announces_nothing at_terminal notice errors held
 leaves_errors (Explain file wanted) at_terminal notice errors held = announces_nothing at_terminal notice errors held
-leaves_errors (Picture file after) at_terminal notice errors held = refl
+leaves_errors (Picture file after chosen) at_terminal notice errors held = refl
 leaves_errors (Check file other) at_terminal notice errors held = refl
 leaves_errors (Encode file text) at_terminal notice errors held = refl
 leaves_errors (Decode word long) at_terminal notice errors held = refl

@@ -22,7 +22,7 @@ use Rattle.clap.proofs.WalkLemmas.{byte_read}
 use Rattle.rbc_dispatch.specs.Forms.{AfterAllByDefault, AlarmsOfLive, AlarmsOfRun, AsManyAsNamed, BeginAtOneByDefault, FromOneByDefault, LongIfAsked, OneByDefault, OneLineByDefault, WritesByte}
 use Rattle.rbc_account.specs.declared.log_form.LogParts.TheVariants as parts
 use Rattle.rbc_dispatch.specs.CommandLine.{alarms_rule, by_train_rule, check_shape, codes_shape, command_line, decode_shape, encode_shape, explain_shape, live_shape, picture_shape, stats_rule, track_rule, workers_rule}
-use Rattle.rbc_dispatch.specs.Words.{Asked, Asks, Run, Live, Explain, Picture, Decode, asked_in, byte_of, finding_in, flag_of, live_asked, run_asked}
+use Rattle.rbc_dispatch.specs.Words.{Asked, Asks, All, Run, Live, Explain, Picture, Decode, asked_in, byte_of, finding_in, flag_of, live_asked, run_asked}
 use Rattle.rbc_dispatch.specs.Pages.{topic_in}
 use Rattle.rbc_dispatch.proofs.Findings.{explain_by, found_after, live_by, picture_by, run_by}
 
@@ -161,7 +161,7 @@ module _ (c : ℕ) (rest : Text) (plain : (c == 45) ≡ false) where
     is = explain_by (codes "explain" ∷ track_alone) (explain_leaves (codes "--track") (c ∷ rest) track_pending (simp plain)) refl;
   }
 
-  picture_alone : Asks (Picture (c ∷ rest) None) (codes "picture" ∷ track_alone)
+  picture_alone : Asks (Picture (c ∷ rest) None All) (codes "picture" ∷ track_alone)
   unfolding clap_on_literals
   picture_alone = record {
     taken = picture_takes (codes "--track") (c ∷ rest) (simp plain) track_pending (simp plain) refl;

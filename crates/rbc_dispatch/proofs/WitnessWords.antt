@@ -8,7 +8,7 @@ use Rattle.rbc_account.specs.declared.log_form.LogParts.{LogParts}
 use Rattle.rbc_account.specs.declared.log_form.LogParts.TheVariants as parts
 use Rattle.rbc_dispatch.specs.declared.pages.Topic.TheVariants as topic
 use Rattle.rbc_dispatch.specs.Witnesses.{AskFor, AskForNothing, AskForRun, AskFrom, AskToDraw, AskToExplain, on_track}
-use Rattle.rbc_dispatch.specs.Words.{Asked, Asks, Run, Live, Explain, Picture, Check, Encode, Decode, DecodeLines, Codes, DoNotFit, Page}
+use Rattle.rbc_dispatch.specs.Words.{Asked, Asks, Chosen, All, Busy, Lines, Train, Run, Live, Explain, Picture, Check, Encode, Decode, DecodeLines, Codes, DoNotFit, Page, whole_line}
 
 -- words with a fault ask for nothing
 faulty : (found : Kinds) (fault : ErrorKind) → found ≡ fault ∷ [] → found ≡ [] → ⊥
@@ -166,11 +166,11 @@ pub all_for_the_end : AskToExplain 1 None parts.All (codes "--end" ∷ []) → �
 unfolding clap_on_literals
 all_for_the_end is = other_parts (ap parts_of is.is)
 
-pub at_first : AskToDraw (Some 0) (codes "--after" ∷ codes "0" ∷ [])
+pub at_first : AskToDraw (Some 0) All (codes "--after" ∷ codes "0" ∷ [])
 unfolding clap_on_literals
 at_first = record { taken = refl; is = refl }
 
-pub at_last : AskToDraw (Some 18446744073709551615) (codes "--after" ∷ codes "18446744073709551615" ∷ [])
+pub at_last : AskToDraw (Some 18446744073709551615) All (codes "--after" ∷ codes "18446744073709551615" ∷ [])
 unfolding clap_on_literals
 at_last = record { taken = refl; is = refl }
 
@@ -178,9 +178,41 @@ pub before_first : AskForNothing (on_track (codes "picture") (codes "--after" �
 unfolding clap_on_literals
 before_first asked is = faulty _ kind.UnknownArgument refl is.taken
 
-pub all_for_the_first : AskToDraw None (codes "--after" ∷ codes "0" ∷ []) → ⊥
+pub all_for_the_first : AskToDraw None All (codes "--after" ∷ codes "0" ∷ []) → ⊥
 unfolding clap_on_literals
 all_for_the_first is = let same = is.is in cc
+
+pub two_lines : AskToDraw None (Lines (whole_line 3 ∷ whole_line 0 ∷ [])) (codes "--line" ∷ codes "3" ∷ codes "--line" ∷ codes "0" ∷ [])
+unfolding clap_on_literals
+two_lines = record { taken = refl; is = refl }
+
+pub part : AskToDraw None (Lines (record { line = 2; part = Some (84000, 175000) } ∷ [])) (codes "--line" ∷ codes "2" ∷ codes "--km" ∷ codes "8.4-17.5" ∷ [])
+unfolding clap_on_literals
+part = record { taken = refl; is = refl }
+
+pub falling : DoNotFit (on_track (codes "picture") (codes "--line" ∷ codes "2" ∷ codes "--km" ∷ codes "9-8.5" ∷ []))
+unfolding clap_on_literals
+falling = record { taken = refl; none = refl }
+
+pub no_line : DoNotFit (on_track (codes "picture") (codes "--km" ∷ codes "8-9" ∷ []))
+unfolding clap_on_literals
+no_line = record { taken = refl; none = refl }
+
+pub train : AskToDraw None (Train 7) (codes "--train" ∷ codes "7" ∷ [])
+unfolding clap_on_literals
+train = record { taken = refl; is = refl }
+
+pub busy : AskToDraw None Busy (codes "--busy" ∷ [])
+unfolding clap_on_literals
+busy = record { taken = refl; is = refl }
+
+pub busy_train : DoNotFit (on_track (codes "picture") (codes "--busy" ∷ codes "--train" ∷ codes "7" ∷ []))
+unfolding clap_on_literals
+busy_train = record { taken = refl; none = refl }
+
+pub all_for_a_train : AskToDraw None All (codes "--train" ∷ codes "7" ∷ []) → ⊥
+unfolding clap_on_literals
+all_for_a_train is = let same = is.is in cc
 
 pub all_codes : Asks (Codes None) (codes "codes" ∷ [])
 unfolding clap_on_literals

@@ -3,7 +3,7 @@ use Rattle.std.specs.Prelude.{[], ◌∷◌, Some, pos, true, codes}
 use Rattle.clap.specs.Lexer.{usize_max}
 use Rattle.clap.specs.Simple.{App, Shape, new_app, new_rule, on_top, with_rule, with_subcommand}
 use Rattle.clap.specs.Walk.{Rule, Text}
-use Rattle.clap.specs.declared.builder.action.ArgAction.TheVariants.{SetTrue}
+use Rattle.clap.specs.declared.builder.action.ArgAction.TheVariants.{Append, SetTrue}
 use Rattle.clap.specs.declared.builder.value_parser.ValueParser.TheVariants as vp
 
 -- a flag of this name
@@ -87,9 +87,34 @@ after_rule = record (new_rule (codes "after")) {
   parser = Some (vp.Unsigned 0 18446744073709551615);
 }
 
--- `picture`, with its two options
+-- the option that names a line to draw, which may come several times
+abbrev pub line_rule : Rule
+line_rule = record (new_rule (codes "line")) {
+  long = Some (codes "line");
+  value_names = 1;
+  action = Some Append;
+  parser = Some (vp.Signed (pos 0) (pos 4294967295));
+}
+
+-- the option that names the part of the line
+abbrev pub km_rule : Rule
+km_rule = record (new_rule (codes "km")) { long = Some (codes "km"); value_names = 1 }
+
+-- the option that names a train, whose part of its line is drawn
+abbrev pub train_rule : Rule
+train_rule = record (new_rule (codes "train")) {
+  long = Some (codes "train");
+  value_names = 1;
+  parser = Some (vp.Signed (pos 0) (pos 16777215));
+}
+
+-- the flag that leaves lines out on which nothing is
+abbrev pub busy_rule : Rule
+busy_rule = flag_rule (codes "busy")
+
+-- `picture`, with its six options
 abbrev pub picture_shape : Shape
-picture_shape = (with_rule (with_rule (new_app (codes "picture")) track_rule) after_rule).top
+picture_shape = (with_rule (with_rule (with_rule (with_rule (with_rule (with_rule (new_app (codes "picture")) track_rule) after_rule) line_rule) km_rule) train_rule) busy_rule).top
 
 -- the option by which unknown keys are notes
 abbrev pub other_keys_rule : Rule

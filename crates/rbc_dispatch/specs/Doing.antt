@@ -8,7 +8,7 @@ use Rattle.rbc_dispatch.specs.Running.{Keeps, Runs}
 use Rattle.rbc_dispatch.specs.Showing.{DrawsPicture, TellsLog}
 use Rattle.rbc_dispatch.specs.Telling.{TellsCodes}
 use Rattle.rbc_dispatch.specs.Terminal.{SaysOnly}
-use Rattle.rbc_dispatch.specs.Words.{Asked, Run, Live, Explain, Picture, Check, Encode, Decode, DecodeLines, Codes, Page}
+use Rattle.rbc_dispatch.specs.Words.{Asked, Run, Live, Explain, Picture, Check, Encode, Decode, DecodeLines, Codes, Page, IsSelected}
 use Rattle.rbc_dispatch.specs.declared.fault.Fault.{Fault}
 
 -- What comes of a task, by what the reader had left before and has left after, what was written before and is after, and both streams before and
@@ -17,8 +17,9 @@ abbrev pub Does : {E I O : Type 0} → Asked → Option (List ℕ) → Option (L
 Does {E = E} (Run file workers by_train stats alarms) read_old read_new old new i j o p r = Runs {E = E} workers alarms read_old read_new old new r × Keeps {E = E} r i j o p
 Does {E = E} (Live file wanted) read_old read_new old new i j o p r = Lives {E = E} wanted read_old read_new old new r × Keeps {E = E} r i j o p
 Does {E = E} (Explain file wanted) read_old read_new old new i j o p r = TellsLog {E = E} wanted read_old read_new old new r × Keeps {E = E} r i j o p
-Does {E = E} (Picture file after) read_old read_new old new i j o p r =
-    DrawsPicture {E = E} after read_old read_new old new r × Keeps {E = E} r i j o p × IsUntouched {E = E} r o p
+Does {E = E} (Picture file after chosen) read_old read_new old new i j o p r =
+    IsSelected chosen (λ selection. DrawsPicture {E = E} after selection read_old read_new old new r) × Keeps {E = E} r i j o p
+    × IsUntouched {E = E} r o p
 Does {E = E} (Check file other) read_old read_new old new i j o p r = (j ≡ i) × Checks {E = E} r × IsUnreported {E = E} r o p
 Does {E = E} (Encode file []) read_old read_new old new i j o p r = EncodesLines {E = E} file read_old read_new old new r
 Does {E = E} (Encode file (space ∷ text)) read_old read_new old new i j o p r = (j ≡ i) × EncodesTextOn {E = E} file text old new r

@@ -13,6 +13,8 @@ use Rattle.hex.specs.declared.error.FromHexError.{FromHexError}
 use Rattle.hex.specs.declared.error.FromHexError.TheVariants as hex
 use Rattle.rbc_account.specs.declared.fault.TellError.{TellError}
 use Rattle.rbc_account.specs.declared.fault.TellError.TheVariants as telling
+use Rattle.rbc_picture.specs.declared.fault.DrawError.{DrawError}
+use Rattle.rbc_picture.specs.declared.fault.DrawError.TheVariants as drawing
 use Rattle.rbc_batch.specs.Process.{fault_text}
 use Rattle.rbc_live.specs.Answers as prompt
 use Rattle.rbc_track.specs.Plan.{name_of as name_of_track}
@@ -20,7 +22,7 @@ use Rattle.rbc_words.specs.FaultTexts.{line_fault_text}
 use Rattle.rbc_words.specs.Units.{count_text}
 use Rattle.rbc_words.specs.declared.filter.FilterError.TheVariants as filter
 use Rattle.rbc_dispatch.specs.declared.fault.Fault.{Fault}
-use Rattle.rbc_dispatch.specs.declared.fault.Fault.TheVariants.{Batch, Tell, Live, Lines, Text, BadHex, Decode, Write, ReaderGone, OutOfMemory, Track, TrackUnreadable, TrackWarnings}
+use Rattle.rbc_dispatch.specs.declared.fault.Fault.TheVariants.{Batch, Tell, Draw, Live, Lines, Text, BadHex, Decode, Write, ReaderGone, OutOfMemory, Track, TrackUnreadable, TrackWarnings}
 
 -- the line of a fault, without its line feed: of a run that is not told
 abbrev pub telling_text : TellError → List ℕ
@@ -31,10 +33,18 @@ telling_text (telling.OnlyInputs count) = codes "only " ++ count_text count (cod
 telling_text (telling.Write sent) = codes "write fault after " ++ decimal sent ++ codes " bytes"
 telling_text (telling.ReaderGone sent) = codes "reader gone after " ++ decimal sent ++ codes " bytes"
 
+-- of a picture that is not drawn
+abbrev pub drawing_text : DrawError → List ℕ
+drawing_text (drawing.Tell error) = telling_text error
+drawing_text (drawing.NoLine line) = codes "picture: no line " ++ decimal line
+drawing_text (drawing.BeyondLine line) = codes "picture: the part is not on line " ++ decimal line
+drawing_text (drawing.NoTrain engine) = codes "picture: no train " ++ decimal engine
+
 -- and of any other
 abbrev pub line_of : Fault → List ℕ
 line_of (Batch error) = fault_text error
 line_of (Tell error) = telling_text error
+line_of (Draw error) = drawing_text error
 line_of (Live error) = prompt.fault_text error
 line_of (Lines (filter.Line number fault)) = codes "encode: line " ++ decimal number ++ line_fault_text fault
 line_of (Lines filter.Read) = codes "read fault"

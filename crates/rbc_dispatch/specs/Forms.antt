@@ -4,7 +4,7 @@ use Rattle.std.specs.List.{AllByRecursion}
 use Rattle.std.specs.Str.Parse.{IsNumeral, digits_value}
 use Rattle.clap.specs.Walk.{Text}
 use Rattle.rbc_account.specs.declared.log_form.LogParts.TheVariants as parts
-use Rattle.rbc_dispatch.specs.Words.{Asks, Run, Live, Explain, Picture, Decode}
+use Rattle.rbc_dispatch.specs.Words.{Asks, All, Run, Live, Explain, Picture, Decode}
 
 -- the word has a first byte, which is no hyphen
 abbrev pub IsPlain : Text → Type 0
@@ -36,9 +36,9 @@ abbrev pub BeginAtOneByDefault : Type 0
 BeginAtOneByDefault = (file : Text) → IsPlain file
     → Asks (Explain file (record { from = 1; to = None; parts = parts.All })) (codes "explain" ∷ codes "--track" ∷ file ∷ [])
 
--- without a number the picture is drawn after all inputs
+-- without more words the whole track is drawn after all inputs
 abbrev pub AfterAllByDefault : Type 0
-AfterAllByDefault = (file : Text) → IsPlain file → Asks (Picture file None) (codes "picture" ∷ codes "--track" ∷ file ∷ [])
+AfterAllByDefault = (file : Text) → IsPlain file → Asks (Picture file None All) (codes "picture" ∷ codes "--track" ∷ file ∷ [])
 
 -- with a number there are as many workers, and all else is as without it
 abbrev pub AsManyAsNamed : Type 0

@@ -8,6 +8,7 @@ pub mod Fault
 pub mod Figures
 pub mod Filtering
 pub mod Forms
+pub mod Kilometres
 pub mod Living
 pub mod Long
 pub mod Meanings

@@ -8,8 +8,9 @@ use Rattle.rbc_track.specs.Reading.{IsTrackOf, RefusesTrack}
 use Rattle.rbc_track.specs.declared.error.TrackError.{TrackError}
 use Rattle.rbc_track.specs.declared.error.TrackError.TheVariants as track
 use Rattle.rbc_dispatch.specs.declared.fault.Fault.{Fault}
-use Rattle.rbc_dispatch.specs.declared.fault.Fault.TheVariants.{Batch, Tell, Live, Lines, Write, ReaderGone, OutOfMemory, Track, TrackUnreadable}
+use Rattle.rbc_dispatch.specs.declared.fault.Fault.TheVariants.{Batch, Tell, Draw, Live, Lines, Write, ReaderGone, OutOfMemory, Track, TrackUnreadable}
 use Rattle.rbc_account.specs.Telling.{LeavesUnread}
+use Rattle.rbc_picture.specs.NotDrawn.{StaysUnread}
 
 -- the batch is answered by this many workers, with its alarms or without; the counts of the run are not described
 abbrev pub AnswersBatch : Plan → ℕ → Bool → Option (List ℕ) → Option (List ℕ) → Option (List ℕ) → Option (List ℕ) → Result (Unit {0}) ProcessError → Type 0
@@ -50,6 +51,7 @@ abbrev pub Keeps : {E I O : Type 0} → Result E Fault → I → I → O → O �
 Keeps (Ok done) read_old read_new old new = ⊤
 Keeps {E = E} (Err (Batch error)) read_old read_new old new = IsUnwritten {E = E} (Err error) old new
 Keeps {E = E} (Err (Tell error)) read_old read_new old new = LeavesUnread {T = E} (Err error) read_old read_new × LeavesUnread {T = E} (Err error) old new
+Keeps {E = E} (Err (Draw error)) read_old read_new old new = StaysUnread {T = E} (Err error) read_old read_new × (new ≡ old)
 Keeps (Err (Live error)) read_old read_new old new = ⊤
 Keeps (Err (Write sent)) read_old read_new old new = ⊤
 Keeps (Err (ReaderGone sent)) read_old read_new old new = ⊤

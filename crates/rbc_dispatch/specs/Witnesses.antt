@@ -2,7 +2,7 @@
 use Rattle.std.specs.Prelude.{ℕ, Bool, false, List, Option, ◌∷◌, codes}
 use Rattle.clap.specs.Walk.{Text}
 use Rattle.rbc_account.specs.declared.log_form.LogParts.{LogParts}
-use Rattle.rbc_dispatch.specs.Words.{Asked, Asks, Explain, Live, Picture, Run}
+use Rattle.rbc_dispatch.specs.Words.{Asked, Asks, Chosen, Explain, Live, Picture, Run}
 
 -- a command with the track, and more words
 abbrev pub on_track : Text → List Text → List Text
@@ -28,6 +28,6 @@ AskFrom from alarms more = Asks (Live (codes "t") (record { from = from; alarms 
 abbrev pub AskToExplain : ℕ → Option ℕ → LogParts → List Text → Type 0
 AskToExplain from to parts more = Asks (Explain (codes "t") (record { from = from; to = to; parts = parts })) (on_track (codes "explain") more)
 
--- after `picture`: the picture after this many inputs
-abbrev pub AskToDraw : Option ℕ → List Text → Type 0
-AskToDraw after more = Asks (Picture (codes "t") after) (on_track (codes "picture") more)
+-- after `picture`: this part of the track, after this many inputs
+abbrev pub AskToDraw : Option ℕ → Chosen → List Text → Type 0
+AskToDraw after chosen more = Asks (Picture (codes "t") after chosen) (on_track (codes "picture") more)

@@ -1,19 +1,24 @@
 -- What the words ask for.
-use Rattle.std.specs.Prelude.{◌≡◌, ℕ, Bool, List, [], Option, Some, None, Result, Ok, Err, MatchResult, option_and_then, option_map, map, string_bytes, unwrap_or, is_some, if◌then◌else◌, ◌&&◌, nat_lt, length, true, false, codes}
+use Rattle.std.specs.Prelude.{◌≡◌, ⊤, ℕ, Bool, List, [], ◌∷◌, Option, Some, None, Result, Ok, Err, MatchResult, option_and_then, option_map, map, filter_map, string_bytes, unwrap_or, is_some, if◌then◌else◌, ◌&&◌, nat_lt, length, true, false, codes}
 use Rattle.std.specs.Option.{option_map_or}
 use Rattle.std.specs.List.{list_all}
 use Rattle.std.specs.Char.{digit_value}
 use Rattle.std.specs.Str.Parse.{digits_value, without_leading_plus}
 use Rattle.std.specs.Str.{bytes_eq}
 use Rattle.clap.specs.Simple.{subcommand_of}
-use Rattle.clap.specs.Walk.{Row, Text, byte_or_zero, first_of, one_of}
+use Rattle.clap.specs.Walk.{Row, Text, all_of, byte_or_zero, first_of, one_of}
 use Rattle.clap.specs.Words.{fault_of}
 use Rattle.clap.specs.Kinds.{Kinds}
 use Rattle.rbc_account.specs.declared.log_form.LogParts.{LogParts}
 use Rattle.rbc_account.specs.declared.log_form.LogParts.TheVariants as parts
 use Rattle.rbc_account.specs.declared.log_form.LogWanted.{LogWanted}
 use Rattle.rbc_live.specs.declared.wanted.Wanted.{Wanted}
+use denote.Ref.{Bor}
+use Rattle.rbc_picture.specs.declared.selection.LinePart.{LinePart}
+use Rattle.rbc_picture.specs.declared.selection.Selection.{Selection}
+use Rattle.rbc_picture.specs.declared.selection.Selection.TheVariants as selection
 use Rattle.rbc_dispatch.specs.CommandLine.{command_line}
+use Rattle.rbc_dispatch.specs.Kilometres.{part_of}
 use Rattle.rbc_dispatch.specs.Pages.{topic_in}
 use Rattle.rbc_dispatch.specs.TextWords.{spaced_text}
 use Rattle.rbc_dispatch.specs.declared.misuse.Misuse.{Misuse}
@@ -21,8 +26,17 @@ use Rattle.rbc_dispatch.specs.declared.misuse.Misuse.TheVariants as misuse
 use Rattle.rbc_dispatch.specs.declared.pages.Topic.{Topic}
 use Rattle.rbc_dispatch.specs.declared.no_task.NoTask.{NoTask}
 use Rattle.rbc_dispatch.specs.declared.no_task.NoTask.TheVariants.{OutOfMemory}
+use Rattle.rbc_dispatch.specs.declared.words.Choice.{Choice}
+use Rattle.rbc_dispatch.specs.declared.words.Choice.TheVariants as choice
 use Rattle.rbc_dispatch.specs.declared.words.Task.{Task}
 use Rattle.rbc_dispatch.specs.declared.words.Task.TheVariants as task
+
+-- what is drawn of the track: all of it, the lines on which something is, these parts of lines, or the part of its line on which this train is
+pub data Chosen : Type 0 where
+  All : Chosen
+  Busy : Chosen
+  Lines : List LinePart → Chosen
+  Train : ℕ → Chosen
 
 -- What the arguments ask for. The first text is the name of the track file.
 pub data Asked : Type 0 where
@@ -30,8 +44,8 @@ pub data Asked : Type 0 where
   Run : Text → ℕ → Bool → Bool → Bool → Asked
   Live : Text → Wanted → Asked
   Explain : Text → LogWanted → Asked
-  -- after how many inputs
-  Picture : Text → Option ℕ → Asked
+  -- after how many inputs, and what is drawn
+  Picture : Text → Option ℕ → Chosen → Asked
   -- whether unknown keys are notes
   Check : Text → Bool → Asked
   -- the text, each word with a space before it, or nothing for lines
@@ -42,6 +56,13 @@ pub data Asked : Type 0 where
   -- one code or all
   Codes : Option ℕ → Asked
   Page : Topic → Asked
+
+-- a selection of this is made, and it holds of that one
+abbrev pub IsSelected : Chosen → (Selection → Type 0) → Type 0
+IsSelected All P = P selection.All
+IsSelected Busy P = P selection.Busy
+IsSelected (Lines lines) P = (parts : Bor (List LinePart)) × (parts.now ≡ lines) × P (selection.Lines parts)
+IsSelected (Train engine) P = P (selection.Train engine)
 
 -- ---- what was found for the arguments of a subcommand
 
@@ -73,6 +94,10 @@ number_of id rows = option_and_then number_in (one_of id rows)
 -- a flag stands there
 abbrev pub flag_of : Text → List Row → Bool
 flag_of id rows = option_map_or (λ word. bytes_eq word (codes "true")) (one_of id rows) false
+
+-- all words that an argument was given
+abbrev pub words_of : Text → List Row → List Text
+words_of id rows = unwrap_or (all_of id rows) []
 
 -- ---- what each subcommand asks for, by what was found for its arguments; nothing where they do not go together
 
@@ -108,8 +133,32 @@ explain_asked rows =
     (parts_asked (flag_of (codes "refused") rows) (flag_of (codes "end") rows))))
     (first_of (codes "track") rows)
 
+-- a line from its beginning to its end
+abbrev pub whole_line : ℕ → LinePart
+whole_line line = record { line = line; part = None }
+
+-- the numbers among words
+abbrev pub numbers_in : List Text → List ℕ
+numbers_in words = filter_map number_in words
+
+-- lines are named, a part of one line, a train, or `--busy`: no two of them
+abbrev pub chosen_by : List ℕ → Option Text → Option ℕ → Bool → Option Chosen
+chosen_by [] None None false = Some All
+chosen_by [] None None true = Some Busy
+chosen_by [] None (Some engine) false = Some (Train engine)
+chosen_by [] None (Some engine) true = None
+chosen_by [] (Some km) engine busy = None
+chosen_by (line ∷ lines) None None false = Some (Lines (map whole_line (line ∷ lines)))
+chosen_by (line ∷ []) (Some km) None false = option_map (λ part. Lines (record { line = line; part = Some part } ∷ [])) (part_of km)
+chosen_by (line ∷ other ∷ lines) (Some km) None false = None
+chosen_by (line ∷ lines) km None true = None
+chosen_by (line ∷ lines) km (Some engine) busy = None
+
 abbrev pub picture_asked : List Row → Option Asked
-picture_asked rows = option_map (λ file. Picture file (count_of (codes "after") rows)) (first_of (codes "track") rows)
+picture_asked rows =
+    option_and_then (λ file. option_map (λ chosen. Picture file (count_of (codes "after") rows) chosen)
+    (chosen_by (numbers_in (words_of (codes "line") rows)) (first_of (codes "km") rows) (number_of (codes "train") rows) (flag_of (codes "busy") rows)))
+    (first_of (codes "track") rows)
 
 abbrev pub check_asked : List Row → Option Asked
 check_asked rows = option_map (λ file. Check file (flag_of (codes "other-keys") rows)) (first_of (codes "track") rows)
@@ -179,12 +228,18 @@ pub record DoNotFit (words : List Text) : Type 0 where
 
 -- ---- tasks
 
+abbrev pub chosen_of : Choice → Chosen
+chosen_of choice.All = All
+chosen_of choice.Busy = Busy
+chosen_of (choice.Lines lines) = Lines lines.items
+chosen_of (choice.Train engine) = Train engine
+
 -- what a task does
 abbrev pub asked_of : Task → Asked
 asked_of (task.Run track workers by_train stats alarms) = Run track.now workers by_train stats alarms
 asked_of (task.Live track wanted) = Live track.now wanted
 asked_of (task.Explain track wanted) = Explain track.now wanted
-asked_of (task.Picture track after) = Picture track.now after
+asked_of (task.Picture track after choice) = Picture track.now after (chosen_of choice)
 asked_of (task.Check track other) = Check track.now other
 asked_of (task.Encode track words) = Encode (option_map (λ file. file.now) track) (spaced_text (map string_bytes words.now))
 asked_of (task.Decode hex long) = Decode hex.now long
@@ -192,11 +247,12 @@ asked_of task.DecodeLines = DecodeLines
 asked_of (task.Codes code) = Codes code
 asked_of (task.Page topic) = Page topic
 
--- nothing is asked for
+-- nothing is asked for, or memory ran out
 abbrev pub IsUnfit : {A : Type 0} → Option A → Misuse → Type 0
+IsUnfit asked misuse.OutOfMemory = ⊤
 IsUnfit asked (misuse.Words says) = asked ≡ None
 
--- the task is what is asked for, and there is none only where nothing is asked for
+-- the task is what is asked for, and there is none only where nothing is asked for, or memory ran out
 abbrev pub IsFor : Option Asked → Result Task Misuse → Type 0
 IsFor asked (Ok done) = asked ≡ Some (asked_of done)
 IsFor asked (Err unfit) = IsUnfit asked unfit

@@ -5,8 +5,8 @@ ghost use Rattle.clap.specs.Words.{app_of, rule_of, shape_of};
 ghost use Rattle.clap.specs.declared.builder.command.Command.TheViews.{out-Command as fields_of};
 ghost use Rattle.rbc_dispatch.specs.CommandLine.{bare_line, code_rule, codes_shape, check_shape, command_line};
 ghost use Rattle.rbc_dispatch.specs.CommandLine.{decode_shape, encode_shape, explain_shape, flag_rule, hex_rule};
-ghost use Rattle.rbc_dispatch.specs.CommandLine.{known_track_rule, live_shape, picture_shape};
-ghost use Rattle.rbc_dispatch.specs.CommandLine.{run_shape, text_rule, track_rule};
+ghost use Rattle.rbc_dispatch.specs.CommandLine.{km_rule, known_track_rule, line_rule, live_shape, picture_shape};
+ghost use Rattle.rbc_dispatch.specs.CommandLine.{run_shape, text_rule, track_rule, train_rule};
 
 use clap::builder::ValueParser;
 use clap::{Arg, ArgAction, Command};
@@ -120,6 +120,9 @@ Reads inputs from standard input, to its end, and writes one SVG document: for e
 its balise groups, the stops and restrictions that are active, and each train where it may be, with
 the places before which it is told to stop. Trains without a place are listed below. There may be
 any number of inputs. Nothing is written before the whole picture is known.
+
+A part of the track is drawn by --line, by --line and --km, by --train or by --busy. The title then
+says what is left out. The counts are always those of the whole track.
 
 Exit status: 0 done; 1 a fault, one line on standard error; 2 bad arguments.",
 };
@@ -248,6 +251,11 @@ const END: &Flag = &Flag {
     help: "Tell only what stands at the end",
 };
 
+const BUSY: &Flag = &Flag {
+    name: "busy",
+    help: "Leave lines out that have no train, stop or restriction",
+};
+
 const OTHER_KEYS: &Flag = &Flag {
     name: "other-keys",
     help: "Count unknown keys as notes, not as warnings",
@@ -294,7 +302,7 @@ fn bare_command<'a>(alloc: Global) -> Result<Command<'a>, AllocError>
 {
     Command::new(alloc, "dispatch")
         .no_binary_name(true)
-        .version("3.12.0, rules 3")
+        .version("3.13.0, rules 3")
         .about(
             "Emergency stops and speed restrictions, from a signaller's batch to each train's messages",
         )
@@ -340,14 +348,18 @@ fn explain_command<'a>(alloc: Global) -> Result<Command<'a>, AllocError>
         .arg(flag_option(alloc, END))
 }
 
-/// `picture`, with its two options.
+/// `picture`, with its six options.
 fn picture_command<'a>(alloc: Global) -> Result<Command<'a>, AllocError>
     ensures shape { IfOk result (λ command. shape_of command ≡ picture_shape) }
     ensures local { IfOk result (λ command. (fields_of command).has_globals ≡ false) }
 {
     subcommand(alloc, PICTURE)
         .arg(track_option(alloc))?
-        .arg(number_option(alloc, LAST_DRAWN))
+        .arg(number_option(alloc, LAST_DRAWN))?
+        .arg(line_option(alloc))?
+        .arg(km_option(alloc))?
+        .arg(train_option(alloc))?
+        .arg(flag_option(alloc, BUSY))
 }
 
 /// `check`, with its two options.
@@ -453,6 +465,38 @@ fn flag_option<'a>(alloc: Global, flag: &Flag) -> Arg<'a>
         .long(flag.name)
         .action(ArgAction::SetTrue)
         .help(flag.help)
+}
+
+fn line_option<'a>(alloc: Global) -> Arg<'a>
+    ensures rule { rule_of result ≡ line_rule }
+    ensures local { result.global ≡ false }
+{
+    Arg::new(alloc, "line")
+        .long("line")
+        .value_name("L")
+        .action(ArgAction::Append)
+        .value_parser(ValueParser::Signed(0, 4_294_967_295))
+        .help("Draw line L alone; several --line draw several lines")
+}
+
+fn km_option<'a>(alloc: Global) -> Arg<'a>
+    ensures rule { rule_of result ≡ km_rule }
+    ensures local { result.global ≡ false }
+{
+    Arg::new(alloc, "km").long("km").value_name("A-B").help(
+        "Draw this part of the line, in kilometres, as in 8.4-17.5",
+    )
+}
+
+fn train_option<'a>(alloc: Global) -> Arg<'a>
+    ensures rule { rule_of result ≡ train_rule }
+    ensures local { result.global ≡ false }
+{
+    Arg::new(alloc, "train")
+        .long("train")
+        .value_name("E")
+        .value_parser(ValueParser::Signed(0, 16_777_215))
+        .help("Draw the part of the line on which train E is")
 }
 
 fn code_word<'a>(alloc: Global) -> Arg<'a>

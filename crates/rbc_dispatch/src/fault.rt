@@ -4,6 +4,7 @@ use hex::FromHexError;
 use rbc_batch::ProcessError;
 use rbc_explain::TellError;
 use rbc_live::PromptError;
+use rbc_picture::DrawError;
 use rbc_text::Unwritten;
 use rbc_track::TrackError;
 use rbc_words::{Count, FilterError, LineFault};
@@ -21,8 +22,10 @@ pub enum Fault {
     TrackWarnings { count: usize },
     /// The batch was not processed.
     Batch(ProcessError),
-    /// The run was not told, or not to its end, or not drawn. What was written before stands.
+    /// The run was not told, or not to its end. What was written before stands.
     Tell(TellError),
+    /// The picture was not drawn. Nothing was written.
+    Draw(DrawError),
     /// Not all lines were answered. What was written before stands.
     Live(PromptError),
     /// Not all lines went through `encode` or `decode`. What was written before stands.
@@ -61,6 +64,12 @@ impl fmt::Display for Fault {
             }
             Fault::Batch(error) => write!(f, "{error}"),
             Fault::Tell(error) => write!(f, "{}", TellLine(*error)),
+            Fault::Draw(DrawError::Tell(error)) => write!(f, "{}", TellLine(*error)),
+            Fault::Draw(DrawError::NoLine { line }) => write!(f, "picture: no line {line}"),
+            Fault::Draw(DrawError::BeyondLine { line }) => {
+                write!(f, "picture: the part is not on line {line}")
+            }
+            Fault::Draw(DrawError::NoTrain { engine }) => write!(f, "picture: no train {engine}"),
             Fault::Live(error) => write!(f, "{error}"),
             Fault::Lines(error @ FilterError::Line { .. }) => write!(f, "encode: {error}"),
             Fault::Lines(error) => write!(f, "{error}"),
@@ -175,6 +184,17 @@ impl From<TellError> for Fault {
 
     fn from(error: TellError) -> Fault {
         Fault::Tell(error)
+    }
+}
+
+impl From<DrawError> for Fault {
+    ghost use Rattle.std.specs.Prelude.{◌≡◌};
+    ghost use Rattle.rbc_dispatch.specs.declared.fault.Fault.TheVariants.{Draw};
+
+    ghost from_gives = { λ error fault. fault ≡ Draw error };
+
+    fn from(error: DrawError) -> Fault {
+        Fault::Draw(error)
     }
 }
 

@@ -21,6 +21,7 @@ mod ending;
 mod explain;
 mod fault;
 mod figures;
+mod kilometres;
 mod law;
 mod live;
 mod long;

@@ -13,7 +13,7 @@ ghost use Rattle.rbc_dispatch.specs.Running.{IsUnread, Keeps, Runs, RunsOn};
 ghost use Rattle.rbc_dispatch.specs.Showing.{DrawsPicture, TellsLog};
 ghost use Rattle.rbc_dispatch.specs.Telling.{TellsPage};
 ghost use Rattle.rbc_dispatch.specs.TextWords.{spaced_text};
-ghost use Rattle.rbc_dispatch.specs.Words.{Asked, Asks, DoNotFit, Page, asked_of};
+ghost use Rattle.rbc_dispatch.specs.Words.{Asked, Asks, DoNotFit, IsSelected, Page, asked_of, chosen_of};
 
 use crate::attempts::Attempts;
 use crate::check::check_text;
@@ -30,12 +30,13 @@ use crate::picture::picture_text;
 use crate::report::write_report;
 use crate::show::show;
 use crate::terminal::{NOTICE, announce};
-use crate::words::Task;
+use crate::words::{Choice, Task};
 use rbc_batch::{
     OpenGate, PACE, Windows, process, process_by_train, process_with_alarms, process_with_desk,
 };
 use rbc_explain::LogWanted;
 use rbc_live::Wanted;
+use rbc_picture::Selection;
 use rbc_track::{Track, track_from_toml};
 use std::env::Env;
 use std::fs;
@@ -173,7 +174,11 @@ where
         Task::Explain { track, wanted } => {
             explain_file(rt, track, wanted, at_terminal, input, output, errors)
         }
-        Task::Picture { track, after } => picture_file(rt, track, after, input, output),
+        Task::Picture {
+            track,
+            after,
+            choice,
+        } => picture_file(rt, track, after, &choice, input, output),
         Task::Check { track, other_keys } => check_file(rt, track, other_keys, output),
         Task::Encode { track, words } => encode_task(rt, track, words, input, output),
         Task::Decode { word, long: true } => decode_long(alloc, word, output),
@@ -333,12 +338,13 @@ where
     )
 }
 
-/// Draws the state after the first `after` inputs of a log, or after all of them, on the track in a file. The track is
-/// read before the log.
+/// Draws the chosen part of the track in a file after the first `after` inputs of a log, or after all of them. The
+/// track is read before the log.
 fn picture_file<R, I, O>(
     rt: &R,
     file: &str,
     after: Option<u64>,
+    choice: &Choice,
     input: &mut I,
     output: &mut O,
 ) -> Result<(), Fault>
@@ -346,13 +352,43 @@ where
     R: AllocGlobal + Files,
     I: Read,
     O: Write,
-    ensures draws { DrawsPicture after (I.remaining input.old) (I.remaining input.new)
+    ensures draws { IsSelected (chosen_of choice.now) (λ selection. DrawsPicture after selection
+        (I.remaining input.old) (I.remaining input.new) (O.contents output.old) (O.contents output.new) result) }
+    ensures keeps { Keeps result input.old input.new output.old output.new }
+    ensures untouched { IsUntouched result output.old output.new }
+{
+    match choice {
+        Choice::All => draw_file(rt, file, after, &Selection::All, input, output),
+        Choice::Busy => draw_file(rt, file, after, &Selection::Busy, input, output),
+        Choice::Lines(lines) => {
+            draw_file(rt, file, after, &Selection::Lines(lines), input, output)
+        }
+        Choice::Train(engine) => {
+            draw_file(rt, file, after, &Selection::Train(*engine), input, output)
+        }
+    }
+}
+
+/// Draws the selected part of the track in a file.
+fn draw_file<R, I, O>(
+    rt: &R,
+    file: &str,
+    after: Option<u64>,
+    selection: &Selection<'_>,
+    input: &mut I,
+    output: &mut O,
+) -> Result<(), Fault>
+where
+    R: AllocGlobal + Files,
+    I: Read,
+    O: Write,
+    ensures draws { DrawsPicture after selection.now (I.remaining input.old) (I.remaining input.new)
         (O.contents output.old) (O.contents output.new) result }
     ensures keeps { Keeps result input.old input.new output.old output.new }
     ensures untouched { IsUntouched result output.old output.new }
 {
     let text = track_text(rt, file)?;
-    picture_text(rt.alloc(), text.as_str(), after, input, output)
+    picture_text(rt.alloc(), text.as_str(), after, selection, input, output)
 }
 
 /// Writes the bytes of the message whose text stands among the arguments, or, if none stands there, the lines of the

@@ -4,7 +4,8 @@ ghost use Rattle.std.specs.Prelude.{[], ◌∷◌, None, Some, codes, false, tru
 ghost use Rattle.rbc_account.specs.declared.log_form.LogParts.TheVariants as parts;
 ghost use Rattle.rbc_dispatch.specs.Witnesses.{AskFor, AskForNothing, AskForRun, AskFrom, AskToDraw, AskToExplain};
 ghost use Rattle.rbc_dispatch.specs.Witnesses.{on_track};
-ghost use Rattle.rbc_dispatch.specs.Words.{Asks, Codes, Decode, DecodeLines, DoNotFit, Page};
+ghost use Rattle.rbc_dispatch.specs.Words.{All, Asks, Busy, Codes, Decode, DecodeLines, DoNotFit, Lines, Page, Train};
+ghost use Rattle.rbc_dispatch.specs.Words.{whole_line};
 ghost use Rattle.rbc_dispatch.specs.declared.pages.Topic.TheVariants as topic;
 
 /// What words after `run --track t` and `live --track t` ask for.
@@ -51,7 +52,10 @@ pub fn run_words_witnesses()
 ///   the log to input 9, `--to 9 --from 9` for input 9 alone, and `--from 9 --to 8` for nothing. `--refused` and
 ///   `--end` each ask for what they name, and both together for nothing.
 /// - After `picture`, `--after 0` asks for the picture before all inputs, `--after 18446744073709551615` for the one
-///   after that many, and `--after -1` for nothing.
+///   after that many, and `--after -1` for nothing. `--line 3 --line 0` asks for these two lines,
+///   `--line 2 --km 8.4-17.5` for that part of line 2, `--train 7` for the part of train 7, and `--busy` for the lines
+///   on which something is. `--km` without one `--line`, a part that does not rise, and two of `--line`, `--train` and
+///   `--busy` ask for nothing.
 pub fn telling_words_witnesses()
     ensures from_last { AskToExplain 18446744073709551615 None parts.All
         (codes "--from" ∷ codes "18446744073709551615" ∷ []) }
@@ -65,11 +69,23 @@ pub fn telling_words_witnesses()
     ensures end { AskToExplain 1 None parts.End (codes "--end" ∷ []) }
     ensures refused_end { DoNotFit (on_track (codes "explain") (codes "--refused" ∷ codes "--end" ∷ [])) }
     ensures all_for_the_end { AskToExplain 1 None parts.All (codes "--end" ∷ []) → ⊥ }
-    ensures at_first { AskToDraw (Some 0) (codes "--after" ∷ codes "0" ∷ []) }
-    ensures at_last { AskToDraw (Some 18446744073709551615)
+    ensures at_first { AskToDraw (Some 0) All (codes "--after" ∷ codes "0" ∷ []) }
+    ensures at_last { AskToDraw (Some 18446744073709551615) All
         (codes "--after" ∷ codes "18446744073709551615" ∷ []) }
     ensures before_first { AskForNothing (on_track (codes "picture") (codes "--after" ∷ codes "-1" ∷ [])) }
-    ensures all_for_the_first { AskToDraw None (codes "--after" ∷ codes "0" ∷ []) → ⊥ }
+    ensures all_for_the_first { AskToDraw None All (codes "--after" ∷ codes "0" ∷ []) → ⊥ }
+    ensures two_lines { AskToDraw None (Lines (whole_line 3 ∷ whole_line 0 ∷ []))
+        (codes "--line" ∷ codes "3" ∷ codes "--line" ∷ codes "0" ∷ []) }
+    ensures part { AskToDraw None (Lines (record { line = 2; part = Some (84000, 175000) } ∷ []))
+        (codes "--line" ∷ codes "2" ∷ codes "--km" ∷ codes "8.4-17.5" ∷ []) }
+    ensures falling { DoNotFit (on_track (codes "picture")
+        (codes "--line" ∷ codes "2" ∷ codes "--km" ∷ codes "9-8.5" ∷ [])) }
+    ensures no_line { DoNotFit (on_track (codes "picture") (codes "--km" ∷ codes "8-9" ∷ [])) }
+    ensures train { AskToDraw None (Train 7) (codes "--train" ∷ codes "7" ∷ []) }
+    ensures busy { AskToDraw None Busy (codes "--busy" ∷ []) }
+    ensures busy_train { DoNotFit (on_track (codes "picture")
+        (codes "--busy" ∷ codes "--train" ∷ codes "7" ∷ [])) }
+    ensures all_for_a_train { AskToDraw None All (codes "--train" ∷ codes "7" ∷ []) → ⊥ }
 {}
 
 /// What words ask for that name no track.

@@ -1,5 +1,6 @@
 //! The task that the arguments ask for.
-ghost use Rattle.std.specs.Prelude.{◌≡◌, ◌⊎◌, Option, [], IfErr, IfOk, map, Ok, option_map, string_bytes, Some, codes};
+ghost use Rattle.std.specs.Prelude.{◌≡◌, ◌⊎◌, ◌∷◌, Option, [], IfErr, IfOk, filter_map, map, None, Ok, option_map};
+ghost use Rattle.std.specs.Prelude.{codes, false, Some, string_bytes};
 ghost use Rattle.clap.specs.Matches.{found_of};
 ghost use Rattle.clap.specs.Walk.{first_of, rows_of};
 ghost use Rattle.clap.specs.Words.{fault_of, kind_of, subcommand_rows_of};
@@ -8,14 +9,16 @@ ghost use Rattle.rbc_dispatch.specs.Ending.{IsRefusal, ending_of};
 ghost use Rattle.rbc_dispatch.specs.NoTask.{status_of, status_of_kind};
 ghost use Rattle.rbc_dispatch.specs.Pages.{topic_in};
 ghost use Rattle.rbc_dispatch.specs.Words.{Asked, Asks, IsFor, IsTakenFor, IsWantOfMemory, asked_in};
-ghost use Rattle.rbc_dispatch.specs.Words.{asked_named, asked_of, byte_of, check_asked};
+ghost use Rattle.rbc_dispatch.specs.Words.{asked_named, asked_of, byte_of, check_asked, chosen_by, chosen_of};
 ghost use Rattle.rbc_dispatch.specs.Words.{codes_asked, count_of, decode_asked, encode_asked, explain_asked};
-ghost use Rattle.rbc_dispatch.specs.Words.{fault_in, finding_in, flag_of, live_asked, log_asked, number_of};
+ghost use Rattle.rbc_dispatch.specs.Words.{fault_in, finding_in, flag_of, live_asked, log_asked, number_in, number_of};
 ghost use Rattle.rbc_dispatch.specs.declared.pages.Topic.{Topic as TopicOf};
 ghost use Rattle.rbc_dispatch.specs.declared.words.Task.TheVariants.{Page as PageOn};
-ghost use Rattle.rbc_dispatch.specs.Words.{IsUnfit, parts_asked, picture_asked, run_asked};
+ghost use Rattle.rbc_dispatch.specs.Words.{IsUnfit, numbers_in, parts_asked, picture_asked, run_asked, whole_line};
+ghost use Rattle.rbc_dispatch.specs.Words.{words_of};
 
 use crate::command_line::command;
+use crate::kilometres::part_in;
 use crate::misuse::Misuse;
 use crate::no_task::NoTask;
 use crate::pages::{Topic, topic_in};
@@ -23,6 +26,7 @@ use clap::ArgMatches;
 use clap::error::ErrorKind;
 use rbc_explain::{LogParts, LogWanted};
 use rbc_live::Wanted;
+use rbc_picture::LinePart;
 use std::alloc::{AllocError, Global};
 use std::env::{Env, FillError};
 use std::{env, io};
@@ -56,11 +60,12 @@ pub enum Task<'a> {
         track: &'a str,
         wanted: LogWanted,
     },
-    /// `dispatch picture --track FILE --after N`: draw the state after this many inputs of the log on standard input,
-    /// or after all.
+    /// `dispatch picture --track FILE --after N --line L --km A-B --train E --busy`: draw the state after this many
+    /// inputs of the log on standard input, or after all, on the chosen part of the track.
     Picture {
         track: &'a str,
         after: Option<u64>,
+        choice: Choice,
     },
     /// `dispatch check --track FILE --other-keys`: report on the track.
     Check {
@@ -88,6 +93,19 @@ pub enum Task<'a> {
     },
     /// `dispatch help batch` and `dispatch help track`: print a page of help.
     Page(Topic),
+}
+
+/// What of the track is drawn.
+#[derive(Drop)]
+pub enum Choice {
+    /// All of it.
+    All,
+    /// The lines on which there is a train, a stop or a restriction.
+    Busy,
+    /// These lines and parts of lines.
+    Lines(Vec<LinePart>),
+    /// The part of its line on which this train is.
+    Train(u32),
 }
 
 /// The arguments, as words. They are bad if one of them is not UTF-8.
@@ -149,18 +167,23 @@ fn parse_command<'a>(alloc: Global, words: &'a [String]) -> Result<Task<'a>, NoT
         → IfErr result (λ no_task. IsRefusal (ending_of no_task)) }
 {
     let matches = command(alloc)?.try_get_matches_from(words)?;
-    match task_of(&matches, words) {
+    match task_of(alloc, &matches, words) {
         Ok(task) => Ok(task),
         Err(Misuse::Words(message)) => Err(refuse(alloc, ErrorKind::ArgumentConflict, message)),
+        Err(Misuse::OutOfMemory) => Err(NoTask::OutOfMemory),
     }
 }
 
 /// The task that the words name, by what was found in them.
-fn task_of<'a>(matches: &ArgMatches<'a>, words: &'a [String]) -> Result<Task<'a>, Misuse>
+fn task_of<'a>(
+    alloc: Global,
+    matches: &ArgMatches<'a>,
+    words: &'a [String],
+) -> Result<Task<'a>, Misuse>
     ensures { IsFor (asked_in (map string_bytes words.now) (subcommand_rows_of matches.now)) result }
 {
     match matches.subcommand() {
-        Some((name, found)) => task_named(name, found, words),
+        Some((name, found)) => task_named(alloc, name, found, words),
         // Never reached: clap requires a subcommand.
         None => Err(Misuse::Words("no command was named")),
     }
@@ -168,6 +191,7 @@ fn task_of<'a>(matches: &ArgMatches<'a>, words: &'a [String]) -> Result<Task<'a>
 
 /// The task of the subcommand of this name, by what was found for its arguments.
 fn task_named<'a>(
+    alloc: Global,
     name: &str,
     found: &ArgMatches<'a>,
     words: &'a [String],
@@ -181,7 +205,7 @@ fn task_named<'a>(
     } else if name == "explain" {
         explain_task(found)
     } else if name == "picture" {
-        picture_task(found)
+        picture_task(alloc, found)
     } else if name == "check" {
         check_task(found)
     } else if name == "encode" {
@@ -254,13 +278,109 @@ fn log_asked(from: u64, to: Option<u64>, parts: LogParts) -> Result<LogWanted, M
     }
 }
 
-fn picture_task<'a>(found: &ArgMatches<'a>) -> Result<Task<'a>, Misuse>
+fn picture_task<'a>(alloc: Global, found: &ArgMatches<'a>) -> Result<Task<'a>, Misuse>
     ensures { IsFor (picture_asked (rows_of (found_of found.now))) result }
 {
+    let track = track_in(found)?;
+    let lines = lines_in(alloc, found)?;
+    let km = word_in(found, "km");
+    let train = number_in(found, "train");
+    let choice = choice_of(alloc, &lines, km, train, flag_in(found, "busy"))?;
     Ok(Task::Picture {
-        track: track_in(found)?,
+        track,
         after: count_in(found, "after"),
+        choice,
     })
+}
+
+/// The lines that are named.
+fn lines_in(alloc: Global, found: &ArgMatches<'_>) -> Result<Vec<u32>, AllocError>
+    ensures { IfOk result (λ lines. lines.items ≡ numbers_in (words_of (codes "line") (rows_of (found_of found.now)))) }
+{
+    match found.get_strs("line") {
+        Some(words) => numbers_of(alloc, words),
+        None => Ok(Vec::new(alloc)),
+    }
+}
+
+/// The numbers among words. Here each word is one: clap takes no other.
+fn numbers_of(alloc: Global, words: &[&str]) -> Result<Vec<u32>, AllocError>
+    ensures { IfOk result (λ numbers. numbers.items ≡ filter_map (λ word. number_in word.now) words.now) }
+{
+    words
+        .iter()
+        .filter_map(|word| number_of(word))
+        .collect(alloc)
+}
+
+/// The number that a word is, if it is one.
+fn number_of(word: &str) -> Option<u32>
+    ensures { result ≡ number_in word.now }
+{
+    word.parse::<u32>().ok()
+}
+
+/// What is drawn, by the lines that are named, the part of a line, the train and the flag `--busy`.
+fn choice_of(
+    alloc: Global,
+    lines: &[u32],
+    km: Option<&str>,
+    train: Option<u32>,
+    busy: bool,
+) -> Result<Choice, Misuse>
+    ensures ok { IfOk result (λ choice. chosen_by lines.now (option_map (λ word. word.now) km.entry) train busy
+        ≡ Some (chosen_of choice)) }
+    ensures err { IfErr result (IsUnfit (chosen_by lines.now (option_map (λ word. word.now) km.entry) train busy)) }
+{
+    match (lines, km, train, busy) {
+        ([], None, None, false) => Ok(Choice::All),
+        ([], None, None, true) => Ok(Choice::Busy),
+        ([], None, Some(engine), false) => Ok(Choice::Train(engine)),
+        ([_, ..], None, None, false) => Ok(Choice::Lines(whole_lines(alloc, lines)?)),
+        ([line], Some(km), None, false) => part_of_line(alloc, *line, km),
+        ([_, _, ..], Some(_), None, false) => {
+            Err(Misuse::Words("--km needs exactly one --line"))
+        }
+        ([], Some(_), ..) => Err(Misuse::Words("--km needs exactly one --line")),
+        _ => Err(Misuse::Words("only one of --line, --train and --busy can be asked for")),
+    }
+}
+
+/// Lines from their beginnings to their ends.
+fn whole_lines(alloc: Global, lines: &[u32]) -> Result<Vec<LinePart>, AllocError>
+    ensures { IfOk result (λ parts. parts.items ≡ map whole_line lines.now) }
+{
+    lines.iter().map(|line| whole_line(*line)).collect(alloc)
+}
+
+/// A line from its beginning to its end.
+fn whole_line(line: u32) -> LinePart
+    ensures { result ≡ whole_line line }
+{
+    LinePart { line, part: None }
+}
+
+/// A part of a line, which a text names in kilometres.
+fn part_of_line(alloc: Global, line: u32, km: &str) -> Result<Choice, Misuse>
+    ensures ok { IfOk result (λ choice. chosen_by (line ∷ []) (Some km.now) None false ≡ Some (chosen_of choice)) }
+    ensures err { IfErr result (IsUnfit (chosen_by (line ∷ []) (Some km.now) None false)) }
+{
+    match part_in(km) {
+        Some(part) => Ok(Choice::Lines(one_part(alloc, line, part)?)),
+        None => Err(Misuse::Words("--km is not two rising numbers of kilometres, as in 8.4-17.5")),
+    }
+}
+
+/// One part of one line.
+fn one_part(alloc: Global, line: u32, part: (u32, u32)) -> Result<Vec<LinePart>, AllocError>
+    ensures { IfOk result (λ parts. parts.items ≡ record { line = line; part = Some part } ∷ []) }
+{
+    let mut parts = Vec::new(alloc);
+    parts.push(LinePart {
+        line,
+        part: Some(part),
+    })?;
+    Ok(parts)
 }
 
 fn check_task<'a>(found: &ArgMatches<'a>) -> Result<Task<'a>, Misuse>

@@ -71,7 +71,7 @@ pub record IsNext {A : Type 0} (items : List A) (index : ℕ) (item : A) : Type 
   pub is : item ≡ get_or seen index item
 
 -- the items up to it
-up_to : {A : Type 0} (items : List A) (index : ℕ) (item : A) → IsNext items index item → take (index + 1) items ≡ take index items ++ item ∷ []
+pub up_to : {A : Type 0} (items : List A) (index : ℕ) (item : A) → IsNext items index item → take (index + 1) items ≡ take index items ++ item ∷ []
 up_to items index item next =
     ap (take (index + 1)) (sym next.same) ∙ take_more next.seen index item next.within
     ∙ ap (λ one. take index next.seen ++ one ∷ []) (sym next.is) ∙ ap (λ all. take index all ++ item ∷ []) next.same
@@ -148,9 +148,26 @@ pub then_more : {T E : Type 0} (r : Result T E) (texts more : List (List ℕ)) (
     → IsShownOn texts first second → IsShownOn [] second third → OnOk r (IsShownOn more third last) → OnOk r (IsShownOn (texts ++ more) first last)
 then_more r texts more first second third last one piece two = ends_with r texts more first third last (then_piece texts first second third one piece) two
 
--- a whole document: a piece, the texts that it has to show, and a piece
-pub whole : (texts wanted : List (List ℕ)) (none first second last : List ℕ) → none ≡ [] → texts ≡ wanted
-    → IsShownOn [] none first → IsShownOn texts first second → IsShownOn [] second last → StandIn wanted last
-whole texts wanted none first second last empty are before shown behind =
-    subst (λ (ts : List (List ℕ)). StandIn ts last) are
-    (all_stand texts none last empty (then_piece texts none second last (shown_then [] texts none first second before shown) behind))
+-- a whole document: a piece, the texts above the panels, the texts that it has to show below them, and a piece
+pub whole : (head texts wanted : List (List ℕ)) (none first second third last : List ℕ) → none ≡ [] → texts ≡ wanted
+    → IsShownOn [] none first → IsShownOn head first second → IsShownOn texts second third → IsShownOn [] third last → StandIn (head ++ wanted) last
+whole head texts wanted none first second third last empty are before top shown behind =
+    subst (λ (ts : List (List ℕ)). StandIn (head ++ ts) last) are
+    (all_stand (head ++ texts) none last empty
+    (then_piece (head ++ texts) none third last
+    (shown_then head texts none second third (shown_then [] head none first second before top) shown) behind))
+
+-- a text that stands twice, between three pieces
+twice : {T E : Type 0} (r : Result T E) (text : List ℕ) (a b c d e last : List ℕ)
+    → IsShownOn [] a b → IsShownOn (text ∷ []) b c → IsShownOn [] c d → IsShownOn (text ∷ []) d e → OnOk r (IsShownOn [] e last)
+    → OnOk r (IsShownOn (text ∷ text ∷ []) a last)
+twice r text a b c d e last before one between two behind =
+    let first : IsShownOn (text ∷ []) a d = then_piece (text ∷ []) a c d (shown_then [] (text ∷ []) a b c before one) between in
+    ends r (text ∷ text ∷ []) a e last (shown_then (text ∷ []) (text ∷ []) a d e first two) behind
+
+-- the head of a selection: what is left out stands in it twice
+pub head_joined : {T E : Type 0} (r : Result T E) (text left : List ℕ) (a b c d e last : List ℕ) → text ≡ left
+    → IsShownOn [] a b → IsShownOn (text ∷ []) b c → IsShownOn [] c d → IsShownOn (text ∷ []) d e → OnOk r (IsShownOn [] e last)
+    → OnOk r (IsShownOn (left ∷ left ∷ []) a last)
+head_joined r text left a b c d e last is before one between two behind =
+    subst (λ (t : List ℕ). OnOk r (IsShownOn (t ∷ t ∷ []) a last)) is (twice r text a b c d e last before one between two behind)

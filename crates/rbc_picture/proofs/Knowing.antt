@@ -1,5 +1,5 @@
 -- The trains of a picture are those of the records.
-use Rattle.std.proofs.Common.{◌≡◌, ℕ, List, [], ◌∷◌, ◌++◌, map, drop, get_or, Option, Some, None, option_map, option_to_list, refl, sym, ap, subst, ◌∙◌}
+use Rattle.std.proofs.Common.{◌≡◌, ℕ, true, List, [], ◌∷◌, ◌++◌, map, drop, get_or, Option, Some, None, option_map, option_to_list, refl, sym, ap, subst, ◌∙◌}
 use Rattle.std.specs.List.{filter_map, cons_option}
 use Rattle.rbc_zones.specs.declared.segment.Segment.{Segment}
 use Rattle.rbc_zones.specs.Limits.{Limit}
@@ -13,7 +13,13 @@ use Rattle.rbc_live.specs.Waits.{waiting_at}
 use Rattle.rbc_account.specs.Standings.{AreStandings, waiting_of, waiting_told}
 use Rattle.rbc_picture.specs.Titles.{ShownTrain}
 use Rattle.rbc_picture.specs.Trains.{known_train, known_trains}
-use Rattle.rbc_picture.specs.Drawn.{enrolled_train, train_at, trains_in, picture_texts, shown}
+use Rattle.rbc_picture.specs.Drawn.{enrolled_train, train_at, trains_in, picture_texts, IsDrawn, IsShownOf}
+use Rattle.rbc_picture.specs.NotDrawn.{FailsFor, IsLacking, LacksNow}
+use Rattle.rbc_picture.specs.Selections.{AreParts, is_named}
+use Rattle.rbc_picture.specs.Shown.{StandIn}
+use Rattle.rbc_picture.specs.declared.fault.DrawError.{DrawError}
+use Rattle.rbc_picture.specs.declared.selection.LinePart.{LinePart}
+use Rattle.rbc_picture.specs.declared.selection.Selection.{Selection}
 
 -- a list has nothing in it
 abbrev IsNone : List (ℕ × List Waiting) → Type 0
@@ -58,11 +64,28 @@ pub trains_known : (horizon : ℕ) (records : List (Key × Rec)) (standings : Li
     → known_trains (train_in records) standings ≡ trains_in horizon records
 trains_known horizon records standings e = same_trains horizon records (engines_in records) standings e
 
--- what there is to show of records
-pub scene_shown : (horizon lines : ℕ) (records : List (Key × Rec)) (stops : List (ℕ × List Segment)) (limits : List (ℕ × Limit)) (trains : List ShownTrain)
-    → stops ≡ active_stops records → limits ≡ active_limits records → trains ≡ trains_in horizon records
-    → picture_texts lines stops limits trains ≡ shown horizon lines records
-scene_shown horizon lines records stops limits trains closed restricted known =
-    ap (λ (all : List (ℕ × List Segment)). picture_texts lines all limits trains) closed
-    ∙ ap (λ (all : List (ℕ × Limit)). picture_texts lines (active_stops records) all trains) restricted
-    ∙ ap (λ (all : List ShownTrain). picture_texts lines (active_stops records) (active_limits records) all) known
+-- what a scene shows is what a selection asks for of records
+pub shown_of : (selection : Selection) (lines : ℕ) (records : List (Key × Rec)) (stops : List (ℕ × List Segment)) (limits : List (ℕ × Limit)) (trains : List ShownTrain) (parts seen : List LinePart) (svg : List ℕ)
+    → stops ≡ active_stops records → limits ≡ active_limits records → seen ≡ parts → AreParts selection lines stops limits trains parts
+    → StandIn (picture_texts selection lines stops limits trains seen) svg → IsShownOf selection lines records trains svg
+shown_of selection lines records stops limits trains parts seen svg closed restricted same asked drawn = record {
+  parts = parts;
+  asked = subst (λ (all : List (ℕ × Limit)). AreParts selection lines (active_stops records) all trains parts) restricted
+      (subst (λ (all : List (ℕ × List Segment)). AreParts selection lines all limits trains parts) closed asked);
+  drawn = subst (λ (all : List LinePart). StandIn (picture_texts selection lines (active_stops records) (active_limits records) trains all) svg) same
+      (subst (λ (all : List (ℕ × Limit)). StandIn (picture_texts selection lines (active_stops records) all trains seen) svg) restricted
+      (subst (λ (all : List (ℕ × List Segment)). StandIn (picture_texts selection lines all limits trains seen) svg) closed drawn));
+}
+
+-- the same where the trains are those of the records, and the train that is named is among them
+pub drawn_of : (selection : Selection) (horizon lines : ℕ) (records : List (Key × Rec)) (trains : List ShownTrain) (svg : List ℕ) → trains ≡ trains_in horizon records
+    → is_named selection trains ≡ true → IsShownOf selection lines records trains svg → IsDrawn selection horizon lines records svg
+drawn_of selection horizon lines records trains svg known named shown = record {
+  named = subst (λ (all : List ShownTrain). is_named selection all ≡ true) known named;
+  shown = subst (λ (all : List ShownTrain). IsShownOf selection lines records all svg) known shown;
+}
+
+-- why it is not drawn, likewise
+pub fails_of : (selection : Selection) (horizon : ℕ) (records : List (Key × Rec)) (trains : List ShownTrain) (fault : DrawError) → trains ≡ trains_in horizon records
+    → FailsFor (IsLacking selection trains) fault → FailsFor (LacksNow selection horizon records) fault
+fails_of selection horizon records trains fault known fails = subst (λ (all : List ShownTrain). FailsFor (IsLacking selection all) fault) known fails

@@ -1,5 +1,7 @@
+pub mod Choosing
 pub mod Drawing
 pub mod Escaping
+pub mod Failing
 pub mod Gathering
 pub mod Joining
 pub mod Knowing

@@ -12,7 +12,7 @@ use Rattle.rbc_text.specs.BatchText.{lines_of}
 use Rattle.rbc_records.specs.declared.record.Key.{Key}
 use Rattle.rbc_records.specs.declared.record.Rec.{Rec}
 use Rattle.rbc_records.specs.Notes.{record_in}
-use Rattle.rbc_live.specs.History.{IsFed, Taken, IsHistory}
+use Rattle.rbc_live.specs.History.{IsFed, Taken, IsHistory, IsSerialRunOf}
 use Rattle.rbc_account.specs.Lines.{AreAllLines}
 use Rattle.rbc_account.specs.Telling.{LeavesUnread, Tells}
 use Rattle.rbc_account.specs.declared.fault.TellError.{TellError}
@@ -21,8 +21,13 @@ use Rattle.rbc_account.specs.declared.account.Sums.{Sums}
 use Rattle.rbc_account.specs.declared.account.Account.{Account}
 use Rattle.rbc_account.specs.Sums.{no_sums, counted}
 use Rattle.rbc_account.specs.Runs.{sums_after, EachAccountIsTrue}
-use Rattle.rbc_picture.specs.Drawn.{lines_taken, AreTakenTo, HasTaken, IsPictureOf, IsPictureOfRun, shown}
-use Rattle.rbc_picture.specs.Shown.{StandIn}
+use Rattle.rbc_picture.specs.Drawn.{lines_taken, AreTakenTo, HasTaken, IsDrawn, IsPictureOf, IsPictureOfRun}
+use Rattle.rbc_picture.specs.Selections.{lines_fault}
+use Rattle.rbc_picture.specs.NotDrawn.{Draws, FailsFor, LacksNow, LacksTrain, StaysUnread}
+use Rattle.rbc_picture.specs.declared.fault.DrawError.{DrawError}
+use Rattle.rbc_picture.specs.declared.fault.DrawError.TheVariants.{Tell, NoLine, BeyondLine, NoTrain}
+use Rattle.rbc_picture.specs.declared.selection.Selection.{Selection}
+use Rattle.rbc_picture.proofs.Failing.{fails_unread, lacks_in_run}
 
 -- a line behind others
 taken_more : (plan : Plan) (taken : List Taken) (one : Taken) (old mid new : List (Key × Rec)) → IsHistory plan old taken mid
@@ -62,21 +67,41 @@ takes_one plan before after lines line one is has fed track sums = record {
   track = track ∙ has.track;
 }
 
--- the picture after the last line
-pub drawn_after : (plan : Plan) (account : Account) (count : ℕ) (lines : List (List ℕ)) (svg : List ℕ) → EachAccountIsTrue → length lines < 2 ^ 64
-    → HasTaken plan account lines → count ≡ length account.desk.track.lines
-    → StandIn (shown account.desk.track.horizon count account.desk.records) svg → IsPictureOf plan lines svg
-drawn_after plan account count lines svg law few has is drawn =
+-- the run behind an account that has taken lines
+run_of : (plan : Plan) (account : Account) (lines : List (List ℕ)) → EachAccountIsTrue → length lines < 2 ^ 64 → (has : HasTaken plan account lines)
+    → IsSerialRunOf plan has.taken account.desk.records
+run_of plan account lines law few has =
     let taken : length lines ≡ length has.taken = ap (λ (ls : List (List ℕ)). length ls) (sym has.fed) ∙ length-map has.taken (λ t. t.line) in
     let small : length has.taken < 2 ^ 64 = omega (arith, taken, few) in
-    record {
-      taken = has.taken;
-      records = account.desk.records;
-      fed = has.fed;
-      serial = (law plan has.taken account.desk.records account.sums small has.counted).serial;
-      drawn = subst (λ (p : Plan). StandIn (shown p.horizon (length p.lines) account.desk.records) svg) has.track
-          (subst (λ (n : ℕ). StandIn (shown account.desk.track.horizon n account.desk.records) svg) is drawn);
-    }
+    (law plan has.taken account.desk.records account.sums small has.counted).serial
+
+-- the picture after the last line
+pub drawn_after : (plan : Plan) (selection : Selection) (account : Account) (count : ℕ) (lines : List (List ℕ)) (svg : List ℕ) → EachAccountIsTrue → length lines < 2 ^ 64
+    → HasTaken plan account lines → count ≡ length account.desk.track.lines
+    → IsDrawn selection account.desk.track.horizon count account.desk.records svg → IsPictureOf plan selection lines svg
+drawn_after plan selection account count lines svg law few has is drawn = record {
+  taken = has.taken;
+  records = account.desk.records;
+  fed = has.fed;
+  serial = run_of plan account lines law few has;
+  drawn = subst (λ (p : Plan). IsDrawn selection p.horizon (length p.lines) account.desk.records svg) has.track
+      (subst (λ (n : ℕ). IsDrawn selection account.desk.track.horizon n account.desk.records svg) is drawn);
+}
+
+-- why there is none after the last line
+pub fails_after : (plan : Plan) (selection : Selection) (account : Account) (lines : List (List ℕ)) (fault : DrawError) → EachAccountIsTrue → length lines < 2 ^ 64
+    → HasTaken plan account lines → FailsFor (LacksNow selection account.desk.track.horizon account.desk.records) fault
+    → FailsFor (LacksTrain plan selection lines) fault
+fails_after plan selection account lines (Tell error) law few has fails = fails
+fails_after plan selection account lines (NoLine line) law few has fails = fails
+fails_after plan selection account lines (BeyondLine line) law few has fails = fails
+fails_after plan selection account lines (NoTrain engine) law few has fails = record {
+  taken = has.taken;
+  records = account.desk.records;
+  fed = has.fed;
+  serial = run_of plan account lines law few has;
+  lacks = subst (λ (p : Plan). LacksNow selection p.horizon account.desk.records engine) has.track fails;
+}
 
 -- one line more, among the first ones, unless memory was refused
 pub taken_among : {T E : Type 0} (r : Result T E) (plan : Plan) (after : Option ℕ) (before account : Account) (lines : List (List ℕ)) (line : List ℕ)
@@ -117,41 +142,30 @@ so_many lines count none (inr last) =
 -- ---- how the lines of a reader come to their end
 
 -- the lines could not be read, or memory was refused
-not_taken_at : (T : Type 0) (Missing : ℕ → Type 0) (text : List ℕ) (plan : Plan) (after : Option ℕ) (account : Account) (old new : Option (List ℕ)) (fault : TellError)
+pub not_taken : (T : Type 0) (Missing : ℕ → Type 0) (text : List ℕ) (plan : Plan) (after : Option ℕ) (account : Account) (old new : Option (List ℕ)) (fault : TellError)
     → AreTakenTo plan after account old new (Err fault) → Tells {T = T} Missing text old new (Err fault)
-not_taken_at T Missing text plan after account old new (Track error) is = absurd is
-not_taken_at T Missing text plan after account old new Read is = tt
-not_taken_at T Missing text plan after account old new Memory is = tt
-not_taken_at T Missing text plan after account old new (OnlyInputs count) is = absurd is
-not_taken_at T Missing text plan after account old new (Write sent) is = absurd is
-not_taken_at T Missing text plan after account old new (ReaderGone sent) is = absurd is
+not_taken T Missing text plan after account old new (Track error) is = absurd is
+not_taken T Missing text plan after account old new Read is = tt
+not_taken T Missing text plan after account old new Memory is = tt
+not_taken T Missing text plan after account old new (OnlyInputs count) is = absurd is
+not_taken T Missing text plan after account old new (Write sent) is = absurd is
+not_taken T Missing text plan after account old new (ReaderGone sent) is = absurd is
 
-pub not_taken : {T : Type 0} (r : Result T TellError) (Missing : ℕ → Type 0) (text : List ℕ) (plan : Plan) (after : Option ℕ) (account : Account) (old new : Option (List ℕ)) (fault : TellError)
-    → IsErrAnd r (λ other. other ≡ fault) → AreTakenTo plan after account old new (Err fault) → Tells Missing text old new r
-not_taken (Ok told) Missing text plan after account old new fault bad is = absurd bad
-not_taken {T} (Err other) Missing text plan after account old new fault same is =
-    subst (λ (f : TellError). Tells {T = T} Missing text old new (Err f)) (sym same) (not_taken_at T Missing text plan after account old new fault is)
+-- then the track was not refused
+unread_at : (T R : Type 0) (plan : Plan) (after : Option ℕ) (account : Account) (old new : Option (List ℕ)) (fault : TellError) (before behind : R)
+    → AreTakenTo plan after account old new (Err fault) → LeavesUnread {T = T} {R = R} (Err fault) before behind
+unread_at T R plan after account old new (Track error) before behind is = absurd is
+unread_at T R plan after account old new Read before behind is = tt
+unread_at T R plan after account old new Memory before behind is = tt
+unread_at T R plan after account old new (OnlyInputs count) before behind is = tt
+unread_at T R plan after account old new (Write sent) before behind is = tt
+unread_at T R plan after account old new (ReaderGone sent) before behind is = tt
 
--- a fault of the lines is not that the track is refused
-unread_at : (T R : Type 0) (plan : Plan) (after : Option ℕ) (account : Account) (read_old read_new : Option (List ℕ)) (fault : TellError) (old new : R)
-    → AreTakenTo plan after account read_old read_new (Err fault) → LeavesUnread {T = T} (Err fault) old new
-unread_at T R plan after account read_old read_new (Track error) old new is = absurd is
-unread_at T R plan after account read_old read_new Read old new is = tt
-unread_at T R plan after account read_old read_new Memory old new is = tt
-unread_at T R plan after account read_old read_new (OnlyInputs count) old new is = tt
-unread_at T R plan after account read_old read_new (Write sent) old new is = tt
-unread_at T R plan after account read_old read_new (ReaderGone sent) old new is = tt
-
-pub unread : {T R : Type 0} (r : Result T TellError) (plan : Plan) (after : Option ℕ) (account : Account) (read_old read_new : Option (List ℕ)) (fault : TellError) (old new : R)
-    → IsErrAnd r (λ other. other ≡ fault) → AreTakenTo plan after account read_old read_new (Err fault) → LeavesUnread r old new
-unread (Ok told) plan after account read_old read_new fault old new bad is = absurd bad
-unread {T} {R} (Err other) plan after account read_old read_new fault old new same is =
-    subst (λ (f : TellError). LeavesUnread {T = T} (Err f) old new) (sym same) (unread_at T R plan after account read_old read_new fault old new is)
-
--- memory was refused
-pub not_drawn : {T : Type 0} (r : Result T TellError) (Missing : ℕ → Type 0) (text : List ℕ) (old new : Option (List ℕ)) → IsErrAnd r (λ fault. fault ≡ Memory) → Tells Missing text old new r
-not_drawn (Ok told) Missing text old new bad = absurd bad
-not_drawn {T} (Err fault) Missing text old new same = subst (λ (f : TellError). Tells {T = T} Missing text old new (Err f)) (sym same) tt
+pub unread : {T R : Type 0} (r : Result T DrawError) (plan : Plan) (after : Option ℕ) (account : Account) (old new : Option (List ℕ)) (fault : TellError) (before behind : R)
+    → IsErrAnd r (λ x. x ≡ Tell fault) → AreTakenTo plan after account old new (Err fault) → StaysUnread r before behind
+unread (Ok done) plan after account old new fault before behind bad is = absurd bad
+unread {T} {R} (Err x) plan after account old new fault before behind same is =
+    subst (λ (y : DrawError). StaysUnread {T = T} {R = R} (Err y) before behind) (sym same) (unread_at T R plan after account old new fault before behind is)
 
 -- all were counted
 counted_all : (old new : Option (List ℕ)) (lines : List (List ℕ)) (count : ℕ) (all : AreAllLines old new lines) → count ≡ length lines → count ≡ length (lines_of all.0)
@@ -172,15 +186,36 @@ taken_few : (after : Option ℕ) (lines : List (List ℕ)) → length lines < 2 
 taken_few None lines few = few
 taken_few (Some after) lines few = let cut : length (take after lines) ≡ min after (length lines) = length-take after lines in omega (arith, cut, few)
 
+-- the same for the lines of what was read
+taken_of_batch : (after : Option ℕ) (batch : List ℕ) (lines : List (List ℕ)) (P : List (List ℕ) → Type 0) → lines_of batch ≡ lines → P (lines_taken after lines) → P (lines_taken after (lines_of batch))
+taken_of_batch after batch lines P same holds = subst (λ (ls : List (List ℕ)). P (lines_taken after ls)) (sym same) holds
+
 -- the picture of what was read
-pub drawn_of : (text : List ℕ) (plan : Plan) (after : Option ℕ) (account : Account) (old new : Option (List ℕ)) (count : ℕ) (svg : List ℕ) → IsTrackOf text plan
-    → AreTakenTo plan after account old new (Ok count)
-    → ((lines : List (List ℕ)) → HasTaken plan account lines → length lines < 2 ^ 64 → IsPictureOf plan lines svg) → IsPictureOfRun text after old new svg
-drawn_of text plan after account old new count svg is (lines, all, many, few, has) draws = record {
+pub drawn_of_run : (text : List ℕ) (plan : Plan) (after : Option ℕ) (selection : Selection) (account : Account) (old new : Option (List ℕ)) (count : ℕ) (svg : List ℕ) → IsTrackOf text plan
+    → lines_fault plan selection ≡ None → AreTakenTo plan after account old new (Ok count)
+    → ((lines : List (List ℕ)) → HasTaken plan account lines → length lines < 2 ^ 64 → IsPictureOf plan selection lines svg) → IsPictureOfRun text after selection old new svg
+drawn_of_run text plan after selection account old new count svg is on (lines, all, many, few, has) draws = record {
   plan = plan;
   batch = all.0;
   is_track = is;
+  on_track = on;
   read = (all.1, all.2);
-  picture = subst (λ (ls : List (List ℕ)). IsPictureOf plan (lines_taken after ls) svg) (sym all.3)
+  picture = taken_of_batch after all.0 lines (λ (ls : List (List ℕ)). IsPictureOf plan selection ls svg) all.3
       (draws (lines_taken after lines) has (taken_few after lines (subst (λ (n : ℕ). n < 2 ^ 64) many few)));
 }
+
+-- why there is none
+pub fails_in_run : {T : Type 0} (text : List ℕ) (plan : Plan) (after : Option ℕ) (selection : Selection) (account : Account) (old new : Option (List ℕ)) (count : ℕ) (fault : DrawError) (r : Result T DrawError)
+    → IsErrAnd r (λ x. x ≡ fault) → IsTrackOf text plan → AreTakenTo plan after account old new (Ok count)
+    → ((lines : List (List ℕ)) → HasTaken plan account lines → length lines < 2 ^ 64 → FailsFor (LacksTrain plan selection lines) fault) → Draws text after selection old new r
+fails_in_run text plan after selection account old new count fault r same is (lines, all, many, few, has) fails =
+    lacks_in_run text plan all.0 after selection old new fault r same is (all.1, all.2)
+    (taken_of_batch after all.0 lines (λ (ls : List (List ℕ)). FailsFor (LacksTrain plan selection ls) fault) all.3
+    (fails (lines_taken after lines) has (taken_few after lines (subst (λ (n : ℕ). n < 2 ^ 64) many few))))
+
+pub fails_in_run_unread : {T R : Type 0} (plan : Plan) (after : Option ℕ) (selection : Selection) (account : Account) (old new : Option (List ℕ)) (count : ℕ) (fault : DrawError) (r : Result T DrawError) (before behind : R)
+    → IsErrAnd r (λ x. x ≡ fault) → AreTakenTo plan after account old new (Ok count)
+    → ((lines : List (List ℕ)) → HasTaken plan account lines → length lines < 2 ^ 64 → FailsFor (LacksTrain plan selection lines) fault) → StaysUnread r before behind
+fails_in_run_unread plan after selection account old new count fault r before behind same (lines, all, many, few, has) fails =
+    fails_unread (LacksTrain plan selection (lines_taken after lines)) fault r before behind same
+    (fails (lines_taken after lines) has (taken_few after lines (subst (λ (n : ℕ). n < 2 ^ 64) many few)))

@@ -1,8 +1,10 @@
 pub mod Bands
 pub mod Drawn
 pub mod Escape
+pub mod NotDrawn
 pub mod Panels
 pub mod Pixels
+pub mod Selections
 pub mod Shown
 pub mod Stretches
 pub mod Titles

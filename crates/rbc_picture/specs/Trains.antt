@@ -1,18 +1,21 @@
 -- In which part of a picture a train stands.
-use Rattle.std.specs.Prelude.{◌≡◌, ℕ, Bool, true, false, ◌==◌, Option, Some, None, is_none, option_map}
+use Rattle.std.specs.Prelude.{◌≡◌, ℕ, Bool, true, false, ◌||◌, Option, Some, None, is_none, option_map}
 use Rattle.std.specs.Prelude.{option_to_list, List, [], ◌∷◌, ◌++◌}
+use Rattle.std.specs.List.{list_any}
 use Rattle.rbc_place.specs.Placing as placing
 use Rattle.rbc_track.specs.declared.group.Way.{Way}
 use Rattle.rbc_track.specs.declared.group.Way.TheVariants.{Up, Down}
 use Rattle.rbc_account.specs.declared.state.TrainStanding.{TrainStanding}
 use Rattle.rbc_settle.specs.declared.train.TrainRec.{TrainRec}
+use Rattle.rbc_picture.specs.Selections.{is_place_in, is_listed, whole_line}
 use Rattle.rbc_picture.specs.Titles.{ShownTrain}
+use Rattle.rbc_picture.specs.declared.selection.LinePart.{LinePart}
+use Rattle.rbc_picture.specs.declared.selection.Selection.{Selection}
 use Rattle.rbc_picture.specs.declared.train_state.TrainState.{TrainState}
 
 -- a place is on a line
 abbrev pub is_place_on : ℕ → Option placing.Place → Bool
-is_place_on line None = false
-is_place_on line (Some place) = place.line == line
+is_place_on line place = is_place_in (whole_line line) place
 
 -- a train is placed on a line
 abbrev pub is_on : ℕ → TrainState → Bool
@@ -23,15 +26,23 @@ abbrev pub end_at : {A : Type 0} → Way → A → A → A
 end_at Up low high = high
 end_at Down low high = low
 
--- a train has no place
-abbrev pub is_unplaced : TrainState → Bool
-is_unplaced train = is_none train.place
+-- a train is placed on the line of a part, and meets the part
+abbrev pub is_in : LinePart → TrainState → Bool
+is_in part train = is_place_in part train.place
 
 -- what a picture shows of a train
 abbrev pub train_shown : TrainState → ShownTrain
 train_shown train = record { engine = train.engine; place = train.place; waiting = train.waiting.items }
 
--- the same for a train with this state, by its record
+-- a train without a place that a selection lists
+abbrev pub is_listed_in : Selection → TrainState → Bool
+is_listed_in selection train = is_listed selection (train_shown train)
+
+-- a train that is listed, or meets a part
+abbrev pub is_drawn : Selection → List LinePart → TrainState → Bool
+is_drawn selection parts train = is_listed_in selection train || list_any (λ part. is_in part train) parts
+
+-- what a picture shows of a train with this state, by its record
 abbrev pub known_train : TrainStanding → TrainRec → ShownTrain
 known_train standing train =
     record { engine = standing.engine; place = train.place; waiting = standing.waiting.items }

@@ -1,52 +1,62 @@
 //! The picture after the inputs of a reader.
 
-ghost use Rattle.std.specs.Prelude.{◌≡◌, ◌<◌, ◌^◌, ◌++◌, ◌∷◌, [], true, false, List, ℕ, IfOk, OnOk};
-ghost use Rattle.std.specs.Prelude.{length, string_bytes};
+ghost use Rattle.std.specs.Prelude.{◌≡◌, ◌<◌, ◌^◌, ◌++◌, ◌∷◌, [], true, false, List, ℕ, IfOk, IfErr, OnOk};
+ghost use Rattle.std.specs.Prelude.{length, map, string_bytes};
 ghost use Rattle.rbc_track.specs.Plan.{Plan};
-ghost use Rattle.rbc_account.specs.Telling.{LeavesUnread, Tells, TooFewFor};
-ghost use Rattle.rbc_picture.specs.Drawn.{AreTakenTo, HasTaken, IsPictureOf, IsPictureOfRun, lines_taken, shown};
-ghost use Rattle.rbc_picture.specs.Shown.{StandIn};
+ghost use Rattle.rbc_account.specs.Telling.{TooFewFor};
+ghost use Rattle.rbc_picture.specs.Drawn.{AreTakenTo, HasTaken, IsDrawn, IsPictureOf, IsPictureOfRun, IsShownOf};
+ghost use Rattle.rbc_picture.specs.Drawn.{lines_taken};
+ghost use Rattle.rbc_picture.specs.NotDrawn.{Draws, FailsFor, LacksNow, LacksTrain, StaysUnread};
+ghost use Rattle.rbc_picture.specs.Trains.{train_shown};
 
+use crate::fault::DrawError;
+use crate::parts::{check_lines, check_train, parts_of};
 use crate::plan::document_of;
-use crate::scene::{Scene, Sums};
-use crate::train_state::trains_of;
+use crate::scene::{Scene, Sums, has_marks};
+use crate::selection::Selection;
+use crate::train_state::{TrainState, trains_of};
 use rbc_account::{Account, LineReader, TellError, account_law};
 use rbc_track::Track;
 use rbc_track_report::{NamedTrack, named_track};
 use std::alloc::{AllocError, Global};
 use std::io::Read;
 
-/// Draws the track with its trains, stops and restrictions after the first `after` inputs, or after all of them, as an
-/// SVG document. `text` is the track file, a TOML document. The lines are read from `input` to its end, and those after
-/// the first `after` are only counted. The memory depends on the trains, stops and restrictions and on the longest line,
-/// not on the number of lines.
+/// Draws what `selection` asks for of the track with its trains, stops and restrictions, after the first `after` inputs,
+/// or after all of them, as an SVG document. `text` is the track file, a TOML document. The lines are read from `input`
+/// to its end, and those after the first `after` are only counted. The memory depends on the trains, stops and
+/// restrictions and on the longest line, not on the number of lines.
 ///
-/// These texts stand in the document, in this order. For each line its number; for each active stretch of a stop on it
-/// what it is and where; for each train that is placed on it where the train may be, and each stop and restriction that
-/// it is not told; and for each active stretch of a restriction what it is and where. Then for each train without a
-/// place that it has none, and what it is not told.
+/// These texts stand in the document, in this order. Unless the whole track is drawn, how many lines and trains are
+/// left out, in the title and in the heading. For each line or part of a line that is drawn the number of the line; for
+/// each active stretch of a stop that meets it what it is and where; for each train that is placed there where it may
+/// be, and each stop and restriction that it is not told; and for each active stretch of a restriction what it is and
+/// where. Then for each train without a place that is drawn that it has none, and what it is not told.
 ///
 /// # Errors
 ///
-/// `Track` if the text is not a track; then nothing is read. `Read` if the lines cannot be read. `Memory`. `OnlyInputs`
-/// if there are fewer inputs than `after`. Never `Write`.
+/// `Tell(Track)` if the text is not a track. `NoLine` or `BeyondLine` if `selection` names a line that the track does
+/// not have, or a part that does not lie on its line. In these cases nothing is read. `Tell(Read)` if the lines cannot
+/// be read. `Tell(Memory)`. `Tell(OnlyInputs)` if there are fewer inputs than `after`. `NoTrain` if `selection` names a
+/// train that is not enrolled after the inputs. Never `Tell(Write)` or `Tell(ReaderGone)`.
 pub fn picture<R: Read>(
     alloc: Global,
     text: &str,
     input: &mut R,
     after: Option<u64>,
-) -> Result<String, TellError>
-    ensures tells { Tells (TooFewFor after) text.now (R.remaining input.old) (R.remaining input.new) result }
-    ensures unread { LeavesUnread result input.old input.new }
-    ensures drawn { IfOk result (λ svg. IsPictureOfRun text.now after (R.remaining input.old) (R.remaining input.new)
-        (string_bytes svg)) }
+    selection: &Selection<'_>,
+) -> Result<String, DrawError>
+    ensures draws { Draws text.now after selection.now (R.remaining input.old) (R.remaining input.new) result }
+    ensures unread { StaysUnread result input.old input.new }
+    ensures drawn { IfOk result (λ svg. IsPictureOfRun text.now after selection.now (R.remaining input.old)
+        (R.remaining input.new) (string_bytes svg)) }
 {
     let mut account = Account::open(alloc, text)?;
+    check_lines(account.track(), selection)?;
     let count = take_lines(alloc, &mut account, input, after)?;
     if is_below(count, after) {
-        return Err(TellError::OnlyInputs { count });
+        return Err(DrawError::Tell(TellError::OnlyInputs { count }));
     }
-    let picture = drawn(alloc, text, &account, count)?;
+    let picture = drawn(alloc, text, &account, count, selection)?;
     Ok(picture)
 }
 
@@ -110,15 +120,23 @@ fn is_taken(count: u64, after: Option<u64>) -> bool
     }
 }
 
-/// Draws what stands after the lines that an account has taken, out of this many. Fails also if the text is not the
-/// track of the account.
-fn drawn(alloc: Global, text: &str, account: &Account, count: u64) -> Result<String, AllocError>
-    ensures { (plan : Plan) (lines : List (List ℕ)) → HasTaken plan account.now lines → length lines < 2 ^ 64
-        → IfOk result (λ svg. IsPictureOf plan lines (string_bytes svg)) }
+/// Draws what a selection asks for of what stands after the lines that an account has taken, out of this many. Fails
+/// also if the text is not the track of the account.
+fn drawn(
+    alloc: Global,
+    text: &str,
+    account: &Account,
+    count: u64,
+    selection: &Selection<'_>,
+) -> Result<String, DrawError>
+    ensures drawn { (plan : Plan) (lines : List (List ℕ)) → HasTaken plan account.now lines → length lines < 2 ^ 64
+        → IfOk result (λ svg. IsPictureOf plan selection.now lines (string_bytes svg)) }
+    ensures fails { (plan : Plan) (lines : List (List ℕ)) → HasTaken plan account.now lines → length lines < 2 ^ 64
+        → IfErr result (FailsFor (LacksTrain plan selection.now lines)) }
 {
     account_law();
     let named = names_of(alloc, text, account.track())?;
-    picture_of(alloc, account, &named, count as usize)
+    picture_of(alloc, account, &named, count as usize, selection)
 }
 
 /// Takes a line.
@@ -154,15 +172,18 @@ fn has_lines(track: &Track, lines: usize) -> bool
     has_last && track.line_len(lines).is_none()
 }
 
-/// Draws the state after the inputs that an account has taken, out of this many.
+/// Draws what a selection asks for of the state after the inputs that an account has taken, out of this many.
 fn picture_of(
     alloc: Global,
     account: &Account,
     track: &NamedTrack,
     inputs: usize,
-) -> Result<String, AllocError>
-    ensures { IfOk result (λ svg. StandIn (shown account.now.desk.track.horizon
-        (length track.now.lines.items) account.now.desk.records) (string_bytes svg)) }
+    selection: &Selection<'_>,
+) -> Result<String, DrawError>
+    ensures drawn { IfOk result (λ svg. IsDrawn selection.now account.now.desk.track.horizon
+        (length track.now.lines.items) account.now.desk.records (string_bytes svg)) }
+    ensures fails { IfErr result (FailsFor (LacksNow selection.now account.now.desk.track.horizon
+        account.now.desk.records)) }
 {
     let standing = account.standing(alloc)?;
     let sums = Sums {
@@ -173,14 +194,37 @@ fn picture_of(
         untold_again: standing.untold_again,
     };
     let trains = trains_of(alloc, account, &standing.trains)?;
+    check_train(selection, &trains)?;
+    let picture = scene_drawn(alloc, account, track, &trains, sums, selection)?;
+    Ok(picture)
+}
+
+/// Draws what a selection asks for of the state of an account with these trains.
+fn scene_drawn(
+    alloc: Global,
+    account: &Account,
+    track: &NamedTrack,
+    trains: &[TrainState],
+    sums: Sums,
+    selection: &Selection<'_>,
+) -> Result<String, AllocError>
+    ensures { IfOk result (λ svg. IsShownOf selection.now (length track.now.lines.items) account.now.desk.records
+        (map train_shown trains.now) (string_bytes svg)) }
+{
+    let (stops, limits) = (account.stops(), account.limits());
+    let parts = parts_of(alloc, selection, track, stops, limits, trains)?;
+    let has_marks = has_marks(selection, &parts, trains);
     document_of(
         alloc,
         &Scene {
             track,
-            stops: account.stops(),
-            limits: account.limits(),
-            trains: &trains,
+            stops,
+            limits,
+            trains,
             sums,
+            selection,
+            parts: &parts,
+            has_marks,
         },
     )
 }

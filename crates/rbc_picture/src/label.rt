@@ -1,8 +1,9 @@
-//! The label above a train: its engine, what it is not told, and what it is told.
+//! The label above a train: its engine, what it is not told, what it is told, and what is being revoked.
 
+use crate::nearness::Marks;
 use crate::pixels::{Side, Span};
 use crate::shapes::Point;
-use crate::short_words::{bold_width, fitting_list, short_list};
+use crate::short_words::{ShortWord, bold_width, fitting_list, short_list};
 use crate::svg::Svg;
 use crate::texts::{Anchor, ENGINE, NOTE, Style, UNTOLD};
 use crate::train_state::TrainState;
@@ -23,6 +24,8 @@ pub(crate) struct Label {
     pub untold: String,
     /// What it is told, or no text.
     pub told: String,
+    /// The revocations that it has not acknowledged, or no text.
+    pub revoked: String,
     /// Where the label begins.
     pub x: i64,
     /// The side to which it goes from there.
@@ -30,18 +33,26 @@ pub(crate) struct Label {
 }
 
 /// The label of a train whose arrow has this body.
-pub(crate) fn label_of(alloc: Global, train: &TrainState, body: Span) -> Result<Label, AllocError> {
+pub(crate) fn label_of(
+    alloc: Global,
+    train: &TrainState,
+    body: Span,
+    marks: &Marks,
+) -> Result<Label, AllocError> {
     let engine = engine_words(alloc, train.engine)?;
-    let untold = untold_list(alloc, train)?;
+    let untold = untold_list(alloc, &marks.untold)?;
+    let revoked = short_list(alloc, "", &marks.revoked, 2)?;
     let room = WIDEST
         .saturating_sub(bold_width(engine.as_str(), 13))
         .saturating_sub(GAP)
-        .saturating_sub(need_of(untold.as_str()));
-    let told = fitting_list(alloc, "", &train.told_words(alloc)?, 6, room)?;
+        .saturating_sub(need_of(untold.as_str()))
+        .saturating_sub(need_of(revoked.as_str()));
+    let told = fitting_list(alloc, "", &marks.told, 6, room)?;
     let mut label = Label {
         engine,
         untold,
         told,
+        revoked,
         x: body.left,
         side: Side::Right,
     };
@@ -58,16 +69,20 @@ pub(crate) fn engine_words(alloc: Global, engine: u32) -> Result<String, AllocEr
 }
 
 /// What a train is not told, at most two of it.
-fn untold_list(alloc: Global, train: &TrainState) -> Result<String, AllocError> {
-    let words = train.untold_words(alloc)?;
+fn untold_list(alloc: Global, words: &[ShortWord]) -> Result<String, AllocError> {
     if words.is_empty() {
         return Ok(String::new(alloc));
     }
-    short_list(alloc, "NOT TOLD ", &words, 2)
+    short_list(alloc, "NOT TOLD ", words, 2)
+}
+
+/// The revocations that a train has not acknowledged, at most two of them.
+pub(crate) fn revoked_list(alloc: Global, train: &TrainState) -> Result<String, AllocError> {
+    short_list(alloc, "", &train.revocations(alloc)?, 2)
 }
 
 /// The room of a text after another, if there is a text.
-fn need_of(words: &str) -> i64 {
+pub(crate) fn need_of(words: &str) -> i64 {
     if words.is_empty() {
         return 0;
     }
@@ -80,6 +95,7 @@ impl Label {
         bold_width(self.engine.as_str(), 13)
             .saturating_add(need_of(self.untold.as_str()))
             .saturating_add(need_of(self.told.as_str()))
+            .saturating_add(need_of(self.revoked.as_str()))
     }
 
     /// From its left end to its right end.
@@ -100,7 +116,9 @@ impl Label {
         let untold = self.untold.as_str();
         let x = self.draw_text(svg, Point { x, y }, UNTOLD, untold, bold_width(untold, 11));
         let told = self.told.as_str();
-        self.draw_text(svg, Point { x, y }, NOTE, told, bold_width(told, 11));
+        let x = self.draw_text(svg, Point { x, y }, NOTE, told, bold_width(told, 11));
+        let revoked = self.revoked.as_str();
+        self.draw_text(svg, Point { x, y }, NOTE, revoked, bold_width(revoked, 11));
     }
 
     /// Draws one text of the label, if it has words. Returns where the next one begins.

@@ -4,11 +4,12 @@ ghost use Rattle.std.specs.Prelude.{◌≡◌, IfOk, OnOk, map, filter, string_b
 ghost use Rattle.rbc_picture.specs.Panels.{lost_texts};
 ghost use Rattle.rbc_picture.specs.Shown.{IsShownOn};
 ghost use Rattle.rbc_picture.specs.Titles.{train_texts};
-ghost use Rattle.rbc_picture.specs.Trains.{is_unplaced, train_shown};
+ghost use Rattle.rbc_picture.specs.Trains.{is_listed_in, train_shown};
 
 use crate::colours::{DASHED_EDGE, WHITE};
 use crate::document::push_piece;
-use crate::label::engine_words;
+use crate::label::{engine_words, need_of, revoked_list};
+use crate::selection::Selection;
 use crate::shapes::{Area, Point, moved};
 use crate::short_words::{bold_width, fitting_list};
 use crate::svg::Svg;
@@ -25,6 +26,8 @@ const IN_A_ROW: usize = 4;
 pub(crate) struct LostTrain<'a> {
     pub train: &'a TrainState,
     engine: String,
+    /// The revocations that it has not acknowledged, or no text.
+    revoked: String,
     /// The stops and restrictions that it is not told, or no text.
     untold: String,
     /// The stops and restrictions that it is told, or no text.
@@ -33,28 +36,41 @@ pub(crate) struct LostTrain<'a> {
     at_once: Option<bool>,
 }
 
-/// The trains without a place, in their order.
+/// The trains without a place that a selection lists, in their order, with their revocations or without them.
 pub(crate) fn lost_of<'a>(
     alloc: Global,
     trains: &'a [TrainState],
+    selection: &Selection<'_>,
+    has_revocations: bool,
 ) -> Result<Vec<LostTrain<'a>>, AllocError>
-    ensures { IfOk result (λ lost. map (λ train. train.train.now) lost.items ≡ filter is_unplaced trains.now) }
+    ensures { IfOk result (λ lost. map (λ train. train.train.now) lost.items
+        ≡ filter (is_listed_in selection.now) trains.now) }
 {
     let mut lost = Vec::new(alloc);
     for train in trains {
-        if train.is_unplaced() {
-            lost.push(lost_train(alloc, train)?)?;
+        if train.is_listed(selection) {
+            lost.push(lost_train(alloc, train, has_revocations)?)?;
         }
     }
     Ok(lost)
 }
 
-/// A train without a place.
-fn lost_train<'a>(alloc: Global, train: &'a TrainState) -> Result<LostTrain<'a>, AllocError>
+/// A train without a place, with its revocations or without them.
+fn lost_train<'a>(
+    alloc: Global,
+    train: &'a TrainState,
+    has_revocations: bool,
+) -> Result<LostTrain<'a>, AllocError>
     ensures { IfOk result (λ lost. lost.train.now ≡ train.now) }
 {
     let engine = engine_words(alloc, train.engine)?;
     let room = 2_340i64.saturating_sub(bold_width(engine.as_str(), 13));
+    let revoked = if has_revocations {
+        revoked_list(alloc, train)?
+    } else {
+        String::new(alloc)
+    };
+    let room = room.saturating_sub(need_of(revoked.as_str()));
     let untold = fitting_list(alloc, "NOT TOLD ", &train.untold_words(alloc)?, 2, room)?;
     let told = fitting_list(alloc, "", &train.told_words(alloc)?, 4, room)?;
     let at_once = match train.at_once(alloc)? {
@@ -64,6 +80,7 @@ fn lost_train<'a>(alloc: Global, train: &'a TrainState) -> Result<LostTrain<'a>,
     Ok(LostTrain {
         train,
         engine,
+        revoked,
         untold,
         told,
         at_once,
@@ -170,11 +187,17 @@ impl LostTrain<'_> {
         svg
     }
 
-    /// Writes its engine, and then the stops and restrictions that it is not told, or else those that it is told.
+    /// Writes its engine, its revocations, and then the stops and restrictions that it is not told, or else those that
+    /// it is told.
     fn draw_words(&self, svg: &mut Svg, corner: Point) {
         let engine = self.engine.as_str();
         svg.text(moved(corner, 260, 165), Anchor::Start, ENGINE, engine);
-        let behind = moved(corner, bold_width(engine, 13).saturating_add(320), 165);
+        let mut behind = moved(corner, bold_width(engine, 13).saturating_add(320), 165);
+        let revoked = self.revoked.as_str();
+        if !revoked.is_empty() {
+            svg.text(behind, Anchor::Start, NOTE, revoked);
+            behind = moved(behind, need_of(revoked), 0);
+        }
         if !self.untold.is_empty() {
             svg.text(behind, Anchor::Start, UNTOLD, self.untold.as_str());
         } else if !self.told.is_empty() {

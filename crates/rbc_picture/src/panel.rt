@@ -1,20 +1,22 @@
 //! The panel of a line.
 
 ghost use Rattle.std.specs.Prelude.{◌≡◌, IfOk, OnOk, length, map, filter, string_bytes};
-ghost use Rattle.rbc_picture.specs.Trains.{is_on};
-ghost use Rattle.rbc_picture.specs.Panels.{ShowsLine, panel_texts, shapes_texts};
+ghost use Rattle.rbc_picture.specs.Trains.{is_in};
+ghost use Rattle.rbc_picture.specs.Panels.{ShowsPart, panel_texts, shapes_texts};
 ghost use Rattle.rbc_picture.specs.Shown.{IsShownOn};
 
 use crate::axis::{Mark, axis_of, draw_axis, draw_grid};
 use crate::bands::{Bands, bands_of};
+use crate::bar::Bar;
 use crate::colours::{DARK_EDGE, STOP, WHITE};
 use crate::document::{push_piece, push_text};
 use crate::groups::{GroupSign, draw_groups, signs_of};
 use crate::lanes::{Lanes, lanes_of};
 use crate::pixels::Span;
-use crate::scene::Scene;
+use crate::scene::{Scene, is_crowd};
+use crate::selection::LinePart;
 use crate::shapes::{Area, Point, Stroke, moved};
-use crate::stretches::{limit_stretches, stop_stretches};
+use crate::stretches::{limit_stretches, meeting, stop_stretches};
 use crate::svg::Svg;
 use crate::texts::{Anchor, HEADING, NOTE};
 use crate::titles::line_heading;
@@ -32,6 +34,10 @@ const RIGHT: i64 = 11_600;
 
 /// The height of a row of trains.
 const ROW: i64 = 400;
+
+/// What a crowded panel does not show.
+const REMARK: &str = "More than 40 trains: the words above a train name the stops that it is told, \
+    and the places before which it is told to stop are not drawn.";
 
 /// The whole line above the part that is shown.
 const OVERVIEW: Stroke = Stroke {
@@ -54,15 +60,28 @@ const TRACK_BEYOND: Stroke = Stroke {
     dashes: Some("4 4"),
 };
 
-/// The panel of a line.
+/// Where a panel stands, and what of a line it shows.
+#[derive(Clone, Copy)]
+pub(crate) struct Frame {
+    pub window: Window,
+    /// Whether each panel has a bar for its scale.
+    pub has_bars: bool,
+    /// Where the panel begins, in tenths of a pixel.
+    pub top: i64,
+}
+
+/// The panel of a part of a line.
 #[derive(Drop)]
 pub(crate) struct Panel<'a> {
-    /// The number of the line.
-    pub line: usize,
+    /// The part that it shows.
+    pub part: LinePart,
     about: &'a NamedLine,
     window: Window,
+    bar: Option<Bar>,
     /// Where it begins, in tenths of a pixel.
     pub top: i64,
+    /// Whether it has too many trains to show the places before which they are told to stop.
+    is_crowded: bool,
     pub stops: Bands,
     pub limits: Bands,
     columns: Vec<Span>,
@@ -72,27 +91,40 @@ pub(crate) struct Panel<'a> {
     axis: Vec<Mark>,
 }
 
-/// The panel of a line, which begins at `top`.
+/// The panel of a part of a line.
 pub(crate) fn panel_of<'a>(
     alloc: Global,
     scene: &Scene<'a>,
-    line: usize,
+    part: LinePart,
     about: &'a NamedLine,
-    window: Window,
-    top: i64,
+    frame: Frame,
 ) -> Result<Panel<'a>, AllocError>
-    ensures { IfOk result (ShowsLine scene.now line) }
+    ensures shows { IfOk result (ShowsPart scene.now) }
+    ensures of_part { IfOk result (λ panel. panel.part ≡ part) }
 {
-    let stops = bands_of(alloc, window, &stop_stretches(alloc, scene.stops, line)?)?;
-    let limits = bands_of(alloc, window, &limit_stretches(alloc, scene.limits, line)?)?;
-    let trains = shapes_on(alloc, scene.trains, line, window)?;
+    let (line, window) = (part.line as usize, frame.window);
+    let stops = bands_of(
+        alloc,
+        window,
+        &meeting(alloc, &part, &stop_stretches(alloc, scene.stops, line)?)?,
+    )?;
+    let limits = bands_of(
+        alloc,
+        window,
+        &meeting(alloc, &part, &limit_stretches(alloc, scene.limits, line)?)?,
+    )?;
+    let is_crowded = is_crowd(scene.trains, &part);
+    let trains = shapes_on(alloc, scene, scene.trains, &part, window, is_crowded)?;
+    let bar = bar_of(window, frame.has_bars);
     let columns = stops.columns(alloc)?;
     let rows = lanes_of(alloc, &extents_of(alloc, &trains)?)?;
     Ok(Panel {
-        line,
+        part,
         about,
         window,
-        top,
+        bar,
+        top: frame.top,
+        is_crowded,
         stops,
         limits,
         columns,
@@ -103,19 +135,26 @@ pub(crate) fn panel_of<'a>(
     })
 }
 
-/// The trains that are placed on a line, in their order.
+/// The bar for a window, if panels have bars.
+fn bar_of(window: Window, has_bars: bool) -> Option<Bar> {
+    if has_bars { Bar::of(window) } else { None }
+}
+
+/// The trains that are placed on the line of a part and meet the part, in their order.
 fn shapes_on<'a>(
     alloc: Global,
+    scene: &Scene<'a>,
     trains: &'a [TrainState],
-    line: usize,
+    part: &LinePart,
     window: Window,
+    is_crowded: bool,
 ) -> Result<Vec<TrainShape<'a>>, AllocError>
-    ensures { IfOk result (λ shapes. map (λ shape. shape.train.now) shapes.items ≡ filter (is_on line) trains.now) }
+    ensures { IfOk result (λ shapes. map (λ shape. shape.train.now) shapes.items ≡ filter (is_in part.now) trains.now) }
 {
     let mut shapes = Vec::new(alloc);
     for train in trains {
-        if let Some(place) = train.place_on(line) {
-            shapes.push(shape_of(alloc, train, place, window)?)?;
+        if let Some(place) = train.place_in(part) {
+            shapes.push(shape_of(alloc, scene, train, place, window, is_crowded)?)?;
         }
     }
     Ok(shapes)
@@ -136,8 +175,12 @@ impl Panel<'_> {
 
     /// Where the lanes of stops begin.
     fn stops_top(&self) -> i64 {
+        let overview = if self.is_part() { 140 } else { 0 };
+        let remark = if self.is_crowded { 180 } else { 0 };
         self.top
-            .saturating_add(if self.is_part() { 400 } else { 260 })
+            .saturating_add(260)
+            .saturating_add(overview)
+            .saturating_add(remark)
     }
 
     /// Where the rows of trains begin.
@@ -180,14 +223,16 @@ impl Panel<'_> {
             (string_bytes document.new)) }
     {
         push_piece(document, self.heading_tag(alloc))?;
-        push_text(document, line_heading(alloc, self.line)?.as_str())?;
+        push_text(
+            document,
+            line_heading(alloc, self.part.line as usize)?.as_str(),
+        )?;
         push_piece(document, self.above_stops(alloc))?;
         self.stops
-            .push(alloc, document, self.line, self.stops_top())?;
+            .push(alloc, document, self.part.line as usize, self.stops_top())?;
         push_piece(document, self.below_stops(alloc))?;
         self.push_trains(alloc, document)?;
-        self.limits
-            .push(alloc, document, self.line, self.limits_top())?;
+        self.limits.push(alloc, document, self.part.line as usize, self.limits_top())?;
         push_piece(document, Svg::of(alloc, "</g>\n"))
     }
 
@@ -212,6 +257,7 @@ impl Panel<'_> {
         let mut svg = Svg::new(alloc);
         self.draw_heading(&mut svg);
         self.draw_overview(&mut svg);
+        self.draw_remark(&mut svg);
         let y = self.line_y();
         draw_grid(&mut svg, &self.axis, self.stops_top(), y.saturating_add(80));
         self.draw_columns(&mut svg, y);
@@ -233,6 +279,9 @@ impl Panel<'_> {
         let y = self.heading_at().y;
         svg.name(&self.about.name);
         svg.end_words();
+        if let Some(bar) = &self.bar {
+            bar.draw(svg, y);
+        }
         svg.begin_words(Point { x: RIGHT, y }, Anchor::End, NOTE);
         svg.km(self.about.length);
         svg.words(" km");
@@ -267,6 +316,17 @@ impl Panel<'_> {
             height: 60,
         };
         svg.filled_box(frame, WHITE, DARK_EDGE);
+    }
+
+    /// Writes what a crowded panel does not show.
+    fn draw_remark(&self, svg: &mut Svg) {
+        if self.is_crowded {
+            let at = Point {
+                x: LEFT,
+                y: self.stops_top().saturating_sub(60),
+            };
+            svg.text(at, Anchor::Start, NOTE, REMARK);
+        }
     }
 
     /// Draws the columns from the bands of stops down to the line.

@@ -77,6 +77,22 @@ impl Side {
         }
     }
 
+    /// The one of two places that lies farther to this side.
+    pub(crate) fn farther(self, one: i64, other: i64) -> i64 {
+        match self {
+            Side::Right => one.max(other),
+            Side::Left => one.min(other),
+        }
+    }
+
+    /// The last place on this side at which a sign stands whole on the picture.
+    pub(crate) fn edge(self) -> i64 {
+        match self {
+            Side::Right => 11_920,
+            Side::Left => 80,
+        }
+    }
+
     /// The other side.
     pub(crate) fn other(self) -> Side {
         match self {

@@ -1,17 +1,18 @@
 //! The parts of a picture, one below the other, and the whole document.
 
-ghost use Rattle.std.specs.Prelude.{IfOk, OnOk, length, string_bytes};
+ghost use Rattle.std.specs.Prelude.{IfOk, OnOk, string_bytes};
 ghost use Rattle.std.specs.List.{flat_map};
-ghost use Rattle.rbc_picture.specs.Panels.{ShowEachLine, ShowsAll, panel_texts, plan_texts, scene_texts};
+ghost use Rattle.rbc_picture.specs.Panels.{ShowEachPart, ShowsAll, panel_texts, plan_texts, scene_texts};
 ghost use Rattle.rbc_picture.specs.Shown.{IsShownOn, StandIn};
 
 use crate::document::push_piece;
+use crate::head::{head_end, push_head};
 use crate::lost::{LostTrain, lost_end, lost_of, push_lost};
-use crate::panel::{Panel, panel_of};
+use crate::panel::{Frame, Panel, panel_of};
 use crate::scene::{Scene, reaches_of, window_of};
 use crate::shapes::{Point, Stroke};
 use crate::svg::Svg;
-use crate::title_and_legend::{draw_head, head_end};
+use crate::window::Reach;
 use std::alloc::{AllocError, Global};
 
 /// The distance from the end of a part to the next part.
@@ -24,20 +25,12 @@ const RULE: Stroke = Stroke {
     dashes: None,
 };
 
-const PATTERNS: &str = "<defs>
-<pattern id=\"stop\" width=\"8\" height=\"8\" patternUnits=\"userSpaceOnUse\" patternTransform=\"rotate(45)\">\
-<rect width=\"8\" height=\"8\" fill=\"#FBE3D4\"/><rect width=\"3\" height=\"8\" fill=\"#D55E00\"/></pattern>
-<pattern id=\"limit\" width=\"8\" height=\"8\" patternUnits=\"userSpaceOnUse\">\
-<rect width=\"8\" height=\"8\" fill=\"#D6E8F5\"/><circle cx=\"4\" cy=\"4\" r=\"1.8\" fill=\"#0072B2\"/></pattern>
-</defs>
-";
-
 /// The parts of a picture below its head.
 #[derive(Drop)]
 pub(crate) struct Plan<'a> {
-    /// The panel of each line.
+    /// The panel of each part.
     pub panels: Vec<Panel<'a>>,
-    /// The trains without a place.
+    /// The trains without a place that are listed.
     pub lost: Vec<LostTrain<'a>>,
     /// Where the trains without a place begin, in tenths of a pixel.
     lost_top: i64,
@@ -48,7 +41,7 @@ pub(crate) fn plan_of<'a>(alloc: Global, scene: &Scene<'a>) -> Result<Plan<'a>, 
     ensures { IfOk result (ShowsAll scene.now) }
 {
     let panels = panels_of(alloc, scene)?;
-    let lost = lost_of(alloc, scene.trains)?;
+    let lost = lost_of(alloc, scene.trains, scene.selection, scene.has_marks)?;
     let lost_top = next_top(last_end(&panels, scene));
     Ok(Plan {
         panels,
@@ -57,21 +50,53 @@ pub(crate) fn plan_of<'a>(alloc: Global, scene: &Scene<'a>) -> Result<Plan<'a>, 
     })
 }
 
-/// The panels of all lines, one below the other.
+/// The panels of all parts, one below the other.
 fn panels_of<'a>(alloc: Global, scene: &Scene<'a>) -> Result<Vec<Panel<'a>>, AllocError>
-    ensures { IfOk result (λ panels. ShowEachLine scene.now (length scene.now.track.now.lines.items) panels.items) }
+    ensures { IfOk result (λ panels. ShowEachPart scene.now scene.now.parts.now panels.items) }
 {
     let reaches = reaches_of(alloc, scene)?;
     let lines = scene.track.lines.as_slice();
+    let has_bars = scales_differ(scene, &reaches);
+    let parts = scene.parts;
     let mut panels = Vec::new(alloc);
-    let mut top = next_top(head_end(&scene.sums));
-    for (line, about) in lines.iter().enumerate() {
-        let window = window_of(lines, &reaches, line);
-        let panel = panel_of(alloc, scene, line, about, window, top)?;
+    let mut top = next_top(head_end(scene));
+    for part in parts {
+        let window = window_of(lines, &reaches, part);
+        let Some(about) = lines.get(part.line as usize) else {
+            return Err(AllocError);
+        };
+        let panel = panel_of(
+            alloc,
+            scene,
+            *part,
+            about,
+            Frame {
+                window,
+                has_bars,
+                top,
+            },
+        )?;
         top = next_top(panel.end());
         panels.push(panel)?;
     }
     Ok(panels)
+}
+
+/// Whether the panels of a selection show their lines to different scales, so that each has a bar for its own.
+fn scales_differ(scene: &Scene<'_>, reaches: &[Reach]) -> bool {
+    if scene.selection.is_whole() {
+        return false;
+    }
+    let lines = scene.track.lines.as_slice();
+    let mut first = None;
+    for part in scene.parts {
+        let length = window_of(lines, reaches, part).length();
+        if first.is_some_and(|first| first != length) {
+            return true;
+        }
+        first = Some(length);
+    }
+    false
 }
 
 /// Where the next part begins, by where the last one ends.
@@ -83,7 +108,7 @@ fn next_top(end: i64) -> i64 {
 fn last_end(panels: &[Panel<'_>], scene: &Scene<'_>) -> i64 {
     match panels.last() {
         Some(panel) => panel.end(),
-        None => head_end(&scene.sums),
+        None => head_end(scene),
     }
 }
 
@@ -139,57 +164,21 @@ pub(crate) fn document_of(alloc: Global, scene: &Scene<'_>) -> Result<String, Al
 {
     let plan = plan_of(alloc, scene)?;
     let mut document = String::new(alloc);
-    push_piece(&mut document, beginning(alloc, scene, plan.height()))?;
+    push_piece(&mut document, beginning(alloc, plan.height()))?;
+    push_head(alloc, &mut document, scene, plan.height())?;
     plan.push(alloc, &mut document)?;
     push_piece(&mut document, Svg::of(alloc, "</svg>\n"))?;
     Ok(document)
 }
 
-/// The document down to the panels.
-fn beginning(alloc: Global, scene: &Scene<'_>, height: u64) -> Svg {
+/// The beginning of the document.
+fn beginning(alloc: Global, height: u64) -> Svg {
     let mut svg = Svg::new(alloc);
-    begin_document(&mut svg, height);
-    write_titles(&mut svg, scene);
-    svg.words(PATTERNS);
-    draw_ground(&mut svg, height);
-    draw_head(&mut svg, scene);
-    svg
-}
-
-/// Begins the document.
-fn begin_document(svg: &mut Svg, height: u64) {
     svg.words("<svg xmlns=\"http://www.w3.org/2000/svg\" viewBox=\"0 0 1200 ");
     svg.number(height);
     svg.words("\" width=\"1200\" height=\"");
     svg.number(height);
     svg.words("\" role=\"img\" aria-labelledby=\"title desc\" lang=\"en\"");
     svg.words(" font-family=\"DejaVu Sans, Verdana, Arial, sans-serif\">\n");
-}
-
-/// Draws the white ground of the whole picture.
-fn draw_ground(svg: &mut Svg, height: u64) {
-    svg.words("<rect width=\"1200\" height=\"");
-    svg.number(height);
-    svg.words("\" fill=\"#FFFFFF\"/>\n");
-}
-
-/// Writes the title of the document, and its description in words.
-fn write_titles(svg: &mut Svg, scene: &Scene<'_>) {
-    svg.words("<title id=\"title\">");
-    svg.title_words(scene);
-    svg.words("</title>\n<desc id=\"desc\">");
-    svg.title_words(scene);
-    svg.words(". ");
-    svg.summary_words(scene);
-    for (number, area) in scene.stops {
-        svg.stop_sentence(*number, area.segments());
-    }
-    for (number, limit) in scene.limits {
-        svg.limit_sentence(*number, limit);
-    }
-    for train in scene.trains {
-        svg.words(" ");
-        svg.train_sentences(train);
-    }
-    svg.words("</desc>\n");
+    svg
 }

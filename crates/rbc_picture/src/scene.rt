@@ -1,10 +1,14 @@
-//! What a picture shows, and which part of each line.
+//! What a picture shows, and the windows of its panels.
 
+use crate::selection::{LinePart, Selection};
 use crate::train_state::TrainState;
 use crate::window::{Reach, Window};
 use rbc_track_report::{NamedLine, NamedTrack};
 use rbc_zones::{Area, Limit, Segment};
 use std::alloc::{AllocError, Global};
+
+/// More trains than this crowd a panel.
+const CROWD: usize = 40;
 
 /// A track, and what stands on it after some inputs.
 #[derive(Drop)]
@@ -19,6 +23,12 @@ pub(crate) struct Scene<'a> {
     pub trains: &'a [TrainState],
     /// What the picture counts.
     pub sums: Sums,
+    /// What of it is drawn.
+    pub selection: &'a Selection<'a>,
+    /// The parts of lines that are drawn, one below the other.
+    pub parts: &'a [LinePart],
+    /// Whether the marks of a train begin with the nearest place and have its revocations.
+    pub has_marks: bool,
 }
 
 /// What a picture counts.
@@ -34,6 +44,21 @@ pub(crate) struct Sums {
     pub untold: usize,
     /// The stops that trains are not told again.
     pub untold_again: usize,
+}
+
+/// Whether more trains meet a part than have room for the places before which they are told to stop.
+pub(crate) fn is_crowd(trains: &[TrainState], part: &LinePart) -> bool {
+    trains.iter().filter(|train| train.is_in(part)).count() > CROWD
+}
+
+/// Whether the marks of trains begin with the nearest place and have revocations: in the picture of a selection, and in
+/// one with a crowd.
+pub(crate) fn has_marks(
+    selection: &Selection<'_>,
+    parts: &[LinePart],
+    trains: &[TrainState],
+) -> bool {
+    !selection.is_whole() || parts.iter().any(|part| is_crowd(trains, part))
 }
 
 /// The places of each line that its window has to show: those of its trains, of their balise groups, before which they
@@ -59,7 +84,7 @@ fn stops_reach(stops: &[(u32, Area)], line: usize) -> Reach {
 }
 
 /// The ends of the segments that lie on a line.
-fn area_reach(segments: &[Segment], line: usize) -> Reach {
+pub(crate) fn area_reach(segments: &[Segment], line: usize) -> Reach {
     let mut reach = Reach::NONE;
     for segment in segments {
         reach = reach.and(segment_reach(segment, line));
@@ -68,7 +93,7 @@ fn area_reach(segments: &[Segment], line: usize) -> Reach {
 }
 
 /// The ends of a segment, if it lies on a line.
-fn segment_reach(segment: &Segment, line: usize) -> Reach {
+pub(crate) fn segment_reach(segment: &Segment, line: usize) -> Reach {
     if segment.line as usize == line {
         Reach::NONE.with(segment.from).with(segment.to)
     } else {
@@ -96,10 +121,13 @@ fn trains_reach(trains: &[TrainState], line: usize) -> Reach {
 
 /// The place of a train, if it is on a line, with its balise group and the places before which it is told to stop
 /// there.
-fn train_reach(train: &TrainState, line: usize) -> Reach {
-    let Some(place) = train.place_on(line) else {
+pub(crate) fn train_reach(train: &TrainState, line: usize) -> Reach {
+    let Some(place) = train.place else {
         return Reach::NONE;
     };
+    if place.line() as usize != line {
+        return Reach::NONE;
+    }
     let mut reach = Reach::NONE
         .with(place.lo())
         .with(place.hi())
@@ -114,10 +142,15 @@ fn train_reach(train: &TrainState, line: usize) -> Reach {
     reach
 }
 
-/// The window of a line. Lines of one length have the same window, which shows the places of all of them. If that is
-/// the whole line, each has a window for its own places.
-pub(crate) fn window_of(lines: &[NamedLine], reaches: &[Reach], line: usize) -> Window {
+/// The window of a part: the part itself, or for a whole line what there is to show of it. Whole lines of one length
+/// have the same window, which shows the places of all of them. If that is the whole line, each has a window for its
+/// own places.
+pub(crate) fn window_of(lines: &[NamedLine], reaches: &[Reach], part: &LinePart) -> Window {
+    let line = part.line as usize;
     let length = lines.get(line).map_or(1, |line| line.length);
+    if let Some((from, to)) = part.part {
+        return Window::between(length, from, to);
+    }
     let common = Window::of(length, common_reach(lines, reaches, length));
     if !common.is_whole(length) {
         return common;

@@ -13,9 +13,11 @@ pub(crate) enum Remark {
     Unanswered,
     /// The train left it unanswered in three reports, and it is not told again yet.
     Due,
+    /// It is being revoked, and the train has not acknowledged that. Its number is not known any more.
+    Revoked,
 }
 
-/// A stop or a restriction, in short: `S1`, `S2?`, `S3!` or `R20`.
+/// A stop or a restriction, in short: `S1`, `S2?`, `S3!` or `R20`; `-S?` or `-R?` if it is being revoked.
 #[derive(Clone, Copy)]
 pub(crate) struct ShortWord {
     /// Whether it is a stop.
@@ -44,6 +46,15 @@ impl ShortWord {
             remark: Remark::Nothing,
         }
     }
+
+    /// The revocation of a stop, or of a restriction.
+    pub(crate) fn revocation(is_stop: bool) -> ShortWord {
+        ShortWord {
+            is_stop,
+            number: 0,
+            remark: Remark::Revoked,
+        }
+    }
 }
 
 impl fmt::Display for ShortWord {
@@ -54,6 +65,7 @@ impl fmt::Display for ShortWord {
             Remark::Nothing => "",
             Remark::Unanswered => "?",
             Remark::Due => "!",
+            Remark::Revoked => return write!(f, "-{letter}?"),
         };
         write!(f, "{letter}{number}{sign}")
     }

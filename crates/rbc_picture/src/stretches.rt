@@ -1,8 +1,10 @@
 //! The stretches of a line on which stops and restrictions are active.
 
-ghost use Rattle.std.specs.Prelude.{◌≡◌, ◌++◌, OnOk, IfOk};
+ghost use Rattle.std.specs.Prelude.{◌≡◌, ◌++◌, OnOk, IfOk, filter};
+ghost use Rattle.rbc_picture.specs.Selections.{meets_stretch};
 ghost use Rattle.rbc_picture.specs.Stretches.{stretches_in, stop_stretches, limit_stretches, limit_stretch};
 
+use crate::selection::LinePart;
 use rbc_zones::{Area, Dirs, Limit, Segment};
 use std::alloc::{AllocError, Global};
 use std::fmt;
@@ -102,6 +104,21 @@ pub(crate) fn limit_stretches(
         }
     }
     Ok(stretches)
+}
+
+/// The stretches that meet a part, in their order.
+pub(crate) fn meeting(
+    alloc: Global,
+    part: &LinePart,
+    stretches: &[Stretch],
+) -> Result<Vec<Stretch>, AllocError>
+    ensures { IfOk result (λ list. list.items ≡ filter (meets_stretch part.now) stretches.now) }
+{
+    stretches
+        .iter()
+        .copied()
+        .filter(|stretch| part.meets(stretch.from, stretch.to))
+        .collect(alloc)
 }
 
 /// The stretch of a restriction.

@@ -28,6 +28,13 @@ pub(crate) const SUMMARY: Style = Style {
     colour: DARK,
 };
 
+/// What is drawn of the track, and what is left out, below the title.
+pub(crate) const SCOPE: Style = Style {
+    size: "13",
+    is_bold: true,
+    colour: DARK,
+};
+
 /// How much is not told, below the summary.
 pub(crate) const LACK: Style = Style {
     size: "13",

@@ -9,8 +9,10 @@ ghost use Rattle.rbc_picture.specs.Window.{x_at};
 use crate::colours::DARK;
 use crate::document::push_piece;
 use crate::label::{Label, label_of};
+use crate::nearness::marks_of;
 use crate::pixels::{Side, Span};
-use crate::posts::{Post, Taken, place_words, posts_of};
+use crate::posts::{Arrow, Posts, Taken, place_words, posts_of, spread_signs};
+use crate::scene::Scene;
 use crate::shapes::{Point, Stroke, moved};
 use crate::short_words::{bold_width, short_list};
 use crate::svg::Svg;
@@ -51,38 +53,77 @@ pub(crate) struct NowSign {
 pub(crate) struct TrainShape<'a> {
     /// The train.
     pub train: &'a TrainState,
-    /// From its left end to its right end.
-    body: Span,
-    /// The side to which it faces.
-    side: Side,
+    arrow: Arrow,
+    /// Whether its front lies in the window, so that the arrow has a nose.
+    has_nose: bool,
     label: Label,
     now: Option<NowSign>,
-    posts: Vec<Post>,
+    posts: Posts,
 }
 
-/// The shape of a train at its place on a line.
+/// The shape of a train at its place on a line. In a crowd it has no posts.
 pub(crate) fn shape_of<'a>(
     alloc: Global,
+    scene: &Scene<'_>,
     train: &'a TrainState,
     place: Place,
     window: Window,
+    is_crowded: bool,
 ) -> Result<TrainShape<'a>, AllocError>
     ensures { IfOk result (λ shape. shape.train.now ≡ train.now) }
 {
     let (body, side) = body_of(place, window);
+    let arrow = Arrow { body, side };
+    let marks = marks_of(alloc, scene, train, &place)?;
     let now = now_sign(alloc, train)?;
-    let mut posts = posts_of(alloc, train, place.line() as usize, window)?;
-    let others = parts_of(alloc, body, side, now.is_some())?;
-    let mut taken = Taken::by(alloc, &posts, others)?;
-    place_words(&mut posts, &mut taken, side)?;
+    let posts = if is_crowded {
+        Posts::none(alloc)
+    } else {
+        placed_posts(alloc, scene, train, place, window, arrow)?
+    };
     Ok(TrainShape {
         train,
-        body,
-        side,
-        label: label_of(alloc, train, body)?,
+        arrow,
+        has_nose: window.has(front_place(place)),
+        label: label_of(alloc, train, body, &marks)?,
         now,
         posts,
     })
+}
+
+/// The posts of a train, with room for their words.
+fn placed_posts(
+    alloc: Global,
+    scene: &Scene<'_>,
+    train: &TrainState,
+    place: Place,
+    window: Window,
+    arrow: Arrow,
+) -> Result<Posts, AllocError> {
+    let is_whole = scene.selection.is_whole();
+    let has_sign = train.is_told_at_once();
+    let mut posts = posts_of(
+        alloc,
+        train,
+        u32::from(place.line()),
+        window,
+        arrow,
+        is_whole,
+    )?;
+    if !is_whole {
+        spread_signs(posts.all.as_mut_slice(), arrow, has_sign);
+    }
+    let mut taken = Taken::by(alloc, &posts.all, parts_of(alloc, arrow, has_sign)?)?;
+    place_words(&mut posts.all, &mut taken, arrow.side)?;
+    Ok(posts)
+}
+
+/// Where a train has its front at the farthest.
+fn front_place(place: Place) -> u32 {
+    match place.facing() {
+        Way::Up => place.hi(),
+        Way::Down => place.lo(),
+    }
 }
 
 /// Where a train stands on the picture, and the side to which it faces. Its front is exact. A train that would be too
@@ -115,28 +156,15 @@ fn now_sign(alloc: Global, train: &TrainState) -> Result<Option<NowSign>, AllocE
     }
 }
 
-/// The end of a train at its front.
-fn front_of(body: Span, side: Side) -> i64 {
-    match side {
-        Side::Right => body.right,
-        Side::Left => body.left,
-    }
-}
-
 /// The parts that a train takes: the sign before its front, if there is one, and the train itself if it is short.
-fn parts_of(
-    alloc: Global,
-    body: Span,
-    side: Side,
-    has_sign: bool,
-) -> Result<Vec<Span>, AllocError> {
+fn parts_of(alloc: Global, arrow: Arrow, has_sign: bool) -> Result<Vec<Span>, AllocError> {
     let mut parts = Vec::new(alloc);
     if has_sign {
-        let front = front_of(body, side);
+        let (front, side) = (arrow.front(), arrow.side);
         parts.push(Span::between(side.from(front, 10), side.from(front, 170)))?;
     }
-    if body.right.saturating_sub(body.left) <= 400 {
-        parts.push(body)?;
+    if arrow.body.right.saturating_sub(arrow.body.left) <= 400 {
+        parts.push(arrow.body)?;
     }
     Ok(parts)
 }
@@ -145,15 +173,18 @@ impl TrainShape<'_> {
     /// The room of the train with its label, its signs and their words.
     pub(crate) fn extent(&self) -> Span {
         let label = self.label.extent();
-        let mut extent = self.body.with(label.left).with(label.right);
+        let mut extent = self.arrow.body.with(label.left).with(label.right);
         if let Some(sign) = &self.now {
-            let front = front_of(self.body, self.side);
+            let (front, side) = (self.arrow.front(), self.arrow.side);
             extent = extent
-                .with(self.side.from(front, 160))
-                .with(self.side.from(front, sign.reach()));
+                .with(side.from(front, 160))
+                .with(side.from(front, sign.reach()));
         }
-        for post in &self.posts {
-            extent = extent.with(post.x);
+        for way in &self.posts.ways {
+            extent = extent.with(*way);
+        }
+        for post in &self.posts.all {
+            extent = extent.with(post.sign);
             if let Some(side) = post.side {
                 let room = post.room(side);
                 extent = extent.with(room.left).with(room.right);
@@ -191,23 +222,28 @@ impl TrainShape<'_> {
 
     /// Draws a line to each post.
     fn draw_ways(&self, svg: &mut Svg, y: i64) {
-        let front = front_of(self.body, self.side);
-        for post in &self.posts {
-            svg.line(Point { x: front, y }, Point { x: post.x, y }, TOLD);
+        let front = self.arrow.front();
+        for way in &self.posts.ways {
+            svg.line(Point { x: front, y }, Point { x: *way, y }, TOLD);
         }
     }
 
     /// Draws the train itself.
     fn draw_arrow(&self, svg: &mut Svg, y: i64) {
-        let length = self.body.right.saturating_sub(self.body.left);
-        let nose = (length.saturating_mul(6) / 10).min(90);
-        let (front, rear) = match self.side {
-            Side::Right => (self.body.right, self.body.left),
-            Side::Left => (self.body.left, self.body.right),
+        let Arrow { body, side } = self.arrow;
+        let length = body.right.saturating_sub(body.left);
+        let nose = if self.has_nose {
+            (length.saturating_mul(6) / 10).min(90)
+        } else {
+            0
+        };
+        let (front, rear) = match side {
+            Side::Right => (body.right, body.left),
+            Side::Left => (body.left, body.right),
         };
         let tip = Point { x: front, y };
         let shoulder = Point {
-            x: self.side.other().from(front, nose),
+            x: side.other().from(front, nose),
             y,
         };
         let tail = Point { x: rear, y };
@@ -223,20 +259,13 @@ impl TrainShape<'_> {
 
     /// Draws each post with its sign and its words.
     fn draw_posts(&self, svg: &mut Svg, y: i64) {
-        for post in &self.posts {
+        for post in &self.posts.all {
             let at = Point { x: post.x, y };
             svg.line(moved(at, 0, -110), moved(at, 0, 110), POST);
-            svg.octagon(at, 60, post.is_answered);
+            svg.octagon(Point { x: post.sign, y }, 60, post.is_answered);
             if let Some(side) = post.side {
-                draw_sign_words(
-                    svg,
-                    side,
-                    Point {
-                        x: side.from(post.x, 100),
-                        y,
-                    },
-                    post.words.as_str(),
-                );
+                let x = side.from(post.sign, 100);
+                draw_sign_words(svg, side, Point { x, y }, post.words.as_str());
             }
         }
     }
@@ -244,25 +273,29 @@ impl TrainShape<'_> {
     /// Draws the sign of the stops that the train is told by message 16, and its words if there is room for them.
     fn draw_now(&self, svg: &mut Svg, y: i64) {
         if let Some(sign) = &self.now {
-            let front = front_of(self.body, self.side);
+            let (front, side) = (self.arrow.front(), self.arrow.side);
             let centre = Point {
-                x: self.side.from(front, 90),
+                x: side.from(front, 90),
                 y,
             };
             svg.octagon(centre, 70, sign.is_answered);
             if self.has_room(front, sign) {
-                let x = self.side.from(front, 190);
-                draw_sign_words(svg, self.side, Point { x, y }, sign.words.as_str());
+                let x = side.from(front, 190);
+                draw_sign_words(svg, side, Point { x, y }, sign.words.as_str());
             }
         }
     }
 
     /// Whether there is room for the words of the sign before the front.
     fn has_room(&self, front: i64, sign: &NowSign) -> bool {
-        let end = self.side.from(front, sign.reach());
+        let end = self.arrow.side.from(front, sign.reach());
         let need = u64::try_from(sign.reach().saturating_add(100)).unwrap_or(u64::MAX);
         Span::between(end, end).is_inside()
-            && self.posts.iter().all(|post| post.x.abs_diff(front) > need)
+            && self
+                .posts
+                .all
+                .iter()
+                .all(|post| post.sign.abs_diff(front) > need)
     }
 }
 

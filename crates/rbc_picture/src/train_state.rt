@@ -2,8 +2,9 @@
 
 ghost use Rattle.std.specs.Prelude.{◌≡◌, IfOk, is_some, map};
 ghost use Rattle.rbc_live.specs.Known.{train_in};
-ghost use Rattle.rbc_picture.specs.Trains.{is_on, is_unplaced, known_train, known_trains, train_shown};
+ghost use Rattle.rbc_picture.specs.Trains.{is_in, is_listed_in, is_on, known_train, known_trains, train_shown};
 
+use crate::selection::{LinePart, Selection};
 use crate::short_words::{Remark, ShortWord};
 use rbc_account::{Account, ToldPlace, TrainStanding, Waiting, Waits};
 use rbc_ids::{Kind, Slot, UsedSlot};
@@ -109,33 +110,77 @@ fn told_place_of(account: &Account, engine: u32, id: u8, slot: &Slot) -> Option<
     }
 }
 
+/// Whether an identifier is held for a stop or a restriction with this number.
+fn tells(slot: &Slot, number: u32) -> bool {
+    match slot {
+        Slot::Used(used) => used.number == number,
+        Slot::Revoking { .. } => false,
+    }
+}
+
 impl TrainState {
-    /// The place of the train, if it is placed on this line.
-    pub(crate) fn place_on(&self, line: usize) -> Option<Place>
-        ensures { is_some result ≡ is_on line self.now }
+    /// The place of the train, if it is placed on the line of a part and meets the part.
+    pub(crate) fn place_in(&self, part: &LinePart) -> Option<Place>
+        ensures { is_some result ≡ is_in part.now self.now }
     {
         match self.place {
-            Some(place) if place.line() as usize == line => Some(place),
+            Some(place)
+                if part.meets(place.lo(), place.hi()) && u32::from(place.line()) == part.line => {
+                Some(place)
+            }
             _ => None,
         }
     }
 
-    /// Whether it has no place.
-    pub(crate) fn is_unplaced(&self) -> bool
-        ensures { result ≡ is_unplaced self.now }
+    /// Whether it is placed on the line of a part and meets the part.
+    pub(crate) fn is_in(&self, part: &LinePart) -> bool
+        ensures { result ≡ is_in part.now self.now }
     {
+        self.place_in(part).is_some()
+    }
+
+    /// Whether it is placed on a line.
+    pub(crate) fn is_on(&self, line: u32) -> bool
+        ensures { result ≡ is_on line self.now }
+    {
+        self.is_in(&LinePart::whole(line))
+    }
+
+    /// Whether it has no place.
+    pub(crate) fn is_unplaced(&self) -> bool {
         self.place.is_none()
+    }
+
+    /// Whether it has no place, and a selection lists it.
+    pub(crate) fn is_listed(&self, selection: &Selection<'_>) -> bool
+        ensures { result ≡ is_listed_in selection.now self.now }
+    {
+        self.place.is_none() && selection.lists(self.engine)
     }
 
     /// Whether a stop was left unanswered in three reports, and is not told again.
     pub(crate) fn is_due(&self, number: u32) -> bool {
-        self.waiting
-            .iter()
-            .any(|waiting| waiting.what == Waits::Again(number))
+        self.waits_for(Waits::Again(number))
+    }
+
+    /// Whether it is told a stop, or is not told it although the stop concerns it.
+    pub(crate) fn concerns_stop(&self, number: u32) -> bool {
+        self.waits_for(Waits::Stop(number))
+            || self.stops.iter().any(|stop| tells(&stop.slot, number))
+    }
+
+    /// Whether it is told a restriction, or is not told it although the restriction concerns it.
+    pub(crate) fn concerns_limit(&self, number: u32) -> bool {
+        self.waits_for(Waits::Restriction(number))
+            || self.limits.iter().any(|(_id, slot)| tells(slot, number))
+    }
+
+    fn waits_for(&self, what: Waits) -> bool {
+        self.waiting.iter().any(|waiting| waiting.what == what)
     }
 
     /// A stop or a restriction that the train is told, in short.
-    fn told_word(&self, used: &UsedSlot) -> ShortWord {
+    pub(crate) fn told_word(&self, used: &UsedSlot) -> ShortWord {
         let is_stop = used.kind != Kind::Restriction;
         let remark = if used.acked {
             Remark::Nothing
@@ -179,6 +224,29 @@ impl TrainState {
             }
         }
         Ok(words)
+    }
+
+    /// The revocations that the train has not acknowledged: those of stops, and then those of restrictions.
+    pub(crate) fn revocations(&self, alloc: Global) -> Result<Vec<ShortWord>, AllocError> {
+        let mut words = Vec::new(alloc);
+        for stop in &self.stops {
+            if let Slot::Revoking { .. } = &stop.slot {
+                words.push(ShortWord::revocation(true))?;
+            }
+        }
+        for (_id, slot) in &self.limits {
+            if let Slot::Revoking { .. } = slot {
+                words.push(ShortWord::revocation(false))?;
+            }
+        }
+        Ok(words)
+    }
+
+    /// Whether it is told a stop by message 16.
+    pub(crate) fn is_told_at_once(&self) -> bool {
+        self.stops.iter().any(
+            |stop| matches!(&stop.slot, Slot::Used(used) if used.kind == Kind::Unconditional),
+        )
     }
 
     /// The stops that the train is told by message 16, if there are any.

@@ -1,6 +1,6 @@
 //! The part of a line that a panel shows.
 
-ghost use Rattle.std.specs.Prelude.{◌≡◌, ◌<◌, ◌≤◌, IfSome, pos};
+ghost use Rattle.std.specs.Prelude.{◌≡◌, ◌-◌, ◌<◌, ◌≤◌, IfSome, pos};
 ghost use Rattle.rbc_picture.specs.Window.{Shows, x_at, max_length, left_end, right_end};
 
 use std::alloc::{AllocError, Global};
@@ -93,6 +93,19 @@ impl Window {
         whole
     }
 
+    /// The part of a line from one place to a greater one. Any other ends count as those of the whole line.
+    pub(crate) fn between(length: u32, from: u32, to: u32) -> Window
+        ensures { from < to → to ≤ max_length → (result.low ≡ from) × (result.high ≡ to) }
+    {
+        if from < to && to <= MAX_LENGTH {
+            return Window {
+                low: from,
+                high: to,
+            };
+        }
+        Window::whole(length)
+    }
+
     /// Whether it shows the whole of a line with this length.
     pub(crate) fn is_whole(self, length: u32) -> bool {
         self.low == 0 && self.high == length
@@ -120,6 +133,13 @@ impl Window {
         ensures { result ≡ pos (x_at self.low self.high place) }
     {
         i64::from(self.tenths(place))
+    }
+
+    /// How long it is, in units of 10 cm.
+    pub(crate) fn length(self) -> u32
+        ensures { (0 < result) × (result ≡ self.high - self.low) }
+    {
+        self.high - self.low
     }
 
     /// The distance between two marks of the axis, in units of 10 cm: the least of 1, 2, 5, 10, 20 .. of which at most

@@ -1,4 +1,4 @@
-use Rattle.rbc_dispatch.proofs.WitnessWords.{all_for_the_end, all_for_the_first, at_first, at_last, before_first, end, ended_before, from_last, from_zero_telling, refused, refused_end, to_nine, to_nine_from_nine}
+use Rattle.rbc_dispatch.proofs.WitnessWords.{all_for_a_train, all_for_the_end, all_for_the_first, at_first, at_last, before_first, busy, busy_train, end, ended_before, falling, from_last, from_zero_telling, no_line, part, refused, refused_end, to_nine, to_nine_from_nine, train, two_lines}
 use Rattle.rbc_dispatch.proofs.witnesses.telling_words_witnesses.Goals as goal
 
 pub returns-clause-from_last : goal.returns-clause-from_last
@@ -39,3 +39,27 @@ returns-clause-before_first c = before_first
 
 pub returns-clause-all_for_the_first : goal.returns-clause-all_for_the_first
 returns-clause-all_for_the_first c = all_for_the_first
+
+pub returns-clause-two_lines : goal.returns-clause-two_lines
+returns-clause-two_lines c = two_lines
+
+pub returns-clause-part : goal.returns-clause-part
+returns-clause-part c = part
+
+pub returns-clause-falling : goal.returns-clause-falling
+returns-clause-falling c = falling
+
+pub returns-clause-no_line : goal.returns-clause-no_line
+returns-clause-no_line c = no_line
+
+pub returns-clause-train : goal.returns-clause-train
+returns-clause-train c = train
+
+pub returns-clause-busy : goal.returns-clause-busy
+returns-clause-busy c = busy
+
+pub returns-clause-busy_train : goal.returns-clause-busy_train
+returns-clause-busy_train c = busy_train
+
+pub returns-clause-all_for_a_train : goal.returns-clause-all_for_a_train
+returns-clause-all_for_a_train c = all_for_a_train

@@ -12,8 +12,6 @@ use Rattle.rbc_dispatch.specs.CommandLine.{command_line}
 use Rattle.rbc_dispatch.specs.Ending.{IsRefusal, ending_of}
 use Rattle.rbc_dispatch.specs.NoTask.{no_task_of, status_of}
 use Rattle.rbc_dispatch.specs.Words.{Asked, IsTakenFor, IsUnfit, IsWantOfMemory, asked_in, asked_of, finding_in}
-use Rattle.rbc_dispatch.specs.declared.misuse.Misuse.{Misuse}
-use Rattle.rbc_dispatch.specs.declared.misuse.Misuse.TheVariants as misuse
 use Rattle.rbc_dispatch.specs.declared.no_task.NoTask.{NoTask}
 use Rattle.rbc_dispatch.specs.declared.no_task.NoTask.TheVariants.{OutOfMemory, Words}
 use Rattle.rbc_dispatch.specs.declared.words.Task.{Task}
@@ -92,12 +90,13 @@ returns-in-Ok-clause-taken c = λ asked fault is.
     same_asked (asked_in words (finding_in words)) (asked_of c.in-Ok.task) asked
     (sym (ap (asked_in words) (found_here _ words _ c.in_ok-command.ensures c.in_ok-matches.ensures.matches)) ∙ c.in-Ok.ensures) is
 
-none_asked : (asked : Option Asked) (unfit : Misuse) → IsUnfit asked unfit → asked ≡ None
-none_asked asked (misuse.Words says) none = none
-
-pub returns-clause-taken : goal.returns-clause-taken
-returns-clause-taken c = λ asked fault is.
+pub returns-in-Err-Words-clause-taken : goal.returns-in-Err-Words-clause-taken
+returns-in-Err-Words-clause-taken c = λ asked fault is.
     let words = map string_bytes c.args.words.now in
-    let none = none_asked (asked_in words (subcommand_rows_of c.in_ok-matches.matches)) c.in-Err-Words.field-0 c.in-Err-Words.ensures in
+    let none : asked_in words (subcommand_rows_of c.in_ok-matches.matches) ≡ None =
+    subst (IsUnfit (asked_in words (subcommand_rows_of c.in_ok-matches.matches))) c.in-Err-Words.field-0-is c.in-Err-Words.ensures in
     absurd (not_asked (asked_in words (finding_in words)) asked
     (sym (ap (asked_in words) (found_here _ words _ c.in_ok-command.ensures c.in_ok-matches.ensures.matches)) ∙ none) is)
+
+pub returns-in-Err-Words-clause-refused : goal.returns-in-Err-Words-clause-refused
+returns-in-Err-Words-clause-refused c = λ fault. refusal_of c.refuse.result c.refuse.ensures

@@ -1,5 +1,6 @@
-use Rattle.rbc_picture.specs.Panels.{ShowEachLine}
+use Rattle.std.proofs.Common.{take}
+use Rattle.rbc_picture.specs.Panels.{ShowEachPart}
 use Rattle.rbc_picture.proofs.plan.panels_of.Given as goal
 
-abbrev pub invariant-loop-line : goal.invariant-loop-line
-invariant-loop-line l = ShowEachLine l.scene l.line l.panels.items
+abbrev pub invariant-loop-part : goal.invariant-loop-part
+invariant-loop-part l = ShowEachPart l.scene (take l.part-index l.parts) l.panels.items

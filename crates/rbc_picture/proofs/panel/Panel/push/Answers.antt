@@ -8,8 +8,8 @@ pub returns : goal.returns
 returns c =
     let panel = c.args.self.now in
     let heading = c.as_str.ensures.value ∙ c.in_ok-line_heading.ensures in
-    panel_joined c.push_piece-4.result (line_heading panel.line) (bands_texts panel.line panel.stops)
-    (shapes_texts panel.trains.items) (bands_texts panel.line panel.limits) (string_bytes c.args.document.now)
+    panel_joined c.push_piece-4.result (line_heading panel.part.line) (bands_texts panel.part.line panel.stops)
+    (shapes_texts panel.trains.items) (bands_texts panel.part.line panel.limits) (string_bytes c.args.document.now)
     (string_bytes c.push_piece.new.document) (string_bytes c.push_text.new.document) (string_bytes c.push_piece-2.new.document)
     (string_bytes c.push.new.document) (string_bytes c.push_piece-3.new.document) (string_bytes c.push_trains.new.document)
     (string_bytes c.push-2.new.document) (string_bytes c.push_piece-4.new.document)

@@ -1,5 +1,5 @@
 use Rattle.std.proofs.Common.{inl}
-use Rattle.rbc_dispatch.proofs.program.picture_file.Goals as goal
+use Rattle.rbc_dispatch.proofs.program.draw_file.Goals as goal
 
 -- the file holds the text that was read
 pub returns-clause-draws : goal.returns-clause-draws
