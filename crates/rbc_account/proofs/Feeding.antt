@@ -18,6 +18,7 @@ use Rattle.rbc_account.specs.declared.told.Told.{Told}
 use Rattle.rbc_account.specs.Blocks.{IsRightBlock}
 use Rattle.rbc_account.specs.declared.told_place.ToldPlace.{ToldPlace}
 use Rattle.rbc_account.specs.ToldPlaces.{kept_after}
+use Rattle.rbc_account.specs.SentInputs.{Kept, inputs_after}
 use Rattle.rbc_account.specs.Coming.{sender_in}
 use Rattle.rbc_account.specs.Subjects.{ArePaired}
 use Rattle.rbc_account.specs.Found.{IsFound, IsKnown, is_unknown, has_unknown}
@@ -51,6 +52,12 @@ pub kept_as : {E : Type 0} (plan : Plan) (old new : ℕ → Option ToldPlace) (m
     → IfOk r (λ block. (number : ℕ) → new number ≡ kept_after plan old block.messages number)
 kept_as plan old new messages (Ok block) same kept = λ number. kept number ∙ sym (ap (λ (all : List Sent). kept_after plan old all number) same)
 kept_as plan old new messages (Err error) same kept = tt
+
+pub noted_as : {E : Type 0} (input : ℕ) (old new : Kept) (messages : List Sent) (r : Result Block E)
+    → IfOk r (λ block. block.messages ≡ messages) → ((number : ℕ) → new number ≡ inputs_after input old messages number)
+    → IfOk r (λ block. (number : ℕ) → new number ≡ inputs_after input old block.messages number)
+noted_as input old new messages (Ok block) same kept = λ number. kept number ∙ sym (ap (λ (all : List Sent). inputs_after input old all number) same)
+noted_as input old new messages (Err error) same kept = tt
 
 pub known_as : {E : Type 0} (plan : Plan) (old new : List (Key × Rec)) (input : Input) (before : Option TrainRec) (reply : Reply) (messages : List Sent) (r : Result Block E)
     → IsPlan plan → Fits input → ∥ IsSerial plan old ∥₁ → IsStepOf plan input old new reply messages → before ≡ sender_in old input → IfOk r (λ block. block.messages ≡ messages)

@@ -20,3 +20,4 @@ pub mod Revoked
 pub mod Heard
 pub mod StepFound
 pub mod NeverUnknown
+pub mod Noting

@@ -9,6 +9,7 @@ pub mod Counting
 pub mod Owed
 pub mod Totals
 pub mod ToldPlaces
+pub mod SentInputs
 pub mod Standings
 pub mod Blocks
 pub mod Sums

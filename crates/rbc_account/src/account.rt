@@ -2,7 +2,6 @@
 
 ghost use Rattle.std.specs.Prelude.{◌≡◌, ◌⊎◌, ℕ, false, [], length, IfOk, IfErr, OnOk, option_copied};
 ghost use Rattle.rbc_track.specs.Plan.{IsPlan};
-ghost use Rattle.rbc_track.specs.Reading.{IsTrackOf, RefusesTrack};
 ghost use Rattle.rbc_rule.specs.Gathered.{AreSendable};
 ghost use Rattle.rbc_rule.specs.Inputs.{Fits};
 ghost use Rattle.rbc_text.specs.BatchText.{line_of, IsInput};
@@ -10,6 +9,7 @@ ghost use Rattle.rbc_live.specs.History.{IsFed, IsStepOf};
 ghost use Rattle.rbc_account.specs.Blocks.{IsRightBlock};
 ghost use Rattle.rbc_account.specs.Coming.{sender_in};
 ghost use Rattle.rbc_account.specs.Found.{has_unknown};
+ghost use Rattle.rbc_account.specs.SentInputs.{stop_key, limit_key, input_at, inputs_after, input_of_stamp};
 ghost use Rattle.rbc_account.specs.Standings.{IsStanding};
 ghost use Rattle.rbc_account.specs.Sums.{no_sums, counted, input_count};
 ghost use Rattle.rbc_account.specs.ToldPlaces.{kept_at, kept_after, number_of, of_stamp};
@@ -17,13 +17,14 @@ ghost use Rattle.rbc_live.specs.Known.{train_in, active_stops, active_limits, la
 
 use crate::block::{Block, block_of};
 use crate::record_lookup::engine_of;
+use crate::sent_input::SentInputs;
 use crate::state::{Standing, standing_on};
 use crate::told_place::{ToldPlace, ToldPlaces};
 use rbc_live::{Answer, LiveDesk, LiveFault};
 use rbc_rule::{Input, Reply};
 use rbc_settle::TrainRec;
 use rbc_text::parse_line;
-use rbc_track::{Track, TrackError};
+use rbc_track::Track;
 use rbc_zones::{Area, Limit};
 use std::alloc::{AllocError, Global};
 
@@ -67,6 +68,8 @@ pub struct Account {
     pub sums: Sums,
     /// The places before which trains were told to stop.
     pub told_places: ToldPlaces,
+    /// The inputs that sent the messages for which identifiers are held.
+    pub sent_inputs: SentInputs,
 }
 
 /// Says in its contract what holds of every track, because what a message tells depends on it.
@@ -77,30 +80,24 @@ fn is_plan(track: &Track)
 }
 
 impl Account {
-    /// Begins a run on the track that a text in TOML writes.
-    ///
-    /// # Errors
-    ///
-    /// Those of `track_from_toml`.
-    pub fn open(alloc: Global, text: &str) -> Result<Account, TrackError>
-        ensures track { IfOk result (λ account. IsTrackOf text.now account.desk.track) }
-        ensures empty { IfOk result (λ account. account.desk.records ≡ []) }
-        ensures sums { IfOk result (λ account. account.sums ≡ no_sums) }
-        ensures untold { IfOk result (λ account. account.told_places ≡ []) }
-        ensures refused { IfErr result (λ e. (e ≡ TrackError.OutOfMemory) ⊎ RefusesTrack text.now e) }
+    /// Begins a run on a track.
+    pub fn new(alloc: Global, track: Track) -> Account
+        ensures track { result.desk.track ≡ track }
+        ensures empty { result.desk.records ≡ [] }
+        ensures sums { result.sums ≡ no_sums }
+        ensures untold { result.told_places ≡ [] }
+        ensures unsent { result.sent_inputs ≡ [] }
     {
-        let desk = LiveDesk::open(alloc, text)?;
-        let sums = Sums {
-            accepted: 0,
-            refused: 0,
-            messages: 0,
-        };
-        let told_places = ToldPlaces::new(alloc);
-        Ok(Account {
-            desk,
-            sums,
-            told_places,
-        })
+        Account {
+            desk: LiveDesk::on(alloc, track),
+            sums: Sums {
+                accepted: 0,
+                refused: 0,
+                messages: 0,
+            },
+            told_places: ToldPlaces::new(alloc),
+            sent_inputs: SentInputs::new(alloc),
+        }
     }
 
     /// Takes an input, and returns only the answer of the desk. After an error the account is of no further use.
@@ -112,6 +109,8 @@ impl Account {
         ensures sums { IfOk result (λ answer. self.new.sums ≡ counted answer.reply self.old.sums) }
         ensures told { IfOk result (λ answer. (number : ℕ) → kept_at self.new.told_places number
             ≡ kept_after self.old.desk.track (kept_at self.old.told_places) answer.messages number) }
+        ensures sent { IfOk result (λ answer. (number : ℕ) → input_at self.new.sent_inputs number
+            ≡ inputs_after (input_count self.new.sums) (input_at self.old.sent_inputs) answer.messages number) }
         ensures track { self.new.desk.track ≡ self.old.desk.track }
     {
         let answer = match self.desk.take(alloc, input, usize::MAX) {
@@ -122,6 +121,8 @@ impl Account {
         };
         self.sums = self.sums.with(answer.reply);
         self.told_places.note(&self.desk.track, &answer.messages)?;
+        let number = self.inputs();
+        self.sent_inputs.note(number, &answer.messages)?;
         Ok(answer)
     }
 
@@ -133,6 +134,8 @@ impl Account {
         ensures sums { IfOk result (λ answer. self.new.sums ≡ counted answer.reply self.old.sums) }
         ensures told { IfOk result (λ answer. (number : ℕ) → kept_at self.new.told_places number
             ≡ kept_after self.old.desk.track (kept_at self.old.told_places) answer.messages number) }
+        ensures sent { IfOk result (λ answer. (number : ℕ) → input_at self.new.sent_inputs number
+            ≡ inputs_after (input_count self.new.sums) (input_at self.old.sent_inputs) answer.messages number) }
         ensures track { self.new.desk.track ≡ self.old.desk.track }
     {
         let input = parse_line(alloc, line)?;
@@ -150,6 +153,8 @@ impl Account {
         ensures sums { IfOk result (λ block. self.new.sums ≡ counted block.reply self.old.sums) }
         ensures told { IfOk result (λ block. (number : ℕ) → kept_at self.new.told_places number
             ≡ kept_after self.old.desk.track (kept_at self.old.told_places) block.messages number) }
+        ensures sent { IfOk result (λ block. (number : ℕ) → input_at self.new.sent_inputs number
+            ≡ inputs_after (input_count self.new.sums) (input_at self.old.sent_inputs) block.messages number) }
         ensures number { IfOk result (λ block. block.number ≡ input_count self.new.sums) }
         ensures track { self.new.desk.track ≡ self.old.desk.track }
         ensures right { IfOk result (λ block. IsRightBlock self.new.desk.track self.new.desk.records
@@ -245,6 +250,22 @@ impl Account {
         ensures { result ≡ of_stamp stamp (kept_at self.now.told_places (number_of engine id)) }
     {
         self.told_places.get(engine, id, stamp)
+    }
+
+    /// The number of the input that sent a train the message with this stamp, if it is the last one under a stop
+    /// identifier.
+    pub fn input_of_stop(&self, engine: u32, id: u8, stamp: u32) -> Option<u64>
+        ensures { result ≡ input_of_stamp stamp (input_at self.now.sent_inputs (stop_key engine id)) }
+    {
+        self.sent_inputs.of_stop(engine, id, stamp)
+    }
+
+    /// The number of the input that sent a train the message with this stamp, if it is the last one under a restriction
+    /// identifier.
+    pub fn input_of_limit(&self, engine: u32, id: u8, stamp: u32) -> Option<u64>
+        ensures { result ≡ input_of_stamp stamp (input_at self.now.sent_inputs (limit_key engine id)) }
+    {
+        self.sent_inputs.of_limit(engine, id, stamp)
     }
 
     /// The state now.

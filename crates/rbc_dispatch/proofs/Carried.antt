@@ -31,16 +31,17 @@ pub does_nothing : (E : Type 0) {I O : Type 0} (asked : Asked) (read old : Optio
     → Does {E = E} asked read read old old input input output output (Err OutOfMemory)
 does_nothing E (Run file workers by_train stats alarms) read old input output = (inr (inr refl), (refl, refl))
 does_nothing E (Live file wanted) read old input output = (inr (inr refl), (refl, refl))
-does_nothing E (Explain file wanted) read old input output = (inr (inr refl), (refl, refl))
+does_nothing E (Explain file wanted json) read old input output = (inr (inr refl), (refl, refl))
 does_nothing E (Picture file after chosen) read old input output =
     (is_selected chosen (λ one. DrawsPicture {E = E} after one read read old old (Err OutOfMemory)) (λ one. inr (inr refl)), (refl, refl), refl)
-does_nothing E (Check file other) read old input output = (refl, inr (inr refl), refl)
+does_nothing E (Check file other json) read old input output = (refl, inr (inr refl), refl)
 does_nothing E (Encode file []) read old input output = inr (inr refl)
 does_nothing E (Encode file (space ∷ text)) read old input output = (refl, inl tt)
 does_nothing E (Decode word true) read old input output = (refl, refl, tt)
 does_nothing E (Decode word false) read old input output = (refl, refl, tt)
 does_nothing E DecodeLines read old input output = inr (inr refl)
-does_nothing E (Codes code) read old input output = (refl, tt)
+does_nothing E (Codes code false) read old input output = (refl, tt)
+does_nothing E (Codes code true) read old input output = (refl, tt)
 does_nothing E (Page topic) read old input output = refl
 
 announces_nothing : {W : Type 0} (at_terminal : Bool) (notice : List ℕ) (errors : W) (held : Option (List ℕ)) → Announces at_terminal notice errors errors held held
@@ -53,13 +54,13 @@ leaves_errors (Run file workers by_train false false) at_terminal notice errors 
 leaves_errors (Run file workers by_train true true) at_terminal notice errors held = announces_nothing at_terminal notice errors held
 leaves_errors (Run file workers by_train false true) at_terminal notice errors held = announces_nothing at_terminal notice errors held
 leaves_errors (Live file wanted) at_terminal notice errors held = announces_nothing at_terminal notice errors held
-leaves_errors (Explain file wanted) at_terminal notice errors held = announces_nothing at_terminal notice errors held
+leaves_errors (Explain file wanted json) at_terminal notice errors held = announces_nothing at_terminal notice errors held
 leaves_errors (Picture file after chosen) at_terminal notice errors held = refl
-leaves_errors (Check file other) at_terminal notice errors held = refl
+leaves_errors (Check file other json) at_terminal notice errors held = refl
 leaves_errors (Encode file text) at_terminal notice errors held = refl
 leaves_errors (Decode word long) at_terminal notice errors held = refl
 leaves_errors DecodeLines at_terminal notice errors held = refl
-leaves_errors (Codes code) at_terminal notice errors held = refl
+leaves_errors (Codes code json) at_terminal notice errors held = refl
 leaves_errors (Page topic) at_terminal notice errors held = refl
 
 -- ---- a text among the words begins with a space

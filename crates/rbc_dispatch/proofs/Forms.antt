@@ -154,7 +154,7 @@ module _ (c : ℕ) (rest : Text) (plain : (c == 45) ≡ false) where
     is = live_by (codes "live" ∷ track_alone) (live_leaves_two (codes "--track") (c ∷ rest) track_pending (simp plain)) refl;
   }
 
-  explain_alone : Asks (Explain (c ∷ rest) (record { from = 1; to = None; parts = parts.All })) (codes "explain" ∷ track_alone)
+  explain_alone : Asks (Explain (c ∷ rest) (record { from = 1; to = None; parts = parts.All }) false) (codes "explain" ∷ track_alone)
   unfolding clap_on_literals
   explain_alone = record {
     taken = explain_takes (codes "--track") (c ∷ rest) (simp plain) track_pending (simp plain) refl;

@@ -1,25 +1,24 @@
 -- How a run ends that is not told, or not drawn: why is handed on.
-use Rattle.std.proofs.Common.{◌≡◌, ℕ, List, Option, Result, Ok, Err, refl}
+use Rattle.std.proofs.Common.{◌≡◌, ℕ, Bool, List, Option, Result, Ok, Err, refl}
 use Rattle.std.specs.Result.{IsErrAnd}
 use Rattle.rbc_account.specs.Telling.{LeavesUnread, Tells, TooFewFor}
 use Rattle.rbc_account.specs.declared.fault.TellError.{TellError}
 use Rattle.rbc_account.specs.declared.fault.TellError.TheVariants as telling
 use Rattle.rbc_account.specs.declared.log_form.LogWanted.{LogWanted}
-use Rattle.rbc_explain.specs.Log.{Explains}
 use Rattle.rbc_picture.specs.NotDrawn.{Draws, StaysUnread}
 use Rattle.rbc_picture.specs.declared.fault.DrawError.{DrawError}
 use Rattle.rbc_picture.specs.declared.fault.DrawError.TheVariants as drawing
 use Rattle.rbc_picture.specs.declared.selection.Selection.{Selection}
 use Rattle.rbc_dispatch.specs.Decoding.{IsUntouched}
 use Rattle.rbc_dispatch.specs.Running.{Keeps}
-use Rattle.rbc_dispatch.specs.Showing.{DrawsOn, TellsOn}
+use Rattle.rbc_dispatch.specs.Showing.{DrawsOn, TellsIn, TellsOn}
 use Rattle.rbc_dispatch.specs.declared.fault.Fault.{Fault}
 use Rattle.rbc_dispatch.specs.declared.fault.Fault.TheVariants.{Tell, Draw}
 
-pub not_told : {E : Type 0} (text : List ℕ) (wanted : LogWanted) (read_old read_new old new : Option (List ℕ)) (r : Result E Fault) (e : TellError)
-    → IsErrAnd r (λ x. x ≡ Tell e) → Explains {T = E} text wanted read_old read_new old new (Err e) → TellsOn {E = E} text wanted read_old read_new old new r
-not_told text wanted read_old read_new old new (Ok done) e same told = absurd same
-not_told text wanted read_old read_new old new (Err fault) e same told = rw same told
+pub not_told : {E : Type 0} (text : List ℕ) (wanted : LogWanted) (json : Bool) (read_old read_new old new : Option (List ℕ)) (r : Result E Fault) (e : TellError)
+    → IsErrAnd r (λ x. x ≡ Tell e) → TellsIn {E = E} text wanted json read_old read_new old new (Err e) → TellsOn {E = E} text wanted json read_old read_new old new r
+not_told text wanted json read_old read_new old new (Ok done) e same told = absurd same
+not_told text wanted json read_old read_new old new (Err fault) e same told = rw same told
 
 pub kept : {E I O : Type 0} (read_old read_new : I) (old new : O) (r : Result E Fault) (e : TellError)
     → IsErrAnd r (λ x. x ≡ Tell e) → LeavesUnread {T = E} (Err e) read_old read_new → LeavesUnread {T = E} (Err e) old new → Keeps {E = E} r read_old read_new old new

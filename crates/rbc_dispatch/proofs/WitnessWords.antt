@@ -25,7 +25,7 @@ alarms_of (Some (Live file wanted)) = wanted.alarms
 alarms_of _ = false
 
 abbrev parts_of : Option Asked → Option LogParts
-parts_of (Some (Explain file wanted)) = Some wanted.parts
+parts_of (Some (Explain file wanted json)) = Some wanted.parts
 parts_of _ = None
 
 other_flag : false ≡ true → ⊥
@@ -130,7 +130,7 @@ pub live_alarms_twice : AskForNothing (on_track (codes "live") (codes "--alarms"
 unfolding clap_on_literals
 live_alarms_twice asked is = faulty _ kind.ArgumentConflict refl is.taken
 
-pub from_last : AskToExplain 18446744073709551615 None parts.All (codes "--from" ∷ codes "18446744073709551615" ∷ [])
+pub from_last : AskToExplain 18446744073709551615 None parts.All false (codes "--from" ∷ codes "18446744073709551615" ∷ [])
 unfolding clap_on_literals
 from_last = record { taken = refl; is = refl }
 
@@ -138,11 +138,11 @@ pub from_zero_telling : AskForNothing (on_track (codes "explain") (codes "--from
 unfolding clap_on_literals
 from_zero_telling asked is = faulty _ kind.ValueValidation refl is.taken
 
-pub to_nine : AskToExplain 1 (Some 9) parts.All (codes "--to" ∷ codes "9" ∷ [])
+pub to_nine : AskToExplain 1 (Some 9) parts.All false (codes "--to" ∷ codes "9" ∷ [])
 unfolding clap_on_literals
 to_nine = record { taken = refl; is = refl }
 
-pub to_nine_from_nine : AskToExplain 9 (Some 9) parts.All (codes "--to" ∷ codes "9" ∷ codes "--from" ∷ codes "9" ∷ [])
+pub to_nine_from_nine : AskToExplain 9 (Some 9) parts.All false (codes "--to" ∷ codes "9" ∷ codes "--from" ∷ codes "9" ∷ [])
 unfolding clap_on_literals
 to_nine_from_nine = record { taken = refl; is = refl }
 
@@ -150,19 +150,23 @@ pub ended_before : DoNotFit (on_track (codes "explain") (codes "--from" ∷ code
 unfolding clap_on_literals
 ended_before = record { taken = refl; none = refl }
 
-pub refused : AskToExplain 1 None parts.Refused (codes "--refused" ∷ [])
+pub refused : AskToExplain 1 None parts.Refused false (codes "--refused" ∷ [])
 unfolding clap_on_literals
 refused = record { taken = refl; is = refl }
 
-pub end : AskToExplain 1 None parts.End (codes "--end" ∷ [])
+pub end : AskToExplain 1 None parts.End false (codes "--end" ∷ [])
 unfolding clap_on_literals
 end = record { taken = refl; is = refl }
+
+pub end_as_object : AskToExplain 1 None parts.End true (codes "--end" ∷ codes "--json" ∷ [])
+unfolding clap_on_literals
+end_as_object = record { taken = refl; is = refl }
 
 pub refused_end : DoNotFit (on_track (codes "explain") (codes "--refused" ∷ codes "--end" ∷ []))
 unfolding clap_on_literals
 refused_end = record { taken = refl; none = refl }
 
-pub all_for_the_end : AskToExplain 1 None parts.All (codes "--end" ∷ []) → ⊥
+pub all_for_the_end : AskToExplain 1 None parts.All false (codes "--end" ∷ []) → ⊥
 unfolding clap_on_literals
 all_for_the_end is = other_parts (ap parts_of is.is)
 
@@ -214,15 +218,15 @@ pub all_for_a_train : AskToDraw None All (codes "--train" ∷ codes "7" ∷ []) 
 unfolding clap_on_literals
 all_for_a_train is = let same = is.is in cc
 
-pub all_codes : Asks (Codes None) (codes "codes" ∷ [])
+pub all_codes : Asks (Codes None false) (codes "codes" ∷ [])
 unfolding clap_on_literals
 all_codes = record { taken = refl; is = refl }
 
-pub code_twelve : Asks (Codes (Some 12)) (codes "codes" ∷ codes "12" ∷ [])
+pub code_twelve : Asks (Codes (Some 12) false) (codes "codes" ∷ codes "12" ∷ [])
 unfolding clap_on_literals
 code_twelve = record { taken = refl; is = refl }
 
-pub another_code : Asks (Codes (Some 13)) (codes "codes" ∷ codes "12" ∷ []) → ⊥
+pub another_code : Asks (Codes (Some 13) false) (codes "codes" ∷ codes "12" ∷ []) → ⊥
 unfolding clap_on_literals
 another_code is = let same = is.is in cc
 
@@ -233,6 +237,14 @@ code_zero asked is = faulty _ kind.ValueValidation refl is.taken
 pub code_seventeen : AskForNothing (codes "codes" ∷ codes "17" ∷ [])
 unfolding clap_on_literals
 code_seventeen asked is = faulty _ kind.ValueValidation refl is.taken
+
+pub objects : Asks (Codes None true) (codes "codes" ∷ codes "--json" ∷ [])
+unfolding clap_on_literals
+objects = record { taken = refl; is = refl }
+
+pub one_object : DoNotFit (codes "codes" ∷ codes "12" ∷ codes "--json" ∷ [])
+unfolding clap_on_literals
+one_object = record { taken = refl; none = refl }
 
 pub lines : Asks DecodeLines (codes "decode" ∷ [])
 unfolding clap_on_literals

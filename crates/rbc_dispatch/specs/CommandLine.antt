@@ -75,9 +75,13 @@ refused_rule = flag_rule (codes "refused")
 abbrev pub end_rule : Rule
 end_rule = flag_rule (codes "end")
 
--- `explain`, with its five options
+-- the flag that writes objects for programs in place of words
+abbrev pub json_rule : Rule
+json_rule = flag_rule (codes "json")
+
+-- `explain`, with its six options
 abbrev pub explain_shape : Shape
-explain_shape = (with_rule (with_rule (with_rule (with_rule (with_rule (new_app (codes "explain")) track_rule) begin_rule) last_rule) refused_rule) end_rule).top
+explain_shape = (with_rule (with_rule (with_rule (with_rule (with_rule (with_rule (new_app (codes "explain")) track_rule) begin_rule) last_rule) refused_rule) end_rule) json_rule).top
 
 -- the option that says after how many inputs the picture is drawn
 abbrev pub after_rule : Rule
@@ -120,17 +124,17 @@ picture_shape = (with_rule (with_rule (with_rule (with_rule (with_rule (with_rul
 abbrev pub other_keys_rule : Rule
 other_keys_rule = flag_rule (codes "other-keys")
 
--- `check`, with its two options
+-- `check`, with its three options
 abbrev pub check_shape : Shape
-check_shape = (with_rule (with_rule (new_app (codes "check")) track_rule) other_keys_rule).top
+check_shape = (with_rule (with_rule (with_rule (new_app (codes "check")) track_rule) other_keys_rule) json_rule).top
 
 -- the word that names one code: a number from 1 to 16
 abbrev pub code_rule : Rule
 code_rule = record (new_rule (codes "CODE")) { parser = Some (vp.Signed (pos 1) (pos 16)) }
 
--- `codes`, with its word
+-- `codes`, with its word and its flag
 abbrev pub codes_shape : Shape
-codes_shape = (with_rule (new_app (codes "codes")) code_rule).top
+codes_shape = (with_rule (with_rule (new_app (codes "codes")) code_rule) json_rule).top
 
 -- the word that is a message
 abbrev pub hex_rule : Rule

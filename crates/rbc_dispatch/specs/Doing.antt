@@ -1,5 +1,5 @@
 -- What comes of what the arguments ask for.
-use Rattle.std.specs.Prelude.{◌≡◌, ⊤, ℕ, Bool, true, false, List, [], ◌∷◌, Option, Result}
+use Rattle.std.specs.Prelude.{◌≡◌, ⊤, ℕ, Bool, true, false, List, [], ◌∷◌, Option, None, Result}
 use Rattle.rbc_dispatch.specs.Checking.{Checks, IsUnreported}
 use Rattle.rbc_dispatch.specs.Decoding.{Decodes, DecodesLong, IsUntouched}
 use Rattle.rbc_dispatch.specs.Filtering.{DecodesAllLines, EncodesLines, EncodesTextOn}
@@ -16,17 +16,18 @@ use Rattle.rbc_dispatch.specs.declared.fault.Fault.{Fault}
 abbrev pub Does : {E I O : Type 0} → Asked → Option (List ℕ) → Option (List ℕ) → Option (List ℕ) → Option (List ℕ) → I → I → O → O → Result E Fault → Type 0
 Does {E = E} (Run file workers by_train stats alarms) read_old read_new old new i j o p r = Runs {E = E} workers alarms read_old read_new old new r × Keeps {E = E} r i j o p
 Does {E = E} (Live file wanted) read_old read_new old new i j o p r = Lives {E = E} wanted read_old read_new old new r × Keeps {E = E} r i j o p
-Does {E = E} (Explain file wanted) read_old read_new old new i j o p r = TellsLog {E = E} wanted read_old read_new old new r × Keeps {E = E} r i j o p
+Does {E = E} (Explain file wanted json) read_old read_new old new i j o p r = TellsLog {E = E} wanted json read_old read_new old new r × Keeps {E = E} r i j o p
 Does {E = E} (Picture file after chosen) read_old read_new old new i j o p r =
     IsSelected chosen (λ selection. DrawsPicture {E = E} after selection read_old read_new old new r) × Keeps {E = E} r i j o p
     × IsUntouched {E = E} r o p
-Does {E = E} (Check file other) read_old read_new old new i j o p r = (j ≡ i) × Checks {E = E} r × IsUnreported {E = E} r o p
+Does {E = E} (Check file other json) read_old read_new old new i j o p r = (j ≡ i) × Checks {E = E} r × IsUnreported {E = E} r o p
 Does {E = E} (Encode file []) read_old read_new old new i j o p r = EncodesLines {E = E} file read_old read_new old new r
 Does {E = E} (Encode file (space ∷ text)) read_old read_new old new i j o p r = (j ≡ i) × EncodesTextOn {E = E} file text old new r
 Does {E = E} (Decode word true) read_old read_new old new i j o p r = (j ≡ i) × IsUntouched {E = E} r o p × DecodesLong {E = E} word old new r
 Does {E = E} (Decode word false) read_old read_new old new i j o p r = (j ≡ i) × IsUntouched {E = E} r o p × Decodes {E = E} word old new r
 Does {E = E} DecodeLines read_old read_new old new i j o p r = DecodesAllLines {E = E} read_old read_new old new r
-Does {E = E} (Codes code) read_old read_new old new i j o p r = (j ≡ i) × TellsCodes {E = E} code old new r
+Does {E = E} (Codes code false) read_old read_new old new i j o p r = (j ≡ i) × TellsCodes {E = E} code old new r
+Does {E = E} (Codes code true) read_old read_new old new i j o p r = (j ≡ i) × TellsCodes {E = E} None old new r
 Does (Page topic) read_old read_new old new i j o p r = j ≡ i
 
 -- at a terminal no more than the first bytes of the notice are added, and nothing where there is no terminal
@@ -39,5 +40,5 @@ LeavesErrors (Run file workers by_train true false) at_terminal notice old new h
 LeavesErrors (Run file workers by_train false false) at_terminal notice old new held_old held_new = Announces at_terminal notice old new held_old held_new
 LeavesErrors (Run file workers by_train stats true) at_terminal notice old new held_old held_new = Announces at_terminal notice old new held_old held_new
 LeavesErrors (Live file wanted) at_terminal notice old new held_old held_new = Announces at_terminal notice old new held_old held_new
-LeavesErrors (Explain file wanted) at_terminal notice old new held_old held_new = Announces at_terminal notice old new held_old held_new
+LeavesErrors (Explain file wanted json) at_terminal notice old new held_old held_new = Announces at_terminal notice old new held_old held_new
 LeavesErrors _ at_terminal notice old new held_old held_new = new ≡ old

@@ -31,10 +31,10 @@ OneByDefault = (file : Text) → IsPlain file → Asks (Run file 1 false false f
 abbrev pub FromOneByDefault : Type 0
 FromOneByDefault = (file : Text) → IsPlain file → Asks (Live file (record { from = 1; alarms = false })) (codes "live" ∷ codes "--track" ∷ file ∷ [])
 
--- without more words all inputs are told, and the end
+-- without more words all inputs are told, and the end, in words
 abbrev pub BeginAtOneByDefault : Type 0
 BeginAtOneByDefault = (file : Text) → IsPlain file
-    → Asks (Explain file (record { from = 1; to = None; parts = parts.All })) (codes "explain" ∷ codes "--track" ∷ file ∷ [])
+    → Asks (Explain file (record { from = 1; to = None; parts = parts.All }) false) (codes "explain" ∷ codes "--track" ∷ file ∷ [])
 
 -- without more words the whole track is drawn after all inputs
 abbrev pub AfterAllByDefault : Type 0

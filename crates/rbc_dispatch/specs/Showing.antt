@@ -1,8 +1,10 @@
 -- What `explain` and `picture` do with a log.
-use Rattle.std.specs.Prelude.{◌⊎◌, ◌≤◌, ℕ, List, Option, Result, Ok, Err, take, length}
+use Rattle.std.specs.Prelude.{◌⊎◌, ◌≤◌, ℕ, Bool, true, false, List, Option, Result, Ok, Err, take, length}
 use Rattle.std.specs.Io.KnownBytes.{Appends}
 use Rattle.rbc_account.specs.declared.log_form.LogWanted.{LogWanted}
+use Rattle.rbc_account.specs.declared.fault.TellError.{TellError}
 use Rattle.rbc_explain.specs.Log.{Explains}
+use Rattle.rbc_json.specs.Log.{ExplainsInObjects}
 use Rattle.rbc_picture.specs.Drawn.{IsPictureOfRun}
 use Rattle.rbc_picture.specs.NotDrawn.{Draws}
 use Rattle.rbc_picture.specs.declared.selection.Selection.{Selection}
@@ -10,15 +12,20 @@ use Rattle.rbc_dispatch.specs.Running.{IsErrUnread}
 use Rattle.rbc_dispatch.specs.declared.fault.Fault.{Fault}
 use Rattle.rbc_dispatch.specs.declared.fault.Fault.TheVariants.{Tell, Draw, Write, ReaderGone}
 
--- What comes of telling a log in words, on the track in a text.
-abbrev pub TellsOn : {E : Type 0} → List ℕ → LogWanted → Option (List ℕ) → Option (List ℕ) → Option (List ℕ) → Option (List ℕ) → Result E Fault → Type 0
-TellsOn {E = E} text wanted read_old read_new old new (Ok done) = Explains {T = E} text wanted read_old read_new old new (Ok done)
-TellsOn {E = E} text wanted read_old read_new old new (Err (Tell error)) = Explains {T = E} text wanted read_old read_new old new (Err error)
-TellsOn text wanted read_old read_new old new (Err _) = ⊥
+-- what comes of telling a log, in words or as objects, on the track in a text
+abbrev pub TellsIn : {E : Type 0} → List ℕ → LogWanted → Bool → Option (List ℕ) → Option (List ℕ) → Option (List ℕ) → Option (List ℕ) → Result E TellError → Type 0
+TellsIn {E = E} text wanted false read_old read_new old new r = Explains {T = E} text wanted read_old read_new old new r
+TellsIn {E = E} text wanted true read_old read_new old new r = ExplainsInObjects {T = E} text wanted read_old read_new old new r
+
+-- the same, with its fault
+abbrev pub TellsOn : {E : Type 0} → List ℕ → LogWanted → Bool → Option (List ℕ) → Option (List ℕ) → Option (List ℕ) → Option (List ℕ) → Result E Fault → Type 0
+TellsOn {E = E} text wanted json read_old read_new old new (Ok done) = TellsIn {E = E} text wanted json read_old read_new old new (Ok done)
+TellsOn {E = E} text wanted json read_old read_new old new (Err (Tell error)) = TellsIn {E = E} text wanted json read_old read_new old new (Err error)
+TellsOn text wanted json read_old read_new old new (Err _) = ⊥
 
 -- the same on the track in a file: the file holds some text, or it is not read
-abbrev pub TellsLog : {E : Type 0} → LogWanted → Option (List ℕ) → Option (List ℕ) → Option (List ℕ) → Option (List ℕ) → Result E Fault → Type 0
-TellsLog {E = E} wanted read_old read_new old new r = ((text : List ℕ) × TellsOn {E = E} text wanted read_old read_new old new r) ⊎ IsErrUnread r
+abbrev pub TellsLog : {E : Type 0} → LogWanted → Bool → Option (List ℕ) → Option (List ℕ) → Option (List ℕ) → Option (List ℕ) → Result E Fault → Type 0
+TellsLog {E = E} wanted json read_old read_new old new r = ((text : List ℕ) × TellsOn {E = E} text wanted json read_old read_new old new r) ⊎ IsErrUnread r
 
 -- the picture of the selected part of the track, after this many inputs of the log, or after all
 pub record IsPicture (text : List ℕ) (after : Option ℕ) (selection : Selection) (read_old read_new : Option (List ℕ)) (drawn : List ℕ) : Type 0 where

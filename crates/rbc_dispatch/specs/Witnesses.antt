@@ -24,9 +24,9 @@ AskForRun workers by_train stats alarms more = Asks (Run (codes "t") workers by_
 abbrev pub AskFrom : ℕ → Bool → List Text → Type 0
 AskFrom from alarms more = Asks (Live (codes "t") (record { from = from; alarms = alarms })) (on_track (codes "live") more)
 
--- after `explain`: these parts of the log, from this input to that one
-abbrev pub AskToExplain : ℕ → Option ℕ → LogParts → List Text → Type 0
-AskToExplain from to parts more = Asks (Explain (codes "t") (record { from = from; to = to; parts = parts })) (on_track (codes "explain") more)
+-- after `explain`: these parts of the log from this input to that one, in words or as objects
+abbrev pub AskToExplain : ℕ → Option ℕ → LogParts → Bool → List Text → Type 0
+AskToExplain from to parts json more = Asks (Explain (codes "t") (record { from = from; to = to; parts = parts }) json) (on_track (codes "explain") more)
 
 -- after `picture`: this part of the track, after this many inputs
 abbrev pub AskToDraw : Option ℕ → Chosen → List Text → Type 0

@@ -43,18 +43,19 @@ pub data Asked : Type 0 where
   -- how many workers, whether they share by train, whether figures are reported, and whether alarms are written
   Run : Text → ℕ → Bool → Bool → Bool → Asked
   Live : Text → Wanted → Asked
-  Explain : Text → LogWanted → Asked
+  -- what is told, and whether as objects
+  Explain : Text → LogWanted → Bool → Asked
   -- after how many inputs, and what is drawn
   Picture : Text → Option ℕ → Chosen → Asked
-  -- whether unknown keys are notes
-  Check : Text → Bool → Asked
+  -- whether unknown keys are notes, and whether the report is an object
+  Check : Text → Bool → Bool → Asked
   -- the text, each word with a space before it, or nothing for lines
   Encode : Option Text → List ℕ → Asked
   -- the bytes, and whether each variable has a line
   Decode : Text → Bool → Asked
   DecodeLines : Asked
-  -- one code or all
-  Codes : Option ℕ → Asked
+  -- one code or all, and whether as objects
+  Codes : Option ℕ → Bool → Asked
   Page : Topic → Asked
 
 -- a selection of this is made, and it holds of that one
@@ -128,7 +129,7 @@ log_asked from to parts = if is_before to from then None else Some (record { fro
 
 abbrev pub explain_asked : List Row → Option Asked
 explain_asked rows =
-    option_and_then (λ file. option_map (λ wanted. Explain file wanted)
+    option_and_then (λ file. option_map (λ wanted. Explain file wanted (flag_of (codes "json") rows))
     (option_and_then (log_asked (unwrap_or (count_of (codes "from") rows) 1) (count_of (codes "to") rows))
     (parts_asked (flag_of (codes "refused") rows) (flag_of (codes "end") rows))))
     (first_of (codes "track") rows)
@@ -161,7 +162,8 @@ picture_asked rows =
     (first_of (codes "track") rows)
 
 abbrev pub check_asked : List Row → Option Asked
-check_asked rows = option_map (λ file. Check file (flag_of (codes "other-keys") rows)) (first_of (codes "track") rows)
+check_asked rows =
+    option_map (λ file. Check file (flag_of (codes "other-keys") rows) (flag_of (codes "json") rows)) (first_of (codes "track") rows)
 
 -- `--long` needs a message
 abbrev pub decode_asked_by : Option Text → Bool → Option Asked
@@ -175,8 +177,14 @@ decode_asked rows = decode_asked_by (first_of (codes "HEX") rows) (flag_of (code
 abbrev pub encode_asked : List Text → List Row → Option Asked
 encode_asked words rows = Some (Encode (first_of (codes "track") rows) (spaced_text words))
 
+-- objects are those of all codes
+abbrev pub codes_asked_by : Option ℕ → Bool → Option Asked
+codes_asked_by (Some code) true = None
+codes_asked_by (Some code) false = Some (Codes (Some code) false)
+codes_asked_by None json = Some (Codes None json)
+
 abbrev pub codes_asked : List Row → Option Asked
-codes_asked rows = Some (Codes (number_of (codes "CODE") rows))
+codes_asked rows = codes_asked_by (number_of (codes "CODE") rows) (flag_of (codes "json") rows)
 
 -- ---- what words ask for
 
@@ -238,13 +246,13 @@ chosen_of (choice.Train engine) = Train engine
 abbrev pub asked_of : Task → Asked
 asked_of (task.Run track workers by_train stats alarms) = Run track.now workers by_train stats alarms
 asked_of (task.Live track wanted) = Live track.now wanted
-asked_of (task.Explain track wanted) = Explain track.now wanted
+asked_of (task.Explain track wanted json) = Explain track.now wanted json
 asked_of (task.Picture track after choice) = Picture track.now after (chosen_of choice)
-asked_of (task.Check track other) = Check track.now other
+asked_of (task.Check track other json) = Check track.now other json
 asked_of (task.Encode track words) = Encode (option_map (λ file. file.now) track) (spaced_text (map string_bytes words.now))
 asked_of (task.Decode hex long) = Decode hex.now long
 asked_of task.DecodeLines = DecodeLines
-asked_of (task.Codes code) = Codes code
+asked_of (task.Codes code json) = Codes code json
 asked_of (task.Page topic) = Page topic
 
 -- nothing is asked for, or memory ran out

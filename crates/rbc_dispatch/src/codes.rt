@@ -1,6 +1,6 @@
 //! What each code and each fault means.
 
-ghost use Rattle.std.specs.Prelude.{◌≡◌, IfOk, IsSomeAnd, string_bytes};
+ghost use Rattle.std.specs.Prelude.{◌≡◌, IfOk, IsSomeAnd, None, string_bytes};
 ghost use Rattle.rbc_rule.specs.Codes.{code_of};
 ghost use Rattle.rbc_rule.specs.declared.refuse.Refusal.{Refusal as Refused};
 ghost use Rattle.rbc_dispatch.specs.Decoding.{IsUntouched};
@@ -14,6 +14,19 @@ use rbc_words::{Row, codes_text, other_row_of, row_of_code};
 use std::alloc::{AllocError, Global};
 use std::fmt;
 use std::io::Write;
+
+/// Writes the objects of all codes and faults.
+///
+/// # Errors
+///
+/// `OutOfMemory`, with nothing written, or that the text was cut short.
+pub fn write_code_objects<O: Write>(alloc: Global, output: &mut O) -> Result<(), Fault>
+    ensures tells { TellsCodes None (O.contents output.old) (O.contents output.new) result }
+    ensures untouched { IsUntouched result output.old output.new }
+{
+    let text = rbc_json::codes_text(alloc)?;
+    show(output, text.as_bytes())
+}
 
 /// Writes the list of all codes and faults, or its part on one code, 1 to 16.
 ///

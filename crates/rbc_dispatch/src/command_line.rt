@@ -97,7 +97,7 @@ a fault stands.",
 
 const EXPLAIN: &Page = &Page {
     name: "explain",
-    about: "Tell a run in words, as a log",
+    about: "Tell a run as a log, in words or as JSON",
     after_help: "\
 Reads inputs from standard input, to its end, and tells for each input what came of it and each
 message with its reason; then what is active, told, not told and not acknowledged at the end. The
@@ -107,6 +107,9 @@ There may be any number of inputs. The log is written as they are read.
 --from and --to choose the inputs that are told, by number. The run always begins with input 1. It
 ends with the input that --to names, and the end then says what stands after that input. With
 --refused, only the refused inputs are told, and no end. With --end, only the end is told.
+
+With --json, writes an object for each input that is told and one for the end, in place of words.
+Programs can rely on the form of the objects; docs/JSON.md describes it.
 
 Exit status: 0 done; 1 a fault, one line on standard error; 2 bad arguments. What was written before
 a fault stands.",
@@ -133,6 +136,8 @@ const CHECK: &Page = &Page {
     after_help: "\
 Writes the lines with their balise groups in order, then warnings and notes. Where the file is
 refused, writes the rule that it breaks and where. Standard input is not read.
+
+With --json, writes one object in place of words, also where the file is refused (docs/JSON.md).
 
 Exit status: 0 good, without a warning; 1 refused (`track: RULE` on standard error, as `run` has
 it), or good with warnings (`track: N warnings`); 2 bad arguments.",
@@ -187,6 +192,9 @@ const CODES: &Page = &Page {
     after_help: "\
 Writes for each its number or its line, its name, what it means and what to do. With CODE, writes
 what stands there of this code alone. Reads nothing.
+
+With --json, writes an object for each code and each fault in place of words (docs/JSON.md). CODE
+and --json do not go together.
 
 Exit status: 0 done; 1 a fault, one line on standard error; 2 bad arguments.",
 };
@@ -251,6 +259,11 @@ const END: &Flag = &Flag {
     help: "Tell only what stands at the end",
 };
 
+const JSON: &Flag = &Flag {
+    name: "json",
+    help: "Write JSON for programs, one object in each line",
+};
+
 const BUSY: &Flag = &Flag {
     name: "busy",
     help: "Leave lines out that have no train, stop or restriction",
@@ -302,7 +315,7 @@ fn bare_command<'a>(alloc: Global) -> Result<Command<'a>, AllocError>
 {
     Command::new(alloc, "dispatch")
         .no_binary_name(true)
-        .version("3.13.0, rules 3")
+        .version("3.14.0, rules 3")
         .about(
             "Emergency stops and speed restrictions, from a signaller's batch to each train's messages",
         )
@@ -335,7 +348,7 @@ fn live_command<'a>(alloc: Global) -> Result<Command<'a>, AllocError>
         .arg(flag_option(alloc, ALARMS))
 }
 
-/// `explain`, with its five options.
+/// `explain`, with its six options.
 fn explain_command<'a>(alloc: Global) -> Result<Command<'a>, AllocError>
     ensures shape { IfOk result (λ command. shape_of command ≡ explain_shape) }
     ensures local { IfOk result (λ command. (fields_of command).has_globals ≡ false) }
@@ -345,7 +358,8 @@ fn explain_command<'a>(alloc: Global) -> Result<Command<'a>, AllocError>
         .arg(number_option(alloc, FIRST_TOLD))?
         .arg(number_option(alloc, LAST_TOLD))?
         .arg(flag_option(alloc, REFUSED))?
-        .arg(flag_option(alloc, END))
+        .arg(flag_option(alloc, END))?
+        .arg(flag_option(alloc, JSON))
 }
 
 /// `picture`, with its six options.
@@ -362,14 +376,15 @@ fn picture_command<'a>(alloc: Global) -> Result<Command<'a>, AllocError>
         .arg(flag_option(alloc, BUSY))
 }
 
-/// `check`, with its two options.
+/// `check`, with its three options.
 fn check_command<'a>(alloc: Global) -> Result<Command<'a>, AllocError>
     ensures shape { IfOk result (λ command. shape_of command ≡ check_shape) }
     ensures local { IfOk result (λ command. (fields_of command).has_globals ≡ false) }
 {
     subcommand(alloc, CHECK)
         .arg(track_option(alloc))?
-        .arg(flag_option(alloc, OTHER_KEYS))
+        .arg(flag_option(alloc, OTHER_KEYS))?
+        .arg(flag_option(alloc, JSON))
 }
 
 /// `encode`, with its option and its words.
@@ -392,12 +407,14 @@ fn decode_command<'a>(alloc: Global) -> Result<Command<'a>, AllocError>
         .arg(flag_option(alloc, LONG))
 }
 
-/// `codes`, with its word.
+/// `codes`, with its word and its flag.
 fn codes_command<'a>(alloc: Global) -> Result<Command<'a>, AllocError>
     ensures shape { IfOk result (λ command. shape_of command ≡ codes_shape) }
     ensures local { IfOk result (λ command. (fields_of command).has_globals ≡ false) }
 {
-    subcommand(alloc, CODES).arg(code_word(alloc))
+    subcommand(alloc, CODES)
+        .arg(code_word(alloc))?
+        .arg(flag_option(alloc, JSON))
 }
 
 /// A subcommand without arguments.

@@ -6,7 +6,7 @@ ghost use Rattle.rbc_dispatch.specs.Forms.{FromOneByDefault, LongIfAsked, OneByD
 
 /// `run` with a track asks for one worker, without sharing by train, without figures and without alarms; with a number
 /// of workers, it asks for that many. `live` with a track is taken for the answers from the first one on, without
-/// alarms, `explain` for all of the log, and `picture` for the whole track after all inputs. `run` and `live`
+/// alarms, `explain` for all of the log in words, and `picture` for the whole track after all inputs. `run` and `live`
 /// with `--alarms` ask for alarms. `decode` asks for one line, and with `--long` for one for each variable.
 pub fn forms_law()
     ensures one { OneByDefault }

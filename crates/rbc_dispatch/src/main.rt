@@ -1,7 +1,8 @@
 //! `dispatch`, the program. `dispatch run --track FILE` runs a batch, `live` answers one line at a time, `explain`
-//! tells a run in words, `picture` draws what stands after it, `check` says what a track file says, `encode` and `decode`
-//! turn the text of messages into bytes and back, and `codes` says what each code means (command_line.rt has the options
-//! and the help of each; pages.rt the pages of help that belong to no command).
+//! tells a run in words, `picture` draws what stands after it, `check` says what a track file says, `encode` and
+//! `decode` turn the text of messages into bytes and back, and `codes` says what each code means. `explain`, `check`
+//! and `codes` also write JSON, for other programs. command_line.rt has the options and the help of each command,
+//! pages.rt the pages of help that belong to no command.
 //!
 //! It stands on the crates that do the tasks. However many workers run a batch, and however they share it, the output
 //! is the same. The exit status is 0 if the task was done, for help and for the version, 1 for a fault, which is one

@@ -17,7 +17,7 @@ ghost use Rattle.rbc_dispatch.specs.Words.{Asked, Asks, DoNotFit, IsSelected, Pa
 
 use crate::attempts::Attempts;
 use crate::check::check_text;
-use crate::codes::write_codes;
+use crate::codes::{write_code_objects, write_codes};
 use crate::decode::{decode, decode_input, decode_long};
 use crate::encode::{encode_input, encode_text, spaced_text};
 use crate::ending::Ending;
@@ -171,26 +171,39 @@ where
         Task::Live { track, wanted } => {
             live_file(rt, track, wanted, at_terminal, input, output, errors)
         }
-        Task::Explain { track, wanted } => {
-            explain_file(rt, track, wanted, at_terminal, input, output, errors)
-        }
+        Task::Explain {
+            track,
+            wanted,
+            json,
+        } => explain_file(rt, track, wanted, json, at_terminal, input, output, errors),
         Task::Picture {
             track,
             after,
             choice,
         } => picture_file(rt, track, after, &choice, input, output),
-        Task::Check { track, other_keys } => check_file(rt, track, other_keys, output),
+        Task::Check {
+            track,
+            other_keys,
+            json,
+        } => check_file(rt, track, other_keys, json, output),
         Task::Encode { track, words } => encode_task(rt, track, words, input, output),
         Task::Decode { word, long: true } => decode_long(alloc, word, output),
         Task::Decode { word, long: false } => decode(alloc, word, output),
         Task::DecodeLines => decode_input(alloc, input, output),
-        Task::Codes { code } => write_codes(alloc, code, output),
+        Task::Codes { json: true, .. } => write_code_objects(alloc, output),
+        Task::Codes { code, json: false } => write_codes(alloc, code, output),
         Task::Page(topic) => show(output, page_on(topic).as_bytes()),
     }
 }
 
-/// Reports on the track in a file. Nothing is written if the file cannot be read.
-fn check_file<R, O>(rt: &R, file: &str, other_keys: bool, output: &mut O) -> Result<(), Fault>
+/// Reports on the track in a file, in words or as an object. Nothing is written if the file cannot be read.
+fn check_file<R, O>(
+    rt: &R,
+    file: &str,
+    other_keys: bool,
+    json: bool,
+    output: &mut O,
+) -> Result<(), Fault>
 where
     R: AllocGlobal + Files,
     O: Write,
@@ -198,7 +211,7 @@ where
     ensures unreported { IsUnreported result output.old output.new }
 {
     let text = track_text(rt, file)?;
-    check_text(rt.alloc(), text.as_str(), other_keys, output)
+    check_text(rt.alloc(), text.as_str(), other_keys, json, output)
 }
 
 /// Runs a batch on the track in a file, and writes its alarms too. The track is read before the batch.
@@ -305,11 +318,12 @@ where
     )
 }
 
-/// Tells a log in words, on the track in a file. The track is read before the log.
+/// Tells a log in words or as objects, on the track in a file. The track is read before the log.
 fn explain_file<R, I, O, E>(
     rt: &R,
     file: &str,
     wanted: LogWanted,
+    json: bool,
     at_terminal: bool,
     input: &mut I,
     output: &mut O,
@@ -320,7 +334,7 @@ where
     I: Read,
     O: Write,
     E: Write,
-    ensures tells { TellsLog wanted (I.remaining input.old) (I.remaining input.new)
+    ensures tells { TellsLog wanted json (I.remaining input.old) (I.remaining input.new)
         (O.contents output.old) (O.contents output.new) result }
     ensures keeps { Keeps result input.old input.new output.old output.new }
     ensures errors { Announces at_terminal NOTICE.now errors.old errors.new
@@ -331,6 +345,7 @@ where
         rt.alloc(),
         text.as_str(),
         wanted,
+        json,
         at_terminal,
         input,
         output,

@@ -50,25 +50,26 @@ pub fn run_words_witnesses()
 ///
 /// - `--from 18446744073709551615` asks for the log from that input on, and `--from 0` for nothing. `--to 9` asks for
 ///   the log to input 9, `--to 9 --from 9` for input 9 alone, and `--from 9 --to 8` for nothing. `--refused` and
-///   `--end` each ask for what they name, and both together for nothing.
+///   `--end` each ask for what they name, and both together for nothing. `--end --json` asks for the end as an object.
 /// - After `picture`, `--after 0` asks for the picture before all inputs, `--after 18446744073709551615` for the one
 ///   after that many, and `--after -1` for nothing. `--line 3 --line 0` asks for these two lines,
 ///   `--line 2 --km 8.4-17.5` for that part of line 2, `--train 7` for the part of train 7, and `--busy` for the lines
 ///   on which something is. `--km` without one `--line`, a part that does not rise, and two of `--line`, `--train` and
 ///   `--busy` ask for nothing.
 pub fn telling_words_witnesses()
-    ensures from_last { AskToExplain 18446744073709551615 None parts.All
+    ensures from_last { AskToExplain 18446744073709551615 None parts.All false
         (codes "--from" ∷ codes "18446744073709551615" ∷ []) }
     ensures from_zero { AskForNothing (on_track (codes "explain") (codes "--from" ∷ codes "0" ∷ [])) }
-    ensures to_nine { AskToExplain 1 (Some 9) parts.All (codes "--to" ∷ codes "9" ∷ []) }
-    ensures to_nine_from_nine { AskToExplain 9 (Some 9) parts.All
+    ensures to_nine { AskToExplain 1 (Some 9) parts.All false (codes "--to" ∷ codes "9" ∷ []) }
+    ensures to_nine_from_nine { AskToExplain 9 (Some 9) parts.All false
         (codes "--to" ∷ codes "9" ∷ codes "--from" ∷ codes "9" ∷ []) }
     ensures ended_before { DoNotFit (on_track (codes "explain")
         (codes "--from" ∷ codes "9" ∷ codes "--to" ∷ codes "8" ∷ [])) }
-    ensures refused { AskToExplain 1 None parts.Refused (codes "--refused" ∷ []) }
-    ensures end { AskToExplain 1 None parts.End (codes "--end" ∷ []) }
+    ensures refused { AskToExplain 1 None parts.Refused false (codes "--refused" ∷ []) }
+    ensures end { AskToExplain 1 None parts.End false (codes "--end" ∷ []) }
+    ensures end_as_object { AskToExplain 1 None parts.End true (codes "--end" ∷ codes "--json" ∷ []) }
     ensures refused_end { DoNotFit (on_track (codes "explain") (codes "--refused" ∷ codes "--end" ∷ [])) }
-    ensures all_for_the_end { AskToExplain 1 None parts.All (codes "--end" ∷ []) → ⊥ }
+    ensures all_for_the_end { AskToExplain 1 None parts.All false (codes "--end" ∷ []) → ⊥ }
     ensures at_first { AskToDraw (Some 0) All (codes "--after" ∷ codes "0" ∷ []) }
     ensures at_last { AskToDraw (Some 18446744073709551615) All
         (codes "--after" ∷ codes "18446744073709551615" ∷ []) }
@@ -90,15 +91,18 @@ pub fn telling_words_witnesses()
 
 /// What words ask for that name no track.
 ///
-/// - `codes` asks for all codes, `codes 12` for code 12, and `codes 0` and `codes 17` for nothing.
+/// - `codes` asks for all codes, `codes 12` for code 12, `codes --json` for objects, and `codes 0`, `codes 17` and
+///   `codes 12 --json` for nothing.
 /// - `decode` asks for lines, `decode 00` for one message, and `decode --long` for nothing.
 /// - `help batch` and `help track` ask for a page; `help run` and `help batch batch` for nothing.
 pub fn other_words_witnesses()
-    ensures all_codes { Asks (Codes None) (codes "codes" ∷ []) }
-    ensures code_twelve { Asks (Codes (Some 12)) (codes "codes" ∷ codes "12" ∷ []) }
-    ensures another_code { Asks (Codes (Some 13)) (codes "codes" ∷ codes "12" ∷ []) → ⊥ }
+    ensures all_codes { Asks (Codes None false) (codes "codes" ∷ []) }
+    ensures code_twelve { Asks (Codes (Some 12) false) (codes "codes" ∷ codes "12" ∷ []) }
+    ensures another_code { Asks (Codes (Some 13) false) (codes "codes" ∷ codes "12" ∷ []) → ⊥ }
     ensures code_zero { AskForNothing (codes "codes" ∷ codes "0" ∷ []) }
     ensures code_seventeen { AskForNothing (codes "codes" ∷ codes "17" ∷ []) }
+    ensures objects { Asks (Codes None true) (codes "codes" ∷ codes "--json" ∷ []) }
+    ensures one_object { DoNotFit (codes "codes" ∷ codes "12" ∷ codes "--json" ∷ []) }
     ensures lines { Asks DecodeLines (codes "decode" ∷ []) }
     ensures message { Asks (Decode (codes "00") false) (codes "decode" ∷ codes "00" ∷ []) }
     ensures long_lines { DoNotFit (codes "decode" ∷ codes "--long" ∷ []) }

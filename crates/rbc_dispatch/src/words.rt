@@ -55,10 +55,12 @@ pub enum Task<'a> {
         track: &'a str,
         wanted: Wanted,
     },
-    /// `dispatch explain --track FILE --from N --to N --refused --end`: tell the log on standard input in words.
+    /// `dispatch explain --track FILE --from N --to N --refused --end --json`: tell the log on standard input in words,
+    /// or with `json` as objects for programs.
     Explain {
         track: &'a str,
         wanted: LogWanted,
+        json: bool,
     },
     /// `dispatch picture --track FILE --after N --line L --km A-B --train E --busy`: draw the state after this many
     /// inputs of the log on standard input, or after all, on the chosen part of the track.
@@ -67,10 +69,11 @@ pub enum Task<'a> {
         after: Option<u64>,
         choice: Choice,
     },
-    /// `dispatch check --track FILE --other-keys`: report on the track.
+    /// `dispatch check --track FILE --other-keys --json`: report on the track, in words or as an object.
     Check {
         track: &'a str,
         other_keys: bool,
+        json: bool,
     },
     /// `dispatch encode --track FILE TEXT ..`: write the bytes of the message whose text these words are, or, if there
     /// are none, put the bytes of messages in place of their text in the lines on standard input. Reports are placed
@@ -87,9 +90,10 @@ pub enum Task<'a> {
     },
     /// `dispatch decode`: put the text of messages in place of their bytes in the lines on standard input.
     DecodeLines,
-    /// `dispatch codes CODE`: list what each code and each fault means, or this code alone.
+    /// `dispatch codes CODE --json`: list what each code and each fault means, or this code alone; all as objects.
     Codes {
         code: Option<u32>,
+        json: bool,
     },
     /// `dispatch help batch` and `dispatch help track`: print a page of help.
     Page(Topic),
@@ -213,7 +217,7 @@ fn task_named<'a>(
     } else if name == "decode" {
         decode_task(found)
     } else if name == "codes" {
-        Ok(codes_task(found))
+        codes_task(found)
     } else {
         // Never reached: there is no other subcommand.
         Err(Misuse::Words("no command was named"))
@@ -251,7 +255,12 @@ fn explain_task<'a>(found: &ArgMatches<'a>) -> Result<Task<'a>, Misuse>
     let parts = parts_asked(flag_in(found, "refused"), flag_in(found, "end"))?;
     let from = count_in(found, "from").unwrap_or(1);
     let wanted = log_asked(from, count_in(found, "to"), parts)?;
-    Ok(Task::Explain { track, wanted })
+    let json = flag_in(found, "json");
+    Ok(Task::Explain {
+        track,
+        wanted,
+        json,
+    })
 }
 
 /// The parts of a log, unless both flags stand there.
@@ -389,6 +398,7 @@ fn check_task<'a>(found: &ArgMatches<'a>) -> Result<Task<'a>, Misuse>
     Ok(Task::Check {
         track: track_in(found)?,
         other_keys: flag_in(found, "other-keys"),
+        json: flag_in(found, "json"),
     })
 }
 
@@ -413,11 +423,16 @@ fn decode_task<'a>(found: &ArgMatches<'a>) -> Result<Task<'a>, Misuse>
     }
 }
 
-fn codes_task<'a>(found: &ArgMatches<'a>) -> Task<'a>
-    ensures { codes_asked (rows_of (found_of found.now)) ≡ Some (asked_of result) }
+fn codes_task<'a>(found: &ArgMatches<'a>) -> Result<Task<'a>, Misuse>
+    ensures { IsFor (codes_asked (rows_of (found_of found.now))) result }
 {
-    Task::Codes {
-        code: number_in(found, "CODE"),
+    match (number_in(found, "CODE"), flag_in(found, "json")) {
+        (None, json) => Ok(Task::Codes { code: None, json }),
+        (Some(code), false) => Ok(Task::Codes {
+            code: Some(code),
+            json: false,
+        }),
+        (Some(_), true) => Err(Misuse::Words("--json writes all codes, not one")),
     }
 }
 

@@ -1,8 +1,6 @@
 -- What comes of explaining lines.
-use Rattle.std.proofs.Common.{◌≡◌, ◌⊎◌, ℕ, false, List, [], Option, Some, None, Result, Ok, Err, inl, inr, refl, sym, subst, arith}
+use Rattle.std.proofs.Common.{◌≡◌, ◌⊎◌, ℕ, List, [], Option, Result, Ok, Err, inl, inr, refl, sym, subst}
 use Rattle.std.specs.Prelude.{IsErrAnd}
-use Rattle.std.proofs.KnownBytes.{Appends-nil, Consumes-nil}
-use Rattle.rbc_track.specs.Plan.{Plan}
 use Rattle.rbc_track.specs.Reading.{IsTrackOf, RefusesTrack}
 use Rattle.rbc_track.specs.declared.error.TrackError.{TrackError}
 use Rattle.rbc_track.specs.declared.error.TrackError.TheVariants as track
@@ -10,17 +8,12 @@ use Rattle.rbc_account.specs.declared.account.Account.{Account}
 use Rattle.rbc_account.specs.declared.fault.TellError.{TellError}
 use Rattle.rbc_account.specs.declared.fault.TellError.TheVariants.{Track, Read, Memory, OnlyInputs, Write, ReaderGone}
 use Rattle.rbc_account.specs.declared.log_form.LogWanted.{LogWanted}
-use Rattle.rbc_account.specs.RunLogs.{IsLogSoFar, IsOpenLog, IsWholeLog, IsWithin}
+use Rattle.rbc_account.specs.RunLogs.{IsOpenLog, IsWholeLog}
 use Rattle.rbc_account.specs.Runs.{EachAccountIsTrue}
 use Rattle.rbc_account.specs.Sums.{no_sums}
 use Rattle.rbc_account.specs.Telling.{ArePartTold, TellsLines}
 use Rattle.rbc_explain.specs.Log.{Explains, IsLogOf, IsPartExplained, IsInWords}
 use Rattle.rbc_explain.proofs.InWords.{log_so_far, whole_log}
-
--- no input is within any number
-none_within : (to : Option ℕ) → IsWithin to 0
-none_within None = tt
-none_within (Some to) = omega arith
 
 module _ (text : List ℕ) (wanted : LogWanted) (start : Account) (read_old read_new old new : Option (List ℕ)) (law : EachAccountIsTrue) (is : IsTrackOf text start.desk.track)
     (empty : start.desk.records ≡ []) (none : start.sums ≡ no_sums) where
@@ -56,27 +49,6 @@ module _ (text : List ℕ) (wanted : LogWanted) (start : Account) (read_old read
   explained (Err (OnlyInputs count)) tells = tells
   explained (Err (Write sent)) tells = part_told sent tells
   explained (Err (ReaderGone sent)) tells = part_told sent tells
-
-  -- memory was refused before any line was read
-  pub refused_at_first : {T : Type 0} (r : Result T TellError) → IsErrAnd r (λ fault. fault ≡ Memory) → read_new ≡ read_old → new ≡ old → Explains text wanted read_old read_new old new r
-  refused_at_first (Ok done) bad unread unwritten = absurd bad
-  refused_at_first {T} (Err fault) same unread unwritten =
-      let begun : IsLogSoFar IsInWords wanted start [] start false [] = record {
-        head = [];
-        blocks = [];
-        all = refl;
-        begun = (refl, refl);
-        told = (refl, refl);
-        few = omega arith;
-        within = none_within wanted.to;
-      } in
-      subst (λ (f : TellError). Explains {T = T} text wanted read_old read_new old new (Err f)) (sym same)
-      (subst (λ (o : Option (List ℕ)). Explains {T = T} text wanted read_old o old new (Err Memory)) (sym unread)
-      (subst (λ (o : Option (List ℕ)). Explains {T = T} text wanted read_old read_old old o (Err Memory)) (sym unwritten) (
-        start.desk.track,
-        is,
-        ([], [], [], [], Consumes-nil read_old, refl, (log_so_far start.desk.track wanted start [] start false [] law refl empty none begun).told, Appends-nil old),
-      )))
 
 -- the track is refused
 pub track_refused : {T : Type 0} (text : List ℕ) (wanted : LogWanted) (read_old read_new old new : Option (List ℕ)) (r : Result T TellError) (error : TrackError)

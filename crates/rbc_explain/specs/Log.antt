@@ -93,9 +93,9 @@ IsPartExplained text wanted read_old read_new old new sent =
     × IsLogOf plan wanted lines log × IsPartOut old new log sent)
 
 -- What is written when lines are told as they come, on the track in a text. At Ok the log of the lines that are run is
--- out, and nothing else. At a read fault, that of all lines that had ended, without its end. If memory was refused,
--- that of some first lines; at a write fault, the first bytes of such a log. If the first input that is told is too
--- late, nothing.
+-- out, and nothing else. At a read fault, that of all lines that had ended (which may have an end). If memory was
+-- refused, that of some first lines; at a write fault, the first bytes of such a log. If the first input that is told
+-- is too late, nothing.
 abbrev pub Explains : {T : Type 0} → List ℕ → LogWanted → Option (List ℕ) → Option (List ℕ) → Option (List ℕ) → Option (List ℕ) → Result T TellError → Type 0
 Explains text wanted read_old read_new old new (Ok done) =
     (plan : Plan) × IsTrackOf text plan

@@ -28,16 +28,51 @@ const FORMS: &[(&str, &str)] = &[
     ),
 ];
 
-/// What is wrong with a line that is refused as a bad one: the first that applies.
-pub(crate) fn fault_of_line(line: &[u8]) -> &'static str {
-    if line.contains(&b'\r') {
-        "It has a carriage return: lines end with a line feed alone."
-    } else if line.is_empty() {
-        "It is empty."
-    } else if has_empty_word(line) {
-        "Words stand between single spaces, with none at the ends."
-    } else {
-        form_of(cut(line, b' ').0)
+/// What is wrong with a line that is refused as a bad one (code 1).
+#[derive(Clone, Copy)]
+pub enum BadLine {
+    /// It has a carriage return.
+    CarriageReturn,
+    /// It is empty.
+    Empty,
+    /// It begins or ends with a space, or has two spaces side by side.
+    Spaces,
+    /// The words behind this first one are wrong. `form` says in words what they have to be.
+    Form {
+        word: &'static str,
+        form: &'static str,
+    },
+    /// Its first word is that of no input.
+    FirstWord,
+}
+
+impl BadLine {
+    /// What is wrong with a line: the first that applies.
+    pub fn of(line: &[u8]) -> BadLine {
+        if line.contains(&b'\r') {
+            BadLine::CarriageReturn
+        } else if line.is_empty() {
+            BadLine::Empty
+        } else if has_empty_word(line) {
+            BadLine::Spaces
+        } else {
+            form_of(cut(line, b' ').0)
+        }
+    }
+
+    /// It in a sentence.
+    pub(crate) fn sentence(self) -> &'static str {
+        match self {
+            BadLine::CarriageReturn => {
+                "It has a carriage return: lines end with a line feed alone."
+            }
+            BadLine::Empty => "It is empty.",
+            BadLine::Spaces => "Words stand between single spaces, with none at the ends.",
+            BadLine::Form { form, .. } => form,
+            BadLine::FirstWord => {
+                "Its first word is none of enrol, withdraw, stop, release, restrict, lift and recv."
+            }
+        }
     }
 }
 
@@ -54,12 +89,12 @@ fn has_empty_word(line: &[u8]) -> bool {
     was_space
 }
 
-/// The form of the input that begins with a word.
-fn form_of(word: &[u8]) -> &'static str {
-    for (name, form) in FORMS {
-        if word == name.as_bytes() {
-            return form;
+/// What is wrong with a line that begins with a word.
+fn form_of(first: &[u8]) -> BadLine {
+    for (word, form) in FORMS {
+        if first == word.as_bytes() {
+            return BadLine::Form { word, form };
         }
     }
-    "Its first word is none of enrol, withdraw, stop, release, restrict, lift and recv."
+    BadLine::FirstWord
 }

@@ -29,5 +29,9 @@ mod telling;
 mod waiting_in_words;
 mod words;
 
+pub use bad_line::BadLine;
+pub use log_head::RULES;
 pub use rbc_account::{LogParts, LogWanted, TellError};
+pub use refused::row_for;
+pub use said::{Spoken, Spot, spoken_by, spoken_by_packet};
 pub use telling::explain;

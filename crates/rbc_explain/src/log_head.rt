@@ -6,7 +6,7 @@ use std::alloc::{AllocError, Global};
 use std::fmt::Write;
 
 /// The number of the operating rules. It rises whenever a batch can get another output.
-const RULES: usize = 3;
+pub const RULES: usize = 3;
 
 /// The head of a log that begins at an input.
 pub(crate) fn head(alloc: Global, track: &NamedTrack, from: u64) -> Result<String, AllocError> {

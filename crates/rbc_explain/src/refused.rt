@@ -1,6 +1,6 @@
 //! Why an input was refused, in words.
 
-use crate::bad_line::fault_of_line;
+use crate::bad_line::BadLine;
 use rbc_account::Detail;
 use rbc_rule::{Input, Refusal};
 use rbc_words::{Km, Metres, Row, other_row_of, row_of_code};
@@ -35,14 +35,14 @@ pub(crate) fn push_refused(
         push_sentence(text, row.sentence)?;
     }
     if code == Refusal::BadLine.code() {
-        let fault = fault_of_line(refused.line);
+        let fault = BadLine::of(refused.line).sentence();
         return write!(text, "  {fault}\n");
     }
     push_detail(text, detail, refused.track_lines)
 }
 
-/// The row of a code: code 12 means another thing of a restriction.
-fn row_for(input: &Input, code: u8) -> Option<Row> {
+/// The row of the code with which an input was refused. Code 12 means another thing of a restriction.
+pub fn row_for(input: &Input, code: u8) -> Option<Row> {
     match input {
         Input::Restrict { .. } if code == Refusal::BadArea.code() => {
             other_row_of(Refusal::BadArea)

@@ -20,7 +20,7 @@ const BOTH_WAYS: u8 = 2;
 /// A place on a line, or one that lies so far before its beginning, in units of 10 cm: what is told of a restriction is
 /// rounded outwards.
 #[derive(Clone, Copy)]
-pub(crate) struct Spot {
+pub struct Spot {
     /// Whether it lies before the beginning of the line.
     pub is_before: bool,
     /// How far it is from the beginning.
@@ -44,7 +44,7 @@ impl fmt::Display for Spot {
 
 /// What a message, or a packet of one, says of a stop or a restriction. Places are in units of 10 cm.
 #[derive(Clone, Copy)]
-pub(crate) enum Spoken {
+pub enum Spoken {
     /// To stop at once.
     StopAtOnce,
     /// To stop before a place of a line.
@@ -172,7 +172,7 @@ fn stop_before(track: &Track, lrbg: u32, dir: u8, scale: u8, distance: u16) -> O
 
 /// What a message on a stop says. If the stop is escalated, its identifier is revoked, else the stop itself. `None` if
 /// the message is not on a stop, or tells no place of the track.
-pub(crate) fn spoken_by(track: &Track, message: &ToTrain, is_escalated: bool) -> Option<Spoken>
+pub fn spoken_by(track: &Track, message: &ToTrain, is_escalated: bool) -> Option<Spoken>
     ensures is { IfSome result (IsSpokenBy track.now message.now) }
     ensures revoked { IfSome result (IsRevokedAs is_escalated) }
     ensures all { (said : rule.Said) → IsOnStop said → Says track.now message.now (said ∷ []) → is_some result ≡ true }
@@ -227,7 +227,7 @@ fn restriction(
 }
 
 /// What a packet says in a message that names a balise group. `None` if it tells no place of the track.
-pub(crate) fn spoken_by_packet(track: &Track, lrbg: u32, packet: &Part) -> Option<Spoken>
+pub fn spoken_by_packet(track: &Track, lrbg: u32, packet: &Part) -> Option<Spoken>
     ensures is { IfSome result (IsSpokenByPacket track.now lrbg packet.now) }
     ensures all { (said : rule.Said) → PacketSays track.now lrbg packet.now said → is_some result ≡ true }
 {

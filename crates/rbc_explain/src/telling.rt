@@ -6,8 +6,8 @@ ghost use Rattle.rbc_explain.specs.Log.{Explains};
 
 use crate::words::Words;
 use rbc_account::{Account, LogWanted, TellError, account_law, tell_lines};
-use rbc_track_report::{NamedTrack, named_track};
-use std::alloc::{AllocError, Global};
+use rbc_track_report::tracks_from_toml;
+use std::alloc::Global;
 use std::io::{Read, Write};
 
 /// Reads lines and takes them, one after another from the empty state, on the track that a text in TOML writes, and
@@ -42,18 +42,11 @@ pub fn explain<R: Read, W: Write>(
     ensures unwritten { LeavesUnread result output.old output.new }
 {
     account_law();
-    let account = Account::open(alloc, text)?;
+    let (track, named) = tracks_from_toml(alloc, text)?;
+    let account = Account::new(alloc, track);
     let words = Words {
-        track: names_of(alloc, text)?,
+        track: named,
         parts: wanted.parts,
     };
     tell_lines(alloc, account, &words, wanted, input, output)
-}
-
-/// The names of a track. Fails also if the text is not a track.
-fn names_of(alloc: Global, text: &str) -> Result<NamedTrack, AllocError> {
-    match named_track(alloc, text) {
-        Ok(named) => Ok(named),
-        Err(_) => Err(AllocError),
-    }
 }

@@ -71,8 +71,16 @@ impl LiveDesk {
         ensures refused { IfErr result (λ e. (e ≡ TrackError.OutOfMemory) ⊎ RefusesTrack text.now e) }
     {
         let track = track_from_toml(alloc, text)?;
+        Ok(LiveDesk::on(alloc, track))
+    }
+
+    /// A desk on a track: no train, no stop, no restriction.
+    pub fn on(alloc: Global, track: Track) -> LiveDesk
+        ensures track { result.track ≡ track }
+        ensures empty { result.records ≡ [] }
+    {
         let records = PlainStore::new(alloc);
-        Ok(LiveDesk { track, records })
+        LiveDesk { track, records }
     }
 
     /// Takes one line, without its line feed, which may send at most `most` messages. The answer, the messages and the

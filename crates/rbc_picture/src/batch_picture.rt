@@ -17,7 +17,7 @@ use crate::selection::Selection;
 use crate::train_state::{TrainState, trains_of};
 use rbc_account::{Account, LineReader, TellError, account_law};
 use rbc_track::Track;
-use rbc_track_report::{NamedTrack, named_track};
+use rbc_track_report::{NamedTrack, tracks_from_toml};
 use std::alloc::{AllocError, Global};
 use std::io::Read;
 
@@ -50,13 +50,14 @@ pub fn picture<R: Read>(
     ensures drawn { IfOk result (λ svg. IsPictureOfRun text.now after selection.now (R.remaining input.old)
         (R.remaining input.new) (string_bytes svg)) }
 {
-    let mut account = Account::open(alloc, text)?;
+    let (track, named) = tracks_from_toml(alloc, text)?;
+    let mut account = Account::new(alloc, track);
     check_lines(account.track(), selection)?;
     let count = take_lines(alloc, &mut account, input, after)?;
     if is_below(count, after) {
         return Err(DrawError::Tell(TellError::OnlyInputs { count }));
     }
-    let picture = drawn(alloc, text, &account, count, selection)?;
+    let picture = drawn(alloc, named, &account, count, selection)?;
     Ok(picture)
 }
 
@@ -121,10 +122,10 @@ fn is_taken(count: u64, after: Option<u64>) -> bool
 }
 
 /// Draws what a selection asks for of what stands after the lines that an account has taken, out of this many. Fails
-/// also if the text is not the track of the account.
+/// also if the track with names is not that of the account.
 fn drawn(
     alloc: Global,
-    text: &str,
+    named: NamedTrack,
     account: &Account,
     count: u64,
     selection: &Selection<'_>,
@@ -135,7 +136,7 @@ fn drawn(
         → IfErr result (FailsFor (LacksTrain plan selection.now lines)) }
 {
     account_law();
-    let named = names_of(alloc, text, account.track())?;
+    let named = fitting(named, account.track())?;
     picture_of(alloc, account, &named, count as usize, selection)
 }
 
@@ -148,13 +149,10 @@ fn pass(alloc: Global, account: &mut Account, line: &[u8]) -> Result<(), AllocEr
     Ok(())
 }
 
-/// The names of a track, from the text of its file. Fails also if the text is not that track.
-fn names_of(alloc: Global, text: &str, track: &Track) -> Result<NamedTrack, AllocError>
+/// A track with names, if it has as many lines as a track.
+fn fitting(named: NamedTrack, track: &Track) -> Result<NamedTrack, AllocError>
     ensures { IfOk result (λ named. length named.lines.items ≡ length track.now.lines) }
 {
-    let Ok(named) = named_track(alloc, text) else {
-        return Err(AllocError);
-    };
     if !has_lines(track, named.lines.len()) {
         return Err(AllocError);
     }

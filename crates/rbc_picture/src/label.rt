@@ -1,8 +1,9 @@
 //! The label above a train: its engine, what it is not told, what it is told, and what is being revoked.
 
+use crate::colours::DARK;
 use crate::nearness::Marks;
 use crate::pixels::{Side, Span};
-use crate::shapes::Point;
+use crate::shapes::{Point, Stroke, moved};
 use crate::short_words::{ShortWord, bold_width, fitting_list, short_list};
 use crate::svg::Svg;
 use crate::texts::{Anchor, ENGINE, NOTE, Style, UNTOLD};
@@ -15,11 +16,20 @@ const WIDEST: i64 = 5_600;
 /// The distance between two texts of a label.
 const GAP: i64 = 60;
 
+/// The line below the number of a train by which the picture was asked for.
+const UNDERLINE: Stroke = Stroke {
+    colour: DARK,
+    width: "2",
+    dashes: None,
+};
+
 /// A label.
 #[derive(Drop)]
 pub(crate) struct Label {
     /// The number of the train's on-board equipment.
     pub engine: String,
+    /// Whether the picture was asked for by this number. It is then underlined.
+    pub is_named: bool,
     /// What it is not told, or no text.
     pub untold: String,
     /// What it is told, or no text.
@@ -38,6 +48,7 @@ pub(crate) fn label_of(
     train: &TrainState,
     body: Span,
     marks: &Marks,
+    is_named: bool,
 ) -> Result<Label, AllocError> {
     let engine = engine_words(alloc, train.engine)?;
     let untold = untold_list(alloc, &marks.untold)?;
@@ -50,6 +61,7 @@ pub(crate) fn label_of(
     let told = fitting_list(alloc, "", &marks.told, 6, room)?;
     let mut label = Label {
         engine,
+        is_named,
         untold,
         told,
         revoked,
@@ -106,13 +118,12 @@ impl Label {
     /// Draws the label.
     pub(crate) fn draw(&self, svg: &mut Svg, y: i64) {
         let engine = self.engine.as_str();
-        let x = self.draw_text(
-            svg,
-            Point { x: self.x, y },
-            ENGINE,
-            engine,
-            bold_width(engine, 13),
-        );
+        let width = bold_width(engine, 13);
+        let x = self.draw_text(svg, Point { x: self.x, y }, ENGINE, engine, width);
+        if self.is_named {
+            let below = moved(Point { x: self.x, y }, 0, 30);
+            svg.line(below, moved(below, self.side.from(0, width), 0), UNDERLINE);
+        }
         let untold = self.untold.as_str();
         let x = self.draw_text(svg, Point { x, y }, UNTOLD, untold, bold_width(untold, 11));
         let told = self.told.as_str();

@@ -57,6 +57,14 @@ impl Selection<'_> {
         }
     }
 
+    /// Whether it is the train with an engine number.
+    pub(crate) fn names(&self, engine: u32) -> bool {
+        match self {
+            Selection::Train(named) => engine == *named,
+            Selection::All | Selection::Busy | Selection::Lines(_) => false,
+        }
+    }
+
     /// Whether the whole track is drawn.
     pub(crate) fn is_whole(&self) -> bool
         ensures { result ≡ is_whole self.now }

@@ -85,7 +85,13 @@ pub(crate) fn shape_of<'a>(
         train,
         arrow,
         has_nose: window.has(front_place(place)),
-        label: label_of(alloc, train, body, &marks)?,
+        label: label_of(
+            alloc,
+            train,
+            body,
+            &marks,
+            scene.selection.names(train.engine),
+        )?,
         now,
         posts,
     })

@@ -16,7 +16,7 @@ mod error;
 mod group;
 mod track;
 
-pub use document::MAX_NID;
+pub use document::{MAX_NID, document_from};
 pub use error::TrackError;
 pub use group::{Group, Way};
-pub use track::{MAX_LENGTH, Track, track_from_toml};
+pub use track::{MAX_LENGTH, Track, track_from_toml, track_in};

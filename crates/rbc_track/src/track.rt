@@ -5,7 +5,9 @@ ghost use Rattle.std.specs.Prelude.{MatchOption};
 ghost use Rattle.rbc_track.specs.declared.error.TrackError.TheVariants.{GroupTwice, OutOfMemory};
 ghost use Rattle.rbc_track.specs.Plan.{max_group_number, group_of, IsPlan, IsPlaced, IsLength};
 ghost use Rattle.rbc_track.specs.Reading.{track_of, plan_of, is_length, is_on, are_apart, numbers_of, by_number};
-ghost use Rattle.rbc_track.specs.Reading.{IsTrackOf, FindsItsGroups, RefusesTrack, IsUnlessMemory};
+ghost use Rattle.rbc_track.specs.Document.{written_in};
+ghost use Rattle.rbc_track.specs.Reading.{IsTrackOf, FindsItsGroups, RefusesTrack, IsUnlessMemory, plan_or_shape};
+ghost use Rattle.toml.specs.View.{table_view};
 ghost use Rattle.rbc_track.specs.Behind.{IsNearestBehind, NoneBehind};
 ghost use Rattle.std.specs.BTreeMap.{IsOrdered};
 ghost use Rattle.std.specs.Ordering.{nat_cmp};
@@ -13,12 +15,13 @@ ghost use Rattle.std.specs.List.{list_all};
 
 use crate::behind::nearest_of;
 use crate::document;
-use crate::document::Site;
+use crate::document::{Site, document_from};
 use crate::error::TrackError;
 use crate::group::{Group, Way};
 use std::alloc::{AllocError, Global};
 use std::collections::BTreeMap;
 use std::marker::Model;
+use toml::Table;
 
 /// The most lines that a track has.
 const MAX_LINES: usize = 64;
@@ -212,9 +215,20 @@ pub fn track_from_toml(alloc: Global, text: &str) -> Result<Track, TrackError>
     ensures refused { IfErr result (λ e. (e ≡ OutOfMemory) ⊎ RefusesTrack text.now e) }
     ensures exact { IsUnlessMemory (track_of text.now) result }
 {
-    let document = document::document_from(alloc, text)?;
-    let horizon = document::horizon_in(&document).ok_or(TrackError::Shape)?;
-    let lines = document::lengths_under(alloc, &document)?;
-    let sites = document::sites_under(alloc, &document)?;
+    let document = document_from(alloc, text)?;
+    track_in(alloc, &document)
+}
+
+/// Reads the track that stands in a TOML document, as [`track_from_toml`] does.
+///
+/// # Errors
+///
+/// Those of [`track_from_toml`], but not `Text`.
+pub fn track_in(alloc: Global, document: &Table) -> Result<Track, TrackError>
+    ensures { IsUnlessMemory (plan_or_shape (written_in (table_view document.now))) result }
+{
+    let horizon = document::horizon_in(document).ok_or(TrackError::Shape)?;
+    let lines = document::lengths_under(alloc, document)?;
+    let sites = document::sites_under(alloc, document)?;
     Track::new(alloc, horizon, lines, sites.as_slice())
 }

@@ -71,14 +71,29 @@ fn push_groups_of(sheet: &mut Sheet, index: usize, groups: &[GroupDraft<'_>])
         sheet.words("no balise groups.\n");
         return;
     }
-    sheet
-        .count(number, "balise group")
-        .words(":\n        km       nid  NID_C  NID_BG  nominal\n");
+    push_heading(sheet, number, has_name_on(groups, index));
     for group in groups {
         if group.line as usize == index {
             push_group(sheet, group);
         }
     }
+}
+
+/// Adds how many balise groups are on a line, and the headings of their columns. There is a column of names if one of
+/// them has a name.
+fn push_heading(sheet: &mut Sheet, number: usize, has_name: bool)
+    ensures { IsWrittenOn sheet.old sheet.new }
+{
+    let end = if has_name { "  name\n" } else { "\n" };
+    sheet
+        .count(number, "balise group")
+        .words(":\n        km       nid  NID_C  NID_BG  nominal")
+        .words(end);
+}
+
+/// Whether one of the balise groups on a line has a name.
+fn has_name_on(groups: &[GroupDraft<'_>], index: usize) -> bool {
+    groups.iter().any(|group| group.line as usize == index && group.name.is_some())
 }
 
 /// Adds a balise group: its place with the points in line, its number, and NID_C and NID_BG, of which that is made.

@@ -1,12 +1,12 @@
 //! A valid track as people know it: its name, its lines and its balise groups in order, and the number of warnings.
 
-ghost use Rattle.std.specs.Prelude.{◌≡◌, ◌⊎◌, Some, None, option_map, option_copied, option_and_then, IfOk};
-ghost use Rattle.std.specs.Prelude.{MatchResult};
+ghost use Rattle.std.specs.Prelude.{◌≡◌, ◌⊎◌, Some, option_map, option_copied, option_and_then, IfOk, IfErr};
 ghost use Rattle.std.specs.Prelude.{string_bytes};
 ghost use Rattle.toml.specs.Parse.{parse_document};
 ghost use Rattle.toml.specs.View.{table_view};
 ghost use Rattle.rbc_track.specs.Document.{horizon_in};
-ghost use Rattle.rbc_track.specs.declared.error.TrackError.TheVariants.{Text, OutOfMemory};
+ghost use Rattle.rbc_track.specs.Reading.{IsTrackOf, RefusesTrack};
+ghost use Rattle.rbc_track.specs.declared.error.TrackError.TheVariants.{OutOfMemory};
 ghost use Rattle.rbc_track_report.specs.Shown.{shown_name};
 
 use crate::doubts::{push_bare, push_hidden_names};
@@ -14,7 +14,7 @@ use crate::keys::push_unknown;
 use crate::line_table::count_on;
 use crate::named_document::{Draft, GroupDraft, draft_of};
 use crate::remark::Remarks;
-use rbc_track::{TrackError, Way};
+use rbc_track::{Track, TrackError, Way, document_from, track_in};
 use std::alloc::{AllocError, Global};
 use toml::Table;
 
@@ -57,45 +57,40 @@ pub struct NamedTrack {
     pub warnings: usize,
 }
 
-/// Reads the names in the text of a valid track file. `warnings` is the number of warnings that a check of the text
-/// gives.
+/// Reads a track file once: the track, as `track_from_toml` reads it, and the same track with its names. `warnings` is
+/// the number of warnings that a check of the file gives.
 ///
 /// # Errors
 ///
-/// `OutOfMemory`; `Text` if the text is no TOML document; `Shape` if a value is missing, or is not what it has to be.
-/// No other rule on tracks is checked.
-pub fn named_track(alloc: Global, text: &str) -> Result<NamedTrack, TrackError>
-    ensures name { IfOk result (λ named. option_map (λ name. string_bytes name) named.name
+/// Those of `track_from_toml`.
+pub fn tracks_from_toml(alloc: Global, text: &str) -> Result<(Track, NamedTrack), TrackError>
+    ensures track { IfOk result (λ tracks. IsTrackOf text.now tracks.0) }
+    ensures name { IfOk result (λ tracks. option_map (λ name. string_bytes name) tracks.1.name
         ≡ option_and_then shown_name (parse_document text.now)) }
-    ensures horizon { IfOk result (λ named. option_and_then horizon_in (parse_document text.now)
-        ≡ Some named.horizon) }
+    ensures horizon { IfOk result (λ tracks. option_and_then horizon_in (parse_document text.now)
+        ≡ Some tracks.1.horizon) }
+    ensures refused { IfErr result (λ e. (e ≡ OutOfMemory) ⊎ RefusesTrack text.now e) }
 {
-    let document = document_of(alloc, text)?;
-    track_in(alloc, &document)
+    let document = document_from(alloc, text)?;
+    let track = track_in(alloc, &document)?;
+    match named_track(alloc, &document) {
+        Ok(named) => Ok((track, named)),
+        Err(_) => Err(TrackError::OutOfMemory),
+    }
 }
 
-/// The track in a document.
-///
-/// # Errors
-///
-/// `OutOfMemory`, or `Shape` if a value is missing, or is not what it has to be.
-fn track_in(alloc: Global, document: &Table) -> Result<NamedTrack, TrackError>
+/// The track in the document of a valid track file. Fails also if a value is missing, or is not what it has to be.
+fn named_track(alloc: Global, document: &Table) -> Result<NamedTrack, AllocError>
     ensures name { IfOk result (λ named. option_map (λ name. string_bytes name) named.name
         ≡ shown_name (table_view document.now)) }
     ensures horizon { IfOk result (λ named. horizon_in (table_view document.now) ≡ Some named.horizon) }
 {
     let mut draft = draft_of(alloc, document);
     draft.sort_groups();
-    if draft.is_cut {
-        return Err(TrackError::OutOfMemory);
+    if draft.is_cut || draft.misfit.is_some() {
+        return Err(AllocError);
     }
-    if draft.misfit.is_some() {
-        return Err(TrackError::Shape);
-    }
-    match named(alloc, document, &draft) {
-        Ok(named) => Ok(named),
-        Err(_) => Err(TrackError::OutOfMemory),
-    }
+    named(alloc, document, &draft)
 }
 
 /// How many warnings the document of this draft has.
@@ -108,26 +103,6 @@ fn warnings_of(alloc: Global, document: &Table, draft: &Draft<'_>) -> Result<usi
         return Err(AllocError);
     }
     Ok(remarks.warnings.len())
-}
-
-/// Parses a text as a TOML document.
-///
-/// # Errors
-///
-/// `Text` if the text is not a TOML document, or `OutOfMemory`.
-fn document_of(alloc: Global, text: &str) -> Result<Table, TrackError>
-    ensures { MatchResult result
-        (λ document. parse_document text.now ≡ Some (table_view document))
-        (λ e. (e ≡ OutOfMemory) ⊎ ((e ≡ Text) × (parse_document text.now ≡ None))) }
-{
-    match toml::table_from_str(alloc, text) {
-        Ok(document) => Ok(document),
-        Err(fault) => Err(if fault.is_memory() {
-            TrackError::OutOfMemory
-        } else {
-            TrackError::Text
-        }),
-    }
 }
 
 /// The track of a draft without a misfit.

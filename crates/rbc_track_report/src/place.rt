@@ -1,12 +1,13 @@
-//! Which rule a refused track breaks, and where.
+//! Which rule a refused track breaks, and where, in words.
 
 ghost use Rattle.std.specs.Prelude.{◌≡◌};
 ghost use Rattle.rbc_track_report.specs.Growth.{IsWrittenOn};
 ghost use Rattle.rbc_track_report.specs.Sentences.{sentence_of};
 
-use crate::named_document::{Draft, GroupDraft, Misfit, Place, Wanted};
+use crate::breach::Breach;
+use crate::named_document::{GroupDraft, Misfit, Place, Wanted};
 use crate::report_text::Sheet;
-use rbc_track::{MAX_LENGTH, TrackError};
+use rbc_track::TrackError;
 use toml::Value;
 
 /// The sentence of a rule.
@@ -84,7 +85,7 @@ fn words_of(wanted: Wanted) -> &'static str {
 }
 
 /// Adds the two lines on a value that is missing, or is not what it has to be.
-pub fn push_misfit(sheet: &mut Sheet, misfit: &Misfit<'_>)
+fn push_misfit(sheet: &mut Sheet, misfit: &Misfit<'_>)
     ensures { IsWrittenOn sheet.old sheet.new }
 {
     push_subject(sheet, misfit.place);
@@ -117,18 +118,25 @@ fn push_what(sheet: &mut Sheet, misfit: &Misfit<'_>)
     }
 }
 
-/// Adds where the rules on whole lists are broken first: the line for this rule.
-#[tactic(auto, using(crate::proofs::Written::written_none, crate::proofs::Written::written_then))]
-pub fn push_list_fault(sheet: &mut Sheet, rule: TrackError, draft: &Draft<'_>)
+/// Adds where a document breaks its rule.
+pub fn push_breach(sheet: &mut Sheet, breach: &Breach<'_>)
     ensures { IsWrittenOn sheet.old sheet.new }
 {
-    match rule {
-        TrackError::TooManyLines => push_tables(sheet, "line", draft.lines.len()),
-        TrackError::TooManyGroups => push_tables(sheet, "group", draft.groups.len()),
-        TrackError::BadLength => push_bad_length(sheet, draft),
-        TrackError::GroupOffLine => push_off_line(sheet, draft),
-        TrackError::GroupTwice => push_twice(sheet, draft.groups.as_slice()),
-        TrackError::Text | TrackError::Shape | TrackError::OutOfMemory => {}
+    match breach {
+        Breach::Shape(misfit) => push_misfit(sheet, misfit),
+        Breach::TooManyLines(number) => push_tables(sheet, "line", *number),
+        Breach::TooManyGroups(number) => push_tables(sheet, "group", *number),
+        Breach::BadLength { line, length } => push_bad_length(sheet, *line, *length),
+        Breach::GroupOffLine {
+            index,
+            group,
+            lines,
+            length,
+        } => match length {
+            Some(length) => push_beyond(sheet, *index, group, *length),
+            None => push_no_such_line(sheet, *index, group, *lines),
+        },
+        Breach::GroupTwice { index, nid, first } => push_twice(sheet, *index, *nid, *first),
     }
 }
 
@@ -143,37 +151,15 @@ fn push_tables(sheet: &mut Sheet, kind: &str, number: usize)
         .words("]] tables.\n");
 }
 
-/// Adds the first line whose length is out of its range.
-fn push_bad_length(sheet: &mut Sheet, draft: &Draft<'_>)
+/// Adds a line whose length is out of its range.
+fn push_bad_length(sheet: &mut Sheet, line: usize, length: u32)
     ensures { IsWrittenOn sheet.old sheet.new }
 {
-    for (index, line) in draft.lines.iter().enumerate() {
-        let length = line.length;
-        if !(1..=MAX_LENGTH).contains(&length) {
-            push_subject(sheet, Place::Line(index));
-            sheet
-                .words(": `length` is ")
-                .number(length as usize)
-                .words(".\n");
-            return;
-        }
-    }
-}
-
-/// Adds the first balise group that is on no line of the track, or beyond the end of its line.
-fn push_off_line(sheet: &mut Sheet, draft: &Draft<'_>)
-    ensures { IsWrittenOn sheet.old sheet.new }
-{
-    for (index, group) in draft.groups.iter().enumerate() {
-        let Some(line) = draft.lines.get(group.line as usize) else {
-            push_no_such_line(sheet, index, group, draft.lines.len());
-            return;
-        };
-        if group.at > line.length {
-            push_beyond(sheet, index, group, line.length);
-            return;
-        }
-    }
+    push_subject(sheet, Place::Line(line));
+    sheet
+        .words(": `length` is ")
+        .number(length as usize)
+        .words(".\n");
 }
 
 /// Adds a balise group that is beyond the end of its line.
@@ -220,24 +206,13 @@ fn push_group(sheet: &mut Sheet, index: usize, nid: u32)
         .words(")");
 }
 
-/// Adds the first balise group that has the number of an earlier one.
-fn push_twice(sheet: &mut Sheet, groups: &[GroupDraft<'_>])
+/// Adds a balise group that has the number of an earlier one.
+fn push_twice(sheet: &mut Sheet, index: usize, nid: u32, first: usize)
     ensures { IsWrittenOn sheet.old sheet.new }
 {
-    for (index, group) in groups.iter().enumerate() {
-        let first = first_with(groups, group.nid);
-        if first < index {
-            push_group(sheet, index, group.nid);
-            sheet
-                .words(": [[group]] ")
-                .nth(first)
-                .words(" has the same nid.\n");
-            return;
-        }
-    }
-}
-
-/// The index of the first balise group with a number.
-fn first_with(groups: &[GroupDraft<'_>], nid: u32) -> usize {
-    groups.iter().take_while(|group| group.nid != nid).count()
+    push_group(sheet, index, nid);
+    sheet
+        .words(": [[group]] ")
+        .nth(first)
+        .words(" has the same nid.\n");
 }

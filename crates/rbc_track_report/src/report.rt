@@ -4,16 +4,13 @@ ghost use Rattle.std.specs.Prelude.{IfOk};
 ghost use Rattle.rbc_track.specs.Reading.{track_of};
 ghost use Rattle.rbc_track_report.specs.Report.{IsVerdictOn};
 
-use crate::doubts::{push_bare, push_hidden_names, push_notes};
-use crate::keys::push_unknown;
+use crate::findings::{Findings, findings_on};
 use crate::line_table::{push_head, push_lines};
-use crate::named_document::{Draft, draft_of};
-use crate::place::{push_list_fault, push_misfit, sentence_of};
-use crate::remark::{Remarks, push_remarks};
+use crate::place::{push_breach, sentence_of};
+use crate::remark::push_remarks;
 use crate::report_text::Sheet;
 use rbc_track::{TrackError, track_from_toml};
 use std::alloc::{AllocError, Global};
-use toml::Table;
 
 /// What came of a check.
 #[derive(Clone, Copy)]
@@ -24,22 +21,50 @@ pub enum Verdict {
     Refused(TrackError),
 }
 
-/// What a track file says, in words.
+/// What a track file says, and whether it is a track.
 #[derive(Drop)]
 pub struct Report {
     /// What came of the check.
     pub verdict: Verdict,
-    /// The text for the user: lines of at most 100 columns, each ended by a line feed.
+    /// The text for the user. In words: lines of at most 100 columns, each ended by a line feed.
     pub text: String,
 }
 
-/// Checks the text of a track file. With `other_keys`, unknown keys are notes, not warnings.
+/// How a report on a track file is written.
+pub trait ReportForm {
+    /// The report on a text that is no TOML document. `start` is the byte of the fault, if it is known, and `message`
+    /// says in words what is wrong.
+    fn no_document(
+        &self,
+        alloc: Global,
+        text: &str,
+        start: Option<usize>,
+        message: &str,
+    ) -> Result<String, AllocError>;
+
+    /// The report on a document.
+    fn report(&self, alloc: Global, found: &Findings<'_>) -> Result<String, AllocError>;
+}
+
+/// Checks the text of a track file, and reports in words. With `other_keys`, unknown keys are notes, not warnings.
 pub fn check(alloc: Global, text: &str, other_keys: bool) -> Result<Report, AllocError>
+    ensures verdict { IfOk result (λ report. IsVerdictOn (track_of text.now) report.verdict) }
+{
+    check_in(alloc, text, other_keys, &InWords)
+}
+
+/// Checks the text of a track file, and reports in a form. With `other_keys`, unknown keys are notes, not warnings.
+pub fn check_in<F: ReportForm>(
+    alloc: Global,
+    text: &str,
+    other_keys: bool,
+    form: &F,
+) -> Result<Report, AllocError>
     ensures verdict { IfOk result (λ report. IsVerdictOn (track_of text.now) report.verdict) }
 {
     match track_from_toml(alloc, text) {
         Ok(_track) => {
-            let (text, warnings) = text_of(alloc, text, other_keys, None)?;
+            let (text, warnings) = text_of(alloc, text, other_keys, None, form)?;
             Ok(Report {
                 verdict: Verdict::Good { warnings },
                 text,
@@ -47,7 +72,7 @@ pub fn check(alloc: Global, text: &str, other_keys: bool) -> Result<Report, Allo
         }
         Err(TrackError::OutOfMemory) => Err(AllocError),
         Err(rule) => {
-            let (text, _warnings) = text_of(alloc, text, other_keys, Some(rule))?;
+            let (text, _warnings) = text_of(alloc, text, other_keys, Some(rule), form)?;
             Ok(Report {
                 verdict: Verdict::Refused(rule),
                 text,
@@ -57,48 +82,64 @@ pub fn check(alloc: Global, text: &str, other_keys: bool) -> Result<Report, Allo
 }
 
 /// The text of a report, and how many warnings it has: of a good track, or of one that breaks a rule.
-fn text_of(
+fn text_of<F: ReportForm>(
     alloc: Global,
     text: &str,
     other_keys: bool,
     rule: Option<TrackError>,
+    form: &F,
 ) -> Result<(String, usize), AllocError> {
     match toml::table_from_str(alloc, text) {
-        Ok(document) => text_on(alloc, &document, other_keys, rule),
+        Ok(document) => {
+            let found = findings_on(alloc, &document, other_keys, rule)?;
+            Ok((form.report(alloc, &found)?, found.remarks.warnings.len()))
+        }
         Err(fault) if fault.is_memory() => Err(AllocError),
         Err(fault) => {
             let start = match fault.span() {
-                Some(span) => span.start,
-                None => 0,
+                Some(span) => Some(span.start),
+                None => None,
             };
-            Ok((no_document(alloc, text, start, fault.message())?, 0))
+            Ok((form.no_document(alloc, text, start, fault.message())?, 0))
         }
     }
 }
 
-/// The report on a text that is not a document, with the place and the message of the reader.
-fn no_document(
-    alloc: Global,
-    text: &str,
-    start: usize,
-    message: &str,
-) -> Result<String, AllocError> {
-    let (line, column) = position(text, start);
-    let mut sheet = Sheet::new(alloc);
-    push_refusal(&mut sheet, TrackError::Text);
-    sheet
-        .words("  line ")
-        .number(line)
-        .words(", column ")
-        .number(column)
-        .words(": ")
-        .words(message)
-        .words(".\n\nWarnings: none.\n");
-    sheet.ended()
+/// A report in words.
+#[derive(Clone, Copy)]
+struct InWords;
+
+impl ReportForm for InWords {
+    fn no_document(
+        &self,
+        alloc: Global,
+        text: &str,
+        start: Option<usize>,
+        message: &str,
+    ) -> Result<String, AllocError> {
+        let (line, column) = position(text, start.unwrap_or(0));
+        let mut sheet = Sheet::new(alloc);
+        push_refusal(&mut sheet, TrackError::Text);
+        sheet
+            .words("  line ")
+            .number(line)
+            .words(", column ")
+            .number(column)
+            .words(": ")
+            .words(message)
+            .words(".\n\nWarnings: none.\n");
+        sheet.ended()
+    }
+
+    fn report(&self, alloc: Global, found: &Findings<'_>) -> Result<String, AllocError> {
+        let mut sheet = Sheet::new(alloc);
+        push_report(&mut sheet, found);
+        sheet.ended()
+    }
 }
 
-/// The line and the column, both from 1, of the byte at an index. A column counts characters.
-fn position(text: &str, start: usize) -> (usize, usize) {
+/// The line and the column of a text, both from 1, of the byte at an index. A column counts characters.
+pub fn position(text: &str, start: usize) -> (usize, usize) {
     let mut line = 1usize;
     let mut column = 1usize;
     for byte in text.as_bytes().iter().take(start) {
@@ -122,61 +163,30 @@ fn push_refusal(sheet: &mut Sheet, rule: TrackError) {
         .words("\n");
 }
 
-/// The report on a document, and how many warnings it has.
-fn text_on(
-    alloc: Global,
-    document: &Table,
-    other_keys: bool,
-    rule: Option<TrackError>,
-) -> Result<(String, usize), AllocError> {
-    let mut remarks = Remarks::new(alloc, other_keys);
-    push_unknown(alloc, &mut remarks, document);
-    push_hidden_names(&mut remarks, document);
-    let mut draft = draft_of(alloc, document);
-    let mut sheet = Sheet::new(alloc);
-    push_report(&mut sheet, &mut remarks, &mut draft, rule);
-    if remarks.is_cut || draft.is_cut {
-        return Err(AllocError);
-    }
-    Ok((sheet.ended()?, remarks.warnings.len()))
-}
-
-/// Adds the report on what a document has: on a good track, or on one that breaks a rule.
-fn push_report<'a>(
-    sheet: &mut Sheet,
-    remarks: &mut Remarks<'a>,
-    draft: &mut Draft<'a>,
-    rule: Option<TrackError>,
-) {
-    match (draft.misfit, rule) {
-        (Some(misfit), _) => {
-            push_refusal(sheet, TrackError::Shape);
-            push_misfit(sheet, &misfit);
-        }
-        (None, Some(rule)) => {
-            push_refusal(sheet, rule);
-            push_list_fault(sheet, rule, draft);
-        }
-        (None, None) => return push_good(sheet, draft, remarks),
+/// Adds the report on what a check found.
+fn push_report(sheet: &mut Sheet, found: &Findings<'_>) {
+    let Some(rule) = found.rule else {
+        return push_good(sheet, found);
+    };
+    push_refusal(sheet, rule);
+    if let Some(breach) = &found.breach {
+        push_breach(sheet, breach);
     }
     sheet.words("\n");
-    push_remarks(sheet, "Warnings", remarks.warnings.as_slice());
-    if !remarks.notes.is_empty() {
-        push_remarks(sheet, "Notes", remarks.notes.as_slice());
+    push_remarks(sheet, "Warnings", found.remarks.warnings.as_slice());
+    if !found.remarks.notes.is_empty() {
+        push_remarks(sheet, "Notes", found.remarks.notes.as_slice());
     }
 }
 
 /// Adds the report on a good track.
-fn push_good(sheet: &mut Sheet, draft: &mut Draft<'_>, remarks: &mut Remarks<'_>) {
-    draft.sort_groups();
-    push_bare(remarks, draft);
-    push_notes(remarks, draft);
-    push_head(sheet, draft);
-    push_lines(sheet, draft);
+fn push_good(sheet: &mut Sheet, found: &Findings<'_>) {
+    push_head(sheet, &found.draft);
+    push_lines(sheet, &found.draft);
     sheet.words("\n");
-    push_remarks(sheet, "Warnings", remarks.warnings.as_slice());
-    push_remarks(sheet, "Notes", remarks.notes.as_slice());
-    push_end(sheet, remarks.warnings.len());
+    push_remarks(sheet, "Warnings", found.remarks.warnings.as_slice());
+    push_remarks(sheet, "Notes", found.remarks.notes.as_slice());
+    push_end(sheet, found.remarks.warnings.len());
 }
 
 /// Adds the last line on a good track.

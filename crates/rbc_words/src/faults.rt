@@ -54,6 +54,21 @@ pub const FAULTS: &[FaultRow] = &[
         to_do: "Nothing was written. Take a smaller number.",
     },
     FaultRow {
+        line: "picture: no line L",
+        sentence: "picture --line: the track has no line with this number.",
+        to_do: "Nothing was written. `dispatch check` lists the lines.",
+    },
+    FaultRow {
+        line: "picture: the part is not on line L",
+        sentence: "picture --km: the part goes beyond the end of the line.",
+        to_do: "Nothing was written. `dispatch check` says how long each line is.",
+    },
+    FaultRow {
+        line: "picture: no train E",
+        sentence: "picture --train: no train with this number is enrolled after the inputs.",
+        to_do: "Nothing was written. The end of `dispatch explain` lists the trains.",
+    },
+    FaultRow {
         line: "out of memory",
         sentence: "Memory was refused.",
         to_do: "Run again with more memory. What was written stands; `run` and `picture` wrote nothing.",
@@ -78,5 +93,11 @@ pub const FAULTS: &[FaultRow] = &[
         sentence: "decode: the bytes are no message; NAME is Length, Message, Packet or Field,
       as result codes 3 to 6.",
         to_do: "See there.",
+    },
+    FaultRow {
+        line: "encode: WRONG",
+        sentence: "encode: the text is the text of no message; WRONG names its first wrong word and says
+      what was expected there.",
+        to_do: "Correct the word. What was written stands: the lines before it.",
     },
 ];

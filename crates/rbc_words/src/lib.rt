@@ -33,6 +33,7 @@ mod witnesses;
 pub use codes::{Row, other_row_of, row_of, row_of_code};
 pub use decode::decode_lines;
 pub use encode::encode_lines;
+pub use faults::{FAULTS, FaultRow};
 pub use filter::{FilterError, filter_lines};
 pub use law::text_law;
 pub use line_fault::{LineFault, LineWord};

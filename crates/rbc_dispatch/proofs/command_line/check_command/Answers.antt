@@ -7,9 +7,11 @@ use Rattle.rbc_dispatch.proofs.command_line.check_command.Goals as goal
 pub returns-clause-shape : goal.returns-clause-shape
 returns-clause-shape c =
     let first = ap (λ (a : App). a.top) (app_with _ _ _ _ _ c.subcommand.ensures.app c.track_option.ensures.rule c.track_option.ensures.local c.in_ok-arg.ensures) in
-    IfOk-weaker c.arg-2.result _ _ (λ command adds. shape_with _ _ _ command _ first c.flag_option.ensures.rule c.flag_option.ensures.local adds) c.arg-2.ensures
+    let second = shape_with _ _ _ _ _ first c.flag_option.ensures.rule c.flag_option.ensures.local c.in_ok-arg-2.ensures in
+    IfOk-weaker c.arg-3.result _ _ (λ command adds. shape_with _ _ _ command _ second c.flag_option-2.ensures.rule c.flag_option-2.ensures.local adds) c.arg-3.ensures
 
 pub returns-clause-local : goal.returns-clause-local
 returns-clause-local c =
     let first = local_with _ _ _ c.subcommand.ensures.local c.track_option.ensures.local c.in_ok-arg.ensures in
-    IfOk-weaker c.arg-2.result _ _ (λ command adds. local_with _ command _ first c.flag_option.ensures.local adds) c.arg-2.ensures
+    let second = local_with _ _ _ first c.flag_option.ensures.local c.in_ok-arg-2.ensures in
+    IfOk-weaker c.arg-3.result _ _ (λ command adds. local_with _ command _ second c.flag_option-2.ensures.local adds) c.arg-3.ensures

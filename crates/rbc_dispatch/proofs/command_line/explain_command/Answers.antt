@@ -10,7 +10,8 @@ returns-clause-shape c =
     let second = shape_with _ _ _ _ _ first c.number_option.ensures.rule c.number_option.ensures.local c.in_ok-arg-2.ensures in
     let third = shape_with _ _ _ _ _ second c.number_option-2.ensures.rule c.number_option-2.ensures.local c.in_ok-arg-3.ensures in
     let fourth = shape_with _ _ _ _ _ third c.flag_option.ensures.rule c.flag_option.ensures.local c.in_ok-arg-4.ensures in
-    IfOk-weaker c.arg-5.result _ _ (λ command adds. shape_with _ _ _ command _ fourth c.flag_option-2.ensures.rule c.flag_option-2.ensures.local adds) c.arg-5.ensures
+    let fifth = shape_with _ _ _ _ _ fourth c.flag_option-2.ensures.rule c.flag_option-2.ensures.local c.in_ok-arg-5.ensures in
+    IfOk-weaker c.arg-6.result _ _ (λ command adds. shape_with _ _ _ command _ fifth c.flag_option-3.ensures.rule c.flag_option-3.ensures.local adds) c.arg-6.ensures
 
 pub returns-clause-local : goal.returns-clause-local
 returns-clause-local c =
@@ -18,4 +19,5 @@ returns-clause-local c =
     let second = local_with _ _ _ first c.number_option.ensures.local c.in_ok-arg-2.ensures in
     let third = local_with _ _ _ second c.number_option-2.ensures.local c.in_ok-arg-3.ensures in
     let fourth = local_with _ _ _ third c.flag_option.ensures.local c.in_ok-arg-4.ensures in
-    IfOk-weaker c.arg-5.result _ _ (λ command adds. local_with _ command _ fourth c.flag_option-2.ensures.local adds) c.arg-5.ensures
+    let fifth = local_with _ _ _ fourth c.flag_option-2.ensures.local c.in_ok-arg-5.ensures in
+    IfOk-weaker c.arg-6.result _ _ (λ command adds. local_with _ command _ fifth c.flag_option-3.ensures.local adds) c.arg-6.ensures

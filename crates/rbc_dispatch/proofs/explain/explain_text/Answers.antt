@@ -3,8 +3,8 @@ use Rattle.rbc_dispatch.proofs.explain.explain_text.Goals as goal
 
 -- why the log is not told is handed on
 
-pub returns-in_err-explain-clause-tells : goal.returns-in_err-explain-clause-tells
-returns-in_err-explain-clause-tells g c = not_told c.args.text.now c.args.wanted _ _ _ _ _ c.in_err-explain.field-0.0 c.from_residual.ensures.1 c.in_err-explain.ensures.explains
+pub returns-in_err-tell_in-clause-tells : goal.returns-in_err-tell_in-clause-tells
+returns-in_err-tell_in-clause-tells g c = not_told c.args.text.now c.args.wanted c.args.json _ _ _ _ _ c.in_err-tell_in.field-0.0 c.from_residual.ensures.1 c.in_err-tell_in.ensures.tells
 
-pub returns-in_err-explain-clause-keeps : goal.returns-in_err-explain-clause-keeps
-returns-in_err-explain-clause-keeps g c = kept _ _ _ _ _ c.in_err-explain.field-0.0 c.from_residual.ensures.1 c.in_err-explain.ensures.unread c.in_err-explain.ensures.unwritten
+pub returns-in_err-tell_in-clause-keeps : goal.returns-in_err-tell_in-clause-keeps
+returns-in_err-tell_in-clause-keeps g c = kept _ _ _ _ _ c.in_err-tell_in.field-0.0 c.from_residual.ensures.1 c.in_err-tell_in.ensures.unread c.in_err-tell_in.ensures.unwritten

@@ -1,4 +1,4 @@
-use Rattle.rbc_dispatch.proofs.WitnessWords.{all_codes, another_code, batch_page, code_seventeen, code_twelve, code_zero, help_of_run, lines, long_lines, message, page_and_more, track_page}
+use Rattle.rbc_dispatch.proofs.WitnessWords.{all_codes, another_code, batch_page, code_seventeen, code_twelve, code_zero, help_of_run, lines, long_lines, message, objects, one_object, page_and_more, track_page}
 use Rattle.rbc_dispatch.proofs.witnesses.other_words_witnesses.Goals as goal
 
 pub returns-clause-all_codes : goal.returns-clause-all_codes
@@ -15,6 +15,12 @@ returns-clause-code_zero c = code_zero
 
 pub returns-clause-code_seventeen : goal.returns-clause-code_seventeen
 returns-clause-code_seventeen c = code_seventeen
+
+pub returns-clause-objects : goal.returns-clause-objects
+returns-clause-objects c = objects
+
+pub returns-clause-one_object : goal.returns-clause-one_object
+returns-clause-one_object c = one_object
 
 pub returns-clause-lines : goal.returns-clause-lines
 returns-clause-lines c = lines

@@ -1,4 +1,4 @@
-use Rattle.rbc_dispatch.proofs.WitnessWords.{all_for_a_train, all_for_the_end, all_for_the_first, at_first, at_last, before_first, busy, busy_train, end, ended_before, falling, from_last, from_zero_telling, no_line, part, refused, refused_end, to_nine, to_nine_from_nine, train, two_lines}
+use Rattle.rbc_dispatch.proofs.WitnessWords.{all_for_a_train, all_for_the_end, all_for_the_first, at_first, at_last, before_first, busy, busy_train, end, end_as_object, ended_before, falling, from_last, from_zero_telling, no_line, part, refused, refused_end, to_nine, to_nine_from_nine, train, two_lines}
 use Rattle.rbc_dispatch.proofs.witnesses.telling_words_witnesses.Goals as goal
 
 pub returns-clause-from_last : goal.returns-clause-from_last
@@ -21,6 +21,9 @@ returns-clause-refused c = refused
 
 pub returns-clause-end : goal.returns-clause-end
 returns-clause-end c = end
+
+pub returns-clause-end_as_object : goal.returns-clause-end_as_object
+returns-clause-end_as_object c = end_as_object
 
 pub returns-clause-refused_end : goal.returns-clause-refused_end
 returns-clause-refused_end c = refused_end

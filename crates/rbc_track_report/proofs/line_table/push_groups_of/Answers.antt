@@ -6,7 +6,7 @@ pub returns-then-number-eq0 : goal.returns-then-number-eq0
 returns-then-number-eq0 c = back c.words.ensures.written (search rules)
 
 pub loop-group-init : goal.loop-group-init
-loop-group-init c = back (c.count.ensures.written then c.words-2.ensures.written) (search rules)
+loop-group-init c = c.push_heading.ensures
 
 pub returns : goal.returns
 returns c = c.loop-group.invariant

@@ -1,6 +1,8 @@
 use Rattle.std.proofs.Common.{◌∙◌}
 use Rattle.rbc_account.specs.ToldPlaces.{kept_at}
-use Rattle.rbc_account.proofs.Feeding.{fed_as, right_as, kept_as, known_as}
+use Rattle.rbc_account.specs.SentInputs.{input_at}
+use Rattle.rbc_account.specs.Sums.{input_count}
+use Rattle.rbc_account.proofs.Feeding.{fed_as, right_as, kept_as, noted_as, known_as}
 use Rattle.rbc_account.proofs.account.Account.step.Goals as goal
 
 pub returns-clause-fed : goal.returns-clause-fed
@@ -12,6 +14,11 @@ pub returns-clause-told : goal.returns-clause-told
 returns-clause-told c =
     kept_as c.args.self.now.desk.track (kept_at c.args.self.now.told_places) (kept_at c.take.new.self.told_places) c.in_ok-answer.answer.messages
     c.block_of.result c.block_of.ensures.messages c.in_ok-answer.ensures.told
+
+pub returns-clause-sent : goal.returns-clause-sent
+returns-clause-sent c =
+    noted_as (input_count c.take.new.self.sums) (input_at c.args.self.now.sent_inputs) (input_at c.take.new.self.sent_inputs) c.in_ok-answer.answer.messages
+    c.block_of.result c.block_of.ensures.messages c.in_ok-answer.ensures.sent
 
 pub returns-clause-right : goal.returns-clause-right
 returns-clause-right c =

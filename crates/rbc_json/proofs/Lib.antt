@@ -1,0 +1,12 @@
+pub mod Listing
+pub mod Plainness
+pub mod Quoting
+pub mod Saying
+pub mod Together
+pub mod Pieces
+pub mod Messaging
+pub mod Refusing
+pub mod Inputs
+pub mod InObjects
+pub mod Ends
+pub mod Explaining

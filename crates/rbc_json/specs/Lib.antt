@@ -1,0 +1,12 @@
+pub mod Effects
+pub mod Json
+pub mod Lists
+pub mod Log
+pub mod Messages
+pub mod Objects
+pub mod Packets
+pub mod Places
+pub mod Plain
+pub mod Reasons
+pub mod Shapes
+pub mod Waits

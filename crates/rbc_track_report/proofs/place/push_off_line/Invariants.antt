@@ -1,5 +1,0 @@
-use Rattle.rbc_track_report.specs.Growth.{IsWrittenOn}
-use Rattle.rbc_track_report.proofs.place.push_off_line.Given as goal
-
-abbrev pub invariant-loop-index : goal.invariant-loop-index
-invariant-loop-index l = IsWrittenOn l.fn.sheet l.sheet
