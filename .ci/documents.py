@@ -10,7 +10,8 @@
 
 What is checked:
 - each path, module, file and link that a document names is there, and so is each name in backticks: a function, a type, a
-  constant or a field of src/, a definition or a field of specs/ and proofs/, or a word of documents_words.py;
+  constant or a field of src/, a definition or a field of specs/ and proofs/, a key or a word of docs/explain.schema.json, or a word of
+  documents_words.py;
 - `name` of CRATE, `TYPE::name`, `CRATE::name`, names in a table's row of a crate, and names before (CRATE, FILE) or (CRATE, FILE.rt) are where that says;
 - docs/MODEL.md and docs/TEXTS.md name each definition that has to be believed or that a law uses, in the part and the section where
   its class belongs (documents_reach.py), and each word of the kit that these use and that is not of everyday use; they say how many
@@ -23,6 +24,7 @@ What is checked:
   nothing (documents_rules.py);
 - no file cites a paper, or a demand by its number.
 """
+import json
 import re
 import sys
 import textwrap
@@ -131,8 +133,19 @@ def path_faults(root, document, text):
 
 # ---- names
 
+def words_of_objects(root):
+    """The keys and the words of the objects that `--json` writes: docs/explain.schema.json."""
+    found, todo = set(), [json.loads((root / "docs/explain.schema.json").read_text())]
+    while todo:
+        value = todo.pop()
+        if isinstance(value, dict):
+            found |= set(value.get("properties", {})) | {word for word in (*value.get("enum", []), value.get("const")) if isinstance(word, str)}
+        todo += value.values() if isinstance(value, dict) else value if isinstance(value, list) else []
+    return found
+
+
 def known_names(world):
-    names = set(words.KNOWN) | set(world.crates) | {name for _, name in world.kit}
+    names = set(words.KNOWN) | set(world.crates) | {name for _, name in world.kit} | words_of_objects(ROOT)
     for crate in world.crates.values():
         names |= crate.rust_names | crate.antt_names | {path.stem for path in crate.edits}
     return names

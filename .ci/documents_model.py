@@ -13,6 +13,7 @@ PLACES = {
     "messages": ("MODEL.md", BELIEVED, "Messages"),
     "run": ("MODEL.md", BELIEVED, "Run"),
     "books": ("MODEL.md", BELIEVED, "Books"),
+    "objects": ("MODEL.md", BELIEVED, "Objects"),
     "law": ("MODEL.md", LAWS, ""),
     "text": ("TEXTS.md", BELIEVED, ""),
 }
@@ -21,7 +22,7 @@ MOST_LINES = {"MODEL.md": 900, "TEXTS.md": 300}
 
 # the kinds of sections of what has to be believed, in the order of a reader, with the sentence where that of `dispatch run` may stop
 STOP = "A reader of `dispatch run` may stop here"
-ORDER = {"Rules": 0, "Formats": 0, "Messages": 1, STOP: 2, "Run": 3, "Books": 4}
+ORDER = {"Rules": 0, "Formats": 0, "Messages": 1, STOP: 2, "Run": 3, "Books": 4, "Objects": 5}
 
 # the numbers of lines that the documents tell, and the classes whose lines each one counts
 FOR_RUN = ("rules", "formats", "messages")
@@ -36,7 +37,8 @@ NUMBERS = (
     ("MODEL.md", rf"^\| Books \| {NUMBER} \|", ("books",)),
     ("MODEL.md", rf"^\| \*\*The headline: all of these\*\* \| \*\*{NUMBER}\*\* \|", FOR_HEADLINE),
     ("MODEL.md", rf"^\| Texts \| {NUMBER} \|", ("text",)),
-    ("MODEL.md", rf"^\| \*\*In all\*\* \| \*\*{NUMBER}\*\* \|", (*FOR_HEADLINE, "text")),
+    ("MODEL.md", rf"^\| Objects \| {NUMBER} \|", ("objects",)),
+    ("MODEL.md", rf"^\| \*\*In all\*\* \| \*\*{NUMBER}\*\* \|", (*FOR_HEADLINE, "text", "objects")),
     ("MODEL.md", rf"^\*\*{STOP}\.\*\* Up to here {NUMBER} lines\b", FOR_RUN),
     ("TEXTS.md", rf"\b{NUMBER} lines of definitions\b", ("text",)),
 )
@@ -227,7 +229,7 @@ def count(world):
                 print(f"{wanted:8} {crate}, {file}: {sum(lines for _, lines in names)} lines: {', '.join(name for name, _ in names)}")
     total = lengths(world)
     print("lines of specs/, without imports, blanks and comments:")
-    for what, kinds in (("for `dispatch run`", FOR_RUN), ("for the headline", FOR_HEADLINE), ("in all", (*FOR_HEADLINE, "text"))):
+    for what, kinds in (("for `dispatch run`", FOR_RUN), ("for the headline", FOR_HEADLINE), ("in all", (*FOR_HEADLINE, "text", "objects"))):
         print(f"believed {what}: {sum(total[kind] for kind in kinds)}: {', '.join(f'{total[kind]} of {kind}' for kind in kinds)}")
     print(f"law: {total['law']}, and {total['case']} of worked cases")
     print(f"boundary: {total['boundary']}")

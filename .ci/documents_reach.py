@@ -5,7 +5,8 @@
 - messages: what `SAID` says beyond that. Up to here `dispatch run` is described.
 - run: what the contract of `run` of rbc_engine says beyond those: any opening desk, any number of workers.
 - books: what `event_law` of rbc_core says beyond those: any interleaving of attempts.
-- text: what the contracts of the program itself (`PRINTING`), and the texts of values and faults, say beyond those.
+- text: what the contracts of the program itself (`PRINTING`), and the texts of values and faults, say beyond those, but for `OBJECTS`.
+- objects: what `OBJECTS` says beyond those: the objects that `explain --json` writes.
 - law: laws, and none of those.
 - boundary: contracts of functions that some crate gives away, and none of those. They are proved to compose into the contracts of
   the program's calls.
@@ -34,6 +35,9 @@ SAID = ("rbc_batch", "Process", "AreSaid")
 # the functions beside `process` on whose contracts the headline stands
 HEADLINE = {"run": ("rbc_engine", "run"), "books": ("rbc_core", "event_law")}
 
+# what the contract of `explain_in_objects` says
+OBJECTS = ("rbc_json", "Log", "ExplainsInObjects")
+
 # the program, but for the files that read its words, and the one function that it calls for a text
 PRINTING = {"rbc_dispatch"}
 PRINTING_FUNCTIONS = {("ertms_codec", "describe")}
@@ -42,7 +46,11 @@ PRINTING_FUNCTIONS = {("ertms_codec", "describe")}
 RULES = {"rbc_place", "rbc_zones", "rbc_ids", "rbc_maps", "rbc_settle", "rbc_rule"}
 RULES_FILES = {("rbc_desk", "Serial"), ("rbc_desk", "outbox.rt")}
 
-CLASSES = ("believed", "messages", "run", "books", "text", "law", "boundary")
+CLASSES = ("believed", "messages", "run", "books", "text", "objects", "law", "boundary")
+
+# the classes that begin at one definition, and those that leave such a definition out
+BEGIN_AT = {"messages": SAID, "objects": OBJECTS}
+LEAVE_OUT = {"believed": SAID, "text": OBJECTS}
 
 
 def is_printing(crate, found):
@@ -128,14 +136,14 @@ class World:
         todo, reached = list(self.roots(part)), set()
         while todo:
             node = todo.pop()
-            if node not in reached and (part != "believed" or node[1:] != SAID):
+            if node not in reached and node[1:] != LEAVE_OUT.get(part):
                 reached.add(node)
                 todo.extend(self.next(node))
         return reached
 
     def roots(self, part):
-        if part == "messages":
-            yield ("definition", *SAID)
+        if part in BEGIN_AT:
+            yield ("definition", *BEGIN_AT[part])
             return
         for crate in self.crates.values():
             for found in crate.source.functions:

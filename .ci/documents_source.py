@@ -57,8 +57,11 @@ class Spec:
         self.scope, self.definitions, self.makes = Scope(), {}, {}
         self.told = set()  # the definitions with a sentence: one above each, or above a group of them
         written = path.read_text()
-        current, in_group = None, MOST_IN_GROUP
+        current, in_group, is_mutual = None, MOST_IN_GROUP, False
         for line, with_words in zip(blank(ANTT_NOISE, written).split("\n"), written.split("\n")):
+            is_mutual = re.match(r"(?:abbrev )?mutual$", line) is not None or is_mutual and with_words[:1] in {" ", ""}
+            if is_mutual and with_words.startswith("  "):  # definitions that use each other stand indented below that word
+                line, with_words = line[2:], with_words[2:]
             if with_words.startswith("--"):
                 in_group = 0
             if line.startswith(("use ", "pub use ")):
@@ -71,7 +74,7 @@ class Spec:
                     self.told.add(current.name)
                 in_group += current.name not in self.definitions
                 self.definitions[current.name] = current
-            elif re.match(r"infix|pub mod|mod ", line):
+            elif re.match(r"infix|pub mod|mod |(?:abbrev )?mutual$", line):
                 current = None
             elif current is not None:
                 current.lines.append(line)
@@ -84,7 +87,7 @@ class Spec:
                 self.makes[field] = found.name
 
     def begins(self, line):
-        return bool(re.match(r"(?:abbrev|unfoldable|opaque|pub(?! mod)|record|data) ", line) or re.match(r"[^\s:]+ : ", line))
+        return bool(re.match(r"(?:(?:abbrev|unfoldable|opaque)(?! mutual$)|pub(?! mod)|record|data) ", line) or re.match(r"[^\s:]+ : ", line))
 
 
 # ---- sources

@@ -2,9 +2,9 @@
 # Refuses memory to the program and to that of the golden batches, one allocation after another, and threads: bench/refusals.sh [--built]
 #
 # Each run is refused one allocation more than the last, the Nth alone, until there is no Nth. The program, on messages by `decode` and on each
-# batch of examples/ by `run`, `explain` and `picture`, must end with status 0 and the expected output, or with status 1, a line that tells of
-# lack of memory, and no output; `run` by one worker, and by 2, 4 and 16 on the book and with --by-train. On three batches of golden/alarms
-# `run --alarms` must end likewise, and `live --alarms` with whole answers before the fault. `encode TEXT` must end as `decode` does, and the filters
+# batch of examples/ by `run` and `picture`, must end with status 0 and the expected output, or with status 1, a line that tells of lack of
+# memory, and no output; `explain`, in words and with --json, likewise, but with whole lines before the fault; `run` by one worker, and by 2, 4 and
+# 16 on the book and with --by-train. On three batches of golden/alarms `run --alarms` must end likewise, and `live --alarms` with whole answers before the fault. `encode TEXT` must end as `decode` does, and the filters
 # `encode` and `decode` with whole lines before the fault. That of the golden batches, whose workers share a book or do windows of messages, must find
 # the output right or end with an error that tells of lack of memory. Then both are run by 2, 4 and 16 workers, in both ways, where the Nth thread
 # cannot be started, alone and with all behind it, for each N: the output must be the right one. Whatever else comes is printed, and the script then

@@ -104,7 +104,7 @@ def end_of_live(ended, expected):
 
 
 def end_of_filter(ended, expected):
-    """The same of a filter, which has written whole lines before a fault."""
+    """The same of a filter or of `explain`, which has written whole lines before a fault."""
     if ended.status == 0:
         return "answered" if ended.output == expected and not ended.errors else None
     if ended.status != 1 or not expected.startswith(ended.output) or ended.output[-1:] not in (b"", b"\n"):
@@ -181,10 +181,11 @@ def at_program(root, refuse):
             for workers in ("2", "4", "16"):
                 some = [*words, "--workers", workers, *more]
                 wrong += count(f"{name}, {workers} workers {way}", some, text, refuse, lambda ended: end_of_program(ended, expected))
-        for task in ("explain", "picture"):
-            words = [program, task, "--track", f"{root}/examples/main_line.toml"]
+        for task in ("explain", "explain --json", "picture"):
+            words = [program, *task.split(), "--track", f"{root}/examples/main_line.toml"]
             shown = subprocess.run(words, input=text, capture_output=True, check=True).stdout
-            wrong += count(f"{name}, `{task}`", words, text, refuse, lambda ended, shown=shown: end_of_program(ended, shown))
+            end = end_of_program if task == "picture" else end_of_filter
+            wrong += count(f"{name}, `{task}`", words, text, refuse, lambda ended, end=end, shown=shown: end(ended, shown))
     return wrong
 
 
