@@ -1,7 +1,7 @@
 -- A run from a new desk, and what is written of it.
 use Rattle.std.proofs.Common.{◌≡◌, ℕ, ◌≤◌, List, [], ◌++◌, length, take, Option, Some, None, Result, Ok, Err, refl, sym, ap, ◌∙◌, subst, arith}
 use Rattle.std.specs.Prelude.{IsErrAnd}
-use Rattle.std.specs.List.{flat_map}
+use Rattle.std.specs.List.{flat_map, enumerate_from}
 use Rattle.std.specs.Io.KnownBytes.{Appends, Keeps}
 use Rattle.std.proofs.lemmas.List.{take_all}
 use Rattle.rbc_track.specs.Plan.{Plan}
@@ -17,10 +17,24 @@ use Rattle.rbc_engine.specs.declared.workers.RunError.TheVariants.{Workers, TooM
 use Rattle.rbc_engine.specs.Answers.{IsRun, MayWork}
 use Rattle.rbc_batch.specs.declared.batch.ProcessError.TheVariants as fault
 use Rattle.rbc_text.specs.BatchText.{lines_of}
-use Rattle.rbc_text.specs.OutputText.{output_of, outbox_lines}
+use Rattle.rbc_text.specs.OutputText.{output_of, outbox_lines, result_line}
 use Rattle.rbc_batch.specs.declared.batch.ProcessError.{ProcessError}
-use Rattle.rbc_batch.specs.Process.{AreFew, AreRead, Answers, AnswersBy, AnswersWithAlarms, AnswersWithDesk, IsBeforeRun, IsCounted, IsRunOf, IsRunWithDesk, IsWatchedRun, text_of, watched_results, watched_text_of}
+use Rattle.rbc_batch.specs.Process.{AreFew, AreRead, Answers, AnswersBy, AnswersWithAlarms, AnswersWithDesk, IsBeforeRun, IsCounted, IsRunOf, IsRunWithDesk, IsWatchedRun, AreMailsSaid, AreSaid, text_of, watched_results, watched_text_of}
 use Rattle.rbc_batch.proofs.Existing.{have_inputs}
+use Rattle.rbc_batch.proofs.ByEngine.{outboxes_ascend}
+
+-- a text of the serial run says what its mails say
+said_of : (plan : Plan) (inputs : List Input) (results : List ℕ) → AreMailsSaid plan inputs → AreSaid plan inputs (results ++ flat_map outbox_lines (serial plan new_desk inputs).outboxes)
+said_of plan inputs results said = record {
+  results = results;
+  outboxes = (serial plan new_desk inputs).outboxes;
+  lines = refl;
+  by_engine = outboxes_ascend plan inputs;
+  said = said;
+}
+
+said_in : (plan : Plan) (inputs : List Input) → AreMailsSaid plan inputs → AreSaid plan inputs (text_of plan inputs)
+said_in plan inputs said = said_of plan inputs (flat_map result_line (enumerate_from 1 (serial plan new_desk inputs).results)) said
 
 -- it came to its end
 pub ran : (plan : Plan) (held new : Held) (inputs : List Input) (workers : ℕ) (stats : Stats) → Holds plan (standing held) new_desk
@@ -48,7 +62,7 @@ pub wrote_part : (plan : Plan) (workers : ℕ) (read_old read_new old new : Opti
 wrote_part plan workers read_old read_new old new inputs held stats text sent read ran is few out =
     let desk = serial plan new_desk inputs in
     let same : text ≡ text_of plan inputs = is ∙ (ap (λ (xs : List Reply). output_of xs held.outboxes) ran.2.results ∙ ap (λ (boxes : List (ℕ × List Mail)). output_of desk.results boxes) ran.2.outboxes) in
-    (inputs, read, ran.0, ran.1, subst (λ (t : List ℕ). sent ≤ length t) same few, subst (λ (t : List ℕ). Appends old new (take sent t)) same out, ran.3)
+    (inputs, read, ran.0, ran.1, subst (λ (t : List ℕ). sent ≤ length t) same few, subst (λ (t : List ℕ). Appends old new (take sent t)) same out, said_in plan inputs ran.3)
 
 -- all of the text is out
 pub wrote_all : (plan : Plan) (workers : ℕ) (read_old read_new old new : Option (List ℕ)) (inputs : List Input) (held : Held) (stats : Stats) (text : List ℕ)
@@ -57,7 +71,7 @@ pub wrote_all : (plan : Plan) (workers : ℕ) (read_old read_new old new : Optio
 wrote_all plan workers read_old read_new old new inputs held stats text read ran is out =
     let desk = serial plan new_desk inputs in
     let same : text ≡ text_of plan inputs = is ∙ (ap (λ (xs : List Reply). output_of xs held.outboxes) ran.2.results ∙ ap (λ (boxes : List (ℕ × List Mail)). output_of desk.results boxes) ran.2.outboxes) in
-    (inputs, read, ran.0, ran.1, subst (λ (t : List ℕ). Appends old new t) same out, ran.3, (ran.4, ran.2.results, ran.2.outboxes))
+    (inputs, read, ran.0, ran.1, subst (λ (t : List ℕ). Appends old new t) same out, said_in plan inputs ran.3, (ran.4, ran.2.results, ran.2.outboxes))
 
 -- a batch that is refused before its lines are read has inputs all the same
 before_run : {E : Type 0} (text : List Input → List ℕ) (Counted : List Input → E → Type 0) (plan : Plan) (workers : ℕ) (read_old read_new old new : Option (List ℕ)) (error : ProcessError)
@@ -118,7 +132,7 @@ module _ (plan : Plan) (workers : ℕ) (read_old read_new old new : Option (List
 
   pub wrote_watched_part : (sent : ℕ) → sent ≤ length text → Appends old new (take sent text) → AnswersWithAlarms plan workers read_old read_new old new (Err (fault.Write sent))
   wrote_watched_part sent short out =
-      (inputs, read, may, few, subst (λ (t : List ℕ). sent ≤ length t) same_watched short, subst (λ (t : List ℕ). Appends old new (take sent t)) same_watched out, ran.said)
+      (inputs, read, may, few, subst (λ (t : List ℕ). sent ≤ length t) same_watched short, subst (λ (t : List ℕ). Appends old new (take sent t)) same_watched out, said_of plan inputs (watched_results plan new_desk inputs) ran.said)
 
   pub wrote_watched : (done : Unit {0}) → Appends old new text → AnswersWithAlarms plan workers read_old read_new old new (Ok done)
-  wrote_watched done out = (inputs, read, may, few, subst (λ (t : List ℕ). Appends old new t) same_watched out, ran.said, tt)
+  wrote_watched done out = (inputs, read, may, few, subst (λ (t : List ℕ). Appends old new t) same_watched out, said_of plan inputs (watched_results plan new_desk inputs) ran.said, tt)

@@ -10,7 +10,9 @@ use Rattle.rbc_rule.specs.declared.input.Input.{Input}
 use Rattle.rbc_text.specs.BatchText.{lines_of, AreInputsOf}
 use Rattle.rbc_engine.specs.Stats.{Stats}
 use Rattle.rbc_engine.specs.Serial.{Desk, step, serial, new_desk}
+use Rattle.rbc_maps.specs.Maps.{IsMap}
 use Rattle.rbc_rule.specs.Step as rule
+use Rattle.rbc_engine.specs.Mail.{Mail}
 use Rattle.rbc_engine.specs.Held.{Held, Holds, standing}
 use Rattle.rbc_engine.specs.SaidMails.{AreSaidMails}
 use Rattle.rbc_engine.specs.declared.workers.RunError.{RunError}
@@ -35,9 +37,19 @@ pub record AreRead (old new : Option (List ℕ)) (inputs : List Input) : Type 0 
   pub short : length batch ≤ max_batch
   pub lines : AreInputsOf batch inputs
 
--- each message of that text says what the rules give its train
-abbrev pub AreSaid : Plan → List Input → Type 0
-AreSaid plan inputs = AreSaidMails plan new_desk inputs [] (serial plan new_desk inputs).outboxes
+-- each message of the serial run, from a new desk, says what the rules give its train
+abbrev pub AreMailsSaid : Plan → List Input → Type 0
+AreMailsSaid plan inputs = AreSaidMails plan new_desk inputs [] (serial plan new_desk inputs).outboxes
+
+-- A text is lines of results, and then the lines `ENGINE INPUT HEX` of mails, by engine. The mails to each engine are those that the rules
+-- give it for the inputs: each spells a message that reads back as itself and says what the rules give the train of ENGINE after the input
+-- with the number INPUT.
+pub record AreSaid (plan : Plan) (inputs : List Input) (text : List ℕ) : Type 0 where
+  pub results : List ℕ
+  pub outboxes : List (ℕ × List Mail)
+  pub lines : text ≡ results ++ flat_map outbox_lines outboxes
+  pub by_engine : IsMap outboxes
+  pub said : AreSaidMails plan new_desk inputs [] outboxes
 
 -- the inputs of a batch are not too many for one run
 abbrev pub AreFew : List Input → Type 0
@@ -49,7 +61,7 @@ IsCounted inputs stats = (stats.taken ≡ length inputs) × (stats.recomputed �
 
 -- a run of inputs from a new desk: the desk after it, and its counts; or why there is none
 abbrev pub IsRunOf : Plan → List Input → ℕ → Result (Held × Stats) RunError → Type 0
-IsRunOf plan inputs workers (Ok (held, stats)) = MayWork workers × AreFew inputs × Holds plan (standing held) (serial plan new_desk inputs) × AreSaid plan inputs × IsCounted inputs stats
+IsRunOf plan inputs workers (Ok (held, stats)) = MayWork workers × AreFew inputs × Holds plan (standing held) (serial plan new_desk inputs) × AreMailsSaid plan inputs × IsCounted inputs stats
 IsRunOf plan inputs workers (Err Workers) = ¬ (MayWork workers)
 IsRunOf plan inputs workers (Err TooManyInputs) = MayWork workers × ¬ (AreFew inputs)
 IsRunOf plan inputs workers (Err (OutOfMemory committed)) = MayWork workers × AreFew inputs × (committed ≤ length inputs)
@@ -59,9 +71,9 @@ IsRunOf plan inputs workers (Err (OutOfMemory committed)) = MayWork workers × A
 -- number of inputs.
 abbrev pub AnswersBy : {E : Type 0} → (List Input → List ℕ) → (List Input → E → Type 0) → Plan → ℕ → Option (List ℕ) → Option (List ℕ) → Option (List ℕ) → Option (List ℕ) → Result E ProcessError → Type 0
 AnswersBy text Counted plan workers read_old read_new old new (Ok counts) =
-    (inputs : List Input) × AreRead read_old read_new inputs × MayWork workers × AreFew inputs × Appends old new (text inputs) × AreSaid plan inputs × Counted inputs counts
+    (inputs : List Input) × AreRead read_old read_new inputs × MayWork workers × AreFew inputs × Appends old new (text inputs) × AreSaid plan inputs (text inputs) × Counted inputs counts
 AnswersBy text Counted plan workers read_old read_new old new (Err (fault.Write sent)) =
-    (inputs : List Input) × AreRead read_old read_new inputs × MayWork workers × AreFew inputs × (sent ≤ length (text inputs)) × Appends old new (take sent (text inputs)) × AreSaid plan inputs
+    (inputs : List Input) × AreRead read_old read_new inputs × MayWork workers × AreFew inputs × (sent ≤ length (text inputs)) × Appends old new (take sent (text inputs)) × AreSaid plan inputs (text inputs)
 AnswersBy text Counted plan workers read_old read_new old new (Err (fault.Run Workers)) = (inputs : List Input) × AreRead read_old read_new inputs × ¬ (MayWork workers) × Keeps old new
 AnswersBy text Counted plan workers read_old read_new old new (Err (fault.Run TooManyInputs)) =
     (inputs : List Input) × AreRead read_old read_new inputs × MayWork workers × ¬ (AreFew inputs) × Keeps old new
@@ -113,7 +125,7 @@ AnswersWithAlarms plan workers read_old read_new old new result = AnswersBy (wat
 -- a desk, and the lines of its results with their alarms, are those after inputs that a new desk took
 pub record IsWatchedRun (plan : Plan) (inputs : List Input) (held : Held) (results : List ℕ) : Type 0 where
   pub holds : Holds plan (standing held) (serial plan new_desk inputs)
-  pub said : AreSaid plan inputs
+  pub said : AreMailsSaid plan inputs
   pub spelled : results ≡ watched_results plan new_desk inputs
 
 -- a fault that is no write fault leaves the writer as it was

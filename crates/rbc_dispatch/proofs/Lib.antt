@@ -12,4 +12,5 @@ mod PartOn
 mod Rows
 mod Sending
 mod SpacedTexts
+mod Whole
 mod WitnessWords

@@ -8,8 +8,8 @@
 //! is the same. The exit status is 0 if the task was done, for help and for the version, 1 for a fault, which is one
 //! line on standard error, and 2 for bad arguments. It is also 0 if the reader of a text for people went away.
 //!
-//! Begin with program.rt: the contract of `perform` says that what words ask for (`asked_by`, specs/Words.antt) is done
-//! (`Does`, specs/Doing.antt).
+//! Begin with program.rt: the contract of `run` says that what words ask for (`Asks`, specs/Words.antt) is done
+//! (`Does`, specs/Doing.antt), or that nothing is read.
 #![tactic(auto)]
 
 mod attempts;

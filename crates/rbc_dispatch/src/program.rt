@@ -1,11 +1,11 @@
 //! The program, over any streams.
 ghost use Rattle.std.specs.Prelude.{◌≡◌, ◌≤◌, ◌∷◌, ℕ, List, Option, [], IfErr, IfOk, IsErrAnd, OnOk, Some, false, map};
-ghost use Rattle.std.specs.Prelude.{string_bytes, true};
+ghost use Rattle.std.specs.Prelude.{◌⊎◌, string_bytes, true};
 ghost use Rattle.std.specs.Process.{exit_status};
 ghost use Rattle.rbc_dispatch.specs.Checking.{Checks, IsUnreported};
 ghost use Rattle.rbc_dispatch.specs.Decoding.{IsUntouched};
-ghost use Rattle.rbc_dispatch.specs.Doing.{Announces, Does, LeavesErrors};
-ghost use Rattle.rbc_dispatch.specs.Ending.{AtTask, IsRefusal, status_of};
+ghost use Rattle.rbc_dispatch.specs.Doing.{Announces, Does, IsWholeRun, LeavesErrors};
+ghost use Rattle.rbc_dispatch.specs.Ending.{AtTask, IsNoHelp, IsRefusal, status_of};
 ghost use Rattle.rbc_dispatch.specs.Filtering.{EncodesLines, EncodesTextOn, IsNoTrackGiven, IsTrackGiven, name_given};
 ghost use Rattle.rbc_dispatch.specs.Living.{Lives};
 ghost use Rattle.rbc_dispatch.specs.Pages.{topic_in};
@@ -61,13 +61,17 @@ where
     I: Read,
     O: Write,
     E: Write,
-    ensures { exit_status result ≤ 2 }
+    ensures status { exit_status result ≤ 2 }
+    ensures does { IsWholeRun (I.remaining input.old) (I.remaining input.new) (O.contents output.old)
+        (O.contents output.new) input.old input.new output.old output.new (exit_status result) }
 {
-    let outcome = match crate::words::read(rt) {
-        Ok(words) => perform(rt, words.as_slice(), at_terminal, input, output, errors),
-        Err(no_task) => Err(Ending::from(no_task)),
-    };
-    conclude(outcome, output, errors)
+    match crate::words::read(rt) {
+        Ok(words) => {
+            let outcome = perform(rt, words.as_slice(), at_terminal, input, output, errors);
+            conclude(outcome, output, errors)
+        }
+        Err(no_task) => conclude(Err(Ending::from(no_task)), output, errors),
+    }
 }
 
 /// Prints the text of an outcome, and returns its exit status, also if the text cannot be printed.
@@ -77,6 +81,8 @@ where
     E: Write,
     ensures done { OnOk outcome (exit_status result ≡ 0) }
     ensures ended { IfErr outcome (λ ending. exit_status result ≡ status_of ending) }
+    ensures same_output { OnOk outcome (output.new ≡ output.old) }
+    ensures no_help { IfErr outcome (λ ending. IsNoHelp ending → output.new ≡ output.old) }
 {
     match outcome {
         Ok(()) => ExitCode::SUCCESS,
@@ -112,6 +118,8 @@ where
     ensures track_page { topic_in (map string_bytes words.now) ≡ Some Topic.Track
         → AtTask (TellsPage TRACK_PAGE.now (O.contents output.old) (O.contents output.new)) result }
     ensures only { OnOk result ((asked : Asked) × Asks asked (map string_bytes words.now)) }
+    ensures begun { ((asked : Asked) × Asks asked (map string_bytes words.now))
+        ⊎ ((input.new ≡ input.old) × (output.new ≡ output.old)) }
     ensures refused { ((asked : Asked) → Asks asked (map string_bytes words.now) → ⊥)
         → (input.new ≡ input.old) × (output.new ≡ output.old) × (errors.new ≡ errors.old) }
     ensures unfit { DoNotFit (map string_bytes words.now) → IsErrAnd result IsRefusal }

@@ -1,7 +1,7 @@
 -- What the text of a value has in it (own rule).
-use Rattle.std.specs.Prelude.{ℕ, ◌^◌, ◌<◌, ◌&&◌, nat_le, nat_abs, Bool, List}
+use Rattle.std.specs.Prelude.{◌≡◌, ℕ, ◌^◌, ◌<◌, ◌&&◌, nat_le, nat_abs, Bool, true, List}
 use Rattle.std.specs.List.{list_all}
-use Rattle.rbc_json.specs.Json.{Json, Null, Truth, Number, Text, Array, Object, Values, NoValue, Value, Fields, NoField, Field}
+use Rattle.rbc_json.specs.Json.{Json, Null, Truth, Number, Text, Array, Object, Values, NoValue, Value, Fields, NoField, Field, json_text}
 
 -- a printable byte of ASCII
 abbrev pub is_plain : ℕ → Bool
@@ -10,6 +10,10 @@ is_plain byte = nat_le 32 byte && nat_le byte 126
 -- each byte is a printable one, so that the text is in one line
 abbrev pub are_plain : List ℕ → Bool
 are_plain text = list_all is_plain text
+
+-- this is the text of a value, and it is in one line
+abbrev pub IsInOneLine : Json → List ℕ → Type 0
+IsInOneLine value text = (json_text value ≡ text) × (are_plain text ≡ true)
 
 -- the numbers of a value have at most 63 bits
 abbrev mutual

@@ -36,5 +36,5 @@ mod why;
 
 pub use check::check_report;
 pub use codes::codes_text;
-pub use law::json_law;
+pub use law::{json_law, json_law_witnesses};
 pub use telling::explain_in_objects;

@@ -15,5 +15,6 @@ pub mod Causing
 pub mod NothingWaits
 mod Changing
 mod AlarmReasons
+mod Saying
 pub mod Following
 pub mod Showing

@@ -1,14 +1,15 @@
 -- The lines of what was read, and the text of the answers to them (own rule).
 use Rattle.std.specs.Prelude.{◌≡◌, ℕ, ◌+◌, nat_le, if◌then◌else◌, List, [], ◌∷◌, ◌++◌, map}
-use Rattle.rbc_track.specs.Plan.{Plan}
+use Rattle.rbc_track.specs.Plan.{Plan, IsPlan}
 use Rattle.rbc_records.specs.declared.record.Key.{Key}
 use Rattle.rbc_records.specs.declared.record.Rec.{Rec}
 use Rattle.rbc_rule.specs.declared.input.Input.{Input}
 use Rattle.rbc_text.specs.Serial.{Desk, step, new_desk}
 use Rattle.rbc_text.specs.OutputText.{answer_of}
+use Rattle.rbc_text.specs.SaidMails.{AreSaidMails}
 use Rattle.rbc_live.specs.declared.wanted.Wanted.{Wanted}
 use Rattle.rbc_live.specs.Alarms.{alarms_shown}
-use Rattle.rbc_live.specs.History.{Taken, IsSerialOf}
+use Rattle.rbc_live.specs.History.{Taken, posted, IsSerialOf}
 
 -- the answer to a line of this number, if answers are written from that number on
 abbrev pub shown : ℕ → ℕ → Taken → List ℕ
@@ -40,3 +41,11 @@ pub record AreFirstAnswers (plan : Plan) (wanted : Wanted) (lines : List (List �
   pub more : List (List ℕ)
   pub parts : lines ≡ answered ++ more
   pub answers : AreAnswers plan wanted answered text
+
+-- Whatever lines are answered, on any track, the messages in the text of the answers say what the rules give: `posted` has them by engine,
+-- under the numbers of their lines, and to each engine they are those that the rules give its train. Each spells a message that reads back
+-- as itself; none is lost, duplicated or out of order.
+abbrev pub EachAnswerSays : Type 0
+EachAnswerSays =
+    (plan : Plan) (wanted : Wanted) (lines : List (List ℕ)) (text : List ℕ) (answers : AreAnswers plan wanted lines text)
+    → IsPlan plan → AreSaidMails plan new_desk answers.inputs [] (posted 1 [] answers.taken)

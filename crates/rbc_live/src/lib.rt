@@ -29,7 +29,7 @@ mod witnesses;
 
 pub use alarm::Alarm;
 pub use desk::{Answer, LiveDesk, LiveFault};
-pub use law::{alarm_law, history_law, waiting_law};
+pub use law::{alarm_law, answers_law, history_law, waiting_law};
 pub use prompt::{PromptError, answer_lines};
 pub use record_lookup::{
     active_limit, active_limits, active_stop, active_stops, engines_in, last_limit, last_stop,

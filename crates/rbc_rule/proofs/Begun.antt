@@ -8,7 +8,7 @@ use Rattle.rbc_zones.specs.declared.segment.Segment.{Segment}
 use Rattle.rbc_zones.specs.Limits.{Limit}
 use Rattle.rbc_settle.specs.Settling.{Stops, Limits}
 use Rattle.rbc_settle.proofs.Judging.{value_is_none}
-use Rattle.rbc_rule.specs.declared.touch.Change.TheVariants as change
+use Rattle.rbc_settle.specs.declared.single_change.Change.TheVariants as change
 use Rattle.rbc_rule.specs.World.{World}
 use Rattle.rbc_rule.specs.Effect.{with_next, with_less, after_adding, after_removing}
 use Rattle.rbc_rule.specs.Touching.{HasBegun, HasChanged, BeginsOrEnds, released_by, released_from}

@@ -18,7 +18,7 @@ use Rattle.rbc_records.specs.declared.record.Key.TheVariants as key
 use Rattle.rbc_records.specs.declared.search.Sought.TheVariants as sought
 use Rattle.rbc_records.specs.Notes.{same_key}
 use Rattle.rbc_rule.specs.Bounds.{max_trains}
-use Rattle.rbc_rule.specs.declared.touch.Change.TheVariants as change
+use Rattle.rbc_settle.specs.declared.single_change.Change.TheVariants as change
 use Rattle.rbc_rule.specs.World.{World}
 use Rattle.rbc_rule.specs.Effect.{with_less}
 use Rattle.rbc_rule.specs.WellFormed.{IsGoodTrain, IsWellFormed}

@@ -1,21 +1,24 @@
 -- How an input comes to be decided.
-use Rattle.std.proofs.Common.{◌≡◌, ◌⊎◌, ℕ, [], Result, Ok, Err, IsErrAnd, IfErr, All, refl, sym, subst, ◌∙◌}
+use Rattle.std.proofs.Common.{◌≡◌, ◌⊎◌, ℕ, List, [], Option, Result, Ok, Err, IsErrAnd, IfOk, IfErr, All, refl, sym, subst, ◌∙◌}
 use Rattle.std.proofs.lemmas.List.Elements.{All-nil}
 use Rattle.ertms_codec.specs.ToTrain.{Fits}
 use Rattle.rbc_track.specs.Plan.{Plan}
 use Rattle.rbc_settle.specs.declared.sent.Sent.{Sent}
+use Rattle.rbc_records.specs.declared.record.Key.{Key}
+use Rattle.rbc_records.specs.declared.record.Rec.{Rec}
 use Rattle.rbc_records.specs.Notes.{Notes, Extends}
 use Rattle.rbc_rule.specs.declared.input.Input.{Input}
 use Rattle.rbc_rule.specs.declared.outcome.Outcome.{Outcome}
-use Rattle.rbc_rule.specs.declared.outcome.Reply.TheVariants.{Refused}
+use Rattle.rbc_rule.specs.declared.outcome.Reply.TheVariants.{Done, Refused}
 use Rattle.rbc_rule.specs.declared.outcome.RuleFault.{RuleFault}
+use Rattle.rbc_rule.specs.declared.outcome.RuleFault.TheVariants.{OutOfMemory}
 use Rattle.rbc_rule.specs.World.{World}
 use Rattle.rbc_rule.specs.Effect.{effect}
 use Rattle.rbc_rule.specs.Right.{IsChange, IsFault, IsOfSender, IsSilentIfRefused, IsStep, MayBe}
 use Rattle.rbc_rule.specs.Faults.{IsFaultOf}
 use Rattle.rbc_rule.specs.Gathered.{AreSendable}
 use Rattle.rbc_rule.specs.Deciding.{IsDecided, GivesOutcome, MakesOutcome, Reads}
-use Rattle.rbc_rule.proofs.GatherKnown.{extends_on}
+use Rattle.rbc_rule.proofs.GatherKnown.{extends_same, extends_on}
 use Rattle.rbc_rule.proofs.Worlds.{fault_of, refused_right}
 use Rattle.rbc_rule.proofs.EachChanges.{refused_changes}
 
@@ -133,3 +136,25 @@ in_words words (Ok outcome) makes is = record {
   fault = tt;
 }
 in_words words (Err fault) makes is = record { outcome = tt; refused = tt; fit = tt; fault = makes.fault }
+
+-- An outcome that sends nothing is given, where it is that of each world. Nothing more is read, and only memory can be refused.
+pub silent_gives : {plan : Plan} {notes : Notes} {failed : ℕ} {outcome_in : World → Outcome} (writes : List (Key × Option Rec)) (result : Result Outcome RuleFault)
+    → IfOk result (λ outcome. outcome ≡ record { result = Done 0; writes = writes; messages = [] }) → IfErr result (λ fault. fault ≡ OutOfMemory)
+    → ((w : World) → MayBe plan notes w → record { result = Done 0; writes = writes; messages = [] } ≡ outcome_in w)
+    → GivesOutcome plan notes notes failed failed outcome_in result
+silent_gives writes (Ok outcome) is none in_world = record {
+  outcome = λ w m. is ∙ in_world w m;
+  refused = subst (λ (o : Outcome). IsSilentIfRefused o.result o.writes o.messages) (sym is) tt;
+  fit = subst (λ (o : Outcome). AreSendable o.messages) (sym is) (All-nil (λ (one : Sent). Fits one.message));
+  extends = extends_same;
+  fault = tt;
+  failed = refl;
+}
+silent_gives {plan = plan} {notes = notes} {failed = failed} writes (Err fault) is memory in_world = record {
+  outcome = tt;
+  refused = tt;
+  fit = tt;
+  extends = extends_same;
+  fault = fault_stays plan notes failed failed fault OutOfMemory memory tt refl;
+  failed = tt;
+}

@@ -16,7 +16,7 @@ use Rattle.rbc_records.specs.declared.record.Key.TheVariants as key
 use Rattle.rbc_records.specs.declared.record.Rec.TheVariants as rec
 use Rattle.rbc_records.specs.Notes.{same_key}
 use Rattle.rbc_rule.specs.Bounds.{max_trains}
-use Rattle.rbc_rule.specs.declared.touch.Change.{Change}
+use Rattle.rbc_settle.specs.declared.single_change.Change.{Change}
 use Rattle.rbc_rule.specs.World.{World}
 use Rattle.rbc_rule.specs.Records.{engines_record, engines_listed, list_of, record_of}
 use Rattle.rbc_rule.specs.WellFormed.{IsWellFormed}

@@ -1,24 +1,31 @@
 -- What settling one train gathers.
-use Rattle.std.proofs.Common.{◌≡◌, ℕ, suc, ◌+◌, ◌≤◌, ◌&&◌, ◌==◌, true, false, not, cond, if◌then◌else◌, eqb, List, [], ◌∷◌, ◌++◌, length, Option, Some, None, refl, sym, ap, ◌∙◌, arith}
-use Rattle.std.proofs.Common.{IfSome, subst, append-nil}
+use Rattle.std.proofs.Common.{◌≡◌, ℕ, suc, ◌+◌, ◌≤◌, ◌&&◌, Bool, true, false, not, cond, eqb, List, [], ◌∷◌, ◌++◌, length, Option, Some, None, IfSome, subst, append-nil, refl, sym, ap, ◌∙◌, arith}
+use Rattle.std.specs.List.{fold, scan}
 use Rattle.std.specs.Option.{IfNone}
-use Rattle.std.proofs.lemmas.Bool.{or_parts}
+use Rattle.std.proofs.lemmas.Bool.{or_parts, and_from, and_right}
 use Rattle.std.proofs.lemmas.Bool.Decides.{nat_tests}
 use Rattle.std.proofs.lemmas.List.{length-append}
 use Rattle.ertms_codec.specs.declared.to_train.ToTrain.{ToTrain}
 use Rattle.rbc_track.specs.Plan.{Plan}
+use Rattle.rbc_maps.specs.Numbered.{AreNumbered}
 use Rattle.rbc_settle.specs.declared.train.TrainRec.{TrainRec}
 use Rattle.rbc_settle.specs.declared.sent.Sent.{Sent}
+use Rattle.rbc_settle.specs.declared.single_change.Change.{Change}
+use Rattle.rbc_settle.specs.Actions.{Action}
 use Rattle.rbc_settle.specs.Numbers.{has_number, without_number}
-use Rattle.rbc_settle.specs.Settling.{Stops, Limits, actions_with_stamp, settled, messages_of, to_engine}
+use Rattle.rbc_settle.specs.Settling.{Stops, Limits, actions_with_stamp, carried_out, message_of, to_engine}
+use Rattle.rbc_settle.specs.SingleChange.{actions_for}
+use Rattle.rbc_settle.specs.UpToDate.{HasTables}
 use Rattle.rbc_records.specs.declared.record.Key.{Key}
 use Rattle.rbc_records.specs.declared.record.Key.TheVariants as key
 use Rattle.rbc_records.specs.declared.record.Rec.{Rec}
 use Rattle.rbc_records.specs.declared.record.Rec.TheVariants as rec
 use Rattle.rbc_rule.specs.declared.outcome.Outcome.{Outcome}
 use Rattle.rbc_rule.specs.declared.outcome.Reply.TheVariants.{Done}
-use Rattle.rbc_rule.specs.Effect.{forget}
-use Rattle.rbc_rule.specs.Gathered.{forgotten, is_forced_by, write_of, sent_of}
+use Rattle.rbc_rule.specs.World.{World}
+use Rattle.rbc_rule.specs.Gathered.{forgotten, is_forced_by, is_same, write_of, sent_of, is_same_by, write_by, sent_by}
+use Rattle.rbc_rule.specs.Touching.{HasChanged, released_by}
+use Rattle.rbc_rule.proofs.OneAction.{one_action}
 
 length-to_engine : (engine : ℕ) (messages : List ToTrain) → length (to_engine engine messages) ≡ length messages
 length-to_engine engine [] = refl
@@ -49,42 +56,64 @@ pub nothing_forgotten : (released : Option ℕ) (train : TrainRec) → is_forced
 nothing_forgotten None train e = refl
 nothing_forgotten (Some number) train e = ap (λ (forced : List ℕ). record train { forced = forced }) (without-absent number train.forced e)
 
-module _ (plan : Plan) (stops : Stops) (limits : Limits) (train : TrainRec) where
-  -- a released stop is forgotten
-  pub forgetting_written : (number : ℕ) → has_number train.forced number ≡ true → write_of plan stops limits (Some number) train ≡ (key.Train train.engine, Some (rec.Train (settled plan stops limits (forget number train)))) ∷ []
-  forgetting_written number e =
-      ap (λ b. if not b && length (actions_with_stamp plan stops limits train) == 0 then [] else (key.Train train.engine, Some (rec.Train (settled plan stops limits (forget number train)))) ∷ []) e
-
-  -- none is that does not stop the train at once
-  pub same_write : (released : Option ℕ) → is_forced_by released train ≡ false → write_of plan stops limits None train ≡ write_of plan stops limits released train
-  same_write released e =
-      let same = nothing_forgotten released train e in
-      sym (λ i. if not (e i) && length (actions_with_stamp plan stops limits train) == 0 then [] else (key.Train train.engine, Some (rec.Train (settled plan stops limits (same i)))) ∷ [])
-
-  pub same_sent : (released : Option ℕ) → is_forced_by released train ≡ false → sent_of plan stops limits None train ≡ sent_of plan stops limits released train
-  same_sent released e = sym (ap (λ (t : TrainRec). to_engine train.engine (messages_of plan stops limits t)) (nothing_forgotten released train e))
-
--- ---- a train for which no released stop is forgotten
-
 positive : (n : ℕ) → 1 ≤ n → eqb n 0 ≡ false
 positive n h = grind (arith, nat_tests)
 
-module _ (plan : Plan) (stops : Stops) (limits : Limits) (train : TrainRec) where
+module _ (plan : Plan) (changed : Change) (train : TrainRec) where
   abbrev record_after : TrainRec → List (Key × Option Rec)
   record_after after = (key.Train train.engine, Some (rec.Train after)) ∷ []
 
-  -- a train that changes is written
-  pub changed_written : (found : Option TrainRec) (after : TrainRec) → found ≡ Some after
-      → IfSome found (λ _. 1 ≤ length (actions_with_stamp plan stops limits train)) → IfSome found (λ t. t ≡ settled plan stops limits train)
-      → (key.Train train.engine, Some (rec.Train after)) ∷ [] ≡ write_of plan stops limits None train
-  changed_written found after is acts same =
-      let some : 1 ≤ length (actions_with_stamp plan stops limits train) = subst (λ (o : Option TrainRec). IfSome o (λ _. 1 ≤ length (actions_with_stamp plan stops limits train))) is acts in
-      let end : after ≡ settled plan stops limits train = subst (λ (o : Option TrainRec). IfSome o (λ t. t ≡ settled plan stops limits train)) is same in
-      ap record_after end ∙ sym (ap (λ b. if b then [] else record_after (settled plan stops limits train)) (positive (length (actions_with_stamp plan stops limits train)) some))
+  -- the train as it is settled
+  abbrev start : TrainRec
+  start = forgotten (released_by changed) train
 
-  -- a train that stays the same is not
-  pub same_not_written : (found : Option TrainRec) (old : List (Key × Option Rec)) → found ≡ None
-      → IfNone found (actions_with_stamp plan stops limits train ≡ []) → old ≡ old ++ write_of plan stops limits None train
-  same_not_written found old is same =
-      let none : actions_with_stamp plan stops limits train ≡ [] = subst (λ (o : Option TrainRec). IfNone o (actions_with_stamp plan stops limits train ≡ [])) is same in
-      sym (append-nil old) ∙ sym (ap (λ n. old ++ (if n == 0 then [] else record_after (settled plan stops limits train))) (ap length none))
+  module _ (unforced : is_forced_by (released_by changed) train ≡ false) where
+    same_start : start ≡ train
+    same_start = nothing_forgotten (released_by changed) train unforced
+
+    -- a train that changes is written
+    pub changed_written : (found : Option TrainRec) (after : TrainRec) → found ≡ Some after
+        → IfSome found (λ _. 1 ≤ length (actions_for plan changed train)) → IfSome found (λ t. t ≡ fold carried_out train (actions_for plan changed train))
+        → record_after after ≡ write_by plan changed train
+    changed_written found after is acts same =
+        let some : 1 ≤ length (actions_for plan changed train) = subst (λ (o : Option TrainRec). IfSome o (λ _. 1 ≤ length (actions_for plan changed train))) is acts in
+        let end : after ≡ fold carried_out train (actions_for plan changed train) = subst (λ (o : Option TrainRec). IfSome o (λ t. t ≡ fold carried_out train (actions_for plan changed train))) is same in
+        let differs : is_same_by plan changed train ≡ false = and_right (not (is_forced_by (released_by changed) train)) (eqb (length (actions_for plan changed train)) 0) (positive (length (actions_for plan changed train)) some) in
+        ap record_after (end ∙ ap (λ (t : TrainRec). fold carried_out t (actions_for plan changed t)) (sym same_start))
+        ∙ sym (ap (λ b. cond b [] (record_after (fold carried_out start (actions_for plan changed start)))) differs)
+
+    -- a train that stays the same is not
+    pub same_not_written : (found : Option TrainRec) (old : List (Key × Option Rec)) → found ≡ None
+        → IfNone found (actions_for plan changed train ≡ []) → old ≡ old ++ write_by plan changed train
+    same_not_written found old is same =
+        let none : actions_for plan changed train ≡ [] = subst (λ (o : Option TrainRec). IfNone o (actions_for plan changed train ≡ [])) is same in
+        let stays : is_same_by plan changed train ≡ true = and_from (not (is_forced_by (released_by changed) train)) (eqb (length (actions_for plan changed train)) 0) (ap not unforced) (ap (λ (acts : List Action). eqb (length acts) 0) none) in
+        sym (append-nil old) ∙ sym (ap (λ b. old ++ cond b [] (record_after (fold carried_out start (actions_for plan changed start)))) stays)
+
+    pub sent_as_it_is : to_engine train.engine (scan carried_out message_of train (actions_for plan changed train)) ≡ sent_by plan changed train
+    sent_as_it_is = ap (λ (t : TrainRec). to_engine train.engine (scan carried_out message_of t (actions_for plan changed t))) (sym same_start)
+
+  -- a train that stopped at once for the stop that ends is written
+  pub forced_written : is_forced_by (released_by changed) train ≡ true → record_after (fold carried_out start (actions_for plan changed start)) ≡ write_by plan changed train
+  forced_written forced = sym (ap (λ b. cond (not b && eqb (length (actions_for plan changed train)) 0) [] (record_after (fold carried_out start (actions_for plan changed start)))) forced)
+
+  -- what one change does is what settling does, where the train was settled before
+  module _ (w : World) (stops : Stops) (limits : Limits) (h : AreNumbered w.stops) (k : AreNumbered w.limits) (tables : HasTables train) (settled_before : actions_with_stamp plan w.stops w.limits train ≡ []) (is : HasChanged changed w stops limits) where
+    same_actions : actions_with_stamp plan stops limits start ≡ actions_for plan changed start
+    same_actions = one_action plan changed w stops limits train h k tables settled_before is
+
+    same_flag : (forced : Bool) → is_forced_by (released_by changed) train ≡ forced → is_same_by plan changed train ≡ is_same plan stops limits (released_by changed) train
+    same_flag true e = ap (λ b. not b && eqb (length (actions_for plan changed train)) 0) e ∙ sym (ap (λ b. not b && eqb (length (actions_with_stamp plan stops limits train)) 0) e)
+    same_flag false e =
+        let same = nothing_forgotten (released_by changed) train e in
+        ap (λ (acts : List Action). not (is_forced_by (released_by changed) train) && eqb (length acts) 0)
+        (ap (λ (t : TrainRec). actions_for plan changed t) (sym same) ∙ sym same_actions ∙ ap (λ (t : TrainRec). actions_with_stamp plan stops limits t) same)
+
+    pub write_is : write_by plan changed train ≡ write_of plan stops limits (released_by changed) train
+    write_is =
+        let flag = same_flag (is_forced_by (released_by changed) train) refl in
+        let acts = same_actions in
+        λ i. cond (flag i) [] (record_after (fold carried_out start (sym acts i)))
+
+    pub sent_is_of : sent_by plan changed train ≡ sent_of plan stops limits (released_by changed) train
+    sent_is_of = ap (λ (acts : List Action). to_engine train.engine (scan carried_out message_of start acts)) (sym same_actions)

@@ -1,3 +1,4 @@
+pub mod Acknowledging
 pub mod AllChanges
 pub mod AllGathered
 pub mod AllTrains
@@ -15,6 +16,7 @@ pub mod Gathering
 pub mod KeepsLists
 pub mod Listed
 pub mod Moved
+pub mod OneAction
 pub mod OneTrain
 pub mod Quiet
 pub mod Seeking

@@ -13,7 +13,7 @@ use Rattle.rbc_records.specs.declared.search.Sought.{Sought}
 use Rattle.rbc_records.specs.Notes.{Notes, knows}
 use Rattle.rbc_records.specs.SoughtTrains.{is_sought}
 use Rattle.rbc_records.specs.Seeking.{AreFound}
-use Rattle.rbc_rule.specs.declared.touch.Change.{Change}
+use Rattle.rbc_settle.specs.declared.single_change.Change.{Change}
 use Rattle.rbc_rule.specs.World.{World}
 use Rattle.rbc_rule.specs.Right.{MayBe}
 use Rattle.rbc_rule.specs.WellFormed.{IsGoodTrain, IsWellFormed}

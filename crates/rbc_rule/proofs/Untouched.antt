@@ -33,8 +33,8 @@ use Rattle.rbc_settle.proofs.Escalating.{IsNoneDueOrFull, escalated_by_revoked}
 use Rattle.rbc_settle.proofs.Groups.{groups_cons}
 use Rattle.rbc_settle.proofs.Achieves.{AreDone, revoked_as_gone, no_actions}
 use Rattle.rbc_settle.proofs.Judging.{value_is_none}
-use Rattle.rbc_rule.specs.declared.touch.Change.{Change}
-use Rattle.rbc_rule.specs.declared.touch.Change.TheVariants as change
+use Rattle.rbc_settle.specs.declared.single_change.Change.{Change}
+use Rattle.rbc_settle.specs.declared.single_change.Change.TheVariants as change
 use Rattle.rbc_rule.specs.World.{World}
 use Rattle.rbc_rule.specs.Effect.{with_next, with_less}
 use Rattle.rbc_rule.specs.Gathered.{is_forced_by, is_same, sent_of}
@@ -44,7 +44,7 @@ use Rattle.rbc_rule.proofs.AllTrains.{forgotten_same}
 
 -- ---- lists that come out empty
 
-not_empty : {A : Type 0} (x : A) (xs : List A) → x ∷ xs ≡ [] → ⊥
+pub not_empty : {A : Type 0} (x : A) (xs : List A) → x ∷ xs ≡ [] → ⊥
 not_empty x xs e = cc
 
 both_empty : {A : Type 0} (xs ys : List A) → xs ++ ys ≡ [] → (xs ≡ []) × (ys ≡ [])
@@ -103,7 +103,7 @@ none_or_true {T} number false (Some told) e = absurd (some_is_some (number, told
 
 module _ {X T : Type 0} (slots : Slots) (what : ℕ × X → Option T) where
   -- nothing to the train, or told
-  abbrev IsNothingOrTold : ℕ × X → Type 0
+  abbrev pub IsNothingOrTold : ℕ × X → Type 0
   IsNothingOrTold entry = (what entry ≡ None) ⊎ (is_told slots entry.0 ≡ true)
 
   nothing_or_told : (entry : ℕ × X) → to_tell slots what entry ≡ None → IsNothingOrTold entry
@@ -169,7 +169,7 @@ no_groups [] none = refl
 no_groups {X} (x ∷ xs) none = absurd (let bad : take 100 (x ∷ xs) ∷ groups (drop 100 (x ∷ xs)) ≡ [] = sym (groups_cons x xs) ∙ none in cc)
 
 -- a train without an action
-done_before : (plan : Plan) (stops : Stops) (limits : Limits) (train : TrainRec) → HasTables train → AreNumbered stops → actions plan stops limits train ≡ [] → AreDone plan.horizon stops limits train
+pub done_before : (plan : Plan) (stops : Stops) (limits : Limits) (train : TrainRec) → HasTables train → AreNumbered stops → actions plan stops limits train ≡ [] → AreDone plan.horizon stops limits train
 done_before plan stops limits train tables numbered none =
     let revoked = stops_revoked (escalated stops train) stops train in
     let told = stops_told (escalated stops train) stops train in
@@ -223,7 +223,7 @@ module _ {V : Type 0} (number : ℕ) where
     past_it pair rest same = ap (λ (b : Bool). cond b (Some pair.1) rest) (sym (ap (λ (m : ℕ). eqb m n) (eqb-true pair.0 number same) ∙ other))
 
     -- another number keeps its value beside one more
-    value_of-with : (value : V) (pairs : List (ℕ × V)) → value_of (with_value number value pairs) n ≡ value_of pairs n
+    pub value_of-with : (value : V) (pairs : List (ℕ × V)) → value_of (with_value number value pairs) n ≡ value_of pairs n
     value_of-with value [] = ap (λ (b : Bool). cond b (Some value) None) other
     value_of-with value (pair ∷ pairs) =
         elim (ltb number pair.0) as (λ b. value_of (cond b ((number, value) ∷ pair ∷ pairs) (cond (eqb pair.0 number) ((number, value) ∷ pairs) (pair ∷ with_value number value pairs))) n ≡ value_of (pair ∷ pairs) n) [
@@ -235,7 +235,7 @@ module _ {V : Type 0} (number : ℕ) where
         ]
 
     -- and with one less
-    value_of-without : (pairs : List (ℕ × V)) → value_of (without number pairs) n ≡ value_of pairs n
+    pub value_of-without : (pairs : List (ℕ × V)) → value_of (without number pairs) n ≡ value_of pairs n
     value_of-without [] = refl
     value_of-without (pair ∷ pairs) =
         (elim (eqb pair.0 number) as (λ b. eqb pair.0 number ≡ b → value_of (cond (not b) (pair ∷ without number pairs) (without number pairs)) n ≡ value_of (pair ∷ pairs) n) [
@@ -246,7 +246,7 @@ module _ {V : Type 0} (number : ℕ) where
 -- ---- a table for which there is nothing to do after a change
 
 -- where a number that is told was not gone and is not gone now, no slot is used by one that is
-none_gone_still : (before after : ℕ → Bool) (slots : Slots) → ((n : ℕ) → is_told slots n ≡ true → before n ≡ false → after n ≡ false)
+pub none_gone_still : (before after : ℕ → Bool) (slots : Slots) → ((n : ℕ) → is_told slots n ≡ true → before n ≡ false → after n ≡ false)
     → list_any (λ held. is_used_by before held.1) slots ≡ false → list_any (λ held. is_used_by after held.1) slots ≡ false
 none_gone_still before after [] kept none = refl
 none_gone_still before after ((id, Used used) ∷ slots) kept none =
@@ -262,15 +262,25 @@ another_told : (slots : Slots) (number n : ℕ) → is_told slots number ≡ fal
 another_told slots number n untold told = ne_eqb number n (λ same. let bad : true ≡ false = sym told ∙ ap (is_told slots) (sym same) ∙ untold in absurd cc)
 
 module _ {X T : Type 0} (count : ℕ) (judge : Option X → Bool) (judged_none : judge None ≡ true) (what : ℕ × X → Option T) (slots : Slots) (number : ℕ) (old : Numbered X) where
-  abbrev is_gone : Numbered X → ℕ → Bool
+  abbrev pub is_gone : Numbered X → ℕ → Bool
   is_gone numbered n = judge (value_of numbered.active n)
+
+  -- no number is gone for a value that begins
+  pub kept_begun : (value : X) → AreNumbered old → old.last < number → (n : ℕ) → is_gone old n ≡ false → is_gone (with_next number value old) n ≡ false
+  kept_begun value numbered above n there = elim (cases_eq number n) [
+    | inl same ↦
+        let absent : value_of old.active number ≡ None = value_of-absent number old.active (absent_above old.last number old.active numbered.within above) in
+        let bad : true ≡ false = sym (ap (is_gone old) (sym same) ∙ ap judge absent ∙ judged_none) ∙ there in
+        absurd cc
+    | inr other ↦ ap judge (value_of-with number n (ne_eqb number n other) value old.active) ∙ there
+  ]
 
   -- nothing is left to do once a value begins that is nothing to the train, or for which no identifier is free
   done_begun : (value : X) → AreNumbered old → old.last < number → (free_identifiers count slots ≡ []) ⊎ (what (number, value) ≡ None)
       → IsDone count (is_gone old) old.active what slots → IsDone count (is_gone (with_next number value old)) (with_value number value old.active) what slots
   done_begun value numbered above new done = record {
     table = done.table;
-    none_gone = none_gone_still (is_gone old) (is_gone (with_next number value old)) slots kept done.none_gone;
+    none_gone = none_gone_still (is_gone old) (is_gone (with_next number value old)) slots (λ n told there. kept_begun value numbered above n there) done.none_gone;
     none_left = elim done.none_left [
       | inl none_free ↦ inl none_free
       | inr all ↦ elim new [
@@ -279,15 +289,6 @@ module _ {X T : Type 0} (count : ℕ) (judge : Option X → Bool) (judged_none :
       ]
     ];
   }
-    where
-      kept : (n : ℕ) → is_told slots n ≡ true → is_gone old n ≡ false → is_gone (with_next number value old) n ≡ false
-      kept n told there = elim (cases_eq number n) [
-        | inl same ↦
-            let absent : value_of old.active number ≡ None = value_of-absent number old.active (absent_above old.last number old.active numbered.within above) in
-            let bad : true ≡ false = sym (ap (is_gone old) (sym same) ∙ ap judge absent ∙ judged_none) ∙ there in
-            absurd cc
-        | inr other ↦ ap judge (value_of-with number n (ne_eqb number n other) value old.active) ∙ there
-      ]
 
   -- or once a value ends that is not told
   done_ended : is_told slots number ≡ false → IsDone count (is_gone old) old.active what slots → IsDone count (is_gone (with_less number old)) (without number old.active) what slots
@@ -308,7 +309,7 @@ first_of_some [] e = refl
 first_of_some (x ∷ xs) e = absurd (let bad : Some x ≡ None = e in cc)
 
 -- no identifier is free where all are held
-none_free : (count : ℕ) (slots : Slots) → IsTable count slots → count ≤ length slots → free_identifiers count slots ≡ []
+pub none_free : (count : ℕ) (slots : Slots) → IsTable count slots → count ≤ length slots → free_identifiers count slots ≡ []
 none_free count slots table full =
     let most : length slots ≤ count = few count slots table in
     let all : run 0 slots ≡ count = run_is_all count slots table (omega (arith, full, most)) in
@@ -332,7 +333,7 @@ none_where_not_some None e = refl
 none_where_not_some (Some x) e = absurd (let bad : true ≡ false = e in cc)
 
 -- a stop is gone where no area is active under its number
-stop_gone : (stops : Stops) → (λ (n : ℕ). is_none (value_of stops.active n)) ≡ is_stop_gone stops
+pub stop_gone : (stops : Stops) → (λ (n : ℕ). is_none (value_of stops.active n)) ≡ is_stop_gone stops
 stop_gone stops = λ i n. value_is_none stops.active n i
 
 module _ (train : TrainRec) (tables : HasTables train) (number : ℕ) where

@@ -1,6 +1,6 @@
 -- What settling trains writes and sends, by the records that were read (own rule).
 use Rattle.std.specs.Prelude.{◌≡◌, ℕ, Bool, false, ◌==◌, if◌then◌else◌, List, [], ◌∷◌, ◌++◌, Option, Some, None, IsTrue, length, ◌&&◌, not}
-use Rattle.std.specs.List.{flat_map, All}
+use Rattle.std.specs.List.{flat_map, fold, scan, All}
 use Rattle.std.specs.Option.{unwrap_or, option_map_or}
 use Rattle.ertms_codec.specs.ToTrain.{Fits}
 use Rattle.rbc_track.specs.Plan.{Plan}
@@ -10,7 +10,9 @@ use Rattle.rbc_settle.specs.declared.train.TrainRec.{TrainRec}
 use Rattle.rbc_settle.specs.declared.sent.Sent.{Sent}
 use Rattle.rbc_settle.specs.Numbers.{has_number, with_number, without_number}
 use Rattle.rbc_settle.specs.Trains.{new_train}
-use Rattle.rbc_settle.specs.Settling.{Stops, Limits, actions_with_stamp, settled, messages_of, to_engine}
+use Rattle.rbc_settle.specs.Settling.{Stops, Limits, actions_with_stamp, settled, messages_of, carried_out, message_of, to_engine}
+use Rattle.rbc_settle.specs.declared.single_change.Change.{Change}
+use Rattle.rbc_settle.specs.SingleChange.{actions_for}
 use Rattle.rbc_records.specs.declared.record.Key.{Key}
 use Rattle.rbc_records.specs.declared.record.Key.TheVariants as key
 use Rattle.rbc_records.specs.declared.record.Rec.{Rec}
@@ -19,6 +21,7 @@ use Rattle.rbc_rule.specs.declared.outcome.Outcome.{Outcome}
 use Rattle.rbc_rule.specs.declared.outcome.Reply.TheVariants.{Done}
 use Rattle.rbc_rule.specs.Effect.{forget}
 use Rattle.rbc_rule.specs.Records.{engines_record}
+use Rattle.rbc_rule.specs.Touching.{released_by}
 
 -- without a record, nothing was ever given a number
 abbrev pub or_none : {V : Type 0} → Option (Numbered V) → Numbered V
@@ -52,6 +55,26 @@ write_of plan stops limits released train =
 -- the messages to a train that is settled
 abbrev pub sent_of : Plan → Stops → Limits → Option ℕ → TrainRec → List Sent
 sent_of plan stops limits released train = to_engine train.engine (messages_of plan stops limits (forgotten released train))
+
+-- ---- by the change alone
+
+-- the record of a train that was settled before a change stays as it is
+abbrev pub is_same_by : Plan → Change → TrainRec → Bool
+is_same_by plan changed train = not (is_forced_by (released_by changed) train) && length (actions_for plan changed train) == 0
+
+-- the write of that train, and its message, by the action for the change alone
+abbrev pub write_by : Plan → Change → TrainRec → List (Key × Option Rec)
+write_by plan changed train =
+    let start = forgotten (released_by changed) train in
+    if is_same_by plan changed train then []
+    else (key.Train train.engine, Some (rec.Train (fold carried_out start (actions_for plan changed start)))) ∷ []
+
+abbrev pub sent_by : Plan → Change → TrainRec → List Sent
+sent_by plan changed train =
+    let start = forgotten (released_by changed) train in
+    to_engine train.engine (scan carried_out message_of start (actions_for plan changed start))
+
+-- ---- all trains
 
 -- the writes and the messages of all trains
 abbrev pub writes_of : Plan → Stops → Limits → Option ℕ → List (ℕ × TrainRec) → List (Key × Option Rec)

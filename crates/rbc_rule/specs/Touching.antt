@@ -1,6 +1,8 @@
--- Which trains a command touches (own rule). Every train was settled before it, so a stop or a restriction that begins can only be told
+-- Which trains a command touches, and after which messages a train may have to be told something (own rule). Every train was settled before it, so a stop or a restriction that begins can only be told
 -- itself, and one that ends can only be revoked.
-use Rattle.std.specs.Prelude.{◌≡◌, ◌⊎◌, ℕ, ◌<◌, Bool, nat_lt, ◌&&◌, ◌||◌, if◌then◌else◌, List, length, Option, Some, None, is_some}
+use Rattle.std.specs.Prelude.{◌≡◌, ◌⊎◌, ℕ, ◌<◌, Bool, true, ◌==◌, nat_lt, ◌&&◌, ◌||◌, if◌then◌else◌, List, length, Option, Some, None, is_some}
+use Rattle.ertms_codec.specs.declared.from_train.FromTrain.{FromTrain}
+use Rattle.ertms_codec.specs.declared.from_train.FromTrain.TheVariants.{Report, Ack, StopAck}
 use Rattle.rbc_track.specs.Plan.{Plan}
 use Rattle.rbc_maps.specs.Maps.{has}
 use Rattle.rbc_maps.specs.Numbered.{Numbered}
@@ -13,8 +15,8 @@ use Rattle.rbc_settle.specs.Trains.{stop_identifiers, limit_identifiers}
 use Rattle.rbc_settle.specs.Settling.{Stops, Limits, concern_to, limit_told_to}
 use Rattle.rbc_records.specs.SoughtTrains.{is_concern}
 use Rattle.rbc_rule.specs.declared.restriction.Restriction.{Restriction}
-use Rattle.rbc_rule.specs.declared.touch.Change.{Change}
-use Rattle.rbc_rule.specs.declared.touch.Change.TheVariants as change
+use Rattle.rbc_settle.specs.declared.single_change.Change.{Change}
+use Rattle.rbc_settle.specs.declared.single_change.Change.TheVariants as change
 use Rattle.rbc_rule.specs.World.{World}
 use Rattle.rbc_rule.specs.Effect.{with_next, with_less}
 
@@ -39,6 +41,21 @@ touches plan (change.Stop number None) train = has_stop train number
 touches plan (change.Stop number (Some area)) train = is_stop_for train (number, area.now)
 touches plan (change.Limit number None) train = has_limit train number
 touches plan (change.Limit number (Some limit)) train = is_limit_for plan.horizon train limit.now
+
+-- ---- what a message changes
+
+-- all identifiers were held before, and now fewer are: what waited for one may be told
+abbrev pub has_made_room : ℕ → ℕ → ℕ → Bool
+has_made_room count before after = before == count && nat_lt after before
+
+-- Something may have to be told to a train after its message, or revoked. A settled train that acknowledges a message by its stamp
+-- stays settled, unless that makes room.
+abbrev pub may_be_told : FromTrain → TrainRec → TrainRec → Bool
+may_be_told (Report stamp engine position) before after = true
+may_be_told (Ack stamp engine acked) before after =
+    has_made_room stop_identifiers (length before.stops) (length after.stops)
+    || has_made_room limit_identifiers (length before.limits) (length after.limits)
+may_be_told (StopAck stamp engine id answer position) before after = true
 
 -- ---- what a command changes
 

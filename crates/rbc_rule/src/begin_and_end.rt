@@ -5,7 +5,6 @@ ghost use Rattle.rbc_zones.specs.Segments.{is_good_area};
 ghost use Rattle.rbc_zones.specs.Limits.{is_good_limit};
 ghost use Rattle.rbc_records.specs.declared.record.Key.TheVariants as key;
 ghost use Rattle.rbc_records.specs.declared.record.Rec.TheVariants as rec;
-ghost use Rattle.rbc_records.specs.Notes.{knows};
 ghost use Rattle.rbc_rule.specs.Bounds.{max_trains};
 ghost use Rattle.rbc_rule.specs.World.{World};
 ghost use Rattle.rbc_rule.specs.Effect.{with_less};
@@ -15,21 +14,19 @@ ghost use Rattle.rbc_rule.specs.Lists.{AreTrainsKnown};
 ghost use Rattle.rbc_rule.specs.Gathered.{IsEnough, settled_outcome};
 ghost use Rattle.rbc_rule.specs.Deciding.{GivesOutcome, MakesOutcome};
 
-use crate::fetch::{fetch, fetch_concerned, fetch_list, fetch_told};
+use crate::fetch::{fetch_concerned, fetch_list, fetch_told};
 use crate::input::Segments;
 use crate::lists::line_of;
 use crate::outcome::{Outcome, RuleFault};
-use crate::read;
 use crate::restriction::Restriction;
-use crate::touch::Change;
 use crate::touched_trains::settle_trains;
 use rbc_records::{Key, Reader, Rec, Sought};
-use rbc_settle::Numbers;
+use rbc_settle::{Change, Numbers};
 use rbc_track::Track;
 use rbc_zones::{Limits, Stops};
 use std::alloc::Global;
 
-/// Reads the other records and settles the trains that a new stop can concern. `stops` already has it.
+/// Reads the trains and settles those that a new stop can concern. `stops` already has it.
 pub(crate) fn stop_begun<S: Reader>(
     alloc: Global,
     track: &Track,
@@ -44,12 +41,11 @@ pub(crate) fn stop_begun<S: Reader>(
     ensures { GivesOutcome track.now (S.notes store.old) (S.notes store.new) (S.failed store.old) (S.failed store.new)
         (λ w. settled_outcome track.now stops w.limits None w.trains key.Stops (rec.Stops stops)) result }
 {
-    fetch(store, Key::Limits)?;
     let engines = fetch_concerned(alloc, track, number, segments, &stops, store)?;
     settled_with_stops(alloc, track, number, stops, &engines, store)
 }
 
-/// Reads the other records and settles all trains after a stop has ended. `stops` no longer has it.
+/// Reads the trains and settles those that a stop that has ended was told to. `stops` no longer has it.
 pub(crate) fn stop_ended<S: Reader>(
     alloc: Global,
     track: &Track,
@@ -62,7 +58,6 @@ pub(crate) fn stop_ended<S: Reader>(
     ensures { GivesOutcome track.now (S.notes store.old) (S.notes store.new) (S.failed store.old) (S.failed store.new)
         (λ w. settled_outcome track.now stops w.limits (Some number) w.trains key.Stops (rec.Stops stops)) result }
 {
-    fetch(store, Key::Limits)?;
     let engines = fetch_told(alloc, Sought::ToldOfStop(number), store)?;
     settled_with_stops(alloc, track, number, stops, &engines, store)
 }
@@ -77,7 +72,6 @@ fn settled_with_stops<S: Reader>(
     engines: &Numbers,
     store: &S,
 ) -> Result<Outcome, RuleFault>
-    requires limits { IsTrue (knows (S.notes store.now) key.Limits) }
     requires trains { AreTrainsKnown (S.notes store.now) engines.now }
     requires few { length engines.now ≤ 9 * max_trains }
     requires changed { (w : World) → MayBe track.now (S.notes store.now) w → BeginsOrEnds number w.stops stops }
@@ -87,15 +81,13 @@ fn settled_with_stops<S: Reader>(
         (λ w. settled_outcome track.now stops w.limits (released_from number stops) w.trains key.Stops
         (rec.Stops stops)) result }
 {
-    let none = Limits::new(alloc);
-    let limits = read::limits(store, &none)?;
     let change = Change::Stop(number, stops.get(number));
-    let mut gathered = settle_trains(alloc, track, store, engines, &stops, limits, change)?;
+    let mut gathered = settle_trains(alloc, track, store, engines, change)?;
     gathered.writes.set(Key::Stops, Some(Rec::Stops(stops)))?;
     Ok(Outcome::done(gathered.writes, gathered.messages))
 }
 
-/// Reads the other records and settles the trains that a new restriction can concern. `limits` already has it.
+/// Reads the trains and settles those that a new restriction can concern. `limits` already has it.
 pub(crate) fn limit_begun<S: Reader>(
     alloc: Global,
     track: &Track,
@@ -110,12 +102,11 @@ pub(crate) fn limit_begun<S: Reader>(
     ensures { GivesOutcome track.now (S.notes store.old) (S.notes store.new) (S.failed store.old) (S.failed store.new)
         (λ w. settled_outcome track.now w.stops limits None w.trains key.Limits (rec.Limits limits)) result }
 {
-    fetch(store, Key::Stops)?;
     let engines = fetch_list(alloc, line_of(track, &new.segment), store)?;
     settled_with_limits(alloc, track, new.number, limits, &engines, store)
 }
 
-/// Reads the other records and settles all trains after a restriction has ended. `limits` no longer has it.
+/// Reads the trains and settles those that a restriction that has ended was told to. `limits` no longer has it.
 pub(crate) fn limit_ended<S: Reader>(
     alloc: Global,
     track: &Track,
@@ -128,7 +119,6 @@ pub(crate) fn limit_ended<S: Reader>(
     ensures { GivesOutcome track.now (S.notes store.old) (S.notes store.new) (S.failed store.old) (S.failed store.new)
         (λ w. settled_outcome track.now w.stops limits None w.trains key.Limits (rec.Limits limits)) result }
 {
-    fetch(store, Key::Stops)?;
     let engines = fetch_told(alloc, Sought::ToldOfLimit(number), store)?;
     settled_with_limits(alloc, track, number, limits, &engines, store)
 }
@@ -143,7 +133,6 @@ fn settled_with_limits<S: Reader>(
     engines: &Numbers,
     store: &S,
 ) -> Result<Outcome, RuleFault>
-    requires stops { IsTrue (knows (S.notes store.now) key.Stops) }
     requires trains { AreTrainsKnown (S.notes store.now) engines.now }
     requires few { length engines.now ≤ 9 * max_trains }
     requires changed { (w : World) → MayBe track.now (S.notes store.now) w → BeginsOrEnds number w.limits limits }
@@ -152,10 +141,8 @@ fn settled_with_limits<S: Reader>(
     ensures { MakesOutcome track.now (S.notes store.now)
         (λ w. settled_outcome track.now w.stops limits None w.trains key.Limits (rec.Limits limits)) result }
 {
-    let none = Stops::new(alloc);
-    let stops = read::stops(store, &none)?;
     let change = Change::Limit(number, limits.get(number));
-    let mut gathered = settle_trains(alloc, track, store, engines, stops, &limits, change)?;
+    let mut gathered = settle_trains(alloc, track, store, engines, change)?;
     gathered.writes.set(Key::Limits, Some(Rec::Limits(limits)))?;
     Ok(Outcome::done(gathered.writes, gathered.messages))
 }

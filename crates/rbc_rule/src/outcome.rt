@@ -1,18 +1,16 @@
 //! The outcome of an input.
 
-ghost use Rattle.std.specs.Prelude.{◌≡◌, ◌+◌, ◌<◌, ◌≤◌, ◌^◌, [], ◌∷◌, ◌++◌, IfOk, OnOk, OnErr, IfSome, IfNone, length};
+ghost use Rattle.std.specs.Prelude.{◌≡◌, ◌<◌, ◌^◌, [], length};
 ghost use Rattle.std.specs.Prelude.{slice_get, Some};
-ghost use Rattle.rbc_settle.specs.Settling.{most_messages, actions_with_stamp, settled, messages_of, to_engine};
+ghost use Rattle.rbc_settle.specs.SingleChange.{actions_for, IsCarriedOut};
 ghost use Rattle.rbc_rule.specs.declared.outcome.Reply.TheVariants.{Done, Refused};
 ghost use Rattle.rbc_rule.specs.Codes.{code_of};
 ghost use Rattle.rbc_rule.specs.Right.{IsSilentIfRefused};
-ghost use Rattle.rbc_rule.specs.Gathered.{AreSendable};
 
 use crate::refuse::Refusal;
 use rbc_records::Writes;
-use rbc_settle::{Sent, TrainRec, settled};
+use rbc_settle::{Change, Sent, TrainRec, settled_after};
 use rbc_track::Track;
-use rbc_zones::{Limits, Stops};
 use std::alloc::{AllocError, AllocFailed, Global};
 use std::marker::Model;
 
@@ -57,48 +55,19 @@ impl SentList {
         SentList { all }
     }
 
-    /// Adds a message at the end. An error changes nothing.
-    pub fn add(&mut self, sent: Sent) -> Result<(), AllocError>
-        ensures ok { OnOk result (self.new ≡ self.old ++ sent ∷ []) }
-        ensures err { OnErr result (self.new ≡ self.old) }
-    {
-        self.all.push(sent)?;
-        Ok(())
-    }
-
-    /// Adds messages at the end. An error changes nothing.
-    pub fn add_all(&mut self, sent: Vec<Sent>) -> Result<(), AllocError>
-        ensures ok { OnOk result (self.new ≡ self.old ++ sent.items) }
-        ensures err { OnErr result (self.new ≡ self.old) }
-    {
-        let mut sent = sent;
-        self.all.append(&mut sent)?;
-        Ok(())
-    }
-
-    /// Brings a copy of a train up to date, which it returns, and adds the messages that do it at the end. Returns
-    /// `None` and adds nothing if there is nothing to do, or no stamp is left. An error changes nothing.
+    /// Brings a copy of a train up to date after a change, as `settled_after` does: returns the copy, and adds its message
+    /// at the end. Returns `None` and adds nothing if there is nothing to do, or no stamp is left. An error changes
+    /// nothing.
     pub fn add_settled(
         &mut self,
         alloc: Global,
         track: &Track,
-        stops: &Stops,
-        limits: &Limits,
+        change: Change<'_>,
         train: &TrainRec,
     ) -> Result<Option<TrainRec>, AllocError>
-        ensures none { IfOk result (λ found. IfNone found
-            (actions_with_stamp track.now stops.now limits.now train.now ≡ [])) }
-        ensures some { IfOk result (λ found. IfSome found
-            (λ after. 1 ≤ length (actions_with_stamp track.now stops.now limits.now train.now))) }
-        ensures train { IfOk result (λ found. IfSome found
-            (λ after. after ≡ settled track.now stops.now limits.now train.now)) }
-        ensures messages { OnOk result (self.new ≡ self.old
-            ++ to_engine train.now.engine (messages_of track.now stops.now limits.now train.now)) }
-        ensures err { OnErr result (self.new ≡ self.old) }
-        ensures fit { AreSendable self.old → OnOk result (AreSendable self.new) }
-        ensures few { OnOk result (length self.new ≤ length self.old + most_messages) }
+        ensures { IsCarriedOut train.now (actions_for track.now change.entry train.now) self.old result self.new }
     {
-        settled(alloc, track, stops, limits, train, &mut self.all)
+        settled_after(alloc, track, change, train, &mut self.all)
     }
 
     /// Returns the number of messages.

@@ -1,16 +1,20 @@
 //! Decides a message from a train.
 
-ghost use Rattle.std.specs.Prelude.{◌≡◌, ◌+◌, ◌<◌, ◌^◌, [], IsTrue, IfOk, IfErr, false};
+ghost use Rattle.std.specs.Prelude.{◌≡◌, ◌+◌, ◌<◌, ◌^◌, [], ◌∷◌, ◌++◌, Some, IsTrue, IfOk, IfErr, false, ◌==◌, ◌&&◌};
 ghost use Rattle.rbc_track.specs.Plan.{Plan};
 ghost use Rattle.rbc_records.specs.declared.record.Key.TheVariants as key;
+ghost use Rattle.rbc_records.specs.declared.record.Rec.TheVariants as rec;
 ghost use Rattle.rbc_records.specs.Notes.{knows, same_key};
 ghost use Rattle.rbc_settle.specs.Numbers.{has_number};
+ghost use Rattle.rbc_rule.specs.declared.outcome.RuleFault.TheVariants.{OutOfMemory};
 ghost use Rattle.rbc_rule.specs.World.{World};
 ghost use Rattle.rbc_rule.specs.Effect.{engine_of};
 ghost use Rattle.rbc_rule.specs.Right.{MayBe};
 ghost use Rattle.rbc_rule.specs.Faults.{IsFaultOf};
 ghost use Rattle.rbc_rule.specs.Lists.{engines_at, is_list, moves};
 ghost use Rattle.rbc_rule.specs.Gathered.{heard_outcome};
+ghost use Rattle.rbc_rule.specs.Touching.{has_made_room, may_be_told};
+ghost use Rattle.rbc_rule.specs.declared.outcome.Reply.TheVariants.{Done};
 ghost use Rattle.rbc_rule.specs.Deciding.{IsDecided, GivesOutcome, Reads};
 
 use crate::fetch::{fetch, fetch_with_spare};
@@ -22,7 +26,7 @@ use crate::refuse::{NotChanged, Refusal};
 use crate::train_message::{engine_of, heard};
 use ertms_codec::FromTrain;
 use rbc_records::{Key, Reader, Rec, Writes};
-use rbc_settle::{Numbers, TrainRec, settle};
+use rbc_settle::{LIMIT_IDENTIFIERS, Numbers, STOP_IDENTIFIERS, TrainRec, settle};
 use rbc_track::Track;
 use rbc_zones::{Limits, Stops};
 use std::alloc::Global;
@@ -50,8 +54,49 @@ pub fn receive<S: Reader>(
         Err(NotChanged::OutOfMemory) => return Err(RuleFault::OutOfMemory),
     };
     let (left, entered) = (list_of(before), list_of(&train));
+    let settles = may_be_told(message, before, &train);
     let moved = moves(alloc, engine, left, entered, writes, store)?;
-    received(alloc, track, engine, train, moved, store)
+    if settles {
+        received(alloc, track, engine, train, moved, store)
+    } else {
+        noted(alloc, engine, train, moved)
+    }
+}
+
+/// Whether something may have to be told to a train after its message, or revoked. A settled train that acknowledges a
+/// message by its stamp stays settled, unless that frees an identifier where none was free.
+fn may_be_told(message: &FromTrain, before: &TrainRec, after: &TrainRec) -> bool
+    ensures { result ≡ may_be_told message.now before.now after.now }
+{
+    match message {
+        FromTrain::Ack { .. } => {
+            has_made_room(STOP_IDENTIFIERS, before.stops.held(), after.stops.held())
+                || has_made_room(LIMIT_IDENTIFIERS, before.limits.held(), after.limits.held())
+        }
+        FromTrain::Report { .. } | FromTrain::StopAck { .. } => true,
+    }
+}
+
+/// Whether all of `count` identifiers were held before, and fewer are held after.
+fn has_made_room(count: usize, before: usize, after: usize) -> bool
+    ensures { result ≡ has_made_room count before after }
+{
+    before == count && after < before
+}
+
+/// Makes the outcome for a train that stays settled after its message: its record is written, and nothing is sent. The
+/// stops and the restrictions are not read. What the train writes if it moves from list to list comes first.
+fn noted(alloc: Global, engine: u32, train: TrainRec, moved: Writes) -> Result<Outcome, RuleFault>
+    ensures ok { IfOk result (λ outcome. outcome ≡ record {
+      result = Done 0;
+      writes = moved ++ (key.Train engine, Some (rec.Train train)) ∷ [];
+      messages = [];
+    }) }
+    ensures err { IfErr result (λ fault. fault ≡ OutOfMemory) }
+{
+    let mut writes = moved;
+    writes.set(Key::Train(engine), Some(Rec::Train(train)))?;
+    Ok(Outcome::done(writes, SentList::new(alloc)))
 }
 
 /// An empty list of writes, and the record of a train that is no longer needed: both from spare writes, if there are

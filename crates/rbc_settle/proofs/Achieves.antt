@@ -108,7 +108,7 @@ none_in_messages : (first second : List StopChange) (third fourth : List LimitCh
 none_in_messages first second third fourth a b c d = λ i. in_messages (a i ++ b i) (c i ++ d i)
 
 -- where no slot is due, or no identifier is free, none is escalated
-none_escalated : (stops : Stops) (train : TrainRec) → IsNoneDueOrFull stops train.stops → escalated stops train ≡ []
+pub none_escalated : (stops : Stops) (train : TrainRec) → IsNoneDueOrFull stops train.stops → escalated stops train ≡ []
 none_escalated stops train due = elim due [
   | inl none_free ↦
       let free : length (free_identifiers 15 train.stops) ≡ 0 = ap length none_free in
@@ -126,7 +126,7 @@ revoked_as_gone stops = λ i n. alone (is_stop_gone stops n) i
     alone false = refl
 
 -- and the others are told that have to be
-no_stops_left : (stops : Stops) (train : TrainRec) → IsDone 15 (is_stop_gone stops) stops.active (told_as train.place train.forced) train.stops → (stops_revoked [] stops train ≡ []) × (stops_told [] stops train ≡ [])
+pub no_stops_left : (stops : Stops) (train : TrainRec) → IsDone 15 (is_stop_gone stops) stops.active (told_as train.place train.forced) train.stops → (stops_revoked [] stops train ≡ []) × (stops_told [] stops train ≡ [])
 no_stops_left stops train done =
     let none : filter (λ held. is_used_by (is_stop_gone stops) held.1) train.stops ≡ [] = none_passes (is_stop_gone stops) train.stops done.none_gone in (
       ap (λ (gone : ℕ → Bool). map (revoke_stop []) (filter (λ held. is_used_by gone held.1) train.stops)) (revoked_as_gone stops) ∙ ap (map (revoke_stop [])) none,

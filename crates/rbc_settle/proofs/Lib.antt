@@ -23,6 +23,7 @@ pub mod Few
 pub mod Addressed
 pub mod Stamped
 pub mod SettleLoop
+pub mod SingleChange
 pub mod Labels
 pub mod GoodSlots
 pub mod Stamps

@@ -8,6 +8,7 @@ pub mod Following
 pub mod OneLine
 pub mod UpToDate
 pub mod Sending
+pub mod SingleChange
 pub mod WellFormed
 pub mod Witnesses
 pub use Rattle.rbc_ids.specs.Table

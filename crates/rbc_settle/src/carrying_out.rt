@@ -73,7 +73,7 @@ pub fn change_limits(
 }
 
 /// Returns the message that makes a change to the stops, with the next stamp.
-fn stop_message(train: &TrainRec, change: &StopChange) -> ToTrain
+pub(crate) fn stop_message(train: &TrainRec, change: &StopChange) -> ToTrain
     requires stamp { train.now.stamp + 1 < 2 ^ 32 }
     requires tables { HasTables train.now }
     requires allowed { Allows train.now (ChangesStop change.now) }
@@ -111,7 +111,7 @@ fn told_message(train: &TrainRec, id: u8, told: ToldStop) -> ToTrain
 }
 
 /// Returns the message that makes 1 to 100 changes to the restrictions, with the next stamp.
-fn limits_message(
+pub(crate) fn limits_message(
     alloc: Global,
     train: &TrainRec,
     changes: &[LimitChange],
@@ -144,7 +144,7 @@ fn head_of(train: &TrainRec, ack: bool) -> Head
 }
 
 /// Makes the changes of one message to the restrictions, under the identifiers that they name.
-fn change_group(train: &mut TrainRec, changes: &[LimitChange]) -> Result<(), AllocError>
+pub(crate) fn change_group(train: &mut TrainRec, changes: &[LimitChange]) -> Result<(), AllocError>
     requires stamp { train.old.stamp + 1 < 2 ^ 32 }
     requires allowed { Allows train.old (ChangesLimits changes.now) }
     ensures { OnOk result (train.new ≡ carried_out train.old (ChangesLimits changes.now)) }

@@ -25,7 +25,7 @@ use std::alloc::{AllocError, Global};
 use std::cell::Cell;
 
 /// The last stamp that a message may have. The number after it means that the time is unknown.
-const LAST_STAMP: u32 = 4_294_967_294;
+pub(crate) const LAST_STAMP: u32 = 4_294_967_294;
 
 /// Returns the changes for which stamps are left, in their order (own rule). Takes memory only if there is something to
 /// revoke or to tell.

@@ -1,7 +1,7 @@
-mod LineFits
 mod LineWords
 mod Texts
 pub mod Calling
+pub mod LineFits
 pub mod LastSpaces
 pub mod LinePieces
 pub mod ResultLines
@@ -10,5 +10,6 @@ pub mod HexWords
 pub mod Ranges
 pub mod Transfers
 pub use Rattle.rbc_desk.proofs.Begins
+pub use Rattle.rbc_desk.proofs.Mails
 pub use Rattle.rbc_desk.proofs.Posts
 pub use Rattle.rbc_desk.proofs.Sends

@@ -1,8 +1,11 @@
--- Each input that a line spells is one that a batch can have.
-use Rattle.std.proofs.Common.{◌≡◌, ℕ, ◌≤◌, Bool, true, false, ◌&&◌, nat_le, if◌then◌else◌, List, [], ◌∷◌, length, codes, Option, Some, None, option_map, IfSome, refl, arith}
+-- Each input of a line is one that a batch can have.
+use Rattle.std.proofs.Common.{◌≡◌, ℕ, ◌≤◌, Bool, true, false, ◌&&◌, nat_le, if◌then◌else◌, List, [], ◌∷◌, length, codes, Option, Some, None, option_map, Result, Ok, Err, All, IfSome, refl, sym, subst, arith}
 use Rattle.std.specs.Option.{unwrap_or}
 use Rattle.std.specs.Str.{bytes_eq}
 use Rattle.std.proofs.lemmas.Bool.Decides.{nat_tests}
+use Rattle.std.proofs.lemmas.List.Elements.{All-nil, All-cons}
+use Rattle.hex.specs.Hex.{decode_of}
+use Rattle.hex.specs.declared.error.FromHexError.{FromHexError}
 use Rattle.ertms_codec.specs.declared.error.DecodeError.{DecodeError}
 use Rattle.ertms_codec.specs.declared.error.DecodeError.TheVariants.{Length, Message, Packet, Field}
 use Rattle.rbc_zones.specs.declared.segment.Segment.{Segment}
@@ -11,7 +14,7 @@ use Rattle.rbc_rule.specs.declared.input.Input.{Input}
 use Rattle.rbc_rule.specs.declared.input.Input.TheVariants.{Enrol, Withdraw, Stop, Release, Restrict, Lift, Received, Bad}
 use Rattle.rbc_rule.specs.Codes.{code_of}
 use Rattle.rbc_rule.specs.Inputs.{Fits}
-use Rattle.rbc_text.specs.BatchText.{decimal_of, segment_of, onto_all, segments_of, enrolment_from, enrolment_of, withdrawal_from, withdrawal_of, number_of, stop_from, stop_of, release_of, lift_of, dirs_of, front_of, restriction_from, restriction_of, command_of, refusal_of, AreHeard}
+use Rattle.rbc_text.specs.BatchText.{decimal_of, segment_of, onto_all, segments_of, enrolment_from, enrolment_of, withdrawal_from, withdrawal_of, number_of, stop_from, stop_of, release_of, lift_of, dirs_of, front_of, restriction_from, restriction_of, command_of, refusal_of, AreHeard, Line, Spelled, line_of_hex, is_hex_word, message_of, words_of, line_of_words, line_of, IsInput, AreInputs}
 
 -- a bad line has a code
 pub bad_fits : Fits (Bad 1)
@@ -118,3 +121,46 @@ heard_fits bytes (Stop number segments) heard = absurd heard
 heard_fits bytes (Release number) heard = absurd heard
 heard_fits bytes (Restrict number segment dirs speed front) heard = absurd heard
 heard_fits bytes (Lift number) heard = absurd heard
+
+-- ---- lines
+
+-- each input of a line
+abbrev pub HasInputsThatFit : Line → Type 0
+HasInputsThatFit line = (input : Input) → IsInput line input → Fits input
+
+spelled_fits : (spelled : Input) → Fits spelled → HasInputsThatFit (Spelled spelled)
+spelled_fits spelled fits input is = subst Fits (sym is) fits
+
+hex_fits : (decoded : Result (List ℕ) FromHexError) → HasInputsThatFit (line_of_hex decoded)
+hex_fits (Ok bytes) = heard_fits bytes
+hex_fits (Err fault) = spelled_fits (Bad 2) (omega arith, omega arith)
+
+message_fits : (words : List (List ℕ)) → IfSome (message_of words) HasInputsThatFit
+message_fits (word ∷ []) = elim (is_hex_word word) as (λ b. IfSome (if b then Some (line_of_hex (decode_of word)) else None) HasInputsThatFit) [ true ↦ hex_fits (decode_of word) | false ↦ tt ]
+message_fits [] = tt
+message_fits (word ∷ other ∷ words) = tt
+
+spelled_command_fits : (found : Option Input) → IfSome found Fits → IfSome (option_map Spelled found) HasInputsThatFit
+spelled_command_fits None fits = tt
+spelled_command_fits (Some spelled) fits = spelled_fits spelled fits
+
+words_fit : (words : List (List ℕ)) → IfSome (line_of_words words) HasInputsThatFit
+words_fit [] = tt
+words_fit (word ∷ arguments) = elim (bytes_eq word (codes "recv")) as (λ b. IfSome (if b then message_of arguments else option_map Spelled (command_of word arguments)) HasInputsThatFit) [
+  | true ↦ message_fits arguments
+  | false ↦ spelled_command_fits (command_of word arguments) (command_fits word arguments)
+]
+
+or_bad_line_fits : (found : Option Line) → IfSome found HasInputsThatFit → HasInputsThatFit (unwrap_or found (Spelled (Bad 1)))
+or_bad_line_fits None fits = spelled_fits (Bad 1) bad_fits
+or_bad_line_fits (Some line) fits = fits
+
+line_fits : (line : List ℕ) → HasInputsThatFit (line_of line)
+line_fits line = or_bad_line_fits (line_of_words (words_of line)) (words_fit (words_of line))
+
+-- so are the inputs of lines
+pub inputs_fit : (lines : List (List ℕ)) (inputs : List Input) → AreInputs lines inputs → All Fits inputs
+inputs_fit [] [] are = All-nil Fits
+inputs_fit (line ∷ lines) (input ∷ inputs) are = All-cons Fits input inputs (line_fits line input are.0) (inputs_fit lines inputs are.1)
+inputs_fit [] (input ∷ inputs) are = absurd are
+inputs_fit (line ∷ lines) [] are = absurd are

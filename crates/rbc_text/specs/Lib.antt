@@ -4,5 +4,6 @@ pub mod EndedLines
 pub mod OutputText
 pub mod Streams
 pub use Rattle.rbc_desk.specs.Held
+pub use Rattle.rbc_desk.specs.SaidMails
 pub use Rattle.rbc_desk.specs.Serial
 pub use Rattle.rbc_desk.specs.declared.outbox.Mail

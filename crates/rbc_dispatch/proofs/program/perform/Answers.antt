@@ -1,4 +1,4 @@
-use Rattle.std.proofs.Common.{ap}
+use Rattle.std.proofs.Common.{ap, refl, inl, inr}
 use Rattle.rbc_dispatch.specs.Doing.{Does}
 use Rattle.rbc_dispatch.specs.Telling.{TellsPage}
 use Rattle.rbc_dispatch.specs.Words.{asked_of}
@@ -75,3 +75,14 @@ returns-clause-refused g c = λ none. absurd (none _ c.in_ok-task.ensures.task)
 
 pub returns-clause-unfit : goal.returns-clause-unfit
 returns-clause-unfit g c = λ unfit. absurd (fits _ _ c.in_ok-task.ensures.task unfit)
+
+-- where there is a task, words ask for it; before, nothing is read or written
+
+pub returns-in_err-task-clause-begun : goal.returns-in_err-task-clause-begun
+returns-in_err-task-clause-begun g c = inr (refl, refl)
+
+pub returns-in_err-carry_out-clause-begun : goal.returns-in_err-carry_out-clause-begun
+returns-in_err-carry_out-clause-begun g c = inl (_, c.in_ok-task.ensures.task)
+
+pub returns-clause-begun : goal.returns-clause-begun
+returns-clause-begun g c = inl (_, c.in_ok-task.ensures.task)

@@ -1,17 +1,12 @@
-use Rattle.std.proofs.Common.{rules, ◌∷◌, [], ◌++◌, length, flat_map, None, Some, ap, ◌∙◌}
+use Rattle.std.proofs.Common.{rules, ◌∷◌, [], ◌++◌, length, Some, refl, ap, ◌∙◌}
 use Rattle.rbc_records.specs.declared.record.Key.TheVariants as key
 use Rattle.rbc_records.specs.declared.record.Rec.TheVariants as rec
 use Rattle.rbc_rule.specs.declared.outcome.Reply.TheVariants.{Done}
-use Rattle.rbc_rule.specs.Gathered.{write_at, sent_at}
 use Rattle.rbc_rule.proofs.Begun.{limit_changed}
 use Rattle.rbc_rule.proofs.begin_and_end.settled_with_limits.Goals as goal
 
 pub settle_trains-requires-clause-enrolled : goal.settle_trains-requires-clause-enrolled
 settle_trains-requires-clause-enrolled g c = λ w m. (c.requires.enough w m).enrolled
-
-pub settle_trains-requires-clause-changed : goal.settle_trains-requires-clause-changed
-settle_trains-requires-clause-changed g c = λ w m.
-    limit_changed c.args.number c.get.result w c.in_ok-stops.stops.now c.args.limits c.get.ensures (c.requires.changed w m) (c.in_ok-stops.ensures.stops c.args.track.now w m)
 
 pub returns : goal.returns
 returns g c = record {
@@ -19,9 +14,9 @@ returns g c = record {
       let plan = c.args.track.now in
       let new = c.args.limits in
       let enough = c.requires.enough w m in
-      let here = c.in_ok-stops.ensures.stops plan w m in
-      let writes = c.in_ok-gathered.ensures.writes w m ∙ (λ i. flat_map (write_at plan (here i) new None w.trains) c.args.engines.now) ∙ enough.writes in
-      let messages = c.in_ok-gathered.ensures.messages w m ∙ (λ i. flat_map (sent_at plan (here i) new None w.trains) c.args.engines.now) ∙ enough.sent in
+      let changed = limit_changed c.args.number c.get.result w w.stops new c.get.ensures (c.requires.changed w m) refl in
+      let writes = c.in_ok-gathered.ensures.writes w w.stops new m changed ∙ enough.writes in
+      let messages = c.in_ok-gathered.ensures.messages w w.stops new m changed ∙ enough.sent in
       let more = c.in_ok-set.ensures.ok ∙ ap (λ ws. ws ++ (key.Limits, Some (rec.Limits new)) ∷ []) writes in
       c.done.ensures.outcome ∙ (λ i. record { result = Done (length (messages i)); writes = more i; messages = messages i });
   refused = c.done.ensures.silent;

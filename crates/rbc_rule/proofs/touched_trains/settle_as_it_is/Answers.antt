@@ -1,6 +1,6 @@
 use Rattle.std.proofs.Common.{rules, ◌≡◌, ◌++◌, None, ap, ◌∙◌}
 use Rattle.std.proofs.lemmas.Result.{IfOk-from_err}
-use Rattle.rbc_rule.proofs.Gathering.{changed_written, same_not_written}
+use Rattle.rbc_rule.proofs.Gathering.{changed_written, same_not_written, sent_as_it_is}
 use Rattle.rbc_rule.proofs.touched_trains.settle_as_it_is.Goals as goal
 
 pub returns-in_err-after-clause-writes : goal.returns-in_err-after-clause-writes
@@ -29,28 +29,28 @@ returns-in_err-set-clause-fit c = IfOk-from_err c.from_residual-in_err-set.resul
 
 pub returns-in_ok-set-clause-writes : goal.returns-in_ok-set-clause-writes
 returns-in_ok-set-clause-writes c =
-    let written = changed_written c.args.track.now c.args.stops.now c.args.limits.now c.args.train.now c.in_ok-after.field-0 c.in-Some.after c.in-Some.is c.in_ok-after.ensures.some c.in_ok-after.ensures.train in
+    let written = changed_written c.args.track.now c.args.change c.args.train.now c.requires.unforced c.in_ok-after.field-0 c.in-Some.after c.in-Some.is c.in_ok-after.ensures.some c.in_ok-after.ensures.after in
     c.in_ok-set.ensures.ok ∙ ap (λ writes. c.args.gathered.now.writes ++ writes) written
 
 pub returns-in_ok-set-clause-messages : goal.returns-in_ok-set-clause-messages
-returns-in_ok-set-clause-messages c = c.in_ok-after.ensures.messages
+returns-in_ok-set-clause-messages c = c.in_ok-after.ensures.messages ∙ ap (λ more. c.args.gathered.now.messages ++ more) (sent_as_it_is c.args.track.now c.args.change c.args.train.now c.requires.unforced)
 
 pub returns-in_ok-set-clause-few : goal.returns-in_ok-set-clause-few
 returns-in_ok-set-clause-few c = c.in_ok-after.ensures.few
 
 pub returns-in_ok-set-clause-fit : goal.returns-in_ok-set-clause-fit
-returns-in_ok-set-clause-fit c = c.in_ok-after.ensures.fit c.requires
+returns-in_ok-set-clause-fit c = c.in_ok-after.ensures.fit c.requires.fit
 
 pub returns-in_default-clause-writes : goal.returns-in_default-clause-writes
 returns-in_default-clause-writes c =
     let none : c.in_ok-after.field-0 ≡ None = search rules in
-    same_not_written c.args.track.now c.args.stops.now c.args.limits.now c.args.train.now c.in_ok-after.field-0 c.args.gathered.now.writes none c.in_ok-after.ensures.none
+    same_not_written c.args.track.now c.args.change c.args.train.now c.requires.unforced c.in_ok-after.field-0 c.args.gathered.now.writes none c.in_ok-after.ensures.none
 
 pub returns-in_default-clause-messages : goal.returns-in_default-clause-messages
-returns-in_default-clause-messages c = c.in_ok-after.ensures.messages
+returns-in_default-clause-messages c = c.in_ok-after.ensures.messages ∙ ap (λ more. c.args.gathered.now.messages ++ more) (sent_as_it_is c.args.track.now c.args.change c.args.train.now c.requires.unforced)
 
 pub returns-in_default-clause-few : goal.returns-in_default-clause-few
 returns-in_default-clause-few c = c.in_ok-after.ensures.few
 
 pub returns-in_default-clause-fit : goal.returns-in_default-clause-fit
-returns-in_default-clause-fit c = c.in_ok-after.ensures.fit c.requires
+returns-in_default-clause-fit c = c.in_ok-after.ensures.fit c.requires.fit

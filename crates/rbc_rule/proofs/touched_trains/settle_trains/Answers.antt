@@ -15,8 +15,8 @@ loop-engine-preserved g c =
     let few : length c.settle_engine.new.gathered.messages ≤ length c.loop-engine.gathered.messages + 36 = new.few in
     let few_so_far : length c.loop-engine.gathered.messages ≤ c.loop-engine.engine-index * 36 = so_far.few in
     record {
-      writes = λ w m. one_more_gathered (write_at plan c.args.stops.now c.args.limits.now released w.trains) items c.loop-engine.engine-index _ within _ _ (so_far.writes w m) (new.writes w m);
-      messages = λ w m. one_more_gathered (sent_at plan c.args.stops.now c.args.limits.now released w.trains) items c.loop-engine.engine-index _ within _ _ (so_far.messages w m) (new.messages w m);
+      writes = λ w stops limits m changed. one_more_gathered (write_at plan stops limits released w.trains) items c.loop-engine.engine-index _ within _ _ (so_far.writes w stops limits m changed) (new.writes w stops limits m changed);
+      messages = λ w stops limits m changed. one_more_gathered (sent_at plan stops limits released w.trains) items c.loop-engine.engine-index _ within _ _ (so_far.messages w stops limits m changed) (new.messages w stops limits m changed);
       few = omega (arith, few, few_so_far);
       fit = new.fit;
     }
