@@ -1,6 +1,6 @@
 //! Looking up a key, and removing one.
 
-ghost use Rattle.std.specs.Prelude.{◌≡◌, option_copied};
+ghost use Rattle.std.specs.Prelude.{◌≡◌, ◌<◌, IfSome, Some, length, option_copied};
 ghost use Rattle.rbc_maps.specs.Maps.{IsMap, has, index_for, value_of, without};
 
 use std::cell::Cell;
@@ -47,23 +47,24 @@ pub fn value_of<V>(pairs: &[(u32, V)], key: u32) -> Option<&V>
     }
 }
 
-/// The same as `index_for`, found at once if one of two places is the index of the key. The keys ascend.
-fn index_at_either<V>(pairs: &[(u32, V)], key: u32, first: usize, second: usize) -> usize
+/// The value at a key, if it stands at this index.
+#[inline]
+pub fn value_at<V>(pairs: &[(u32, V)], key: u32, index: usize) -> Option<&V>
     requires { IsMap pairs.now }
-    ensures { result ≡ index_for key pairs.now }
+    ensures value { IfSome (option_copied result) (λ value. value_of pairs.now key ≡ Some value) }
+    ensures within { IfSome result (λ _. index < length pairs.now) }
 {
-    if first < pairs.len() && pairs[first].0 == key {
-        first
+    if index < pairs.len() && pairs[index].0 == key {
+        Some(&pairs[index].1)
     } else {
-        index_near(pairs, key, second)
+        None
     }
 }
 
 /// The value at a key, if the map has one.
 ///
-/// The index `near` is tried first, then the index `hint`, then all. If the key is found, `near` is set to the index
-/// after it. So keys that are sought in ascending order are found at once. The answer is the same whatever both indices
-/// are.
+/// The index `hint` is tried first, then all. If the key is found, `near` is set to the index after it. The answer is
+/// the same whatever the hint is.
 pub fn value_near<'a, V>(
     pairs: &'a [(u32, V)],
     key: u32,
@@ -73,7 +74,7 @@ pub fn value_near<'a, V>(
     requires { IsMap pairs.now }
     ensures { option_copied result ≡ value_of pairs.now key }
 {
-    let found = index_at_either(pairs, key, near.get(), hint);
+    let found = index_near(pairs, key, hint);
     if found < pairs.len() && pairs[found].0 == key {
         near.set(found + 1);
         Some(&pairs[found].1)

@@ -106,6 +106,11 @@ impl<V: OnLines<N>, const N: usize> Numbered<V, N> {
     pub fn get_near(&self, number: u32, near: &Cell<usize>) -> Option<&V>
         ensures { option_copied result ≡ value_of self.now.active number }
     {
+        let next = near.get();
+        if let Some(value) = lookup::value_at(&self.active, number, next) {
+            near.set(next + 1);
+            return Some(value);
+        }
         let hint = hint_of(&self.first, number);
         lookup::value_near(&self.active, number, near, hint)
     }

@@ -1,7 +1,7 @@
 //! Temporary speed restrictions.
 
 ghost use Rattle.std.specs.Prelude.{◌≡◌, ◌≤◌, ◌↔◌, IsTrue, IsOk, IfOk};
-ghost use Rattle.rbc_zones.specs.Limits.{Limit, IsLimit, is_good_limit, is_for, is_clear, concerns};
+ghost use Rattle.rbc_zones.specs.Limits.{Limit, IsLimit, is_good_limit, is_clear, concerns};
 
 use crate::segment::{Segment, is_good_segment};
 use rbc_maps::{OnLines, mark_of};
@@ -135,29 +135,17 @@ impl OnLines<1> for Limit {
     ghost are_few = { Prim.omega arith };
 }
 
-/// Whether a restriction applies to trains that face this way.
-fn is_for(dirs: Dirs, facing: Way) -> bool
-    ensures { result ≡ is_for dirs facing }
-{
-    match dirs {
-        Dirs::Both => true,
-        Dirs::Up => facing == Way::Up,
-        Dirs::Down => facing == Way::Down,
-    }
-}
-
 /// Whether a train has nothing more to do with a restriction (own rule): the restriction is on another line or applies
 /// to trains that face the other way, or it lies wholly behind the interval in which the train may stand.
 #[inline]
 pub fn limit_clear(limit: &Limit, place: &Place) -> bool
     ensures { result ≡ is_clear limit.now place.now }
 {
-    let segment = limit.segment;
+    let segment = &limit.segment;
     segment.line != u32::from(place.line())
-        || !is_for(limit.dirs, place.facing())
         || match place.facing() {
-            Way::Up => segment.to < place.lo(),
-            Way::Down => segment.from > place.hi(),
+            Way::Up => limit.dirs == Dirs::Down || segment.to < place.lo(),
+            Way::Down => limit.dirs == Dirs::Up || segment.from > place.hi(),
         }
 }
 
