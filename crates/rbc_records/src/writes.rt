@@ -1,6 +1,6 @@
 //! Writes to be done to a store.
 
-ghost use Rattle.std.specs.Prelude.{◌≡◌, ◌<◌, [], ◌∷◌, ◌++◌, length, OnOk, OnErr, Some, slice_get, option_copied};
+ghost use Rattle.std.specs.Prelude.{◌≡◌, ◌<◌, [], ◌∷◌, ◌++◌, length, IfOk, OnOk, OnErr, Some, slice_get, option_copied};
 
 use crate::record::{Key, Rec};
 use rbc_settle::TrainRec;
@@ -32,6 +32,15 @@ impl Writes {
         Writes {
             all: Vec::new(alloc),
         }
+    }
+
+    /// Makes an empty list with room for this many writes.
+    pub fn with_room(alloc: Global, count: usize) -> Result<Self, AllocError>
+        ensures { IfOk result (λ writes. writes ≡ []) }
+    {
+        Ok(Writes {
+            all: Vec::with_capacity(alloc, count)?,
+        })
     }
 
     /// Adds a write after the others: of a new record, or of a removal. An error changes nothing.

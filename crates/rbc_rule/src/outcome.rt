@@ -1,6 +1,6 @@
 //! The outcome of an input.
 
-ghost use Rattle.std.specs.Prelude.{◌≡◌, ◌<◌, ◌^◌, [], length};
+ghost use Rattle.std.specs.Prelude.{◌≡◌, ◌<◌, ◌^◌, [], length, IfOk};
 ghost use Rattle.std.specs.Prelude.{slice_get, Some};
 ghost use Rattle.rbc_settle.specs.SingleChange.{actions_for, IsCarriedOut};
 ghost use Rattle.rbc_rule.specs.declared.outcome.Reply.TheVariants.{Done, Refused};
@@ -46,6 +46,15 @@ impl SentList {
         SentList {
             all: Vec::new(alloc),
         }
+    }
+
+    /// Makes an empty list with room for this many messages.
+    pub fn with_room(alloc: Global, count: usize) -> Result<Self, AllocError>
+        ensures { IfOk result (λ sent. sent ≡ []) }
+    {
+        Ok(SentList {
+            all: Vec::with_capacity(alloc, count)?,
+        })
     }
 
     /// Makes a list of these messages.

@@ -165,8 +165,8 @@ pub fn settle_trains<S: Reader>(
     ensures fault { IfErr result (λ fault. IsFaultOf track.now fault (S.notes store.now)) }
 {
     let mut gathered = Gathered {
-        writes: Writes::new(alloc),
-        messages: SentList::new(alloc),
+        writes: Writes::with_room(alloc, engines.len())?,
+        messages: SentList::with_room(alloc, engines.len())?,
     };
     for engine in engines.as_slice() {
         settle_engine(alloc, track, store, *engine, change, &mut gathered)?;

@@ -1,6 +1,6 @@
 -- Nothing is to be done to a train that is up to date.
-use Rattle.std.proofs.Common.{◌≡◌, ℕ, ◌⊎◌, Bool, true, false, cond, List, [], ◌∷◌, length, Option, Some, None, refl, ap, ◌∙◌, arith, inl, inr}
-use Rattle.std.specs.List.{AllByRecursion, list_any, slice_get}
+use Rattle.std.proofs.Common.{◌≡◌, ℕ, ◌⊎◌, Bool, true, false, cond, List, [], ◌∷◌, length, Option, Some, None, refl, ap, sym, map, ◌∙◌, arith, inl, inr}
+use Rattle.std.specs.List.{AllByRecursion, list_any, slice_get, zip}
 use Rattle.std.proofs.lemmas.Bool.{cases_eq, or_from, le-ltb}
 use Rattle.std.proofs.lemmas.List.Elements.{recursion_from_All}
 use Rattle.rbc_zones.specs.Placing.{Place}
@@ -12,6 +12,7 @@ use Rattle.rbc_settle.specs.declared.train.TrainRec.{TrainRec}
 use Rattle.rbc_settle.specs.Settling.{told_stop, is_used_by, is_stop_gone, is_limit_gone, due_number}
 use Rattle.rbc_settle.specs.UpToDate.{IsToldIfItCan, IsLimitToldIfItCan, NothingIsLeftToDo}
 use Rattle.rbc_settle.proofs.Done.{IsDone}
+use Rattle.rbc_settle.proofs.Judging.{none_paired}
 use Rattle.rbc_settle.proofs.NoneDue.{none_due_from}
 use Rattle.rbc_settle.proofs.Achieves.{no_actions}
 use Rattle.rbc_settle.proofs.Concerned.{told_as, limit_as}
@@ -26,6 +27,12 @@ none_free : (count : ℕ) (slots : Slots) → IsTable count slots → length slo
 none_free count slots table full =
     let all : run 0 slots ≡ count = run_is_all count slots table full in
     empty (free_identifiers count slots) (least_free-run count slots table ∙ ap (λ (b : Bool). cond b (Some (run 0 slots)) None) (le-ltb (run 0 slots) count (omega (arith, all))))
+
+-- nothing is paired with a free identifier where all are held
+pub nothing_free : {A K : Type 0} (make : K × ℕ → A) (wanted : List K) (count : ℕ) (slots : Slots) → IsTable count slots → length slots ≡ count
+    → [] ≡ map make (zip wanted (free_identifiers count slots))
+nothing_free make wanted count slots table full =
+    none_paired make wanted (free_identifiers count slots) None true refl refl (sym (ap (λ (xs : List ℕ). slice_get xs 0) (none_free count slots table full)))
 
 -- where each slot fails a test none passes it
 none_passes : (gone : ℕ → Bool) (slots : Slots) → AllByRecursion (λ held. is_used_by gone held.1 ≡ false) slots → list_any (λ held. is_used_by gone held.1) slots ≡ false

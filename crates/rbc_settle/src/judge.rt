@@ -16,7 +16,7 @@ ghost use Rattle.rbc_settle.specs.UpToDate.{HasTables};
 use crate::change::{LimitChange, StopChange, ToldStop};
 use crate::needed_changes::Changes;
 use crate::telling::{limit_to_tell, stop_to_tell};
-use crate::train::TrainRec;
+use crate::train::{LIMIT_IDENTIFIERS, TrainRec};
 use ertms_codec::MOST_PACKETS;
 use rbc_ids::Slot;
 use rbc_track::Track;
@@ -340,7 +340,7 @@ fn limits_told(
     ensures actions { IfOk result (λ found. found.items ≡ limits_told horizon limits.now train.now) }
     ensures sound { AreNumbered limits.now }
 {
-    if limits.count() == 0 || train.limits.least_free().is_none() {
+    if limits.count() == 0 || train.limits.slots().len() == LIMIT_IDENTIFIERS {
         return Ok(Vec::new(alloc));
     }
     let Some(place) = &train.place else {

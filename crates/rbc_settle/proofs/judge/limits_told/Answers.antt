@@ -1,4 +1,4 @@
-use Rattle.std.proofs.Common.{◌≡◌, ◌∙◌, [], map, rules, refl, not, sym, ap, subst}
+use Rattle.std.proofs.Common.{◌≡◌, ◌∙◌, [], length, map, rules, refl, not, sym, ap, subst}
 use Rattle.std.specs.Prelude.{IfOk}
 use Rattle.std.specs.List.{filter_map, zip}
 use Rattle.std.proofs.lemmas.Iterator.{YieldsList-from_range, YieldsList-from_map, YieldsList-from_zip, items_from_collect}
@@ -9,12 +9,13 @@ use Rattle.rbc_zones.specs.Marks.{limit_marks}
 use Rattle.rbc_ids.specs.Table.{free_identifiers}
 use Rattle.rbc_settle.specs.Trains.{limit_identifiers}
 use Rattle.rbc_settle.specs.Settling.{limits_told, limit_to_tell, tell_limit}
-use Rattle.rbc_settle.proofs.Judging.{value_is_none, none_paired}
+use Rattle.rbc_settle.proofs.Judging.{value_is_none}
+use Rattle.rbc_settle.proofs.NothingLeft.{nothing_free}
 use Rattle.rbc_settle.proofs.OneLine.{limits_on_line, limits_nowhere, none_active, nothing_zipped}
 use Rattle.rbc_settle.proofs.judge.limits_told.Goals as goal
-use Rattle.rbc_settle.proofs.judge.limits_told.Goals.{then-count-eq0-via-then-count-eq0, then-count-eq0-via-else-count-eq0+then-is_none}
+use Rattle.rbc_settle.proofs.judge.limits_told.Goals.{then-count-eq0-via-then-count-eq0, then-count-eq0-via-else-count-eq0+then-slots-eq-LIMIT_IDENTIFIERS}
 
--- no restriction is active, or no identifier is free, so nothing can be told
+-- no restriction is active, or every identifier is held, so nothing can be told
 pub returns-then-count-eq0-clause-actions : goal.returns-then-count-eq0-clause-actions
 returns-then-count-eq0-clause-actions c =
     let train = c.args.train.now in
@@ -23,8 +24,9 @@ returns-then-count-eq0-clause-actions c =
       | then-count-eq0-via-then-count-eq0 w ↦
           nothing_zipped tell_limit (filter_map (limit_to_tell c.args.horizon train) limits) (free_identifiers limit_identifiers train.limits)
           (ap (filter_map (limit_to_tell c.args.horizon train)) (none_active limits (sym c.count.ensures.value ∙ w.if-count-eq0.true)))
-      | then-count-eq0-via-else-count-eq0+then-is_none w ↦
-          none_paired tell_limit (filter_map (limit_to_tell c.args.horizon train) limits) _ w.least_free.result w.is_none.result w.is_none.ensures w.if-is_none.true w.least_free.ensures
+      | then-count-eq0-via-else-count-eq0+then-slots-eq-LIMIT_IDENTIFIERS w ↦
+          let full : length train.limits ≡ limit_identifiers = sym (ap length w.slots.ensures.value) ∙ w.if-slots-eq-LIMIT_IDENTIFIERS.true in
+          nothing_free tell_limit (filter_map (limit_to_tell c.args.horizon train) limits) limit_identifiers train.limits w.slots.ensures.sound full
     ] in
     c.new.ensures.items ∙ told
 
