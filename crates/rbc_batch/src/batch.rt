@@ -128,7 +128,7 @@ pub(crate) fn read_inputs<R: Read>(
 {
     let batch = read_batch(rt.alloc(), reader)?;
     let lines = admit(rt.alloc(), &batch, workers)?;
-    Ok(parse_lines(rt, &lines)?)
+    Ok(parse_lines(rt, &lines, workers)?)
 }
 
 /// Runs inputs on a track from the empty state, and returns the desk with the counts of the run.
