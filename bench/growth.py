@@ -1,7 +1,8 @@
 """Measures what a report of a train costs as other things grow: growth.py FOLDER RUNS PROGRAM
 
-Each table changes one thing, in three sizes: how many reports a batch has, how many trains there are, and how many stops, how many stops of
-eight segments and how many restrictions are active on other lines. Trains stand on line 0. What a report costs is the processor time of a batch with reports less that of
+Each table changes one thing, in three sizes: how many reports a batch has, how many trains there are, how many stops, how many stops of
+eight segments and how many restrictions are active on other lines, and how many restrictions a lone train holds that lie ahead of it. Trains stand on
+line 0. What a report costs is the processor time of a batch with reports less that of
 the same batch without them, divided by their number; least and median of the runs. Where valgrind is installed, the instructions that a
 report takes stand beside it, which no other program on the machine changes.
 """
@@ -27,6 +28,7 @@ SIZES = {
     "stops of 8 segments": (0, 20, 43),
     "restrictions": (0, 100, 299),
 }
+HELD = (0, 100, 255)  # a train holds at most 255 restrictions
 
 
 def track():
@@ -65,6 +67,16 @@ def batch(reports, trains, stops, long_stops, restrictions):
     return "".join(lines)
 
 
+def lone(reports, held):
+    """A train that was told restrictions ahead of it, and so many reports of it."""
+    lines = ["enrol 0 2000\n", report(0, 1, 1, 1_000)]
+    for number in range(1, held + 1):
+        low = 40_000 + 300 * number
+        lines.append(f"restrict {number} 0:{low}-{low + 200} both 40 1\n")
+    lines += [report(0, 1_000 + at, 1, 1_000 + at % 50) for at in range(reports)]
+    return "".join(lines)
+
+
 def seconds(program, folder, text):
     """The processor time of a run of a batch."""
     with open(f"{folder}/growth.batch", "w", encoding="ascii") as it:
@@ -78,10 +90,10 @@ def seconds(program, folder, text):
     return usage.ru_utime + usage.ru_stime
 
 
-def nanoseconds(program, folder, runs, sizes):
-    """What a report costs, in each run."""
-    empty, full = batch(0, *sizes[1:]), batch(*sizes)
-    return [1e9 * (seconds(program, folder, full) - seconds(program, folder, empty)) / sizes[0] for _ in range(runs)]
+def nanoseconds(program, folder, runs, make, reports):
+    """What a report costs, in each run. `make` makes a batch with so many reports."""
+    empty, full = make(0), make(reports)
+    return [1e9 * (seconds(program, folder, full) - seconds(program, folder, empty)) / reports for _ in range(runs)]
 
 
 def counted(program, folder, text):
@@ -94,13 +106,20 @@ def counted(program, folder, text):
     return int(re.search(rb"Collected : (\d+)", told).group(1))
 
 
-def instructions(program, folder, sizes):
+def instructions(program, folder, make, reports):
     """How many instructions a report takes, or a dash where there is no valgrind."""
     if not shutil.which("valgrind"):
         return "-"
-    reports = sizes[0] // COUNTED
-    more = counted(program, folder, batch(reports, *sizes[1:])) - counted(program, folder, batch(0, *sizes[1:]))
+    reports = reports // COUNTED
+    more = counted(program, folder, make(reports)) - counted(program, folder, make(0))
     return f"{more / reports:,.0f}"
+
+
+def measure(program, folder, runs, name, value, make, reports):
+    """Prints a row of the table."""
+    found = nanoseconds(program, folder, runs, make, reports)
+    beside = instructions(program, folder, make, reports)
+    print(f"| {name} | {value:,} | {min(found):.0f} / {statistics.median(found):.0f} | {beside} |", flush=True)
 
 
 def main(folder, runs, program):
@@ -112,9 +131,9 @@ def main(folder, runs, program):
         for value in values:
             sizes = [REPORTS, TRAINS, STOPS, LONG_STOPS, RESTRICTIONS]
             sizes[at] = value
-            found = nanoseconds(program, folder, runs, sizes)
-            beside = instructions(program, folder, sizes)
-            print(f"| {name} | {value:,} | {min(found):.0f} / {statistics.median(found):.0f} | {beside} |", flush=True)
+            measure(program, folder, runs, name, value, lambda reports, more=sizes[1:]: batch(reports, *more), sizes[0])
+    for held in HELD:
+        measure(program, folder, runs, "restrictions held", held, lambda reports, held=held: lone(reports, held), REPORTS)
 
 
 if __name__ == "__main__":
