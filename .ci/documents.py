@@ -192,19 +192,25 @@ def owned_faults(world, text):
 # ---- tables and outputs
 
 def table_faults(root, text):
-    """The crates that each crate stands on, by docs/ARCHITECTURE.md and by crates.txt."""
-    wanted = {}
+    """The crates by their layers in docs/ARCHITECTURE.md: each crate of crates.txt stands there once, and depends on no crate of a layer below its own."""
+    uses = {}
     for line in (root / "crates.txt").read_text().split("\n"):
         found = re.split(r"[\s:]+", line.split("#")[0].strip())
         if found[0]:
-            wanted[found[0]] = {name for name in found[1:] if name} - {"staticlib"}
-    said = {}
-    for match in re.finditer(rf"^\| `({CRATE})` \|([^|]*)\|([^|]*)\|$", text, flags=re.M):
-        said[match.group(1)] = set(re.findall(r"[a-z_]+", match.group(3).replace("of the kit", ""))) - {"and"}
-        if said[match.group(1)] != wanted.get(match.group(1)):
-            yield match.start(), f"says that {match.group(1)} stands on {sorted(said[match.group(1)])}, and crates.txt {sorted(wanted.get(match.group(1), []))}"
-    for crate in sorted(set(wanted) - set(said)):
-        yield None, f"says nothing of the crate {crate}"
+            uses[found[0]] = set(found[1:])
+    layer, layers = 0, {}
+    for match in re.finditer(rf"^\| (?:\*\*(\w[\w ]*)\*\*|`({CRATE})`) \|[^|]*\|$", text, flags=re.M):
+        layer += match.group(1) is not None
+        if match.group(2) in layers:
+            yield match.start(), f"has the crate {match.group(2)} twice"
+        if match.group(2):
+            layers[match.group(2)] = layer, match.start()
+    for crate, (own, at) in layers.items():
+        for other in sorted(uses.get(crate, ())):
+            if layers.get(other, (0,))[0] > own:
+                yield at, f"has {crate} above {other}, on which it depends"
+    for crate in sorted(set(uses) ^ set(layers)):
+        yield None, f"and crates.txt differ on whether there is a crate {crate}"
 
 
 def output_faults(root, text):

@@ -6,8 +6,8 @@
 - `NAME` (value), `NAME = value`, a value before (`NAME`, file), and a row of a table with constants, their values and their files say
   what the sources say.
 - Each --option in a document of WITH_OPTIONS is an option of the program or of a script.
-- docs/ASSESSMENT.md names the kit that built release/, and is no longer than MOST_BYTES says; no decision of docs/DECISIONS.md takes more
-  than DECISION_LINES.
+- docs/ASSESSMENT.md names the kit that built release/; no document is longer than MOST_BYTES says; no decision of docs/DECISIONS.md takes
+  more than DECISION_LINES.
 """
 import re
 
@@ -21,7 +21,7 @@ CONSTANT = re.compile(r"^\s*(?:pub(?:\(crate\))? )?const ([A-Z][A-Z0-9_]*): \w+ 
 NAMED = r"`([A-Z][A-Z0-9_]*)`"
 WIDTHS = "crates/ertms_codec/src/variable.rt"  # its constants have the names of variables, and say how wide these are
 SCRIPTS = ("dispatch", "selftest", "bench/*.sh", "bench/*.py", ".ci/*", "docs/*.py", "release/*.sh", "examples/**/*.sh")
-MOST_BYTES = {"docs/ASSESSMENT.md": 40_960}
+MOST_BYTES = {"docs/ASSESSMENT.md": 40_960, "docs/ARCHITECTURE.md": 20_480, "docs/PROVING.md": 20_480}
 DECISION_LINES = 3
 
 
