@@ -1,10 +1,12 @@
 """To which class a definition of specs/ belongs, by the contracts that are said with it.
 
-- believed: the contracts of the calls by which a batch is answered and bytes are read and written (`CALLED`), but for what that of
-  `process` says by `SAID`. They are the rules, or formats (`is_rule`).
+- believed: the contracts of the calls by which `dispatch run` answers a batch (`CALLED`), but for what that of `process` says by
+  `SAID`. They are the rules, or formats (`is_rule`).
 - messages: what `SAID` says beyond that. Up to here `dispatch run` is described.
 - run: what the contract of `run` of rbc_engine says beyond those: any opening desk, any number of workers.
 - books: what `event_law` of rbc_core says beyond those: any interleaving of attempts.
+- alarms: what the contract of `process_with_alarms` says beyond those.
+- codec: what the contracts of ertms_codec say beyond those: messages to trains read, messages as text.
 - text: what the contracts of the program itself (`PRINTING`), and the texts of values and faults, say beyond those, but for `OBJECTS`.
 - objects: what `OBJECTS` says beyond those: the objects that `explain --json` writes.
 - law: laws, and none of those.
@@ -25,9 +27,10 @@ import re
 
 from documents_source import TOKEN, WORDS_OF_PROGRAM, Crate
 
-# the crates that the program calls, and the one function of another crate that it calls
-CALLED = {"rbc_batch", "ertms_codec"}
-CALLED_FUNCTIONS = {("rbc_track", "track_from_toml")}
+# the functions that `dispatch run` calls, but for that with alarms
+CALLED = {("rbc_track", "track_from_toml"), ("rbc_batch", "process"), ("rbc_batch", "process_by_train"), ("rbc_batch", "process_with_desk")}
+ALARMS = ("rbc_batch", "process_with_alarms")
+CODEC = "ertms_codec"
 
 # what the contract of `process` says of what messages say
 SAID = ("rbc_batch", "Process", "AreSaid")
@@ -46,7 +49,7 @@ PRINTING_FUNCTIONS = {("ertms_codec", "describe")}
 RULES = {"rbc_place", "rbc_zones", "rbc_ids", "rbc_maps", "rbc_settle", "rbc_rule"}
 RULES_FILES = {("rbc_desk", "Serial"), ("rbc_desk", "outbox.rt")}
 
-CLASSES = ("believed", "messages", "run", "books", "text", "objects", "law", "boundary")
+CLASSES = ("believed", "messages", "run", "books", "alarms", "codec", "text", "objects", "law", "boundary")
 
 # the classes that begin at one definition, and those that leave such a definition out
 BEGIN_AT = {"messages": SAID, "objects": OBJECTS}
@@ -62,7 +65,15 @@ def reads_words(crate, owner):
 
 
 def is_called(crate, found):
-    return not is_printing(crate, found) and (crate.name in CALLED or (crate.name, found.name) in CALLED_FUNCTIONS)
+    return (crate.name, found.name) in CALLED
+
+
+def is_of_alarms(crate, found):
+    return (crate.name, found.name) == ALARMS
+
+
+def is_of_codec(crate, found):
+    return crate.name == CODEC and not is_printing(crate, found)
 
 
 def is_rule(crate, file):
@@ -153,7 +164,7 @@ class World:
                     yield from self.types_in(crate, found.signature)
             for owner, trait, _, text, scope in crate.source.ghosts:
                 if trait != "Model" and (owner in crate.source.given or crate.is_program and crate.specs):
-                    if part == "boundary" or part == "text" and crate.name in CALLED | PRINTING and not reads_words(crate, owner):
+                    if part == "boundary" or part == "text" and crate.name in {"rbc_batch", CODEC} | PRINTING and not reads_words(crate, owner):
                         yield from self.words(crate, scope, text)
 
     def is_root(self, part, crate, found):
@@ -161,7 +172,7 @@ class World:
             return (crate.name, found.name) == HEADLINE[part]
         if part in {"law", "witness"}:
             return found.kind() == part
-        roots = {"believed": is_called, "text": is_printing, "boundary": lambda crate, found: True}
+        roots = {"believed": is_called, "alarms": is_of_alarms, "codec": is_of_codec, "text": is_printing, "boundary": lambda crate, found: True}
         return found.kind() == "call" and roots[part](crate, found)
 
     def next(self, node):
