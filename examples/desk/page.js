@@ -21,7 +21,7 @@ const section = ({ text, below }) => [element("h2", text), element("ul", "", ...
 
 /** A stop, a restriction, a train, or what it was told. A stop and a restriction have a button that ends them. */
 function entry({ text, below }) {
-  const isOpen = /not a(cknowledged|nswered)|NOT TOLD/.test(text);
+  const isOpen = /not a(cknowledged|nswered)|NOT told|NOT TOLD/.test(text);
   const line = element("li", isOpen ? `OPEN: ${text}` : text, element("ul", "", ...below.map(entry)));
   const [, kind, number] = text.match(/^(Stop|Restriction) (\d+):/) ?? [];
   if (number) {
