@@ -24,6 +24,15 @@ const GENERAL: u64 = 24;
 /// How many bits the header takes.
 const HEADER_WIDTH: u64 = 75;
 
+/// How many bits packet 65 takes up to the identifier of the restriction.
+const OPENING_WIDTH: u32 = NID_PACKET + Q_DIR + L_PACKET + Q_SCALE + NID_TSR;
+
+/// How many bits packet 65 takes behind that: where the restriction holds, and its speed.
+const STRETCH_WIDTH: u32 = D_TSR + L_TSR + Q_FRONT + V_TSR;
+
+/// How many bits packet 66 takes.
+const REVOCATION_WIDTH: u32 = NID_PACKET + Q_DIR + L_PACKET + NID_TSR;
+
 /// Writes the bytes of a message, fill bits 0, to the front of a buffer, and gives their number: at most 897, of 100
 /// packets. The bytes of the buffer behind them stay.
 pub fn write_to_train(message: &ToTrain, buffer: &mut [u8; 1024]) -> usize
@@ -137,23 +146,36 @@ fn put_packet(place: &mut BitWriter, buffer: &mut [u8; 1024], part: Part)
             front,
             speed,
         } => {
-            put(place, buffer, NID_PACKET, 65);
-            put(place, buffer, Q_DIR, u64::from(dir));
-            put(place, buffer, L_PACKET, 71);
-            put(place, buffer, Q_SCALE, u64::from(scale));
-            put(place, buffer, NID_TSR, u64::from(id));
-            put(place, buffer, D_TSR, u64::from(start));
-            put(place, buffer, L_TSR, u64::from(length));
-            put(place, buffer, Q_FRONT, u64::from(front));
-            put(place, buffer, V_TSR, u64::from(speed));
+            // The 71 bits of packet 65 do not fit one number, so two are put.
+            let opening = joined(65, Q_DIR, u64::from(dir));
+            let opening = joined(opening, L_PACKET, 71);
+            let opening = joined(opening, Q_SCALE, u64::from(scale));
+            let opening = joined(opening, NID_TSR, u64::from(id));
+            put(place, buffer, OPENING_WIDTH, opening);
+            let stretch = joined(u64::from(start), L_TSR, u64::from(length));
+            let stretch = joined(stretch, Q_FRONT, u64::from(front));
+            let stretch = joined(stretch, V_TSR, u64::from(speed));
+            put(place, buffer, STRETCH_WIDTH, stretch);
         }
         Part::Lift { dir, id } => {
-            put(place, buffer, NID_PACKET, 66);
-            put(place, buffer, Q_DIR, u64::from(dir));
-            put(place, buffer, L_PACKET, 31);
-            put(place, buffer, NID_TSR, u64::from(id));
+            let packet = joined(66, Q_DIR, u64::from(dir));
+            let packet = joined(packet, L_PACKET, 31);
+            let packet = joined(packet, NID_TSR, u64::from(id));
+            put(place, buffer, REVOCATION_WIDTH, packet);
         }
     }
+}
+
+/// The values of two variables that stand side by side, as one number. The second has `width` bits. Putting this number
+/// takes hardly longer than putting one of the two.
+#[inline(always)]
+fn joined(first: u64, width: u32, second: u64) -> u64
+    requires width { width < 64 }
+    requires second { second < 2 ^ width }
+    requires room { first * 2 ^ width + second < 2 ^ 64 }
+    ensures { result ≡ first * 2 ^ width + second }
+{
+    first << width | second
 }
 
 /// Fills the last byte up with 0, and gives the number of bytes used.
