@@ -1,6 +1,6 @@
 //! The table of a train's identifiers.
 
-ghost use Rattle.std.specs.Prelude.{◌≡◌, ◌<◌, ◌≤◌, ◌↔◌, ◌==◌, if◌then◌else◌, false, not, [], length, Some, None};
+ghost use Rattle.std.specs.Prelude.{◌≡◌, ◌<◌, ◌≤◌, ◌↔◌, ◌==◌, if◌then◌else◌, true, false, not, [], length, Some, None};
 ghost use Rattle.std.specs.Prelude.{is_some, IsTrue, IfSome, IfOk, IfErr, OnOk, OnErr};
 ghost use Rattle.std.specs.List.{position_or_len, enumerate_from};
 ghost use Rattle.rbc_maps.specs.Maps.{has, index_for, value_of, with_value, without};
@@ -138,6 +138,21 @@ impl<const N: usize> IdTable<N> {
         true
     }
 
+    /// Whether the slot at the index `near` among the held identifiers is used by a number. If it is, `near` becomes the
+    /// index after it. `false` says nothing: another slot may be used by the number. One look is enough for numbers that
+    /// are sought in the order of the slots.
+    #[inline]
+    pub fn tells_at(&self, number: u32, near: &Cell<usize>) -> bool
+        ensures { IsTrue result → is_told self.now number ≡ true }
+    {
+        let at = near.get();
+        if at < self.held.len() && self.held[at].1.tells(number) {
+            near.set(at + 1);
+            return true;
+        }
+        false
+    }
+
     /// Uses the least free identifier for a number, told by a message of this kind with this stamp (T_TRAIN, 10 ms),
     /// and returns that identifier. The number must not be told already.
     ///
@@ -199,8 +214,7 @@ impl<const N: usize> IdTable<N> {
         ensures after { changed_by_stamp result self.new ≡ after_stamp_ack self.old stamp }
         ensures nothing { result ≡ StampAck.Nothing → self.new ≡ self.old }
     {
-        let freed = freed_by(self.slots(), stamp);
-        let marked = marked_by(self.slots(), stamp);
+        let (freed, marked) = answered_by(self.slots(), stamp);
         if freed == 0 && marked == 0 {
             return StampAck::Nothing;
         }
@@ -311,20 +325,19 @@ fn marked(used: UsedSlot) -> Slot
     })
 }
 
-/// Returns how many identifiers the message with this stamp revoked.
-fn freed_by(held: &[(u8, Slot)], stamp: u32) -> usize
-    ensures { result ≡ freed_by stamp held.now }
+/// Returns how many identifiers the message with this stamp revoked, and how many restrictions it told. Both are counted
+/// in one pass, since a table may hold 255 slots.
+fn answered_by(held: &[(u8, Slot)], stamp: u32) -> (usize, usize)
+    ensures freed { result.0 ≡ freed_by stamp held.now }
+    ensures marked { result.1 ≡ marked_by stamp held.now }
 {
-    held.iter().filter(|held| held.1.is_freed_by(stamp)).count()
-}
-
-/// Returns how many restrictions the message with this stamp told.
-fn marked_by(held: &[(u8, Slot)], stamp: u32) -> usize
-    ensures { result ≡ marked_by stamp held.now }
-{
-    held.iter()
-        .filter(|held| held.1.is_marked_by(stamp))
-        .count()
+    let mut freed = 0;
+    let mut marked = 0;
+    for (_, slot) in held {
+        freed += usize::from(slot.is_freed_by(stamp));
+        marked += usize::from(slot.is_marked_by(stamp));
+    }
+    (freed, marked)
 }
 
 /// Changes a slot to what it is once the train has acknowledged the message with this stamp, and returns whether its

@@ -70,6 +70,10 @@ pub fn limit_to_tell(
 ) -> Option<(u32, ToldLimit)>
     ensures { result ≡ limit_to_tell horizon train.now (number, limit.now) }
 {
+    // Most restrictions on a train's line are told already, and in this order. One look shows that.
+    if train.limits.tells_at(number, near) {
+        return None;
+    }
     let place = train.place.as_ref()?;
     if !limit_concerns(limit, place, horizon) {
         return None;

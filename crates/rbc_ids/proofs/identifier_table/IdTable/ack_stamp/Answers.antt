@@ -9,12 +9,12 @@ use Rattle.rbc_ids.proofs.identifier_table.IdTable.ack_stamp.Goals as goal
 
 pub overflow_cast-result : goal.overflow_cast-result
 overflow_cast-result g c =
-    let few : c.freed_by-freed.result ≤ 255 = counted g.row.N c.args.self.now c.slots.ensures.sound (λ held. is_freed_by c.args.stamp held.1) c.freed_by-freed.result (search rules) in
+    let few : c.answered_by-freed.result.0 ≤ 255 = counted g.row.N c.args.self.now c.slots.ensures.sound (λ held. is_freed_by c.args.stamp held.1) c.answered_by-freed.result.0 (search rules) in
     record { fits = omega arith }
 
 pub overflow_cast-result-2 : goal.overflow_cast-result-2
 overflow_cast-result-2 g c =
-    let few : c.marked_by-marked.result ≤ 255 = counted g.row.N c.args.self.now c.slots.ensures.sound (λ held. is_marked_by c.args.stamp held.1) c.marked_by-marked.result (search rules) in
+    let few : c.answered_by-freed.result.1 ≤ 255 = counted g.row.N c.args.self.now c.slots.ensures.sound (λ held. is_marked_by c.args.stamp held.1) c.answered_by-freed.result.1 (search rules) in
     record { fits = omega arith }
 
 -- what is left of the slots
@@ -28,14 +28,14 @@ invariant_of-self g c = subst (IsTable g.row.N) (sym (left g c)) (stays_acked g.
 
 pub returns-clause-answer : goal.returns-clause-answer
 returns-clause-answer g c =
-    (answered c.args.stamp c.args.self.now c.freed_by-freed.result c.marked_by-marked.result c.retain_mut.new.self.items (search rules) (search rules)
+    (answered c.args.stamp c.args.self.now c.answered_by-freed.result.0 c.answered_by-freed.result.1 c.retain_mut.new.self.items (search rules) (search rules)
     (left g c ∙ ap (acked_slots c.args.stamp) c.self.view_is) c.else-freed-eq0.either).0
 
 pub returns-clause-after : goal.returns-clause-after
 returns-clause-after g c =
-    (answered c.args.stamp c.args.self.now c.freed_by-freed.result c.marked_by-marked.result c.retain_mut.new.self.items (search rules) (search rules)
+    (answered c.args.stamp c.args.self.now c.answered_by-freed.result.0 c.answered_by-freed.result.1 c.retain_mut.new.self.items (search rules) (search rules)
     (left g c ∙ ap (acked_slots c.args.stamp) c.self.view_is) c.else-freed-eq0.either).1
 
 pub returns-then-marked-eq0-clause-after : goal.returns-then-marked-eq0-clause-after
 returns-then-marked-eq0-clause-after g c =
-    (none_answered c.args.stamp c.args.self.now c.freed_by-freed.result c.marked_by-marked.result (search rules) (search rules) (search rules) (search rules)).1
+    (none_answered c.args.stamp c.args.self.now c.answered_by-freed.result.0 c.answered_by-freed.result.1 (search rules) (search rules) (search rules) (search rules)).1
