@@ -1,8 +1,8 @@
 /* A live desk for C, C++ and Ada: the emergency and restriction part of a radio block centre, fed one line at a time.
 
    Libraries: crates/rbc_c/out/librbc_c.a, and heap.c of the kit, which hands memory on from malloc, realloc and free
-   (docs/C_LIBRARY.md has the commands). Nothing else is called. No call ends the process, prints, sets errno, starts a thread or
-   keeps a pointer that it was given.
+   (docs/C_LIBRARY.md has the commands). Nothing else is called. No call ends the process, prints, starts a thread or keeps a pointer
+   that it was given. Only malloc and realloc may set errno.
 
    What the caller owes, of every call:
    - A pointer is aligned for its type and points to as much as its parameter says. Where a length or a room is 0 its pointer may
