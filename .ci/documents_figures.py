@@ -1,6 +1,7 @@
 """Checks figures that documents give: constants against the sources; speed, memory and counts of tests against bench/RESULTS.md.
 
-- bench/RESULTS.md and README.md say which version they are of: that of crates/rbc_dispatch/src/command_line.rt.
+- bench/RESULTS.md, README.md and docs/ASSESSMENT.md say which version they are of: that of crates/rbc_dispatch/src/command_line.rt. README.md
+  and the constants RULES of the sources have its rules number.
 - The numbers with a unit of UNITS that a document of WITH_FIGURES gives are those that the table of RESULTS.md whose first column is
   GIVEN has for it, word for word. Where a table has a row of RESULTS.md, by its first cell, all its rows are such, with its numbers.
 - `NAME` (value), `NAME = value`, a value before (`NAME`, file), and a row of a table with constants, their values and their files say
@@ -42,13 +43,27 @@ def numbers(text):
 
 # ---- speed, memory, tests
 
+COMMAND_LINE = "crates/rbc_dispatch/src/command_line.rt"
+VERSIONS = {
+    "bench/RESULTS.md": r"^Version (\d[\d.]*\d)",
+    "README.md": r"says `dispatch (\d[\d.]*\d), rules",
+    "docs/ASSESSMENT.md": r"^The program `dispatch`, version (\d[\d.]*\d)",
+}
+
+
 def version_faults(root, name, text):
-    """RESULTS.md and README.md are of the version that the program prints."""
-    version = re.search(r'\.version\("([\d.]+), rules', (root / "crates/rbc_dispatch/src/command_line.rt").read_text()).group(1)
-    pattern = {"bench/RESULTS.md": r"^Version (\d[\d.]*\d)", "README.md": r"says `dispatch (\d[\d.]*\d), rules"}.get(name)
-    said = re.search(pattern, text, flags=re.M) if pattern else None
-    if pattern and (said is None or said.group(1) != version):
-        yield said and said.start(), f"is not of version {version}, which crates/rbc_dispatch/src/command_line.rt says"
+    """The documents of VERSIONS are of the version that the program prints, and all sources and README.md have its rules number."""
+    version, rules = re.search(r'\.version\("([\d.]+), rules (\d+)"\)', (root / COMMAND_LINE).read_text()).groups()
+    said = re.search(VERSIONS[name], text, flags=re.M) if name in VERSIONS else None
+    if name in VERSIONS and (said is None or said.group(1) != version):
+        yield said and said.start(), f"is not of version {version}, which {COMMAND_LINE} says"
+    if name == "README.md":
+        numbers = [(name, number) for number in re.findall(r", rules (\d+)", text)]
+        for source in root.glob("crates/*/src/*.rt"):
+            numbers += [(source.relative_to(root), number) for number in re.findall(r"\bconst RULES: \w+ = (\d+);", source.read_text())]
+        for place, number in numbers:
+            if number != rules:
+                yield None, f"is of rules {rules}, as {COMMAND_LINE} says, and {place} has {number}"
 
 
 def figure_faults(results, name, text):

@@ -19,7 +19,7 @@ use Rattle.rbc_batch.specs.declared.batch.ProcessError.TheVariants as fault
 use Rattle.rbc_text.specs.BatchText.{lines_of}
 use Rattle.rbc_text.specs.OutputText.{output_of, outbox_lines, result_line}
 use Rattle.rbc_batch.specs.declared.batch.ProcessError.{ProcessError}
-use Rattle.rbc_batch.specs.Process.{AreFew, AreRead, Answers, AnswersBy, AnswersWithAlarms, AnswersWithDesk, IsBeforeRun, IsCounted, IsRunOf, IsRunWithDesk, IsWatchedRun, AreMailsSaid, AreSaid, text_of, watched_results, watched_text_of}
+use Rattle.rbc_batch.specs.Process.{AreFew, AreRead, Answers, AnswersBy, AnswersWithAlarms, AnswersWithDesk, IsBeforeRun, IsRunOf, IsRunWithDesk, IsWatchedRun, AreMailsSaid, AreSaid, text_of, watched_results, watched_text_of}
 use Rattle.rbc_batch.proofs.Existing.{have_inputs}
 use Rattle.rbc_batch.proofs.ByEngine.{outboxes_ascend}
 
@@ -105,6 +105,19 @@ handed_on_as text Counted plan workers read_old read_new old (Err other) error i
 pub handed_on : (plan : Plan) (workers : ℕ) (read_old read_new old : Option (List ℕ)) (result : Result (Stats × Held) ProcessError) (error : ProcessError) → IsErrAnd result (λ other. other ≡ error)
     → IsBeforeRun workers read_old read_new error → AnswersWithDesk plan workers read_old read_new old old result
 handed_on plan workers read_old read_new old result error is h = handed_on_as (text_of plan) (IsRunWithDesk plan) plan workers read_old read_new old result error is h
+
+-- a run that ended with an error wrote nothing
+pub not_run : (plan : Plan) (workers : ℕ) (read_old read_new old : Option (List ℕ)) (inputs : List Input) (result : Result (Stats × Held) ProcessError) (error : RunError)
+    → IsErrAnd result (λ other. other ≡ fault.Run error) → AreRead read_old read_new inputs → IsRunOf plan inputs workers (Err error) → AnswersWithDesk plan workers read_old read_new old old result
+not_run plan workers read_old read_new old inputs (Ok counts) error is read h = absurd is
+not_run plan workers read_old read_new old inputs (Err other) error is read h =
+    subst (λ (e : ProcessError). AnswersWithDesk plan workers read_old read_new old old (Err e)) (sym is) (refused_run plan workers read_old read_new old inputs error read h)
+  where
+    refused_run : (plan : Plan) (workers : ℕ) (read_old read_new old : Option (List ℕ)) (inputs : List Input) (error : RunError) → AreRead read_old read_new inputs → IsRunOf plan inputs workers (Err error)
+        → AnswersWithDesk plan workers read_old read_new old old (Err (fault.Run error))
+    refused_run plan workers read_old read_new old inputs Workers read h = (inputs, read, h, stays old)
+    refused_run plan workers read_old read_new old inputs TooManyInputs read h = (inputs, read, h.0, h.1, stays old)
+    refused_run plan workers read_old read_new old inputs (OutOfMemory committed) read h = (inputs, read, h.0, h.1, h.2, stays old)
 
 -- the counts alone
 pub counts_of : (plan : Plan) (workers : ℕ) (read_old read_new old new : Option (List ℕ)) (stats : Stats) (held : Held)

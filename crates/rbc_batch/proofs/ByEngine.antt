@@ -1,5 +1,5 @@
 -- The mails of a run ascend in their engine.
-use Rattle.std.proofs.Common.{◌≡◌, ℕ, ◌+◌, List, [], ◌∷◌, ◌++◌, map, length, refl, arith}
+use Rattle.std.proofs.Common.{ℕ, ◌+◌, List, [], ◌∷◌, ◌++◌, map, length, refl, arith}
 use Rattle.ertms_codec.specs.declared.to_train.ToTrain.{ToTrain}
 use Rattle.rbc_track.specs.Plan.{Plan}
 use Rattle.rbc_maps.specs.Maps.{IsMap, with_value, value_or}
@@ -7,7 +7,7 @@ use Rattle.rbc_maps.proofs.MapPlaces.{rises-with_value}
 use Rattle.rbc_rule.specs.declared.input.Input.{Input}
 use Rattle.rbc_rule.specs.Step as rule
 use Rattle.rbc_engine.specs.Mail.{Mail}
-use Rattle.rbc_engine.specs.Serial.{Desk, new_desk, mail, post, post_all, step, serial}
+use Rattle.rbc_engine.specs.Serial.{Desk, new_desk, mail, post_all, step, serial}
 
 -- messages that join their outboxes
 posted : (input : ℕ) (sent : List (ℕ × List ToTrain)) (boxes : List (ℕ × List Mail)) → IsMap boxes → IsMap (post_all input sent boxes)

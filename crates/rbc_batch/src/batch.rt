@@ -149,26 +149,6 @@ fn run_all<G: Gate + Sync>(
     }
 }
 
-/// Runs inputs on a track from the empty state, with messages shared by train, and returns the desk with the counts of
-/// the run.
-fn run_all_by_train(
-    rt: &(impl AllocGlobal + Threads + Wait + Sync),
-    track: &Track,
-    inputs: &[Input],
-    workers: u8,
-    pace: Pace,
-    windows: &mut Windows,
-) -> Result<(Desk, Stats), RunError>
-    requires fit { All Fits inputs.now }
-    ensures { IsRunOf track.now inputs.now workers result }
-{
-    let mut desk = Desk::new(rt.alloc());
-    match run_by_train(rt, track, &mut desk, inputs, workers, pace, windows) {
-        Ok(stats) => Ok((desk, stats)),
-        Err(error) => Err(error),
-    }
-}
-
 /// Reads a batch to its end, runs its lines on a track from the empty state with this number of workers (1 to 16), and
 /// writes the output text. The text is the same as if the lines were run one after another. Nothing is written before
 /// the whole output is known. The workers attempt many inputs at once, and recompute what went stale (`run` of
@@ -251,9 +231,10 @@ pub fn process_by_train<R: Read, W: Write>(
         → IfSome (R.remaining reader.old) (λ batch. max_batch < length batch) }
     ensures untouched { IsUntouched result writer.old writer.new }
 {
-    let (desk, stats) = {
+    let mut desk = Desk::new(rt.alloc());
+    let stats = {
         let inputs = read_inputs(rt, reader, workers)?;
-        run_all_by_train(rt, track, &inputs, workers, pace, windows)?
+        run_by_train(rt, track, &mut desk, &inputs, workers, pace, windows)?
     };
     let texts = texts_of_desk(rt, &desk, workers)?;
     match write_texts(writer, &texts) {

@@ -18,6 +18,10 @@ line_of row =
 abbrev pub long_text : List ℕ → List ℕ
 long_text bytes = codes "  bit width  variable             value  meaning\n" ++ flat_map line_of (rows_of (bits_of_bytes bytes))
 
--- the rows of a message show each of its bits: their values at their widths are its bits, one after another
+-- rows show each of some bits: their values at their widths are these bits, one after another
+abbrev pub ShowAllBits : List Row → List ℕ → Type 0
+ShowAllBits rows bits = flat_map (λ row. bits_of row.width row.value) rows ≡ bits
+
+-- the rows of a message show each of its bits
 abbrev pub AllBitsAreShown : Type 0
-AllBitsAreShown = (bytes : List ℕ) → flat_map (λ row. bits_of row.width row.value) (rows_of (bits_of_bytes bytes)) ≡ bits_of_bytes bytes
+AllBitsAreShown = (bytes : List ℕ) → ShowAllBits (rows_of (bits_of_bytes bytes)) (bits_of_bytes bytes)

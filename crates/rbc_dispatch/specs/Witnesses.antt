@@ -1,8 +1,11 @@
--- Worked cases of what words ask for. The track is in the file `t`.
-use Rattle.std.specs.Prelude.{ℕ, Bool, false, List, Option, ◌∷◌, codes}
+-- Worked cases of what words ask for, with a track in the file `t`; and of the rows of a message.
+use Rattle.std.specs.Prelude.{ℕ, Bool, false, List, Option, [], ◌∷◌, codes}
 use Rattle.clap.specs.Walk.{Text}
+use Rattle.ertms_bits.specs.Bits.{bits_of_bytes}
 use Rattle.rbc_account.specs.declared.log_form.LogParts.{LogParts}
 use Rattle.rbc_dispatch.specs.Words.{Asked, Asks, Chosen, Explain, Live, Picture, Run}
+use Rattle.rbc_dispatch.specs.declared.stand.Row.{Row}
+use Rattle.rbc_dispatch.specs.declared.variable.Variable.TheVariants.{Passed}
 
 -- a command with the track, and more words
 abbrev pub on_track : Text → List Text → List Text
@@ -31,3 +34,11 @@ AskToExplain from to parts json more = Asks (Explain (codes "t") (record { from 
 -- after `picture`: this part of the track, after this many inputs
 abbrev pub AskToDraw : Option ℕ → Chosen → List Text → Type 0
 AskToDraw after chosen more = Asks (Picture (codes "t") after chosen) (on_track (codes "picture") more)
+
+-- the bits of a byte
+abbrev pub in_bits : ℕ → List ℕ
+in_bits byte = bits_of_bytes (byte ∷ [])
+
+-- a row of so many bits with this value
+abbrev pub row_in : ℕ → ℕ → Row
+row_in width value = record { place = 0; width = width; variable = Passed; scale = 0; value = value }

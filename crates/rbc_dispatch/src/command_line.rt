@@ -65,7 +65,7 @@ the same in every case.
 
 With --alarms, each result is followed by one line for each alarm that its input raises or clears:
 `INPUT raised ENGINE ALARM` or `INPUT cleared ENGINE ALARM`. An alarm says what a train is not told:
-  place                the train has no place: each stop stops it, and it is told no restriction
+  place                the train has no place: a stop not told before stops it, and it is told no restriction
   stop NUMBER          the stop concerns the train, which is not told of it
   restriction NUMBER   the same for a restriction
   answer NUMBER        the train left the stop unanswered, and cannot yet be told to stop at once
@@ -315,7 +315,7 @@ fn bare_command<'a>(alloc: Global) -> Result<Command<'a>, AllocError>
 {
     Command::new(alloc, "dispatch")
         .no_binary_name(true)
-        .version("3.17.0, rules 3")
+        .version("3.18.0, rules 3")
         .about(
             "Emergency stops and speed restrictions, from a signaller's batch to each train's messages",
         )

@@ -255,7 +255,9 @@ where
     )
 }
 
-/// Runs a batch on the track in a file, without alarms. The track is read before the batch.
+/// Runs a batch on the track in a file, without alarms. One worker takes the inputs in order; several attempt them, or
+/// share messages by train. The track is read before the batch. With `stats`, a report on the finished run goes to
+/// `errors`. A report that cannot be written does not change the outcome.
 fn run_file<R, I, O, E>(
     rt: &R,
     file: &str,
@@ -278,18 +280,35 @@ where
     ensures errors { stats ≡ false → Announces at_terminal NOTICE.now errors.old errors.new
         (E.contents errors.old) (E.contents errors.new) }
 {
-    let text = track_text(rt, file)?;
-    run_on(
-        rt,
-        text.as_str(),
-        workers,
-        by_train,
-        stats,
-        at_terminal,
-        input,
-        output,
-        errors,
-    )
+    let track = track_in(rt, file)?;
+    announce(at_terminal, errors);
+    let began = if stats { Instant::now(rt).ok() } else { None };
+    if workers < 2 || by_train {
+        let mut windows = Windows::none();
+        let (counts, desk) = process_by_train(
+            rt,
+            &track,
+            input,
+            output,
+            workers,
+            PACE,
+            &mut windows,
+        )?;
+        if stats {
+            let figures = Figures::of_windows(counts, windows, workers);
+            let _ = write_report(rt, &desk, &figures, began, errors);
+        }
+        return Ok(());
+    }
+    if stats {
+        let attempts = Attempts::none();
+        let (counts, desk) = process_with_desk(rt, &track, input, output, workers, &attempts)?;
+        let figures = Figures::of_attempts(counts, attempts.count(), workers);
+        let _ = write_report(rt, &desk, &figures, began, errors);
+        return Ok(());
+    }
+    process(rt, &track, input, output, workers, &OpenGate)?;
+    Ok(())
 }
 
 /// Answers lines as they come, on the track in a file: `wanted` says from which number on, and whether with alarms. The
@@ -449,8 +468,16 @@ fn track_given<R: AllocGlobal + Files>(rt: &R, file: Option<&str>) -> Result<Opt
     let Some(file) = file else {
         return Ok(None);
     };
+    Ok(Some(track_in(rt, file)?))
+}
+
+/// The track in the file of a name. The error is `OutOfMemory`, `TrackUnreadable` or `Track`.
+fn track_in<R: AllocGlobal + Files>(rt: &R, file: &str) -> Result<Track, Fault>
+    ensures ok { IfOk result (λ track. IsTrackGiven (Some file.now) (Some track)) }
+    ensures err { IfErr result (IsNoTrackGiven (Some file.now)) }
+{
     let text = track_text(rt, file)?;
-    Ok(Some(track_from_toml(rt.alloc(), text.as_str())?))
+    Ok(track_from_toml(rt.alloc(), text.as_str())?)
 }
 
 /// The text of a track file. The error is `OutOfMemory` or `TrackUnreadable`.
@@ -487,61 +514,5 @@ where
     let track = track_from_toml(rt.alloc(), text)?;
     announce(at_terminal, errors);
     process_with_alarms(rt, &track, input, output, workers)?;
-    Ok(())
-}
-
-/// Runs a batch on the track in a text, without alarms. One worker takes the inputs in order; several attempt them, or
-/// share messages by train. The track is read before the batch. With `stats`, a report on the finished run goes to
-/// `errors`. A report that cannot be written does not change the outcome.
-fn run_on<R, I, O, E>(
-    rt: &R,
-    text: &str,
-    workers: u8,
-    by_train: bool,
-    stats: bool,
-    at_terminal: bool,
-    input: &mut I,
-    output: &mut O,
-    errors: &mut E,
-) -> Result<(), Fault>
-where
-    R: AllocGlobal + Clock + Files + Threads + Wait + Sync,
-    I: Read,
-    O: Write,
-    E: Write,
-    ensures runs { RunsOn text.now workers false (I.remaining input.old) (I.remaining input.new)
-        (O.contents output.old) (O.contents output.new) result }
-    ensures keeps { Keeps result input.old input.new output.old output.new }
-    ensures errors { stats ≡ false → Announces at_terminal NOTICE.now errors.old errors.new
-        (E.contents errors.old) (E.contents errors.new) }
-{
-    let track = track_from_toml(rt.alloc(), text)?;
-    announce(at_terminal, errors);
-    let began = if stats { Instant::now(rt).ok() } else { None };
-    if workers < 2 || by_train {
-        let mut windows = Windows::none();
-        let (counts, desk) = process_by_train(
-            rt,
-            &track,
-            input,
-            output,
-            workers,
-            PACE,
-            &mut windows,
-        )?;
-        if stats {
-            let figures = Figures::of_windows(counts, windows, workers);
-            let _ = write_report(rt, &desk, &figures, began, errors);
-        }
-        return Ok(());
-    }
-    if stats {
-        let attempts = Attempts::none();
-        let (counts, desk) = process_with_desk(rt, &track, input, output, workers, &attempts)?;
-        let figures = Figures::of_attempts(counts, attempts.count(), workers);
-        let _ = write_report(rt, &desk, &figures, began, errors);
-        return Ok(());
-    }
-    process(rt, &track, input, output, workers, &OpenGate)?;
     Ok(())
 }

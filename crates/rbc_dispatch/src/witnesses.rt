@@ -1,9 +1,10 @@
-//! Worked cases of what words ask for, right ones and wrong ones.
+//! Worked cases of what words ask for and of the rows of a message, right ones and wrong ones.
 
 ghost use Rattle.std.specs.Prelude.{[], ◌∷◌, None, Some, codes, false, true};
 ghost use Rattle.rbc_account.specs.declared.log_form.LogParts.TheVariants as parts;
 ghost use Rattle.rbc_dispatch.specs.Witnesses.{AskFor, AskForNothing, AskForRun, AskFrom, AskToDraw, AskToExplain};
-ghost use Rattle.rbc_dispatch.specs.Witnesses.{on_track};
+ghost use Rattle.rbc_dispatch.specs.Witnesses.{in_bits, on_track, row_in};
+ghost use Rattle.rbc_dispatch.specs.Long.{ShowAllBits};
 ghost use Rattle.rbc_dispatch.specs.Words.{All, Asks, Busy, Codes, Decode, DecodeLines, DoNotFit, Lines, Page, Train};
 ghost use Rattle.rbc_dispatch.specs.Words.{whole_line};
 ghost use Rattle.rbc_dispatch.specs.declared.pages.Topic.TheVariants as topic;
@@ -110,4 +111,19 @@ pub fn other_words_witnesses()
     ensures track_page { Asks (Page topic.Track) (codes "help" ∷ codes "track" ∷ []) }
     ensures help_of_run { AskForNothing (codes "help" ∷ codes "run" ∷ []) }
     ensures page_and_more { AskForNothing (codes "help" ∷ codes "batch" ∷ codes "batch" ∷ []) }
+{}
+
+/// The rows of a message of one byte, 146.
+///
+/// - One row of 8 bits with the value 146 shows all bits, as do two rows of 4 bits with the values 9 and 2.
+/// - They are not all shown by the value 147, by 7 bits, by no row, by the row twice, or by the two rows in the other
+///   order.
+pub fn rows_law_witnesses()
+    ensures one { ShowAllBits (row_in 8 146 ∷ []) (in_bits 146) }
+    ensures two { ShowAllBits (row_in 4 9 ∷ row_in 4 2 ∷ []) (in_bits 146) }
+    ensures another_value { ShowAllBits (row_in 8 147 ∷ []) (in_bits 146) → ⊥ }
+    ensures too_narrow { ShowAllBits (row_in 7 73 ∷ []) (in_bits 146) → ⊥ }
+    ensures left_out { ShowAllBits [] (in_bits 146) → ⊥ }
+    ensures twice { ShowAllBits (row_in 8 146 ∷ row_in 8 146 ∷ []) (in_bits 146) → ⊥ }
+    ensures out_of_order { ShowAllBits (row_in 4 2 ∷ row_in 4 9 ∷ []) (in_bits 146) → ⊥ }
 {}

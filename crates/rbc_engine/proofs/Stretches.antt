@@ -1,23 +1,22 @@
 -- A run in stretches: some of its first inputs, and then the rest from the desk that these leave.
-use Rattle.std.proofs.Common.{◌≡◌, ◌⊎◌, inl, inr, ℕ, ◌+◌, ◌<◌, ◌≤◌, List, [], ◌∷◌, length, take, drop, Result, Ok, Err, sym, ap, ◌∙◌, subst, arith, take-add, take-take}
-use Rattle.std.specs.Prelude.{IsErrAnd}
-use Rattle.std.specs.List.{fold}
-use Rattle.std.proofs.lemmas.List.{length-append, length-take-le, length-drop}
+use Rattle.std.proofs.Common.{◌≡◌, ◌⊎◌, inl, inr, ℕ, ◌+◌, ◌-◌, ◌<◌, ◌≤◌, List, [], ◌∷◌, length, take, drop, Result, Ok, Err, sym, ap, ◌∙◌, subst, arith, take-add, take-take}
+use Rattle.std.specs.List.{fold, All}
+use Rattle.std.proofs.lemmas.List.{length-append, length-take-le, length-drop, take_all}
 use Rattle.std.proofs.lemmas.List.Elements.{All-drop, All-take}
 use Rattle.std.proofs.lemmas.List.Sums.{fold-append}
-use Rattle.rbc_track.specs.Plan.{Plan}
+use Rattle.rbc_track.specs.Plan.{Plan, IsPlan}
 use Rattle.rbc_rule.specs.declared.input.Input.{Input}
 use Rattle.rbc_rule.specs.declared.outcome.Reply.{Reply}
 use Rattle.rbc_rule.specs.Inputs.{Fits}
 use Rattle.rbc_rule.specs.Step as rule
 use Rattle.rbc_core.specs.Serial.{Desk, step, serial}
-use Rattle.rbc_core.specs.Held.{Held, Holds, AreOutboxes, standing}
+use Rattle.rbc_core.specs.Held.{Held, Holds, AreOutboxes, max_results, standing}
 use Rattle.rbc_core.specs.declared.book.Stats.{Stats}
 use Rattle.rbc_core.specs.Runs.{Run, IsGoodRun, IsSerialRun}
 use Rattle.rbc_core.proofs.Mails.{said_since}
 use Rattle.rbc_engine.specs.declared.workers.RunError.{RunError}
 use Rattle.rbc_engine.specs.declared.workers.RunError.TheVariants.{Workers, TooManyInputs, OutOfMemory}
-use Rattle.rbc_engine.specs.Answers.{IsDeskAfter, IsStretch, IsFinished, rest_of, IsNextStretch}
+use Rattle.rbc_engine.specs.Answers.{AreFew, AreFirst, IsDeskAfter, IsOpening, IsRun, IsStretch, IsFinished, MayWork, error_behind, plus, rest_of}
 use Rattle.rbc_engine.proofs.Ends.{desk_before}
 
 -- a run of these inputs from there on
@@ -65,24 +64,11 @@ rest_is_good run n mid good within boxes after =
 abbrev pub first_of : Run → ℕ → Run
 first_of run count = run_of run.track run.opening (take count run.inputs)
 
--- they can be run too
-pub first_are_good : (run : Run) (count : ℕ) → count ≤ length run.inputs → IsGoodRun run → IsGoodRun (first_of run count)
-first_are_good run count within good =
-    let few = good.few in
-    let cut = length-take-le count run.inputs within in
-    record {
-      track = good.track;
-      desk = good.desk;
-      holds = good.holds;
-      in_order = good.in_order;
-      fit = All-take Fits count run.inputs good.fit;
-      few = omega (arith, few, cut, within);
-    }
-
--- all of some, or one at least, are some
-one_at_least : (count all taken : ℕ) → 0 < count → all ≡ count → (taken ≡ all) ⊎ (0 < taken) → 0 < taken
-one_at_least count all taken some same (inl done) = omega (arith, some, same, done)
-one_at_least count all taken some same (inr one) = one
+-- all of the first inputs, or one at least, are all inputs or one at least
+all_or_one : (count all taken total : ℕ) → (count ≡ total) ⊎ (0 < count) → all ≡ count → (taken ≡ all) ⊎ (0 < taken) → (taken ≡ total) ⊎ (0 < taken)
+all_or_one count all taken total (inl whole) same (inl done) = inl (done ∙ same ∙ whole)
+all_or_one count all taken total (inr some) same (inl done) = inr (omega (arith, some, same, done))
+all_or_one count all taken total which same (inr one) = inr one
 
 module _ (run : Run) (count : ℕ) (new : Held) (good : IsGoodRun run) (within : count ≤ length run.inputs) where
   -- a desk after some of the first inputs is a desk after so many of all
@@ -92,17 +78,25 @@ module _ (run : Run) (count : ℕ) (new : Held) (good : IsGoodRun run) (within :
       (all, said_since run n (standing new) good all)
 
   -- what a stretch of the first inputs leaves is what a stretch of all leaves
-  pub stretch_of_all : (result : Result Stats RunError) → 0 < count → IsStretch (first_of run count) result new → IsStretch run result new
+  stretch_of_all : (result : Result Stats RunError) → (count ≡ length run.inputs) ⊎ (0 < count) → IsStretch (first_of run count) result new → IsStretch run result new
   stretch_of_all (Ok stats) some h =
       let cut = length-take-le count run.inputs within in
       let few = h.1 in
-      (desk_of_all stats.taken (omega (arith, few, cut)) h.0, omega (arith, few, cut, within), inr (one_at_least count (length (take count run.inputs)) stats.taken some cut h.2), h.3)
+      (desk_of_all stats.taken (omega (arith, few, cut)) h.0, omega (arith, few, cut, within), all_or_one count (length (take count run.inputs)) stats.taken (length run.inputs) some cut h.2, h.3)
   stretch_of_all (Err (OutOfMemory committed)) some h =
       let cut = length-take-le count run.inputs within in
       let few = h.1 in
       (desk_of_all committed (omega (arith, few, cut)) h.0, omega (arith, few, cut, within))
   stretch_of_all (Err Workers) some h = h
   stretch_of_all (Err TooManyInputs) some h = h
+
+module _ (run : Run) (first : List Input) (good : IsGoodRun run) (are : AreFirst run.inputs first) where
+  same_run : first_of run are.0 ≡ run_of run.track run.opening first
+  same_run = ap (run_of run.track run.opening) (sym are.3)
+
+  -- what was done of the first inputs was done of all
+  pub done_of_all : (result : Result Stats RunError) (new : Held) → IsStretch (run_of run.track run.opening first) result new → IsStretch run result new
+  done_of_all result new done = stretch_of_all run are.0 new good are.1 result are.2 (subst (λ (r : Run). IsStretch r result new) (sym same_run) done)
 
 -- What a run in stretches has done so far: so many of its inputs, one after another.
 pub record AreDone (run : Run) (all : Stats) (held : Held) : Type 0 where
@@ -114,46 +108,50 @@ pub record AreDone (run : Run) (all : Stats) (held : Held) : Type 0 where
 pub none_done : (run : Run) → IsGoodRun run → AreDone run (record { taken = 0; recomputed = 0 }) run.opening
 none_done run good = record { desk = desk_before run good; within = omega arith; some = omega arith }
 
+-- the inputs that a run has left, as a slice from this index on
+whole_rest : (inputs : List Input) (taken : ℕ) → take (length inputs - taken) (drop taken inputs) ≡ drop taken inputs
+whole_rest inputs taken = let left = length-drop taken inputs in take_all (length inputs - taken) (drop taken inputs) (omega (arith, left))
+
 module _ (run : Run) (all : Stats) (mid : Held) (good : IsGoodRun run) (before : AreDone run all mid) where
-  -- the inputs of the next stretch too
-  pub more_done : (now : Stats) (new : Held) → IsNextStretch (run_of run.track mid run.inputs) all (Ok now) new → AreDone run now new
-  more_done now new (stats, h, is) =
+  -- a run of the inputs that are left, as a slice
+  abbrev pub rest_in_slice : Run
+  rest_in_slice = run_of run.track mid (take (length run.inputs - all.taken) (drop all.taken run.inputs))
+
+  same_rest : rest_in_slice ≡ rest_of run all.taken mid
+  same_rest = ap (run_of run.track mid) (whole_rest run.inputs all.taken)
+
+  -- it can be run
+  pub rest_can_be_run : AreOutboxes mid.outboxes → IsGoodRun rest_in_slice
+  rest_can_be_run boxes = subst IsGoodRun (sym same_rest) (rest_is_good run all.taken mid good before.within boxes before.desk)
+
+  of_rest : (result : Result Stats RunError) (new : Held) → IsStretch rest_in_slice result new → IsStretch (rest_of run all.taken mid) result new
+  of_rest result new = subst (λ (r : Run). IsStretch r result new) same_rest
+
+  -- the inputs of the next stretch are done too
+  pub more_done : (more : Stats) (new : Held) → IsStretch rest_in_slice (Ok more) new → AreDone run (plus all more) new
+  more_done more new stretch =
+      let h = of_rest (Ok more) new stretch in
       let within = before.within in
       let some = before.some in
       let left = length-drop all.taken run.inputs in
       let few = h.1 in
       let fewer = h.3 in
-      let taken : now.taken ≡ all.taken + stats.taken = ap (λ (s : Stats). s.taken) is in
-      let recomputed : now.recomputed ≡ all.recomputed + stats.recomputed = ap (λ (s : Stats). s.recomputed) is in
       record {
-        desk = subst (λ n. IsDeskAfter run n new) (sym taken) (onward run all.taken stats.taken mid new good before.desk h.0);
-        within = omega (arith, within, left, few, taken);
-        some = omega (arith, some, fewer, taken, recomputed);
+        desk = onward run all.taken more.taken mid new good before.desk h.0;
+        within = omega (arith, within, left, few);
+        some = omega (arith, some, fewer);
       }
 
-  -- memory was refused in the next stretch: those that were committed in it too
-  pub refused_in : (error : RunError) (new : Held) → IsNextStretch (run_of run.track mid run.inputs) all (Err error) new → IsFinished run (Err error) new
-  refused_in (OutOfMemory committed) new (more, h, is) =
+  -- memory was refused in the next stretch: those that were committed in it are done too
+  pub refused_in : (error : RunError) (new : Held) → IsStretch rest_in_slice (Err error) new → IsFinished run (Err (error_behind all.taken error)) new
+  refused_in (OutOfMemory committed) new stretch =
+      let h = of_rest (Err (OutOfMemory committed)) new stretch in
       let within = before.within in
       let left = length-drop all.taken run.inputs in
       let few = h.1 in
-      (subst (λ n. IsDeskAfter run n new) (sym is) (onward run all.taken more mid new good before.desk h.0), omega (arith, within, left, few, is))
+      (onward run all.taken committed mid new good before.desk h.0, omega (arith, within, left, few))
   refused_in Workers new h = absurd h
   refused_in TooManyInputs new h = absurd h
-
-  -- a stretch that is not at the end takes one input at least
-  pub one_at_a_time : (now : Stats) (new : Held) → IsNextStretch (run_of run.track mid run.inputs) all (Ok now) new → all.taken < length run.inputs → all.taken < now.taken
-  one_at_a_time now new (stats, h, is) more =
-      let left = length-drop all.taken run.inputs in
-      let taken : now.taken ≡ all.taken + stats.taken = ap (λ (s : Stats). s.taken) is in
-      let some : 0 < stats.taken = one_at_least (length (drop all.taken run.inputs)) (length (drop all.taken run.inputs)) stats.taken (omega (arith, left, more)) (omega arith) h.2 in
-      omega (arith, taken, some)
-
--- it is handed on
-pub refusal_handed_on : (run : Run) (all : Stats) (mid new : Held) (result : Result Stats RunError) (error : RunError) → IsGoodRun run → AreDone run all mid → IsErrAnd result (λ other. other ≡ error)
-    → IsNextStretch (run_of run.track mid run.inputs) all (Err error) new → IsFinished run result new
-refusal_handed_on run all mid new (Ok stats) error good before is h = absurd is
-refusal_handed_on run all mid new (Err other) error good before is h = subst (λ (e : RunError). IsFinished run (Err e) new) (sym is) (refused_in run all mid good before error new h)
 
 -- all are done
 pub all_done : (run : Run) (all : Stats) (held : Held) → AreDone run all held → length run.inputs ≤ all.taken → IsFinished run (Ok all) held
@@ -161,3 +159,14 @@ all_done run all held before past =
     let within = before.within in
     let same : all.taken ≡ length run.inputs = omega (arith, within, past) in
     (subst (λ n. IsDeskAfter run n held) same before.desk, same, before.some)
+
+-- inputs that are admitted can be run
+pub admitted : (run : Run) → IsPlan run.track → IsOpening run.track run.opening → AreOutboxes run.opening.outboxes → All Fits run.inputs → length run.opening.results + length run.inputs ≤ max_results → IsGoodRun run
+admitted run plan opening boxes fit few = record { track = plan; desk = opening.0; holds = opening.1; in_order = boxes; fit = fit; few = few }
+
+-- a run that is finished was not refused
+pub finished_run : (run : Run) (workers : ℕ) (result : Result Stats RunError) (new : Held) → MayWork workers → AreFew run → IsFinished run result new → IsRun run workers result new
+finished_run run workers (Ok stats) new may few h = (may, few, h)
+finished_run run workers (Err (OutOfMemory committed)) new may few h = (may, few, h)
+finished_run run workers (Err Workers) new may few h = absurd h
+finished_run run workers (Err TooManyInputs) new may few h = absurd h

@@ -1,7 +1,8 @@
 -- What a run by several workers leaves (own rule).
-use Rattle.std.specs.Prelude.{◌≡◌, ◌⊎◌, ℕ, ◌+◌, ◌<◌, ◌≤◌, List, ◌++◌, codes, length, drop, Result, Ok, Err}
+use Rattle.std.specs.Prelude.{◌≡◌, ◌⊎◌, ℕ, ◌+◌, ◌<◌, ◌≤◌, List, ◌++◌, codes, length, drop, take, Result, Ok, Err}
 use Rattle.std.specs.Fmt.{decimal}
 use Rattle.rbc_track.specs.Plan.{Plan}
+use Rattle.rbc_rule.specs.declared.input.Input.{Input}
 use Rattle.rbc_core.specs.Serial.{Desk}
 use Rattle.rbc_core.specs.Held.{Held, Holds, standing, max_results}
 use Rattle.rbc_core.specs.declared.book.Stats.{Stats}
@@ -43,6 +44,10 @@ IsStretch run (Err (OutOfMemory committed)) new = IsDeskAfter run committed new 
 IsStretch run (Err Workers) new = ⊥
 IsStretch run (Err TooManyInputs) new = ⊥
 
+-- some of the first inputs, at least one if there are any
+abbrev pub AreFirst : List Input → List Input → Type 0
+AreFirst inputs first = (count : ℕ) × (count ≤ length inputs) × ((count ≡ length inputs) ⊎ (0 < count)) × (first ≡ take count inputs)
+
 -- the inputs of a run after this many, from the desk that these left
 abbrev pub rest_of : Run → ℕ → Held → Run
 rest_of run count mid = record { track = run.track; opening = mid; inputs = drop count run.inputs }
@@ -51,12 +56,10 @@ rest_of run count mid = record { track = run.track; opening = mid; inputs = drop
 abbrev pub plus : Stats → Stats → Stats
 plus all more = record { taken = all.taken + more.taken; recomputed = all.recomputed + more.recomputed }
 
--- what the next stretch of a run leaves, after the stretches with these counts and from the desk that they left: its counts are added to theirs
-abbrev pub IsNextStretch : Run → Stats → Result Stats RunError → Held → Type 0
-IsNextStretch run all (Ok now) new = (stats : Stats) × IsStretch (rest_of run all.taken run.opening) (Ok stats) new × (now ≡ plus all stats)
-IsNextStretch run all (Err (OutOfMemory committed)) new = (more : ℕ) × IsStretch (rest_of run all.taken run.opening) (Err (OutOfMemory more)) new × (committed ≡ all.taken + more)
-IsNextStretch run all (Err Workers) new = ⊥
-IsNextStretch run all (Err TooManyInputs) new = ⊥
+-- the error of a run whose last stretch, after this many inputs, ended with an error
+abbrev pub error_behind : ℕ → RunError → RunError
+error_behind taken (OutOfMemory committed) = OutOfMemory (taken + committed)
+error_behind taken error = error
 
 -- what a run that was not refused leaves: every input is done, or memory was refused after the first of them
 abbrev pub IsFinished : Run → Result Stats RunError → Held → Type 0

@@ -1,7 +1,7 @@
 //! Runs by several workers, in stretches. A stretch is done by one worker, as a window, or on a book with a log of its
 //! own, which is freed at the end of the stretch.
 
-ghost use Rattle.std.specs.Prelude.{◌≡◌, ◌≤◌, IsTrue, Ok, false, length, drop};
+ghost use Rattle.std.specs.Prelude.{◌≡◌, ◌+◌, ◌<◌, ◌≤◌, ℕ, IsTrue, Ok, false, length};
 ghost use Rattle.std.specs.List.{All};
 ghost use Rattle.rbc_track.specs.Plan.{IsPlan};
 ghost use Rattle.rbc_rule.specs.Inputs.{Fits};
@@ -9,7 +9,8 @@ ghost use Rattle.rbc_core.specs.Held.{IsInOrder};
 ghost use Rattle.rbc_core.specs.Books.{state_of};
 ghost use Rattle.rbc_core.specs.Core.{front};
 ghost use Rattle.rbc_core.specs.Runs.{IsGoodRun};
-ghost use Rattle.rbc_engine.specs.Answers.{IsOpening, IsRun, IsStretch, IsNextStretch, IsFinished};
+ghost use Rattle.rbc_engine.specs.Answers.{AreFirst, IsOpening, IsRun, IsStretch, error_behind, plus};
+ghost use Rattle.rbc_engine.specs.declared.workers.RunError.TheVariants.{OutOfMemory};
 ghost use Rattle.rbc_engine.specs.Fronts.{IsWaiting, IsGivenUp, IsNext, IsAtItsEnd};
 
 use crate::by_train::{Windows, run_alone, run_shared};
@@ -195,36 +196,20 @@ struct Crew<'a, G> {
     pace: Option<Pace>,
 }
 
-/// Runs a stretch of a run on the road that it takes, after this many inputs.
-fn run_stretch<G: Gate + Sync, R: Threads + Wait + Sync>(
-    rt: &R,
-    alloc: Global,
-    track: &Track,
-    desk: &mut Desk,
-    inputs: &[Input],
-    road: Road,
-    before: u32,
-    crew: &Crew<'_, G>,
-    windows: &mut Windows,
-) -> Result<Stats, RunError>
-    requires good { IsGoodRun (record { track = track.now; opening = desk.old; inputs = inputs.now }) }
-    ensures { IsStretch (record { track = track.now; opening = desk.old; inputs = inputs.now }) result desk.new }
+/// The first inputs, as many as this, or all if there are fewer.
+fn first_of(inputs: &[Input], count: usize) -> &[Input]
+    requires { 0 < count }
+    ensures { AreFirst inputs.now result.now }
 {
-    match road {
-        Road::Alone => run_alone(alloc, track, desk, inputs),
-        Road::Window => run_shared(rt, alloc, track, desk, inputs, crew.workers, windows),
-        Road::Book => {
-            let behind = Behind {
-                gate: crew.gate,
-                before,
-            };
-            run_on_book(rt, alloc, track, desk, inputs, crew.workers, &behind)
-        }
+    if count < inputs.len() {
+        &inputs[..count]
+    } else {
+        inputs
     }
 }
 
 /// Runs the first of these inputs in one stretch, as many as go the same way, after this many earlier ones.
-fn run_first<G: Gate + Sync, R: Threads + Wait + Sync>(
+fn run_stretch<G: Gate + Sync, R: Threads + Wait + Sync>(
     rt: &R,
     alloc: Global,
     track: &Track,
@@ -238,63 +223,42 @@ fn run_first<G: Gate + Sync, R: Threads + Wait + Sync>(
     ensures { IsStretch (record { track = track.now; opening = desk.old; inputs = inputs.now }) result desk.new }
 {
     let way = next_way(desk, inputs, crew.workers, crew.pace);
-    if inputs.len() <= way.count {
-        return run_stretch(
-            rt, alloc, track, desk, inputs, way.road, before, crew, windows,
-        );
+    let first = first_of(inputs, way.count);
+    match way.road {
+        Road::Alone => run_alone(alloc, track, desk, first),
+        Road::Window => run_shared(rt, alloc, track, desk, first, crew.workers, windows),
+        Road::Book => {
+            let behind = Behind {
+                gate: crew.gate,
+                before,
+            };
+            run_on_book(rt, alloc, track, desk, first, crew.workers, &behind)
+        }
     }
-    let first = &inputs[..way.count];
-    run_stretch(
-        rt, alloc, track, desk, first, way.road, before, crew, windows,
-    )
 }
 
-/// Runs a stretch of a run of which this many inputs are done.
-fn run_behind<G: Gate + Sync, R: Threads + Wait + Sync>(
-    rt: &R,
-    alloc: Global,
-    track: &Track,
-    desk: &mut Desk,
-    inputs: &[Input],
-    before: u32,
-    crew: &Crew<'_, G>,
-    windows: &mut Windows,
-) -> Result<Stats, RunError>
-    requires within { before ≤ length inputs.now }
-    requires good { IsGoodRun (record { track = track.now; opening = desk.old; inputs = drop before inputs.now }) }
-    ensures { IsStretch (record { track = track.now; opening = desk.old; inputs = drop before inputs.now }) result
-        desk.new }
+/// The counts of some stretches and of one more.
+fn with_more(all: Stats, more: Stats) -> Stats
+    requires within { all.taken + more.taken ≤ MAX_INPUTS }
+    requires some { (all.recomputed ≤ all.taken) × (more.recomputed ≤ more.taken) }
+    ensures { result ≡ plus all more }
 {
-    let rest = &inputs[before as usize..];
-    run_first(rt, alloc, track, desk, rest, before, crew, windows)
+    Stats {
+        taken: all.taken + more.taken,
+        recomputed: all.recomputed + more.recomputed,
+    }
 }
 
-/// Runs the next stretch of a run, after those with these counts, and adds its counts to theirs.
-fn run_next<G: Gate + Sync, R: Threads + Wait + Sync>(
-    rt: &R,
-    alloc: Global,
-    track: &Track,
-    desk: &mut Desk,
-    inputs: &[Input],
-    all: Stats,
-    crew: &Crew<'_, G>,
-    windows: &mut Windows,
-) -> Result<Stats, RunError>
-    requires within { (all.recomputed ≤ all.taken) × (all.taken ≤ length inputs.now) }
-    requires few { length inputs.now ≤ MAX_INPUTS }
-    requires good { IsGoodRun (record { track = track.now; opening = desk.old; inputs = drop all.taken inputs.now }) }
-    ensures { IsNextStretch (record { track = track.now; opening = desk.old; inputs = inputs.now })
-        all result desk.new }
+/// The error of a run whose last stretch, after this many inputs, ended with an error.
+fn behind(taken: u32, error: RunError) -> RunError
+    requires { (committed : ℕ) → error ≡ OutOfMemory committed → taken + committed ≤ MAX_INPUTS }
+    ensures { result ≡ error_behind taken error }
 {
-    match run_behind(rt, alloc, track, desk, inputs, all.taken, crew, windows) {
-        Ok(stats) => Ok(Stats {
-            taken: all.taken + stats.taken,
-            recomputed: all.recomputed + stats.recomputed,
-        }),
-        Err(RunError::OutOfMemory { committed }) => Err(RunError::OutOfMemory {
-            committed: all.taken + committed,
-        }),
-        Err(error) => Err(error),
+    match error {
+        RunError::OutOfMemory { committed } => RunError::OutOfMemory {
+            committed: taken + committed,
+        },
+        RunError::Workers | RunError::TooManyInputs => error,
     }
 }
 
@@ -305,31 +269,6 @@ fn keeps_order(desk: &Desk)
     let _ = desk.results();
 }
 
-/// Runs all inputs, one stretch after another on the same desk.
-fn run_stretches<G: Gate + Sync, R: Threads + Wait + Sync>(
-    rt: &R,
-    alloc: Global,
-    track: &Track,
-    desk: &mut Desk,
-    inputs: &[Input],
-    crew: &Crew<'_, G>,
-    windows: &mut Windows,
-) -> Result<Stats, RunError>
-    requires good { IsGoodRun (record { track = track.now; opening = desk.old; inputs = inputs.now }) }
-    requires few { length inputs.now ≤ MAX_INPUTS }
-    ensures { IsFinished (record { track = track.now; opening = desk.old; inputs = inputs.now }) result desk.new }
-{
-    let mut all = Stats {
-        taken: 0,
-        recomputed: 0,
-    };
-    while (all.taken as usize) < inputs.len() {
-        keeps_order(desk);
-        all = run_next(rt, alloc, track, desk, inputs, all, crew, windows)?;
-    }
-    Ok(all)
-}
-
 /// Says in its contract what every track satisfies, because a run requires it.
 fn keeps(track: &Track)
     ensures { IsPlan track.now }
@@ -337,7 +276,8 @@ fn keeps(track: &Track)
     let _ = track.horizon();
 }
 
-/// Runs inputs, if this number of workers is allowed and the inputs are not too many.
+/// Runs inputs, one stretch after another on the same desk, if this number of workers is allowed and the inputs are not
+/// too many.
 fn run_admitted<G: Gate + Sync, R: Threads + Wait + Sync>(
     rt: &R,
     alloc: Global,
@@ -360,7 +300,19 @@ fn run_admitted<G: Gate + Sync, R: Threads + Wait + Sync>(
         return Err(RunError::TooManyInputs);
     }
     keeps(track);
-    run_stretches(rt, alloc, track, desk, inputs, crew, windows)
+    let mut all = Stats {
+        taken: 0,
+        recomputed: 0,
+    };
+    while (all.taken as usize) < inputs.len() {
+        keeps_order(desk);
+        let rest = &inputs[all.taken as usize..];
+        match run_stretch(rt, alloc, track, desk, rest, all.taken, crew, windows) {
+            Ok(more) => all = with_more(all, more),
+            Err(error) => return Err(behind(all.taken, error)),
+        }
+    }
+    Ok(all)
 }
 
 /// Runs inputs on a track, from a desk on, by this many workers, of which the calling thread is one. The workers

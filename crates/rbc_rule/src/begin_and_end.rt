@@ -17,7 +17,7 @@ ghost use Rattle.rbc_rule.specs.Deciding.{GivesOutcome, MakesOutcome};
 use crate::fetch::{fetch_concerned, fetch_list, fetch_told};
 use crate::input::Segments;
 use crate::lists::line_of;
-use crate::outcome::{Outcome, RuleFault};
+use crate::outcome::{Outcome, RuleFault, SentList};
 use crate::restriction::Restriction;
 use crate::touched_trains::settle_trains;
 use rbc_records::{Key, Reader, Rec, Sought};
@@ -84,7 +84,8 @@ fn settled_with_stops<S: Reader>(
     let change = Change::Stop(number, stops.get(number));
     let mut gathered = settle_trains(alloc, track, store, engines, change)?;
     gathered.writes.set(Key::Stops, Some(Rec::Stops(stops)))?;
-    Ok(Outcome::done(gathered.writes, gathered.messages))
+    let messages = SentList::from_vec(gathered.messages);
+    Ok(Outcome::done(gathered.writes, messages))
 }
 
 /// Reads the trains and settles those that a new restriction can concern. `limits` already has it.
@@ -144,5 +145,6 @@ fn settled_with_limits<S: Reader>(
     let change = Change::Limit(number, limits.get(number));
     let mut gathered = settle_trains(alloc, track, store, engines, change)?;
     gathered.writes.set(Key::Limits, Some(Rec::Limits(limits)))?;
-    Ok(Outcome::done(gathered.writes, gathered.messages))
+    let messages = SentList::from_vec(gathered.messages);
+    Ok(Outcome::done(gathered.writes, messages))
 }

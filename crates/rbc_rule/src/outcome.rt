@@ -2,15 +2,13 @@
 
 ghost use Rattle.std.specs.Prelude.{◌≡◌, ◌<◌, ◌^◌, [], length, IfOk};
 ghost use Rattle.std.specs.Prelude.{slice_get, Some};
-ghost use Rattle.rbc_settle.specs.SingleChange.{actions_for, IsCarriedOut};
 ghost use Rattle.rbc_rule.specs.declared.outcome.Reply.TheVariants.{Done, Refused};
 ghost use Rattle.rbc_rule.specs.Codes.{code_of};
 ghost use Rattle.rbc_rule.specs.Right.{IsSilentIfRefused};
 
 use crate::refuse::Refusal;
 use rbc_records::Writes;
-use rbc_settle::{Change, Sent, TrainRec, settled_after};
-use rbc_track::Track;
+use rbc_settle::Sent;
 use std::alloc::{AllocError, AllocFailed, Global};
 use std::marker::Model;
 
@@ -48,35 +46,11 @@ impl SentList {
         }
     }
 
-    /// Makes an empty list with room for this many messages.
-    pub fn with_room(alloc: Global, count: usize) -> Result<Self, AllocError>
-        ensures { IfOk result (λ sent. sent ≡ []) }
-    {
-        Ok(SentList {
-            all: Vec::with_capacity(alloc, count)?,
-        })
-    }
-
     /// Makes a list of these messages.
     pub fn from_vec(all: Vec<Sent>) -> Self
         ensures { result ≡ all.items }
     {
         SentList { all }
-    }
-
-    /// Brings a copy of a train up to date after a change, as `settled_after` does: returns the copy, and adds its message
-    /// at the end. Returns `None` and adds nothing if there is nothing to do, or no stamp is left. An error changes
-    /// nothing.
-    pub fn add_settled(
-        &mut self,
-        alloc: Global,
-        track: &Track,
-        change: Change<'_>,
-        train: &TrainRec,
-    ) -> Result<Option<TrainRec>, AllocError>
-        ensures { IsCarriedOut train.now (actions_for track.now change.entry train.now) self.old result self.new }
-    {
-        settled_after(alloc, track, change, train, &mut self.all)
     }
 
     /// Returns the number of messages.

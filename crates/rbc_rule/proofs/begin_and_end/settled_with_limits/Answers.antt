@@ -16,7 +16,7 @@ returns g c = record {
       let enough = c.requires.enough w m in
       let changed = limit_changed c.args.number c.get.result w w.stops new c.get.ensures (c.requires.changed w m) refl in
       let writes = c.in_ok-gathered.ensures.writes w w.stops new m changed ∙ enough.writes in
-      let messages = c.in_ok-gathered.ensures.messages w w.stops new m changed ∙ enough.sent in
+      let messages = c.from_vec-messages.ensures ∙ c.in_ok-gathered.ensures.messages w w.stops new m changed ∙ enough.sent in
       let more = c.in_ok-set.ensures.ok ∙ ap (λ ws. ws ++ (key.Limits, Some (rec.Limits new)) ∷ []) writes in
       c.done.ensures.outcome ∙ (λ i. record { result = Done (length (messages i)); writes = more i; messages = messages i });
   refused = c.done.ensures.silent;

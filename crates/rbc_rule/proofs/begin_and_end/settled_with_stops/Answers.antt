@@ -18,7 +18,7 @@ returns g c = record {
       let changed = stop_changed c.args.number c.get.result w new w.limits c.get.ensures (c.requires.changed w m) refl in
       let released = stop_released c.args.number c.get.result new c.get.ensures in
       let writes = c.in_ok-gathered.ensures.writes w new w.limits m changed ∙ (λ i. flat_map (write_at plan new w.limits (released i) w.trains) c.args.engines.now) ∙ enough.writes in
-      let messages = c.in_ok-gathered.ensures.messages w new w.limits m changed ∙ (λ i. flat_map (sent_at plan new w.limits (released i) w.trains) c.args.engines.now) ∙ enough.sent in
+      let messages = c.from_vec-messages.ensures ∙ c.in_ok-gathered.ensures.messages w new w.limits m changed ∙ (λ i. flat_map (sent_at plan new w.limits (released i) w.trains) c.args.engines.now) ∙ enough.sent in
       let more = c.in_ok-set.ensures.ok ∙ ap (λ ws. ws ++ (key.Stops, Some (rec.Stops new)) ∷ []) writes in
       c.done.ensures.outcome ∙ (λ i. record { result = Done (length (messages i)); writes = more i; messages = messages i });
   refused = c.done.ensures.silent;

@@ -12,7 +12,7 @@ invariant-loop-engine g l =
     let notes = g.S.Reader.notes l.store in
     record {
       writes : (w : World) (stops : Stops) (limits : Limits) → MayBe l.track notes w → HasChanged l.change w stops limits → l.gathered.writes ≡ flat_map (write_at l.track stops limits (released_by l.change) w.trains) (take l.engine-index l.engine-items);
-      messages : (w : World) (stops : Stops) (limits : Limits) → MayBe l.track notes w → HasChanged l.change w stops limits → l.gathered.messages ≡ flat_map (sent_at l.track stops limits (released_by l.change) w.trains) (take l.engine-index l.engine-items);
-      few : length l.gathered.messages ≤ l.engine-index * 36;
-      fit : AreSendable l.gathered.messages;
+      messages : (w : World) (stops : Stops) (limits : Limits) → MayBe l.track notes w → HasChanged l.change w stops limits → l.gathered.messages.items ≡ flat_map (sent_at l.track stops limits (released_by l.change) w.trains) (take l.engine-index l.engine-items);
+      few : length l.gathered.messages.items ≤ l.engine-index * 36;
+      fit : AreSendable l.gathered.messages.items;
     }

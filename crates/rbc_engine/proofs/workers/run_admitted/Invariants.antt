@@ -1,6 +1,6 @@
 use Rattle.std.proofs.Common.{length, ◌-◌}
 use Rattle.rbc_engine.proofs.Stretches.{AreDone}
-use Rattle.rbc_engine.proofs.workers.run_stretches.Given as goal
+use Rattle.rbc_engine.proofs.workers.run_admitted.Given as goal
 
 -- so many of the inputs are done, one after another
 abbrev pub invariant-loop-all : goal.invariant-loop-all
