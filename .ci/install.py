@@ -184,6 +184,10 @@ def refuse(scratch):
     return built
 
 
+# from a file: an empty last line, a form feed and other bytes that a text file may lose, and no last line feed
+ODD_BATCHES = (b"enrol 7 1000\n\n", b"enrol 7 1000\n\fwithdraw 7\n", b"enrol 7 1000\r\n\xff\x1a\nenrol 7 1000")
+
+
 def caller(checks, scratch, name, words, step=1):
     """A caller of bindings/: what it writes of each batch, and where one allocation of the library is refused."""
     for track, batch in batches():
@@ -191,6 +195,12 @@ def caller(checks, scratch, name, words, step=1):
         wanted = run(scratch.prefix / "bin/dispatch", "live", "--alarms", "--track", track, input=lines)
         done = run(*words, track, input=lines, env=scratch.env)
         checks.check(f"{name}: {batch.name} on {track.name}", (done.returncode, done.stdout, done.stderr) == (0, wanted.stdout, b""), done.stderr)
+    for odd in ODD_BATCHES:
+        (scratch.folder / "odd.batch").write_bytes(odd)
+        wanted = run(scratch.prefix / "bin/dispatch", "live", "--alarms", "--track", track, input=odd)
+        with (scratch.folder / "odd.batch").open() as lines:
+            done = run(*words, track, stdin=lines, env=scratch.env)
+        checks.check(f"{name}: {odd}", (done.returncode, done.stdout, done.stderr) == (0, wanted.stdout, b""), done.stderr)
     track, lines = ROOT / "examples/track_a.toml", (ROOT / "examples/first.batch").read_bytes()
     wanted, tool = run(scratch.prefix / "bin/dispatch", "live", "--alarms", "--track", track, input=lines).stdout, refuse(scratch)
 

@@ -3,13 +3,15 @@
 --
 --  gnatmake desk.adb -largs $(pkg-config --libs rbc)
 
-with Ada.Command_Line; use Ada.Command_Line;
+with Ada.Command_Line;         use Ada.Command_Line;
 with Ada.Direct_IO;
 with Ada.Directories;
 with Ada.IO_Exceptions;
-with Ada.Text_IO;      use Ada.Text_IO;
-with Interfaces;       use Interfaces;
-with RBC;              use RBC;
+with Ada.Strings.Unbounded;    use Ada.Strings.Unbounded;
+with Ada.Text_IO;              use Ada.Text_IO;
+with Ada.Text_IO.Text_Streams; use Ada.Text_IO.Text_Streams;
+with Interfaces;               use Interfaces;
+with RBC;                      use RBC;
 
 procedure Desk is
 
@@ -30,6 +32,24 @@ procedure Desk is
          raise Stopped;
       end if;
    end Must;
+
+   --  The next line of standard input, without its line feed; none is found after the last one.
+
+   procedure Next_Line (Line : out Unbounded_String; Found : out Boolean) is
+      Next : Character;
+   begin
+      Line  := Null_Unbounded_String;
+      Found := False;
+      loop
+         Character'Read (Stream (Standard_Input), Next);
+         Found := True;
+         exit when Next = ASCII.LF;
+         Append (Line, Next);
+      end loop;
+   exception
+      when Ada.IO_Exceptions.End_Error =>
+         null;
+   end Next_Line;
 
    --  The bytes of a file.
 
@@ -155,6 +175,8 @@ procedure Desk is
 
    Number : Unsigned_32 := 0;
    Code   : Status;
+   Read   : Unbounded_String;
+   Found  : Boolean;
    Result : Answer;
    Reason : String (1 .. 512);
    Length : Natural;
@@ -178,9 +200,11 @@ begin
       Must (Code);
    end;
 
-   while not End_Of_File loop
+   loop
+      Next_Line (Read, Found);
+      exit when not Found;
       declare
-         Line : constant String := Get_Line;
+         Line : constant String := To_String (Read);
       begin
          Number := Number + 1;
          Feed (Self, Line, Result, Code);

@@ -11,9 +11,9 @@ from process import Live, output_of
 SEARCHED, SHOWN = 500, 20  # the page shows so many of so many last inputs
 UNTOLD = ": if it may reach the place, stop it by other means; then release or lift what is not needed, and wait."
 ALARMS = {  # what each alarm means, and what to do
-    "place": ("has no place", "Every stop stops it, and it is told of no restriction. Ask it for a report."),
-    "stop": ("is not told of stop", "It does not know of the stop" + UNTOLD),
-    "restriction": ("is not told of restriction", "It does not know of the restriction" + UNTOLD),
+    "place": ("has no place", "A stop not told before stops it, and it is told of no restriction. Ask it for a report."),
+    "stop": ("is not told of stop", "It may not know of the stop" + UNTOLD),
+    "restriction": ("is not told of restriction", "It may not know of the restriction" + UNTOLD),
     "answer": ("reported three times without answering stop", "It is not told to stop at once yet" + UNTOLD),
 }
 
