@@ -1,10 +1,10 @@
 /* A live desk for C, C++ and Ada: the emergency and restriction part of a radio block centre, fed one line at a time.
 
-   Libraries: crates/rbc_c/out/librbc_c.a, and heap.c of the kit, which hands memory on from malloc, realloc and free
-   (docs/C_LIBRARY.md has the commands). Nothing else is called. No call ends the process, prints, starts a thread or keeps a pointer
-   that it was given. Only malloc and realloc may set errno.
+   Libraries: release/c/librbc_c.a, and heap.c beside it, which hands memory on from malloc, realloc and free
+   (docs/C_LIBRARY.md has the commands). Only memcpy, memmove and memset are called besides. No call ends the process, prints, starts
+   a thread or keeps a pointer that it was given. Only malloc and realloc may set errno.
 
-   What the caller owes, of every call:
+   What the caller owes at every call:
    - A pointer is aligned for its type and points to as much as its parameter says. Where a length or a room is 0 its pointer may
      be null; otherwise no pointer is null.
    - What a call writes overlaps nothing else that it is given, and nobody else reads or writes it during the call.
@@ -21,8 +21,8 @@
 extern "C" {
 #endif
 
-/* The version of this header, 3 to 255. Where the structs change it rises, and the library refuses each call of a caller that was
-   compiled with another one: RBC_VERSION_OTHER. Before version 3 a desk began with a byte that was 0 or 1, which is no version. */
+/* The version of this header, 3 to 255. Where the structs change it rises, and each call that takes a desk is refused if its caller
+   was compiled with another one: RBC_VERSION_OTHER. Before version 3 a desk began with a byte that was 0 or 1, which is no version. */
 #define RBC_VERSION 3
 
 /* A desk that is open, or none. The caller owns this struct, sets it to RBC_NONE once, before its first use, and passes its
@@ -35,10 +35,10 @@ typedef struct rbc_desk {
 } rbc_desk;
 #define RBC_NONE {RBC_VERSION, 0, NULL}
 
-/* A message to one train: its bytes as they are sent, of which the first length count; the others stay as they were. 1032 bytes. */
+/* A message to one train: the first `length` of its bytes, as they are sent; the others stay as they were. 1032 bytes. */
 typedef struct rbc_message {
     uint32_t engine;     /* NID_ENGINE of the train: 0 to 16777215 */
-    uint32_t length;     /* 1 to 897 */
+    uint32_t length;     /* 10 to 897 */
     uint8_t bytes[1024]; /* ertms_read_to_train of ertms.h reads them */
 } rbc_message;
 
@@ -55,10 +55,10 @@ typedef struct rbc_alarm {
     uint32_t number; /* of the stop or the restriction; 0 at RBC_ALARM_PLACE */
 } rbc_alarm;
 enum {
-    RBC_ALARM_PLACE = 0,       /* it has no place: each stop stops it, and no restriction is told to it */
+    RBC_ALARM_PLACE = 0,       /* it has no place: each active stop concerns it, and no restriction does */
     RBC_ALARM_STOP = 1,        /* an active stop concerns it and is not told to it */
     RBC_ALARM_RESTRICTION = 2, /* an active restriction concerns it and is not told to it */
-    RBC_ALARM_ANSWER = 3       /* it left an active stop unanswered in three reports, and is not yet stopped at once */
+    RBC_ALARM_ANSWER = 3       /* it left an active stop unanswered in three reports, and the stop is not yet told to it again */
 };
 
 /* How a train faces, or which trains a restriction is for: up is towards rising places. */
@@ -72,7 +72,7 @@ enum {
 typedef struct rbc_train {
     uint32_t engine;       /* NID_ENGINE: 0 to 16777215 */
     uint32_t length;       /* from its enrolment: 1 to 40000 */
-    uint32_t stamp;        /* the later of T_TRAIN of the last message to it and T_TRAIN of its own messages */
+    uint32_t stamp;        /* since its enrolment, the highest known T_TRAIN of messages to it and accepted messages from it; or 0 */
     uint32_t placed;       /* 1: its place is known. 0: it is not, and the next four fields are 0 */
     uint32_t line;         /* the number of its line: 0 to 63 */
     uint32_t from;         /* the lowest place at which a part of it may be: 0 to 3000000 */
@@ -102,7 +102,7 @@ typedef struct rbc_restriction {
 } rbc_restriction;
 
 /* An identifier of a train whose message the train has not answered or acknowledged. Several of one train may have one
-   stamp: that is one message with several packets, and is answered once. 20 bytes. */
+   stamp: that is one message with several packets, and is acknowledged once. 20 bytes. */
 typedef struct rbc_outstanding_entry {
     uint32_t engine;     /* NID_ENGINE of the train */
     uint32_t kind;       /* RBC_WAITS_CONDITIONAL_STOP and so on */
@@ -125,7 +125,7 @@ typedef struct rbc_report {
     size_t count;     /* how many bytes the report has */
 } rbc_report;
 
-/* What a call answers. */
+/* What each call but rbc_rules returns. */
 enum {
     RBC_DONE = 0,
     RBC_MEMORY = 1,        /* malloc or realloc gave nothing */
@@ -134,7 +134,7 @@ enum {
     RBC_VERSION_OTHER = 4, /* desk->version is not RBC_VERSION of the library: compile the caller with the header beside it */
     RBC_NOT_UTF8 = 5,      /* rbc_open, rbc_check: the text of the track is not UTF-8 */
     RBC_TRACK_TEXT = 10,   /* this and all below: of rbc_open, and in rbc_report. The track is no TOML text */
-    RBC_TRACK_SHAPE = 11,  /* its keys are not those of a track */
+    RBC_TRACK_SHAPE = 11,  /* a key is missing, or is not what it has to be */
     RBC_TRACK_LINES = 12,  /* too many lines */
     RBC_TRACK_GROUPS = 13, /* too many balise groups */
     RBC_TRACK_LENGTH = 14, /* a line has a bad length */
@@ -142,25 +142,25 @@ enum {
     RBC_TRACK_TWICE = 16   /* two balise groups have one number */
 };
 
-/* Opens a desk on a track: no train, no stop, no restriction. track is the text of a track in TOML, UTF-8, so many bytes; it is
-   not needed after the call. Answers RBC_DONE, and the desk is open; or why not, and the desk is as it was: at RBC_NOT_NOW
+/* Opens a desk on a track: no train, no stop, no restriction. track is the text of a track in TOML: `length` bytes of UTF-8; it is
+   not needed after the call. Returns RBC_DONE, and the desk is open; or why not, and the desk is as it was: at RBC_NOT_NOW
    still open. */
 uint32_t rbc_open(rbc_desk *desk, const uint8_t *track, size_t length);
 
 /* Gives one line to an open desk, without its line feed: an enrolment, a command or a message, as docs/FORMATS.md has them.
-   Answers RBC_DONE: *answer says what it led to, and its messages stand at the front of out, in the order in which they are sent;
-   what stands behind them stays. At every other answer the desk is as it was, out too, and the line may be fed again. At RBC_ROOM
+   Returns RBC_DONE: *answer says what it led to, and its messages stand at the front of out, in the order in which they are sent;
+   what stands behind them stays. At every other code the desk and out are as they were, and the line may be fed again. At RBC_ROOM
    answer->count says how many messages there would be, and answer->refused is 0: feed the line again with room for them.
    At RBC_MEMORY, RBC_NOT_NOW and RBC_VERSION_OTHER *answer stays as it was. A room of 0 is a way to ask how many messages there would
-   be. */
+   be, but a line that sends none is taken at once: do not feed it again. */
 uint32_t rbc_feed(rbc_desk *desk, const uint8_t *line, size_t length, rbc_message *out, size_t room, rbc_answer *answer);
 
 /* The number of the rules by which a desk decides, as `dispatch --version` tells it. A log that was fed to a library with
    another number may be answered otherwise: begin a new log. */
 uint32_t rbc_rules(void);
 
-/* What an open desk has. Each of these calls writes a list to the front of out, as much as there is room for, and answers RBC_DONE:
-   *count is how long the list is, whatever the room, and what is behind the list in out stays. At every other answer, RBC_MEMORY,
+/* What an open desk has. Each of these calls writes a list to the front of out, as much as there is room for, and returns RBC_DONE:
+   *count is how long the list is, whatever the room, and what is behind the list in out stays. At every other code, RBC_MEMORY,
    RBC_NOT_NOW and RBC_VERSION_OTHER, out and *count stay as they were. The desk stays as it was in any case. A room of 0 is a way
    to ask for the count alone.
 
@@ -181,13 +181,13 @@ uint32_t rbc_outstanding(rbc_desk *desk, rbc_outstanding_entry *out, size_t room
    has just refused is refused again, since it changed nothing. */
 uint32_t rbc_explain_line(rbc_desk *desk, const uint8_t *line, size_t length, uint8_t *out, size_t room, size_t *count);
 
-/* Checks the text of a track, as `dispatch check` does: track is as for rbc_open. Answers RBC_DONE, also where the track is refused:
+/* Checks the text of a track, as `dispatch check` does: track is as for rbc_open. Returns RBC_DONE, also where the track is refused:
    *report says what came of it, and the report, in UTF-8 with line feeds and no zero byte at the end, stands at the front of out, as
    much as there is room for; what is behind it stays. At RBC_MEMORY and RBC_NOT_UTF8 out and *report stay as they were. */
 uint32_t rbc_check(const uint8_t *track, size_t length, uint8_t *out, size_t room, rbc_report *report);
 
-/* Closes an open desk, and gives its memory back. Answers RBC_DONE, or RBC_NOT_NOW where none is open. It is none then, and may be opened
-   again. At RBC_VERSION_OTHER it is as it was. */
+/* Closes an open desk, and gives its memory back. Returns RBC_DONE, or RBC_NOT_NOW where none is open. No desk is open then, and one may
+   be opened again. At RBC_VERSION_OTHER the desk is as it was. */
 uint32_t rbc_close(rbc_desk *desk);
 
 #ifdef __cplusplus
