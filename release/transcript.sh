@@ -5,9 +5,11 @@
 #     release/transcript.sh --check
 #
 # LOG is what `.ci/run` printed (`bash .ci/run 2>&1 | tee LOG`) over the present sources, with the present files in this
-# folder. It becomes GATE.log.gz, and GATE.txt is made from it: what the prover said of each function is left out, and
-# the number of functions and the sums of what was proved are added. SHA256SUMS then has the sums of both. A log is
-# refused unless it is that of a whole gate that passed, over the present sources: `.ci/release` puts their sum into it.
+# folder. Where that run took over the proof of a crate, LOG may have the lines of the run that made it in place of the
+# line that says so. LOG becomes GATE.log.gz, and GATE.txt is made from it: what the prover said of each function is left
+# out, and the number of functions and the sums of what was proved are added. SHA256SUMS then has the sums of both. A log
+# is refused unless it is that of a whole gate that passed, over the present sources: `.ci/release` puts their sum into
+# it.
 #
 # --check makes GATE.txt again from GATE.log.gz, the present sources, SOURCES and SHA256SUMS, and compares. It needs
 # neither Rattle's kit nor a build. The exit status is 0 if both are the same.
@@ -42,9 +44,10 @@ short_form() {
 transcript_of() {
     local log=$1 proved functions
     read -r proved functions <<< "$(proved_in "$log")"
-    printf 'What a gate that passed printed (.ci/run), but for what the prover said of each function: GATE.log.gz has it.\n\n'
+    printf 'What a gate that passed printed (.ci/run), but for what the prover said of each function: GATE.log.gz has it.\n'
+    printf 'What is said of the proof of a crate is from the run that made it, which may be an earlier one.\n\n'
     short_form < "$log"
-    printf '\nProved in this run: %s functions in %s of %s crates.\n' "$functions" "$proved" "$(names_of_crates | wc -l)"
+    printf '\nProved: %s functions in %s of %s crates.\n' "$functions" "$proved" "$(names_of_crates | wc -l)"
     printf 'Kit: %s\n' "$(tail -n 1 "$root/release/SOURCES")"
     printf '\nSHA-256 of the whole log, which is in GATE.log.gz:\n%s\n' "$(sha256sum < "$log" | cut -d ' ' -f 1)"
     printf '\nSHA-256 of the program and the libraries:\n'
