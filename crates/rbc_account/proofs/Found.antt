@@ -24,11 +24,12 @@ use Rattle.rbc_rule.specs.declared.input.Input.{Input}
 use Rattle.rbc_rule.specs.World.{World}
 use Rattle.rbc_rule.specs.Step.{settle_all, sent_to_all}
 use Rattle.rbc_rule.specs.Right.{messages_to}
+use Rattle.rbc_rule.proofs.SettledPlaces.{place_after}
 use Rattle.rbc_live.specs.Held.{AreRecordsOf}
 use Rattle.rbc_live.specs.Known.{train_of, stops_of, limits_of, train_in, active_stops, active_limits}
 use Rattle.rbc_account.specs.Found.{PacketHasSubject, HasSubject, IsRevokedBy, IsLiftedBy, IsFound}
 use Rattle.rbc_account.proofs.Elements.{each-weaker}
-use Rattle.rbc_account.proofs.Meant.{IsGoneUnder, place_still}
+use Rattle.rbc_account.proofs.Meant.{IsGoneUnder}
 use Rattle.rbc_account.proofs.Subject.{each_has_subject}
 use Rattle.rbc_live.proofs.NothingWaits.{stops_there, limits_there, train_there}
 
@@ -116,7 +117,7 @@ module _ (plan : Plan) (changed : World) (records : List (Key × Rec)) (are : Ar
       | inl none ↦ subst (AllByRecursion (IsFound records input before engine)) (sym none) tt
       | inr both ↦
           let after = settled plan changed.stops changed.limits train in
-          let placed : after.place ≡ train.place = place_still (actions_with_stamp plan changed.stops changed.limits train) train in
+          let placed : after.place ≡ train.place = place_after (actions_with_stamp plan changed.stops changed.limits train) train in
           let lifted = λ (id : ℕ).
           subst (λ (place : Option Place). IsGoneUnder (is_limit_gone changed.limits place) train.limits id → IsLiftedBy input before changed.limits.active place id) (sym placed) (both.1 id) in
           let R : ℕ → Type 0 = IsGoneUnder (is_stop_revoked changed.stops (escalated changed.stops train)) train.stops in

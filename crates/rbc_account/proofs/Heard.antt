@@ -1,5 +1,5 @@
 -- What a train is told after its message was told to it before, under the same identifier.
-use Rattle.std.proofs.Common.{◌≡◌, ℕ, ◌+◌, min, max, Bool, true, false, cond, eqb, leb, [], ◌∷◌, Option, Some, None, option_map, option_and_then, Result, Ok, Err, refl, sym, ap, ◌∙◌, subst, arith, inl, inr}
+use Rattle.std.proofs.Common.{◌≡◌, ℕ, ◌+◌, max, Bool, true, false, cond, eqb, leb, [], ◌∷◌, Option, Some, None, option_map, option_and_then, Result, Ok, Err, refl, sym, ap, ◌∙◌, subst, arith, inl, inr}
 use Rattle.std.specs.List.{cons_option, list_any}
 use Rattle.std.specs.Option.{option_map_or}
 use Rattle.std.proofs.lemmas.Bool.{cases_Bool, and_parts, eqb-true}
@@ -12,7 +12,7 @@ use Rattle.rbc_maps.proofs.MapValues.{value_of-absent}
 use Rattle.rbc_ids.specs.declared.slot.Slot.{Slot}
 use Rattle.rbc_ids.specs.declared.slot.Slot.TheVariants.{Used, Revoking}
 use Rattle.rbc_ids.specs.declared.slot.UsedSlot.{UsedSlot}
-use Rattle.rbc_ids.specs.Table.{Slots, marked, is_unanswered, most_reports, reported_slot, after_report, is_answered_by, acked_slots, is_acceptance, is_rejection, acked_by_id}
+use Rattle.rbc_ids.specs.Table.{Slots, marked, reported_slot, after_report, is_answered_by, acked_slots, is_acceptance, is_rejection, acked_by_id}
 use Rattle.rbc_settle.specs.declared.train.TrainRec.{TrainRec}
 use Rattle.rbc_settle.specs.WellFormed.{number_in}
 use Rattle.rbc_settle.specs.UpToDate.{HasTables}
@@ -21,12 +21,13 @@ use Rattle.rbc_rule.specs.declared.refuse.Refusal.TheVariants.{StampTooHigh, Not
 use Rattle.rbc_rule.specs.Effect.{unknown_stamp, is_too_high, raised, placed, limits_acked, acknowledged, stop_acked, answered, told_by, stamp_of, heard}
 use Rattle.rbc_rule.proofs.WorldMaps.{value_of-with_value, value_of-without}
 use Rattle.rbc_live.specs.Known.{number_under}
+use Rattle.rbc_rule_laws.proofs.KeepsSlots.{reported_number}
 
 -- what is told under an identifier was told under it
 abbrev pub WasUnder : Slots → Slots → Type 0
 WasUnder old new = (id n : ℕ) → number_under new id ≡ Some n → number_under old id ≡ Some n
 
-not_some : {A : Type 0} (x : A) → None ≡ Some x → ⊥
+pub not_some : {A : Type 0} (x : A) → None ≡ Some x → ⊥
 not_some x e = cc
 
 -- the number of a slot, if there is one
@@ -35,16 +36,11 @@ number_of found = option_and_then (λ slot. number_in slot) found
 
 -- ---- after a report
 
-number_reported : (slot : Slot) → number_in (reported_slot slot) ≡ number_in slot
-number_reported (Used used) =
-    elim (is_unanswered used) as (λ b. number_in (cond b (Used (record used { count = min (used.count + 1) most_reports })) (Used used)) ≡ Some used.number) [ true ↦ refl | false ↦ refl ]
-number_reported (Revoking stamp) = refl
-
 as_reported : (slots : Slots) (id : ℕ) → number_under (after_report slots) id ≡ number_under slots id
 as_reported [] id = refl
 as_reported (held ∷ slots) id =
     elim (eqb held.0 id) as (λ b. number_of (cond b (Some (reported_slot held.1)) (value_of (after_report slots) id)) ≡ number_of (cond b (Some held.1) (value_of slots id))) [
-      | true ↦ number_reported held.1
+      | true ↦ reported_number held.1
       | false ↦ as_reported slots id
     ]
 

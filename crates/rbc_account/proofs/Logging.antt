@@ -12,6 +12,7 @@ use Rattle.rbc_text.specs.declared.outlet.WriteFault.{WriteFault}
 use Rattle.rbc_text.specs.Streams.{count_of, IsPartOut}
 use Rattle.rbc_account.specs.Faults.{writing_fault}
 use Rattle.rbc_live.specs.History.{IsFed}
+use Rattle.rbc_live.proofs.Writing.{counted_on}
 use Rattle.rbc_account.specs.declared.account.Account.{Account}
 use Rattle.rbc_account.specs.declared.block.Block.{Block}
 use Rattle.rbc_account.specs.declared.account.Sums.{Sums}
@@ -245,9 +246,6 @@ line_shown_if (Ok done) Is wanted start lines line before after now old new bloc
 line_shown_if (Err fault) Is wanted start lines line before after now old new block is within few account step told same headed pushed sent = tt
 
 -- ---- the text that is not written yet
-
-counted_on : (a b count : ℕ) → count ≡ count_of a → count_of (count + b) ≡ count_of (a + b)
-counted_on a b count e = rw e (grind arith)
 
 -- the first bytes of a text that follows what was written
 pub part_out : (written text : List ℕ) (sent : ℕ) (old mid new : Option (List ℕ)) (part : ℕ) → sent ≡ count_of (length written) → Appends old mid written → part ≤ length text

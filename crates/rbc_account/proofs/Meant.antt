@@ -27,6 +27,7 @@ use Rattle.rbc_settle.proofs.Escalating.{between, wanted_next}
 use Rattle.rbc_settle.proofs.Parts.{forced_then, revoked_first, told_then, limits_last, three_parts, slots_revoked, after_first, to_first}
 use Rattle.rbc_live.specs.Known.{number_under}
 use Rattle.rbc_account.proofs.Elements.{each-append, each-take, each-filter, each-map, each-groups, each-passes, each-weaker, each-always, each-both}
+use Rattle.rbc_rule.proofs.SettledPlaces.{place_after}
 
 -- ---- what is meant
 
@@ -117,16 +118,6 @@ forced_one train (ChangesLimits changes) none = refl
 forced_still : (acts : List Action) (train : TrainRec) → AllByRecursion RevokesNoStop acts → (fold carried_out train acts).forced ≡ train.forced
 forced_still [] train none = refl
 forced_still (action ∷ acts) train none = forced_still acts (carried_out train action) none.1 ∙ forced_one train action none.0
-
--- each action leaves the place
-place_one : (train : TrainRec) (action : Action) → (carried_out train action).place ≡ train.place
-place_one train (ChangesStop (stop_change.Revoke id number)) = refl
-place_one train (ChangesStop (stop_change.Tell id number told)) = refl
-place_one train (ChangesLimits changes) = refl
-
-pub place_still : (acts : List Action) (train : TrainRec) → (fold carried_out train acts).place ≡ train.place
-place_still [] train = refl
-place_still (action ∷ acts) train = place_still acts (carried_out train action) ∙ place_one train action
 
 -- ---- the actions of a train
 
@@ -220,5 +211,5 @@ module _ (plan : Plan) (stops : Stops) (limits : Limits) (train : TrainRec) (tab
   pub told_is_meant : (n : ℕ) → AllByRecursion (IsMeant plan.horizon stops limits train (fold carried_out train (take n (actions plan stops limits train))).place (fold carried_out train (take n (actions plan stops limits train))).forced) (take n (actions plan stops limits train))
   told_is_meant n =
       let acts = take n (actions plan stops limits train) in
-      subst (λ (place : Option Place). AllByRecursion (IsMeant plan.horizon stops limits train place (fold carried_out train acts).forced) acts) (sym (place_still acts train))
+      subst (λ (place : Option Place). AllByRecursion (IsMeant plan.horizon stops limits train place (fold carried_out train acts).forced) acts) (sym (place_after acts train))
       (subst (λ (all : List Action). IsMeantAfter (take n all)) (sym whole) (by_parts n))

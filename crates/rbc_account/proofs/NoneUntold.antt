@@ -1,5 +1,5 @@
 -- A stop or a restriction that is untold to no train comes to wait at none.
-use Rattle.std.proofs.Common.{◌≡◌, ℕ, Bool, true, false, cond, List, [], ◌∷◌, length, Option, Some, None, is_none, option_map, option_and_then, refl, sym, ap, ◌∙◌}
+use Rattle.std.proofs.Common.{◌≡◌, ℕ, Bool, true, false, cond, List, [], ◌∷◌, length, Option, Some, None, is_none, option_map, option_and_then, refl, ap, ◌∙◌}
 use Rattle.std.specs.List.{filter, filter_map, cons_option}
 use Rattle.std.specs.Option.{option_map_or}
 use Rattle.rbc_maps.specs.Maps.{value_of}
@@ -10,6 +10,7 @@ use Rattle.rbc_zones.specs.Limits.{Limit}
 use Rattle.rbc_settle.specs.declared.train.TrainRec.{TrainRec}
 use Rattle.rbc_settle.specs.Settling.{stop_to_tell, limit_to_tell, limit_told_to}
 use Rattle.rbc_settle.proofs.ToTell.{stop_told_already, limit_told_already}
+use Rattle.rbc_settle.proofs.OneLine.{untold_limit}
 use Rattle.rbc_records.specs.declared.record.Key.{Key}
 use Rattle.rbc_records.specs.declared.record.Rec.{Rec}
 use Rattle.rbc_rule.specs.declared.input.Input.{Input}
@@ -24,12 +25,10 @@ use Rattle.rbc_live.specs.Known.{train_in, engines_in, active_stops, active_limi
 use Rattle.rbc_live.specs.Waits.{stop_waits, limit_waits, waiting_stop, waiting_limit}
 use Rattle.rbc_account.specs.Coming.{come_to_wait, stop_come, limit_come, stop_come_at, limit_come_at, stop_at, limit_at}
 use Rattle.rbc_account.specs.Counting.{is_share, how_many, stop_share, limit_share, counts_of, counts_after, stop_shares, limit_shares, stop_counts, limit_counts}
-use Rattle.rbc_live.proofs.Causing.{none_waits, no_limit_to_tell}
+use Rattle.rbc_live.proofs.Causing.{none_waits}
+use Rattle.rbc_live.proofs.NothingWaits.{one_only}
 
 -- ---- at one train
-
-not_both : (b : Bool) → b ≡ true → b ≡ false → ⊥
-not_both b is other = let bad : true ≡ false = sym is ∙ other in cc
 
 -- it comes to wait, or not
 abbrev come_if : Bool → ℕ → Waiting → Option (ℕ × Waiting)
@@ -42,14 +41,14 @@ stop_none stop engine train =
       | true ↦ λ waits.
           (elim (is_told train.stops stop.0) as (λ t. is_told train.stops stop.0 ≡ t → is_share Untold (cond t Told Untold) ≡ false → come_if true engine (waiting_stop train stop.0) ≡ None) [
             | true ↦ λ told untold. absurd (none_waits (stop_to_tell train stop) (stop_told_already train stop told) waits)
-            | false ↦ λ told untold. absurd (not_both true refl untold)
+            | false ↦ λ told untold. absurd (one_only true refl untold)
           ]) refl
       | false ↦ λ waits untold. refl
     ]) refl
 
 no_place : (horizon : ℕ) (place : Option Place) (limit : Limit) → is_none place ≡ true → limit_told_to horizon place limit ≡ None
 no_place horizon None limit none = refl
-no_place horizon (Some place) limit none = absurd (not_both false none refl)
+no_place horizon (Some place) limit none = absurd (one_only false none refl)
 
 limit_none : (horizon : ℕ) (limit : ℕ × Limit) (engine : ℕ) (train : TrainRec) → is_share Untold (limit_share horizon limit train) ≡ false → limit_at horizon limit engine train ≡ None
 limit_none horizon limit engine train =
@@ -62,8 +61,8 @@ limit_none horizon limit engine train =
             | true ↦ λ told untold. absurd (none_waits (limit_to_tell horizon train limit) (limit_told_already horizon train limit told) waits)
             | false ↦ λ told.
                 (elim (is_none train.place) as (λ p. is_none train.place ≡ p → is_share Untold (cond p Unplaced Untold) ≡ false → come_if true engine (waiting_limit train limit.0) ≡ None) [
-                  | true ↦ λ none untold. absurd (none_waits (limit_to_tell horizon train limit) (no_limit_to_tell horizon train limit (no_place horizon train.place limit.1 none)) waits)
-                  | false ↦ λ none untold. absurd (not_both true refl untold)
+                  | true ↦ λ none untold. absurd (none_waits (limit_to_tell horizon train limit) (untold_limit horizon train limit (no_place horizon train.place limit.1 none)) waits)
+                  | false ↦ λ none untold. absurd (one_only true refl untold)
                 ]) refl
           ]) refl
       | false ↦ λ waits untold. refl

@@ -4,16 +4,15 @@ use Rattle.std.specs.Prelude.{Result, Ok, Err, IsErr, IsErrAnd, not}
 use Rattle.std.specs.declared.alloc.AllocError.{AllocError}
 use Rattle.std.specs.List.{slice_split, onto_first, position}
 use Rattle.std.specs.Io.KnownBytes.{Consumes, IsAtEnd}
-use Rattle.std.proofs.KnownBytes.{Consumes-trans}
 use Rattle.std.proofs.lemmas.List.{take_all, length-drop, length-take, drop-drop}
 use Rattle.std.proofs.Math.Seq.{drop-length}
 use Rattle.std.proofs.lemmas.Bool.Decides.{nat_tests}
 use Rattle.rbc_text.specs.BatchText.{is_line_feed, lines_of, without_empty_end}
-use Rattle.ertms_codec.proofs.Cuts.{place_found, no_place, split_at_place, split_without_place}
+use Rattle.ertms_codec.proofs.Cuts.{place_found, no_place, split_at_place, split_without_place, split_is_cons}
 use Rattle.rbc_text.specs.Calls.{max_calls}
 use Rattle.rbc_text.specs.EndedLines.{but_last, joined}
 use Rattle.rbc_text.specs.declared.calls.Calls.{Calls}
-use Rattle.rbc_text.proofs.LinePieces.{first_piece, joined_whole, line_more, one_piece_more, but_last_behind, but_one, lines_beyond, no_line_left, line_left}
+use Rattle.rbc_text.proofs.LinePieces.{joined_whole, line_more, one_piece_more, but_last_behind, but_one, lines_beyond, no_line_left, line_left}
 use Rattle.rbc_account.specs.declared.lines.LineFault.{LineFault}
 use Rattle.rbc_account.specs.declared.lines.LineFault.TheVariants.{Read, Memory}
 use Rattle.rbc_account.specs.declared.lines.LineReader.{LineReader}
@@ -47,7 +46,7 @@ nothing_behind lines begun left none =
 -- no byte of a line has begun
 pub nothing_begun : (lines : List (List ℕ)) (begun left : List ℕ) → begun ≡ [] → lines ++ joined begun (slice_split is_line_feed left) ≡ lines ++ slice_split is_line_feed left
 nothing_begun lines begun left none =
-    let some = first_piece is_line_feed left in
+    let some = split_is_cons is_line_feed left in
     ap (λ (line : List ℕ). lines ++ joined line (slice_split is_line_feed left)) none
     ∙ ap (λ (pieces : List (List ℕ)). lines ++ pieces) (joined_whole (slice_split is_line_feed left) some.0 some.1 some.2)
 
@@ -70,10 +69,6 @@ without_end_few ([] ∷ []) = omega arith
 without_end_few ([] ∷ next ∷ pieces) = let rest = without_end_few (next ∷ pieces) in omega (arith, rest)
 without_end_few ((x ∷ piece) ∷ pieces) = let rest = without_end_few pieces in omega (arith, rest)
 
-onto_first_few : (x : ℕ) (pieces : List (List ℕ)) → length (onto_first x pieces) ≤ length pieces + 1
-onto_first_few x [] = omega arith
-onto_first_few x (piece ∷ pieces) = omega arith
-
 split_few : (x : ℕ) (feed : Bool) (pieces : List (List ℕ)) (n : ℕ) → 1 ≤ length pieces → length pieces ≤ n + 1
     → length (cond feed ([] ∷ pieces) (onto_first x pieces)) ≤ n + 1 + 1
 split_few x true pieces n some few = omega (arith, few)
@@ -82,7 +77,7 @@ split_few x false (piece ∷ pieces) n some few = omega (arith, few)
 
 some_pieces : (text : List ℕ) → 1 ≤ length (slice_split is_line_feed text)
 some_pieces text =
-    let some = first_piece is_line_feed text in
+    let some = split_is_cons is_line_feed text in
     let count : length (slice_split is_line_feed text) ≡ length (some.0 ∷ some.1) = ap (λ (ps : List (List ℕ)). length ps) some.2 in
     omega (arith, count)
 
@@ -112,7 +107,7 @@ pub given_first : (old new : Option (List ℕ)) (reader : LineReader) (lines : L
 given_first old new reader lines is = by reader.ended is.rest where
   by : (ended : Bool) → IsRest ended new is.batch lines (left_in reader) → (more : List (List ℕ)) × (lines_of is.batch ≡ lines ++ more)
   by false rest =
-      let some = first_piece is_line_feed (left_in reader) in
+      let some = split_is_cons is_line_feed (left_in reader) in
       first_of_pieces is.batch lines some.0 some.1 (rest ∙ ap (λ (pieces : List (List ℕ)). lines ++ pieces) some.2)
   by true rest = ([], rest.1 ∙ sym (append-nil lines))
 
@@ -215,10 +210,6 @@ first_with_piece old mid new before lines piece is none read =
     (one_piece_more is_line_feed is.batch piece lines before.line.items (is.rest ∙ nothing_behind lines before.line.items (left_in before) none)
     ∙ ap (λ (pieces : List (List ℕ)). lines ++ pieces) some.2) in
     (is.batch ++ piece, first.0, read, first.1)
-
--- nothing was read
-pub none_read : (old mid new : Option (List ℕ)) (batch : List ℕ) → Consumes old mid batch → Consumes mid new [] → Consumes old new batch
-none_read old mid new batch read none = subst (Consumes old new) (append-nil batch) (Consumes-trans old mid new batch [] read none)
 
 pub nothing_read : (old mid new : Option (List ℕ)) (before after : LineReader) (lines : List (List ℕ)) (is : IsMidway old mid before lines) → Consumes old new is.batch
     → before.calls.made + 1 ≤ after.calls.made → after.calls.failed ≡ false → after.calls.made ≤ max_calls → after.line.items ≡ before.line.items → after.ended ≡ before.ended

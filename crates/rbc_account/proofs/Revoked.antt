@@ -1,13 +1,12 @@
 -- What an input revokes, where the trains were settled before it.
-use Rattle.std.proofs.Common.{◌≡◌, ◌⊎◌, ℕ, zero, suc, ◌-◌, ◌<◌, ◌≤◌, Bool, true, false, not, cond, ◌||◌, ◌&&◌, eqb, ltb, List, [], ◌∷◌, ◌++◌, map, take, drop, length, Option, Some, None, option_and_then, refl, sym, ap, ◌∙◌, subst, arith, inl, inr}
-use Rattle.std.specs.List.{All, filter, filter_map, cons_option, scan, AllByRecursion}
+use Rattle.std.proofs.Common.{◌≡◌, ◌⊎◌, ℕ, zero, suc, ◌-◌, ◌<◌, ◌≤◌, Bool, true, false, not, cond, ◌||◌, ◌&&◌, eqb, ltb, List, [], ◌∷◌, ◌++◌, map, take, length, Option, Some, None, option_and_then, refl, sym, ap, ◌∙◌, subst, arith, inl, inr}
+use Rattle.std.specs.List.{filter, filter_map, cons_option, scan, AllByRecursion}
 use Rattle.std.specs.Option.{option_map_or}
-use Rattle.std.proofs.lemmas.Bool.{cases_Bool, cases_lt, or_parts, or_from, or_left, or_right, ne_eqb, eq-eqb, eqb-true}
-use Rattle.std.proofs.lemmas.List.Elements.{All-head, All-tail}
+use Rattle.std.proofs.lemmas.Bool.{cases_Bool, cases_lt, or_parts, or_left, or_right, ne_eqb, eq-eqb, eqb-true}
 use Rattle.std.proofs.lemmas.Option.{same_Some}
 use Rattle.rbc_track.specs.Plan.{Plan}
 use Rattle.rbc_place.specs.Placing.{Place}
-use Rattle.rbc_maps.specs.Maps.{has, value_of, with_value, without, keys}
+use Rattle.rbc_maps.specs.Maps.{has, value_of, with_value, without}
 use Rattle.rbc_maps.specs.Numbered.{AreNumbered}
 use Rattle.rbc_maps.proofs.MapFacts.{any-with_value, each_fails}
 use Rattle.rbc_maps.proofs.MapValues.{value_of-absent}
@@ -23,34 +22,17 @@ use Rattle.rbc_settle.specs.declared.change.LimitChange.TheVariants as limit_cha
 use Rattle.rbc_settle.specs.Numbers.{has_number}
 use Rattle.rbc_settle.specs.Settling.{Stops, Limits, last_stamp, carried_out, message_of, stop_to_tell, is_used_by, to_revoke, is_stop_gone, is_clear_of, is_limit_gone, due_number, spare_identifiers, escalated, is_stop_revoked, revoke_stop, stops_revoked, stops_told, limits_revoked, limits_told, limit_changes, actions, actions_with_stamp, messages_of}
 use Rattle.rbc_settle.specs.WellFormed.{number_in}
-use Rattle.rbc_settle.proofs.Groups.{groups_cons}
 use Rattle.rbc_rule.specs.declared.input.Input.{Input}
 use Rattle.rbc_rule.specs.declared.input.Input.TheVariants as input
 use Rattle.rbc_rule.specs.Effect.{with_next, with_less, forget}
 use Rattle.rbc_rule.proofs.WorldMaps.{value_of-with_value, value_of-without}
+use Rattle.rbc_rule.proofs.Untouched.{not_empty, both_empty, empty_mapped, no_groups, absent_above}
 use Rattle.rbc_live.specs.Known.{number_under}
 use Rattle.rbc_account.proofs.Meant.{IsGoneUnder}
 use Rattle.rbc_account.proofs.Found.{AreRevokedBy}
+use Rattle.rbc_account.proofs.Heard.{not_some}
 
 -- ---- lists that are empty
-
-not_empty : {A : Type 0} (x : A) (xs : List A) → x ∷ xs ≡ [] → ⊥
-not_empty x xs e = cc
-
-not_some : {A : Type 0} (x : A) → None ≡ Some x → ⊥
-not_some x e = cc
-
-both_empty : {A : Type 0} (xs ys : List A) → xs ++ ys ≡ [] → (xs ≡ []) × (ys ≡ [])
-both_empty [] ys e = (refl, e)
-both_empty (x ∷ xs) ys e = absurd (not_empty x (xs ++ ys) e)
-
-empty_mapped : {A B : Type 0} (f : A → B) (xs : List A) → map f xs ≡ [] → xs ≡ []
-empty_mapped f [] e = refl
-empty_mapped f (x ∷ xs) e = absurd (not_empty (f x) (map f xs) e)
-
-no_groups : {X : Type 0} (items : List X) → groups items ≡ [] → items ≡ []
-no_groups [] none = refl
-no_groups {X} (x ∷ xs) none = absurd (not_empty (take 100 (x ∷ xs)) (groups (drop 100 (x ∷ xs))) (sym (groups_cons x xs) ∙ none))
 
 taken_none : {X : Type 0} (n : ℕ) (xs : List X) → 1 ≤ n → take n xs ≡ [] → xs ≡ []
 taken_none zero xs some e = absurd (omega (arith, some))
@@ -124,13 +106,6 @@ module _ (plan : Plan) (stops : Stops) (limits : Limits) (train : TrainRec) wher
     no_limit id g = none_gone (is_limit_gone limits train.place) train.limits no_limit_used id g
 
 -- ---- more that is active
-
--- a number above all keys is no key
-absent_above : {V : Type 0} (last number : ℕ) (pairs : List (ℕ × V)) → All (λ n. n ≤ last) (keys pairs) → last < number → has pairs number ≡ false
-absent_above last number [] within above = refl
-absent_above last number (pair ∷ pairs) within above =
-    let below : pair.0 ≤ last = All-head (λ n. n ≤ last) pair.0 (keys pairs) within in
-    or_from (eqb pair.0 number) (has pairs number) (ne_eqb pair.0 number (λ same. absurd (omega (arith, same, below, above)))) (absent_above last number pairs (All-tail (λ n. n ≤ last) pair.0 (keys pairs) within) above)
 
 -- with one restriction more the same numbers are gone that were, but for its own, which was
 limit_gone_before : (limits : Limits) (number : ℕ) (limit : Limit) (place : Option Place) → AreNumbered limits → limits.last < number

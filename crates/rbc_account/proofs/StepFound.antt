@@ -42,16 +42,13 @@ use Rattle.rbc_account.specs.Coming.{sender_in}
 use Rattle.rbc_account.specs.Found.{IsFound}
 use Rattle.rbc_account.proofs.Found.{value_of-each, each_by_engine, AreRevokedBy, all_found}
 use Rattle.rbc_account.proofs.Revoked.{at_others, at_lift, at_release, at_restrict, at_stop}
-use Rattle.rbc_account.proofs.Heard.{WasToldIfOk, heard_told}
+use Rattle.rbc_account.proofs.Heard.{WasToldIfOk, heard_told, not_some}
 use Rattle.rbc_live.proofs.NothingWaits.{train_there}
 
 -- what holds of the world after an input, unless that is refused
 abbrev pub ForOk : (World → Type 0) → Result World ℕ → Type 0
 ForOk Holds (Ok changed) = Holds changed
 ForOk Holds (Err code) = Unit
-
-not_some : {A : Type 0} (x : A) → None ≡ Some x → ⊥
-not_some x e = cc
 
 -- what is added and what is removed, where the tests pass
 added : {V : Type 0} (Holds : World → Type 0) (most : ℕ) (good : Bool) (number : ℕ) (value : V) (n : Numbered V) (then_world : Numbered V → World)

@@ -25,6 +25,7 @@ use Rattle.rbc_account.specs.Found.{MeansNow, MeansBefore, IsNotClear, PacketHas
 use Rattle.rbc_account.proofs.Elements.{each-map, each-weaker, each-both}
 use Rattle.rbc_account.proofs.StaysTold.{IsChangeUnder, IsUnder, told_is_found}
 use Rattle.rbc_account.proofs.Meant.{IsGoneUnder, IsChangeMeant, IsMeant, told_is_meant}
+use Rattle.rbc_account.proofs.Heard.{not_some}
 
 -- ---- what is told so means that
 
@@ -34,9 +35,6 @@ not_before edge e = cc
 
 not_at_once : (edge : Edge) → Some AtOnce ≡ Some (Before edge) → ⊥
 not_at_once edge e = cc
-
-not_some : {A : Type 0} (x : A) → None ≡ Some x → ⊥
-not_some x e = cc
 
 now_at : (p : Place) (c : Concern) → told_at p c ≡ Some AtOnce → MeansNow c
 now_at p concern.None e = absurd (not_some AtOnce e)

@@ -1,9 +1,10 @@
 -- A run from a new desk, and what is written of it.
-use Rattle.std.proofs.Common.{◌≡◌, ℕ, ◌≤◌, List, [], ◌++◌, length, take, Option, Some, None, Result, Ok, Err, refl, sym, ap, ◌∙◌, subst, arith}
+use Rattle.std.proofs.Common.{◌≡◌, ℕ, ◌≤◌, List, [], ◌++◌, length, take, Option, Result, Ok, Err, refl, sym, ap, ◌∙◌, subst, arith}
 use Rattle.std.specs.Prelude.{IsErrAnd}
 use Rattle.std.specs.List.{flat_map, enumerate_from}
 use Rattle.std.specs.Io.KnownBytes.{Appends, Keeps}
 use Rattle.std.proofs.lemmas.List.{take_all}
+use Rattle.std.proofs.KnownBytes.{Keeps-refl}
 use Rattle.rbc_track.specs.Plan.{Plan}
 use Rattle.rbc_rule.specs.declared.input.Input.{Input}
 use Rattle.rbc_rule.specs.declared.outcome.Reply.{Reply}
@@ -90,17 +91,12 @@ before_run text Counted plan workers read_old read_new old new fault.Read h keep
 before_run text Counted plan workers read_old read_new old new fault.TooLong h keeps = keeps
 before_run text Counted plan workers read_old read_new old new fault.Memory h keeps = keeps
 
--- what stays is kept
-stays : (bytes : Option (List ℕ)) → Keeps bytes bytes
-stays None = tt
-stays (Some bytes) = refl
-
 -- it is handed on, and nothing is written
 pub handed_on_as : {E : Type 0} (text : List Input → List ℕ) (Counted : List Input → E → Type 0) (plan : Plan) (workers : ℕ) (read_old read_new old : Option (List ℕ)) (result : Result E ProcessError) (error : ProcessError)
     → IsErrAnd result (λ other. other ≡ error) → IsBeforeRun workers read_old read_new error → AnswersBy text Counted plan workers read_old read_new old old result
 handed_on_as text Counted plan workers read_old read_new old (Ok counts) error is h = absurd is
 handed_on_as text Counted plan workers read_old read_new old (Err other) error is h =
-    subst (λ (e : ProcessError). AnswersBy text Counted plan workers read_old read_new old old (Err e)) (sym is) (before_run text Counted plan workers read_old read_new old old error h (stays old))
+    subst (λ (e : ProcessError). AnswersBy text Counted plan workers read_old read_new old old (Err e)) (sym is) (before_run text Counted plan workers read_old read_new old old error h (Keeps-refl old))
 
 pub handed_on : (plan : Plan) (workers : ℕ) (read_old read_new old : Option (List ℕ)) (result : Result (Stats × Held) ProcessError) (error : ProcessError) → IsErrAnd result (λ other. other ≡ error)
     → IsBeforeRun workers read_old read_new error → AnswersWithDesk plan workers read_old read_new old old result
@@ -115,25 +111,14 @@ not_run plan workers read_old read_new old inputs (Err other) error is read h =
   where
     refused_run : (plan : Plan) (workers : ℕ) (read_old read_new old : Option (List ℕ)) (inputs : List Input) (error : RunError) → AreRead read_old read_new inputs → IsRunOf plan inputs workers (Err error)
         → AnswersWithDesk plan workers read_old read_new old old (Err (fault.Run error))
-    refused_run plan workers read_old read_new old inputs Workers read h = (inputs, read, h, stays old)
-    refused_run plan workers read_old read_new old inputs TooManyInputs read h = (inputs, read, h.0, h.1, stays old)
-    refused_run plan workers read_old read_new old inputs (OutOfMemory committed) read h = (inputs, read, h.0, h.1, h.2, stays old)
+    refused_run plan workers read_old read_new old inputs Workers read h = (inputs, read, h, Keeps-refl old)
+    refused_run plan workers read_old read_new old inputs TooManyInputs read h = (inputs, read, h.0, h.1, Keeps-refl old)
+    refused_run plan workers read_old read_new old inputs (OutOfMemory committed) read h = (inputs, read, h.0, h.1, h.2, Keeps-refl old)
 
 -- the counts alone
 pub counts_of : (plan : Plan) (workers : ℕ) (read_old read_new old new : Option (List ℕ)) (stats : Stats) (held : Held)
     → AnswersWithDesk plan workers read_old read_new old new (Ok (stats, held)) → Answers plan workers read_old read_new old new (Ok stats)
 counts_of plan workers read_old read_new old new stats held (inputs, read, may, few, out, said, run) = (inputs, read, may, few, out, said, run.0)
-
--- the same fault
-pub same_fault : (plan : Plan) (workers : ℕ) (read_old read_new old new : Option (List ℕ)) (error : ProcessError)
-    → AnswersWithDesk plan workers read_old read_new old new (Err error) → Answers plan workers read_old read_new old new (Err error)
-same_fault plan workers read_old read_new old new (fault.Write sent) h = h
-same_fault plan workers read_old read_new old new (fault.Run Workers) h = h
-same_fault plan workers read_old read_new old new (fault.Run TooManyInputs) h = h
-same_fault plan workers read_old read_new old new (fault.Run (OutOfMemory committed)) h = h
-same_fault plan workers read_old read_new old new fault.Read h = h
-same_fault plan workers read_old read_new old new fault.TooLong h = h
-same_fault plan workers read_old read_new old new fault.Memory h = h
 
 -- ---- with alarms
 

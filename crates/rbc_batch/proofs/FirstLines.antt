@@ -1,10 +1,6 @@
 -- The first lines of a text.
 use Rattle.std.proofs.Common.{◌≡◌, ℕ, ◌≤◌, List, [], ◌++◌, length, take, sym, ◌∙◌, subst}
-use Rattle.std.proofs.lemmas.List.{take_all, take_at, append-nil}
-
--- lines that stand in front, and are as many as wanted, are the first ones
-pub as_many_as_wanted : (most : ℕ) (lines rest whole : List (List ℕ)) → lines ++ rest ≡ whole → length lines ≡ most → lines ≡ take most whole
-as_many_as_wanted most lines rest whole all many = subst (λ (text : List (List ℕ)). lines ≡ take most text) all (sym (take_at lines rest most many))
+use Rattle.std.proofs.lemmas.List.{take_all, append-nil}
 
 -- so are lines behind which there is none, if no more are wanted
 pub none_behind : (most : ℕ) (lines whole : List (List ℕ)) → lines ++ [] ≡ whole → length lines ≤ most → lines ≡ take most whole

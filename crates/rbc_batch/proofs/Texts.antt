@@ -8,8 +8,8 @@ use Rattle.std.proofs.Math.Seq.{take-append-add}
 use Rattle.std.proofs.lemmas.List.{take_more, take_all, take-append-drop, take-append-le}
 use Rattle.std.proofs.lemmas.List.Concat.{flat_map-append}
 use Rattle.std.proofs.lemmas.Option.{get_or_from_slice_get, slice_get_within}
+use Rattle.std.proofs.KnownBytes.{Appends-trans}
 use Rattle.rbc_batch.specs.Parts.{joined}
-use Rattle.rbc_text.proofs.Transfers.{appends_more}
 
 abbrev Text : Type 0
 Text = Vec ℕ Global
@@ -45,7 +45,7 @@ out_so_far old mid new texts i text sent more at is few first second =
     let behind = joined (drop (i + 1) texts) in
     let cut : take (sent + more) (joined texts) ≡ before ++ take more text.items =
     (λ j. take (is j + more) (joined_here texts i text at j)) ∙ take-append-add before (text.items ++ behind) more ∙ ap (λ xs. before ++ xs) (take-append-le more text.items behind few) in
-    subst (Appends old new) (sym cut) (appends_more old mid new before (take more text.items) first second)
+    subst (Appends old new) (sym cut) (Appends-trans old mid new before (take more text.items) first second)
 
 -- behind the last text
 pub all_joined : (texts : List Text) (i : ℕ) → length texts ≤ i → joined (take i texts) ≡ joined texts

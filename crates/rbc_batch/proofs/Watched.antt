@@ -1,6 +1,6 @@
 -- Inputs that are taken in one after another, and the alarms that change by them.
 use Rattle.std.proofs.Common.{◌≡◌, ℕ, ◌+◌, ◌<◌, false, List, [], ◌∷◌, ◌++◌, length, take, get_or, Option, refl, sym, ap, ◌∙◌, subst, append_assoc, append-nil, arith}
-use Rattle.std.specs.Prelude.{option_and_then, Result, Ok, Err, OnOk, is_ok, if◌then◌else◌}
+use Rattle.std.specs.Prelude.{option_and_then}
 use Rattle.std.proofs.lemmas.List.{take_more}
 use Rattle.rbc_track.specs.Plan.{Plan}
 use Rattle.rbc_records.specs.declared.record.Key.{Key}
@@ -91,13 +91,3 @@ module _ (plan : Plan) (input : Input) (old mid new : Held) (outcome : Outcome) 
     seen_between lines follows =
         subst (λ (all : List (Key × Rec)). AreSeenLines number (seen_of plan.horizon old.records) (seen_of plan.horizon all) lines) there
         (subst (λ h. AreSeenLines number (seen_of h old.records) (seen_of h records) lines) at (follows old.records was stays_there))
-
--- what holds in any case holds where there was no fault
-pub in_any_case : {E F P : Type 0} (r : Result E F) → P → OnOk r P
-in_any_case (Ok done) holds = holds
-in_any_case (Err fault) holds = tt
-
--- bytes that were added
-pub appended : {E F P : Type 0} (r : Result E F) (old new more : List ℕ) → new ≡ (if is_ok r then old ++ more else old) → (new ≡ old ++ more → P) → OnOk r P
-appended (Ok done) old new more e follows = follows e
-appended (Err fault) old new more e follows = tt

@@ -5,7 +5,7 @@ use Rattle.rbc_c.specs.declared.feed.Answer.{Answer}
 use Rattle.rbc_c.specs.declared.message.Message.{Message}
 use Rattle.rbc_c.specs.Given.{GivesOf, Gives}
 use Rattle.rbc_c.specs.Feeds.{IsFed, Feeds}
-use Rattle.rbc_c.specs.Opens.{Opens, IsNew, IsWhyNot}
+use Rattle.rbc_c.specs.Opens.{Opens, IsNew}
 
 pub feeds : (old after : Option LiveDesk) (line : List ℕ) (out written : List Message) (before answer : Answer) (code : ℕ) (desk new : LiveDesk)
     → old ≡ Some desk → after ≡ Some new → IsFed desk line out before code new written answer → Feeds old line out before code after written answer
@@ -13,22 +13,9 @@ feeds old after line out written before answer code desk new e f fed =
     subst (λ (o : Option LiveDesk). Feeds o line out before code after written answer) (sym e)
     (subst (λ (a : Option LiveDesk). Feeds (Some desk) line out before code a written answer) (sym f) fed)
 
-pub not_fed : (old after : Option LiveDesk) (line : List ℕ) (out : List Message) (before : Answer) (code : ℕ) → old ≡ None → after ≡ None → code ≡ 2 → Feeds old line out before code after out before
-not_fed old after line out before code e f is =
-    subst (λ (o : Option LiveDesk). Feeds o line out before code after out before) (sym e)
-    (subst (λ (a : Option LiveDesk). Feeds None line out before code a out before) (sym f) (is, refl, refl))
-
-pub still_open : (old after : Option LiveDesk) (text : List ℕ) (desk : LiveDesk) → old ≡ Some desk → after ≡ Some desk → Opens old text 2 after
-still_open old after text desk e f =
-    subst (λ (o : Option LiveDesk). Opens o text 2 after) (sym e) (refl, f)
-
 pub opened : (old after : Option LiveDesk) (text : List ℕ) (desk : LiveDesk) → old ≡ None → after ≡ Some desk → IsNew text desk → Opens old text 0 after
 opened old after text desk e f is =
     subst (λ (o : Option LiveDesk). Opens o text 0 after) (sym e) (subst (λ (a : Option LiveDesk). Opens None text 0 a) (sym f) (refl, is))
-
-pub not_opened : (old after : Option LiveDesk) (text : List ℕ) (code : ℕ) → old ≡ None → after ≡ None → IsWhyNot text code → Opens old text code after
-not_opened old after text code e f is =
-    subst (λ (o : Option LiveDesk). Opens o text code after) (sym e) (subst (λ (a : Option LiveDesk). Opens None text code a) (sym f) is)
 
 pub gives : {A : Type 0} (IsOf : LiveDesk → List A → Type 0) (old after : Option LiveDesk) (out written : List A) (before count code : ℕ) (desk new : LiveDesk)
     → old ≡ Some desk → after ≡ Some new → GivesOf IsOf desk out before code new written count → Gives IsOf old out before code after written count

@@ -259,7 +259,7 @@ numbers_taken_over entries before now same k = ap number_of (same k) ∙ number_
 
 -- ---- commits
 
-front_index : (s : State) → s.committed ≡ front s - 1
+pub front_index : (s : State) → s.committed ≡ front s - 1
 front_index s = omega arith
 
 -- what stands at the next input

@@ -1,5 +1,5 @@
 -- No attempt writes a key above the key's bound.
-use Rattle.std.proofs.Common.{◌≡◌, ◌≢◌, ◌⊎◌, ℕ, zero, suc, ◌+◌, ◌<◌, ◌≤◌, Bool, true, false, cond, List, [], ◌∷◌, length, set, get_or, min, Option, Some, None, inl, inr, ⊎_elim, refl, sym, ap, ◌∙◌, subst, arith}
+use Rattle.std.proofs.Common.{◌≡◌, ◌≢◌, ◌⊎◌, ℕ, zero, suc, ◌+◌, ◌<◌, ◌≤◌, Bool, true, false, cond, List, [], ◌∷◌, length, set, min, Option, Some, None, inl, inr, ⊎_elim, refl, sym, ap, ◌∙◌, subst, arith}
 use Rattle.std.specs.Prelude.{slice_get, replicate, IfSome}
 use Rattle.std.proofs.lemmas.Bool.{cases_lt}
 use Rattle.std.proofs.lemmas.Option.{slice_get_within}
@@ -15,14 +15,6 @@ use Rattle.rbc_core.specs.Searches.{AreBound, IsLatestIn, NoneWritesIn, bound_of
 use Rattle.rbc_core.proofs.Books.{slice_get_set, slice_get_replicate}
 
 -- ---- bounds are raised
-
--- a write of a greater number lowers no item
-pub none_lowered : (xs : List ℕ) (i j n : ℕ) → get_or xs i 0 ≤ n → get_or xs j 0 ≤ get_or (set xs i n) j 0
-none_lowered [] i j n more = omega arith
-none_lowered (x ∷ xs) zero zero n more = more
-none_lowered (x ∷ xs) zero (suc j) n more = omega arith
-none_lowered (x ∷ xs) (suc i) zero n more = omega arith
-none_lowered (x ∷ xs) (suc i) (suc j) n more = none_lowered xs i j n more
 
 -- a key under which entries put a number is that of the first entry, or such a key of the others
 first_or_other : (P : Key → Type 0) (entry : Key × NumberedRec) (k : Key) (n : ℕ) (found : Option ℕ) → P entry.0 → ((m : ℕ) → found ≡ Some m → P k)

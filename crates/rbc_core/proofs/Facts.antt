@@ -1,7 +1,7 @@
 -- What one event leaves.
-use Rattle.std.proofs.Common.{◌≡◌, ◌≢◌, ◌⊎◌, ℕ, zero, suc, ◌+◌, ◌-◌, ◌<◌, ◌≤◌, ◌||◌, Bool, true, false, cond, List, [], ◌∷◌, set, Option, Some, None, inl, inr, IsTrue, refl, sym, ap, ◌∙◌, ⊎_elim, arith}
+use Rattle.std.proofs.Common.{◌≡◌, ◌≢◌, ◌⊎◌, ℕ, zero, suc, ◌+◌, ◌-◌, ◌<◌, ◌≤◌, Bool, true, false, cond, List, [], ◌∷◌, set, Option, Some, None, inl, inr, IsTrue, refl, sym, ap, ◌∙◌, ⊎_elim, arith}
 use Rattle.std.specs.Prelude.{slice_get}
-use Rattle.std.proofs.lemmas.Bool.{cases_lt}
+use Rattle.std.proofs.lemmas.Bool.{cases_lt, or_parts}
 use Rattle.rbc_records.specs.declared.record.Key.{Key}
 use Rattle.rbc_records.specs.declared.record.Rec.{Rec}
 use Rattle.rbc_records.specs.Notes.{same_key}
@@ -78,21 +78,16 @@ attempts_stay run s (Fails false) may number a at =
     (λ (now : number ≤ front s). inr (omega (arith, now, low), inr (may.0, refl)))
     (elim (cases_lt (front s) number) [ inl q ↦ inl q | inr q ↦ inr (omega (arith, q)) ])
 
--- what no write names stays
-neither : (a b : Bool) → (a || b) ≡ false → (a ≡ false) × (b ≡ false)
-neither true b e = absurd (cc e)
-neither false b e = (refl, e)
-
 unnamed : (writes : List (Key × Option Rec)) (records : Key → Option Rec) (k : Key) → names writes k ≡ false → written writes records k ≡ records k
 unnamed [] records k none = refl
 unnamed (write ∷ writes) records k none =
-    let parts = neither (same_key k write.0) (names writes k) none in
+    let parts = or_parts (same_key k write.0) (names writes k) none in
     unnamed writes (write_over write records) k parts.1 ∙ ap (λ b. cond b write.1 (records k)) parts.0
 
 unnumbered : (entries : List (Key × NumberedRec)) (numbers : Key → ℕ) (k : Key) → names entries k ≡ false → numbers_after entries numbers k ≡ numbers k
 unnumbered [] numbers k none = refl
 unnumbered (entry ∷ entries) numbers k none =
-    let parts = neither (same_key k entry.0) (names entries k) none in
+    let parts = or_parts (same_key k entry.0) (names entries k) none in
     unnumbered entries (λ other. cond (same_key other entry.0) entry.1.number (numbers other)) k parts.1 ∙ ap (λ b. cond b entry.1.number (numbers k)) parts.0
 
 -- what holds where a key is not named holds, or it is named

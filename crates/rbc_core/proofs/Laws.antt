@@ -14,7 +14,7 @@ use Rattle.rbc_core.specs.Core.{Try, IsRightTry, State, opening, IsAt, front, Is
 use Rattle.rbc_core.specs.Books.{IsKept}
 use Rattle.rbc_core.specs.Events.{Event, May, next, Follow, Meaning, AreMeant, IsMeant, IsOpeningIn, EventsAreSerial}
 use Rattle.rbc_core.specs.Events.Event.{Publishes, Takes, Reads, Deposits, Voids, Applies, Recomputes, Waits, Ends, Fails}
-use Rattle.rbc_core.proofs.Books.{slice_get_set, slice_get_replicate, opens, takes, keeps, closes, committed, commits}
+use Rattle.rbc_core.proofs.Books.{slice_get_set, slice_get_replicate, opens, takes, keeps, closes, committed, commits, front_index}
 use Rattle.rbc_core.proofs.Agreeing.{right_outcome}
 use Rattle.rbc_core.proofs.Meanings.{Mean, current_now, mean_committed}
 
@@ -30,9 +30,6 @@ ready_turn s h = ⊎_elim (λ (q : (a : Try) × IsAt s (front s) (Tried a)). let
 stale_turn : (s : State) → IsStale s → s.committed < s.taken
 stale_turn s (inl void) = let high = void.taken in omega (arith, high)
 stale_turn s (inr (a, at, other)) = let high = at.taken in omega (arith, high)
-
-front_index : (s : State) → s.committed ≡ front s - 1
-front_index s = omega arith
 
 module _ (run : Run) (means : Meaning) where
   -- an attempt that is kept is right, and its numbers are meant

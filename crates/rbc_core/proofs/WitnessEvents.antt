@@ -25,7 +25,6 @@ use Rattle.rbc_rule.specs.Right.{MayBe, IsStep}
 use Rattle.rbc_rule.specs.WellFormed.{IsWellFormed}
 use Rattle.rbc_rule_laws.specs.Witnesses.{track_a}
 use Rattle.rbc_rule_laws.proofs.WitnessSays.{differ}
-use Rattle.rbc_rule.proofs.WorldMaps.{eqb_turned}
 use Rattle.rbc_desk.specs.Held.{IsOutcomeOf}
 use Rattle.rbc_core.specs.declared.stage.Stage.{Stage}
 use Rattle.rbc_core.specs.declared.stage.Stage.TheVariants.{Out, Tried, Void}
@@ -34,6 +33,7 @@ use Rattle.rbc_core.specs.Core.{Try, State, IsRightTry, front, IsStale}
 use Rattle.rbc_core.specs.Events.{Event, Follow}
 use Rattle.rbc_core.specs.Events.Event.{Takes, Reads, Deposits, Voids, Recomputes, Ends}
 use Rattle.rbc_core.specs.Witnesses.{two_inputs, enrolled, refused, train_7, absent, under, publishing, no_numbers, start, nothing_there, first_try, committing_first, second_try, stale_try, second_overtaken, second_given_up}
+use Rattle.rbc_track.proofs.Entries.{eqb_turned}
 
 -- ---- the outcomes
 

@@ -1,9 +1,8 @@
 -- What posting does to the outboxes.
-use Rattle.std.proofs.Common.{◌≡◌, ◌≢◌, ℕ, ◌+◌, ◌<◌, ◌≤◌, Bool, true, false, cond, eqb, ltb, leb, List, [], ◌∷◌, ◌++◌, length, get_or, slice_get, Some, drop, set, map, refl, sym, ap, ◌∙◌, subst, arith, inl, inr, append_assoc}
+use Rattle.std.proofs.Common.{◌≡◌, ◌≢◌, ℕ, ◌+◌, ◌<◌, ◌≤◌, Bool, true, false, cond, eqb, ltb, leb, List, [], ◌∷◌, ◌++◌, length, get_or, set, map, refl, sym, ap, ◌∙◌, subst, arith, inl, inr, append_assoc}
 use Rattle.std.specs.List.{fold, filter, insert, All}
 use Rattle.std.proofs.lemmas.Bool.{cases_lt, lt-ltb, le-ltb, eq-eqb, ne_eqb, eqb-true, and_parts, and_from, le-leb}
-use Rattle.std.proofs.lemmas.List.{append-nil, at_drop_more, get_or_default}
-use Rattle.std.proofs.lemmas.Option.{slice_get_within, get_or_from_slice_get}
+use Rattle.std.proofs.lemmas.List.{append-nil, get_or_default}
 use Rattle.std.proofs.lemmas.List.Elements.{All-cons, All-head, All-tail}
 use Rattle.ertms_codec.specs.declared.to_train.ToTrain.{ToTrain}
 use Rattle.rbc_maps.specs.Maps.{has, index_for, keys, rises_from, value_or, with_value}
@@ -135,13 +134,6 @@ post_keeps input boxes (engine, message ∷ messages) h = outboxes_with engine _
 all_keep : (input : ℕ) (sent : List (ℕ × List ToTrain)) (boxes : List (ℕ × List Mail)) → AreOutboxes boxes → AreOutboxes (post_all input sent boxes)
 all_keep input [] boxes h = h
 all_keep input (one ∷ sent) boxes h = all_keep input sent (post input boxes one) (post_keeps input boxes one h)
-
--- what is left after the message at an index
-pub ones_more : (input : ℕ) (boxes : List (ℕ × List Mail)) (sent : List Sent) (i : ℕ) (one : Sent) → slice_get sent i ≡ Some one
-    → fold (post_one input) boxes (drop i sent) ≡ fold (post_one input) (post_one input boxes one) (drop (i + 1) sent)
-ones_more input boxes sent i one is =
-    at_drop_more (fold (post_one input) boxes) sent i one (slice_get_within sent i one is)
-    ∙ ap (λ (s : Sent). fold (post_one input) (post_one input boxes s) (drop (i + 1) sent)) (get_or_from_slice_get sent i one one is)
 
 -- each engine has the messages to it, behind what it had
 ones_posted : (input : ℕ) (sent : List Sent) (boxes : List (ℕ × List Mail)) (engine : ℕ) → value_or [] (fold (post_one input) boxes sent) engine ≡ value_or [] boxes engine ++ map (mail input) (messages_to engine sent)

@@ -2,16 +2,16 @@
 use Rattle.std.proofs.Common.{◌≡◌, ℕ, zero, suc, ◌+◌, ◌-◌, ◌*◌, ◌%◌, ◌^◌, ◌<◌, ◌≤◌, List, [], ◌∷◌, ◌++◌, length, take, drop, replicate, refl, sym, ap, ap₂, ◌∙◌, arith, length-append, length-drop}
 use Rattle.std.specs.Int.{bit_at}
 use Rattle.std.proofs.lemmas.List.{length-replicate, take-append-drop}
-use Rattle.std.proofs.lemmas.List.Sums.{sum_by-append}
 use Rattle.std.proofs.lemmas.Nat.{shr_high}
 use Rattle.std.proofs.lemmas.Nat.Bits.{bit_at-lt}
 use Rattle.ertms_bits.specs.Bits.{bits_of, bits_of_bytes, bytes_for, number_of, bytes_of, AreBits}
-use Rattle.ertms_bits.proofs.Bits.{length-bits_of, bits_of-cat_low}
+use Rattle.ertms_bits.proofs.Bits.{bits_of-cat_low}
 use Rattle.ertms_bits.proofs.Bytes.{bytes_of-padded}
 use Rattle.ertms_bits.proofs.Numbers.{AreBits-drop, number_of-below}
 use Rattle.ertms_codec.specs.declared.to_train.ToTrain.{ToTrain}
 use Rattle.ertms_codec.specs.Layout.{Field, width_of, bits_of_fields, bytes_of_fields, HoldValues}
 use Rattle.ertms_codec.specs.ToTrain.{Fits, HoldsReference, Spells, fields_of, spelling_of}
+use Rattle.ertms_codec.proofs.FieldLists.{length-bits_of_fields}
 
 both : (bits more : List ℕ) → AreBits bits → AreBits more → AreBits (bits ++ more)
 both [] more are rest = rest
@@ -29,15 +29,6 @@ zeros (suc n) = (omega arith, zeros n)
 of_fields : (fields : List Field) → AreBits (bits_of_fields fields)
 of_fields [] = tt
 of_fields (f ∷ fields) = both (bits_of f.width f.value) (bits_of_fields fields) (of_number f.width f.value) (of_fields fields)
-
-long : (fields : List Field) → length (bits_of_fields fields) ≡ width_of fields
-long [] = refl
-long (f ∷ fields) =
-    let widths : width_of (f ∷ fields) ≡ 0 + f.width + width_of fields = sum_by-append (λ (x : Field). x.width) (f ∷ []) fields in
-    let a = length-append (bits_of f.width f.value) (bits_of_fields fields) in
-    let b = length-bits_of f.width f.value in
-    let c = long fields in
-    omega (arith, widths, a, b, c)
 
 -- the first bit of a number
 top_bit : (bit width rest : ℕ) → bit < 2 → rest < 2 ^ width → bit_at (bit * 2 ^ width + rest) width ≡ bit
@@ -75,7 +66,7 @@ bytes_have fields =
     let bits = bits_of_fields fields in
     let fill = fill_of fields in
     let n = bytes_for (width_of fields) in
-    let whole : length (bits ++ fill) ≡ 8 * n = let a = length-append bits fill in let b = long fields in let c = length-replicate {A = ℕ} (8 * n - width_of fields) 0 in omega (arith, a, b, c) in
+    let whole : length (bits ++ fill) ≡ 8 * n = let a = length-append bits fill in let b = length-bits_of_fields fields in let c = length-replicate {A = ℕ} (8 * n - width_of fields) 0 in omega (arith, a, b, c) in
     ap bits_of_bytes (sym (bytes_of-padded n bits (8 * n - width_of fields))) ∙ bytes_back n (bits ++ fill) (both bits fill (of_fields fields) (zeros (8 * n - width_of fields))) whole
 
 pub spells_itself : (m : ToTrain) → Fits m → HoldValues (fields_of m) → HoldsReference m → Spells (spelling_of m) m

@@ -18,11 +18,11 @@ use Rattle.rbc_rule.specs.World.{World}
 use Rattle.rbc_rule.specs.Effect.{effect}
 use Rattle.rbc_rule.specs.Saying.{RevokesStop}
 use Rattle.rbc_rule.specs.SaidFor.{SaysFor, AllSay, after_sending, as_told, IsSendable}
+use Rattle.rbc_rule.proofs.EachChanges.{one_of}
 use Rattle.rbc_rule_laws.specs.Witnesses.{track_a, facing_up, on_line_0, train_7, stop_1, told_as_0, told_world, world_of, world_released, stop_before, revoke}
 use Rattle.rbc_zones.proofs.ToldStops.{told_rightly}
 use Rattle.rbc_track.specs.declared.group.Way.TheVariants.{Up}
 use Rattle.rbc_rule_laws.proofs.WitnessSays.{differ, stop_before_sendable, revoke_sendable, right_stop, from_5, counted_from_5}
-use Rattle.rbc_rule_laws.proofs.WitnessWorlds.{only}
 use Rattle.rbc_desk.specs.declared.outbox.Mail.{Mail}
 use Rattle.rbc_desk.specs.Serial.{serial, mail}
 use Rattle.rbc_desk.specs.SaidMails.{IsSaidTo, AreSaidInTurn}
@@ -72,7 +72,7 @@ module _ (train : TrainRec) (stops : Stops) (action : Action) (engine : ℕ) (me
   is_only : ◌≡◌ {A = ℕ × TrainRec} (7, train) (engine, said.train)
   is_only =
       let P : ℕ × TrainRec → Type 0 = λ one. ◌≡◌ {A = ℕ × TrainRec} (7, train) one in
-      All-contains P ((7, train) ∷ []) (engine, said.train) (only P (7, train) refl) said.is_train
+      All-contains P ((7, train) ∷ []) (engine, said.train) (one_of P (7, train) refl) said.is_train
 
   pub to_7 : engine ≡ 7
   to_7 = sym (ap (λ (one : ℕ × TrainRec). one.0) is_only)

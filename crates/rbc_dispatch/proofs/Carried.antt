@@ -1,5 +1,5 @@
 -- What comes of a task, by what was asked for.
-use Rattle.std.proofs.Common.{◌≡◌, ◌⊎◌, ◌++◌, refl, inl, inr, subst, sym, ◌∙◌, ℕ, Bool, true, false, List, [], ◌∷◌, Option, Some, None, Result, Ok, Err}
+use Rattle.std.proofs.Common.{◌≡◌, ◌⊎◌, ◌++◌, refl, inl, inr, subst, sym, ◌∙◌, ℕ, Bool, true, false, List, [], ◌∷◌, Option, Some, None, Result, Err}
 use Rattle.std.specs.List.{flat_map}
 use denote.Ref.{Bor}
 use Rattle.clap.specs.Walk.{Text}

@@ -9,10 +9,7 @@ use Rattle.std.specs.Char.{digit_value}
 use Rattle.std.specs.Str.Parse.{AllDigits, ParsesBool, ParsesUnsigned, digits_value, without_leading_plus}
 use Rattle.std.proofs.lemmas.Slice.Eq.{bytes_eq-Decides}
 use Rattle.clap.specs.Matches.{ReadsOne}
-use Rattle.clap.specs.Simple.{subcommand_rows}
 use Rattle.clap.specs.Walk.{Row, Text, byte_or_zero}
-use Rattle.clap.specs.declared.parser.matches.SubCommand.{SubCommand}
-use Rattle.clap.specs.declared.parser.matches.ArgMatches.TheViews.{out-SubCommand}
 use Rattle.clap.proofs.WalkLemmas.{both, byte_read}
 use Rattle.rbc_dispatch.specs.Words.{Asked, asked_in, asked_named, count_in, explain_asked, finding_in, live_asked, number_in, picture_asked, run_asked}
 

@@ -1,5 +1,5 @@
 -- What clap finds in each form of `run`, in those of `live`, `explain` and `picture` without a number, and in those with `--alarms`.
-use Rattle.std.proofs.Common.{refl, sym, ap, arith, ◌∙◌, ◌≡◌, ◌≢◌, ℕ, [], ◌∷◌, ◌++◌, List, Some, None, true, false, Ok, ◌==◌, codes, option_and_then}
+use Rattle.std.proofs.Common.{refl, sym, ap, arith, ◌∙◌, ◌≡◌, ◌≢◌, ℕ, [], ◌∷◌, ◌++◌, List, Some, None, true, false, Ok, ◌==◌, codes}
 use Rattle.std.specs.Prelude.{find, pos, unwrap_or}
 use Rattle.std.specs.Option.{option_map_or}
 use Rattle.std.specs.Str.Parse.{IsNumeral, signed_digits_value, without_leading_plus}
@@ -22,7 +22,7 @@ use Rattle.clap.proofs.WalkLemmas.{byte_read}
 use Rattle.rbc_dispatch.specs.Forms.{AfterAllByDefault, AlarmsOfLive, AlarmsOfRun, AsManyAsNamed, BeginAtOneByDefault, FromOneByDefault, LongIfAsked, OneByDefault, OneLineByDefault, WritesByte}
 use Rattle.rbc_account.specs.declared.log_form.LogParts.TheVariants as parts
 use Rattle.rbc_dispatch.specs.CommandLine.{alarms_rule, by_train_rule, check_shape, codes_shape, command_line, decode_shape, encode_shape, explain_shape, live_shape, picture_shape, stats_rule, track_rule, workers_rule}
-use Rattle.rbc_dispatch.specs.Words.{Asked, Asks, All, Run, Live, Explain, Picture, Decode, asked_in, byte_of, finding_in, flag_of, live_asked, run_asked}
+use Rattle.rbc_dispatch.specs.Words.{Asks, All, Run, Live, Explain, Picture, Decode, byte_of, flag_of, run_asked}
 use Rattle.rbc_dispatch.specs.Pages.{topic_in}
 use Rattle.rbc_dispatch.proofs.Findings.{explain_by, found_after, live_by, picture_by, run_by}
 

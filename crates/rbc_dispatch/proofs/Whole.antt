@@ -1,9 +1,9 @@
 -- What comes of the program as a whole.
-use Rattle.std.proofs.Common.{◌≡◌, ◌⊎◌, ℕ, List, Option, Result, Ok, Err, OnOk, IfErr, refl, sym, ◌∙◌, subst, inl, inr}
+use Rattle.std.proofs.Common.{◌≡◌, ◌⊎◌, ℕ, List, Option, Result, Ok, Err, OnOk, IfErr, sym, ◌∙◌, subst, inl, inr}
 use Rattle.std.proofs.lemmas.Bool.{cases_eq}
 use Rattle.clap.specs.Words.{kind_of}
 use Rattle.rbc_dispatch.specs.Doing.{Does, IsTaskDone, IsNoTaskDone, IsWholeRun, status_of_task}
-use Rattle.rbc_dispatch.specs.Ending.{AtTask, IsNoHelp, status_of, status_of_fault}
+use Rattle.rbc_dispatch.specs.Ending.{AtTask, IsNoHelp, status_of}
 use Rattle.rbc_dispatch.specs.NoTask.{status_of_kind}
 use Rattle.rbc_dispatch.specs.declared.ending.Ending.{Ending}
 use Rattle.rbc_dispatch.specs.declared.ending.Ending.TheVariants.{Words, Fault}

@@ -1,5 +1,5 @@
 -- What clap finds in the words of the worked cases.
-use Rattle.std.proofs.Common.{refl, ap, ◌≡◌, ℕ, Bool, true, false, [], ◌∷◌, Option, None, Some, codes}
+use Rattle.std.proofs.Common.{refl, ap, ◌≡◌, Bool, true, false, [], ◌∷◌, Option, None, Some, codes}
 use Rattle.clap.specs.Kinds.{Kinds}
 use Rattle.clap.specs.declared.error.kind.ErrorKind.{ErrorKind}
 use Rattle.clap.specs.declared.error.kind.ErrorKind.TheVariants as kind
@@ -8,7 +8,7 @@ use Rattle.rbc_account.specs.declared.log_form.LogParts.{LogParts}
 use Rattle.rbc_account.specs.declared.log_form.LogParts.TheVariants as parts
 use Rattle.rbc_dispatch.specs.declared.pages.Topic.TheVariants as topic
 use Rattle.rbc_dispatch.specs.Witnesses.{AskFor, AskForNothing, AskForRun, AskFrom, AskToDraw, AskToExplain, on_track}
-use Rattle.rbc_dispatch.specs.Words.{Asked, Asks, Chosen, All, Busy, Lines, Train, Run, Live, Explain, Picture, Check, Encode, Decode, DecodeLines, Codes, DoNotFit, Page, whole_line}
+use Rattle.rbc_dispatch.specs.Words.{Asked, Asks, All, Busy, Lines, Train, Live, Explain, Decode, DecodeLines, Codes, DoNotFit, Page, whole_line}
 
 -- words with a fault ask for nothing
 faulty : (found : Kinds) (fault : ErrorKind) → found ≡ fault ∷ [] → found ≡ [] → ⊥

@@ -3,13 +3,12 @@ use Rattle.std.proofs.Common.{◌≡◌, ◌⊎◌, ℕ, ◌<◌, length, Result
 use Rattle.rbc_core.specs.Held.{Held, standing}
 use Rattle.rbc_core.specs.declared.book.Stats.{Stats}
 use Rattle.rbc_core.specs.Runs.{Run, IsGoodRun, IsSerialRun, IsSaidSince}
-use Rattle.rbc_core.specs.declared.book.Commit.TheVariants.{NotReady}
 use Rattle.rbc_core.specs.Core.{State}
 use Rattle.rbc_core.specs.Books.{BookValue, state_of, IsKept}
 use Rattle.rbc_core.proofs.Mails.{said_since}
 use Rattle.rbc_engine.specs.declared.workers.RunError.{RunError}
 use Rattle.rbc_engine.specs.declared.workers.RunError.TheVariants.{Workers, TooManyInputs, OutOfMemory}
-use Rattle.rbc_engine.specs.Fronts.{IsNext, IsAtItsEnd}
+use Rattle.rbc_engine.specs.Fronts.{IsAtItsEnd}
 use Rattle.rbc_engine.specs.Answers.{IsOpening, IsDeskAfter, IsStretch, IsFinished, MayWork, AreFew, IsRun}
 
 -- before the first input
@@ -38,10 +37,6 @@ done run book held stats end is b serial said =
       subst (λ n. (n ≡ length run.inputs) ⊎ (0 < n)) (sym all) ends.1,
       omega (arith, all, recomputed, counted),
     )
-
--- a stretch that ends before an input that was not taken
-pub ended_some : (run : Run) (s t : State) → IsNext run s NotReady t → IsAtItsEnd run t
-ended_some run s t left = inr (subst (λ (x : State). x.taken ≡ x.committed) (sym left.0) left.1, subst (λ (x : State). 0 < x.committed) (sym left.0) left.2)
 
 -- memory was refused after some
 pub stopped : (run : Run) (book : BookValue) (held : Held) (committed : ℕ) → committed ≡ book.committed → IsKept run (state_of book) → IsSerialRun run book.committed (standing held) → IsSaidSince run book.committed held.outboxes

@@ -1,16 +1,15 @@
 -- The next input is given up where nobody will deposit it, and then committed.
-use Rattle.std.proofs.Common.{◌≡◌, ◌≢◌, ℕ, ◌+◌, ◌-◌, ◌<◌, ◌≤◌, Bool, true, false, length, get_or, Option, Some, None, inl, inr, ⊎_elim, refl, sym, ap, ◌∙◌, subst, arith}
+use Rattle.std.proofs.Common.{◌≡◌, ℕ, ◌+◌, ◌-◌, ◌<◌, ◌≤◌, Bool, true, false, length, get_or, Option, Some, None, inl, inr, ⊎_elim, refl, sym, ap, ◌∙◌, subst, arith}
 use Rattle.std.specs.Prelude.{slice_get}
 use Rattle.std.proofs.lemmas.Option.{slice_get_cases, slice_get_within}
 use Rattle.rbc_rule.specs.declared.input.Input.{Input}
-use Rattle.rbc_core.specs.declared.book.Commit.{Commit}
-use Rattle.rbc_core.specs.declared.book.Commit.TheVariants.{Applied, Recomputed, NotReady, Done, Failed}
+use Rattle.rbc_core.specs.declared.book.Commit.TheVariants.{NotReady}
 use Rattle.rbc_core.specs.declared.stage.Stage.{Stage}
 use Rattle.rbc_core.specs.declared.stage.Stage.TheVariants.{Free, Out, Tried, Void}
 use Rattle.rbc_core.specs.Runs.{Run, IsInput}
 use Rattle.rbc_core.specs.Core.{Try, State, IsAt, IsReady, front}
-use Rattle.rbc_core.specs.Books.{IsKept, IsStage}
-use Rattle.rbc_core.specs.Events.{Happens, Commits}
+use Rattle.rbc_core.specs.Books.{IsStage}
+use Rattle.rbc_core.specs.Events.{Happens}
 use Rattle.rbc_core.specs.Events.Event.{Takes, Voids}
 use Rattle.rbc_core.proofs.Books.{slice_get_at, at_index}
 use Rattle.rbc_engine.specs.Fronts.{IsWaiting, IsGivenUp, IsNext}
@@ -77,39 +76,9 @@ takes_and_gives_up run s t u (Some k) number done is wait out took gave =
     let is_front : number ≡ front t = omega (arith, is, committed) in
     after_take s t u committed (gives_up_taken run t u number done is_front (ap (λ (x : State). x.closed) took.leads ∙ wait.unclosed) is_out gave)
 
--- a commit that found the next input not ready
-pub still_waits : (run : Run) (s t : State) → IsKept run s → Commits run s NotReady t → IsWaiting run t
-still_waits run s t b h = subst (IsWaiting run) (sym h.leads) (record { book = b; unclosed = h.may.0; more = h.may.1; unready = h.may.2 })
-
 -- what a commit does where the next input is ready
 below : (run : Run) (n : ℕ) (input : Input) → IsInput run (n + 1) input → n < length run.inputs
 below run n input is = let within = slice_get_within run.inputs (n + 1 - 1) input is.there in omega (arith, within)
-
-taken_below : (run : Run) (s : State) (x : Stage Try) → IsKept run s → IsAt s (front s) x → s.committed < length run.inputs
-taken_below run s x b is = let high = is.taken in let all = b.in_range in omega (arith, high, all)
-
-pub commits_next : (run : Run) (s t : State) (answer : Commit) → answer ≢ NotReady → IsKept run s → Commits run s answer t → IsNext run s answer t
-commits_next run s t Applied other b (outcome, writes, h) = (taken_below run s (Tried h.may.1.0) b h.may.1.1, ap (λ (x : State). x.committed) h.leads)
-commits_next run s t Recomputed other b (outcome, writes, h) = (below run s.committed h.may.2.0 h.may.2.1, ap (λ (x : State). x.committed) h.leads)
-commits_next run s t NotReady other b h = absurd (other refl)
-commits_next run s t Done other b h = ap (λ (x : State). x.committed) h.leads ∙ h.may
-commits_next run s t Failed other b h = tt
-
--- what a commit does once the next input was given up
-pub commits_given_up : (run : Run) (s t u : State) (answer : Commit) → IsKept run t → IsGivenUp s t → Commits run t answer u → IsNext run s answer u
-commits_given_up run s t u Applied b gave (outcome, writes, h) =
-    let more = taken_below run t (Tried h.may.1.0) b h.may.1.1 in
-    let same = gave.1 in
-    let next : u.committed ≡ t.committed + 1 = ap (λ (x : State). x.committed) h.leads in
-    (omega (arith, more, same), omega (arith, next, same))
-commits_given_up run s t u Recomputed b gave (outcome, writes, h) =
-    let more = below run t.committed h.may.2.0 h.may.2.1 in
-    let same = gave.1 in
-    let next : u.committed ≡ t.committed + 1 = ap (λ (x : State). x.committed) h.leads in
-    (omega (arith, more, same), omega (arith, next, same))
-commits_given_up run s t u NotReady b gave h = absurd (h.may.2 (inr gave.2))
-commits_given_up run s t u Done b gave h = ap (λ (x : State). x.committed) h.leads ∙ h.may
-commits_given_up run s t u Failed b gave h = tt
 
 -- the next input was not taken, and is not the first: the stretch ends before it
 pub left_untaken : (run : Run) (s t : State) (number : ℕ) → number ≡ front s → IsWaiting run s → ¬ (IsAt s number Out) → 1 < number → t ≡ s → IsNext run s NotReady t
@@ -117,6 +86,3 @@ left_untaken run s t number is wait out later same =
     let low : s.taken ≤ s.committed = not_taken run s wait (subst (λ n. ¬ (IsAt s n Out)) is out) in
     let turn = wait.book.in_turn in
     (same, omega (arith, low, turn), omega (arith, is, later))
-
-pub still_untaken : (run : Run) (s t u : State) → t ≡ s → IsNext run t NotReady u → IsNext run s NotReady u
-still_untaken run s t u same h = subst (λ (x : State). IsNext run x NotReady u) same h

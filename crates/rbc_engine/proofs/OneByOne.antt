@@ -20,10 +20,6 @@ pub record AreTakenIn (run : Run) (count : ℕ) (held : Held) : Type 0 where
   pub serial : IsSerialRun run count (standing held)
   pub within : count ≤ length run.inputs
 
--- none at first
-pub none_taken_in : (run : Run) → AreTakenIn run 0 run.opening
-none_taken_in run = record { serial = λ desk h. h; within = omega arith }
-
 module _ (run : Run) (count : ℕ) (held : Held) (good : IsGoodRun run) (before : AreTakenIn run count held) where
   -- there is room for the result of one more
   pub room_left : count < length run.inputs → length held.results < max_results

@@ -2,7 +2,7 @@
 use Rattle.std.proofs.Common.{◌≡◌, ◌⊎◌, inl, inr, ℕ, ◌+◌, ◌-◌, ◌<◌, ◌≤◌, List, [], ◌∷◌, length, take, drop, Result, Ok, Err, sym, ap, ◌∙◌, subst, arith, take-add, take-take}
 use Rattle.std.specs.List.{fold, All}
 use Rattle.std.proofs.lemmas.List.{length-append, length-take-le, length-drop, take_all}
-use Rattle.std.proofs.lemmas.List.Elements.{All-drop, All-take}
+use Rattle.std.proofs.lemmas.List.Elements.{All-drop}
 use Rattle.std.proofs.lemmas.List.Sums.{fold-append}
 use Rattle.rbc_track.specs.Plan.{Plan, IsPlan}
 use Rattle.rbc_rule.specs.declared.input.Input.{Input}
@@ -16,7 +16,7 @@ use Rattle.rbc_core.specs.Runs.{Run, IsGoodRun, IsSerialRun}
 use Rattle.rbc_core.proofs.Mails.{said_since}
 use Rattle.rbc_engine.specs.declared.workers.RunError.{RunError}
 use Rattle.rbc_engine.specs.declared.workers.RunError.TheVariants.{Workers, TooManyInputs, OutOfMemory}
-use Rattle.rbc_engine.specs.Answers.{AreFew, AreFirst, IsDeskAfter, IsOpening, IsRun, IsStretch, IsFinished, MayWork, error_behind, plus, rest_of}
+use Rattle.rbc_engine.specs.Answers.{AreFirst, IsDeskAfter, IsOpening, IsStretch, IsFinished, error_behind, plus, rest_of}
 use Rattle.rbc_engine.proofs.Ends.{desk_before}
 
 -- a run of these inputs from there on
@@ -163,10 +163,3 @@ all_done run all held before past =
 -- inputs that are admitted can be run
 pub admitted : (run : Run) → IsPlan run.track → IsOpening run.track run.opening → AreOutboxes run.opening.outboxes → All Fits run.inputs → length run.opening.results + length run.inputs ≤ max_results → IsGoodRun run
 admitted run plan opening boxes fit few = record { track = plan; desk = opening.0; holds = opening.1; in_order = boxes; fit = fit; few = few }
-
--- a run that is finished was not refused
-pub finished_run : (run : Run) (workers : ℕ) (result : Result Stats RunError) (new : Held) → MayWork workers → AreFew run → IsFinished run result new → IsRun run workers result new
-finished_run run workers (Ok stats) new may few h = (may, few, h)
-finished_run run workers (Err (OutOfMemory committed)) new may few h = (may, few, h)
-finished_run run workers (Err Workers) new may few h = absurd h
-finished_run run workers (Err TooManyInputs) new may few h = absurd h

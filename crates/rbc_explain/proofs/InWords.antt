@@ -30,6 +30,7 @@ use Rattle.rbc_explain.specs.Sentences.{sums_text}
 use Rattle.rbc_explain.specs.Telling.{HasText, IsSaidOn, IsBlockOn}
 use Rattle.rbc_explain.specs.Log.{answers_told, IsBlockOf, AreBlocks, IsLogOf, IsWholeLogOf, IsInWords}
 use Rattle.rbc_explain.proofs.Marking.{added_then}
+use Rattle.rbc_explain.proofs.Told.{text_behind}
 
 -- lines that are a text are added behind any other
 added_behind : (lines : List (List ℕ)) (text old : List ℕ) → AreAdded lines [] text → AreAdded lines old (old ++ text)
@@ -224,10 +225,6 @@ record IsEndText (part : Bool) (sums : Sums) (text : List ℕ) : Type 0 where
 end_text : (part : Bool) (account : Account) (text : List ℕ) → IsPartIf part (IsInWords (AtEnd account)) text → IsEndText part account.sums text
 end_text true account text is = record { lines = is.0; added = is.1; marked = is.2; says = λ e. is.3 }
 end_text false account text is = record { lines = []; added = record { text = is; each = tt }; marked = refl; says = λ bad. let never : false ≡ true = bad in absurd cc }
-
-text_behind : (text : List ℕ) (front lines : List (List ℕ)) → HasText text lines → HasText text (front ++ lines)
-text_behind text front lines has =
-    (front ++ has.0, has.1, ap (λ (ls : List (List ℕ)). front ++ ls) has.2 ∙ sym (append_assoc front has.0 _))
 
 pub whole_log : (plan : Plan) (wanted : LogWanted) (start : Account) (lines : List (List ℕ)) (text : List ℕ) → EachAccountIsTrue → start.desk.track ≡ plan
     → start.desk.records ≡ [] → start.sums ≡ no_sums → IsWholeLog IsInWords wanted start lines text → IsWholeLogOf plan wanted lines text

@@ -1,34 +1,27 @@
 -- Texts in lines: none of them has a line feed in it.
-use Rattle.std.proofs.Common.{◌≡◌, ℕ, suc, zero, ◌+◌, ◌/◌, ◌%◌, ◌<◌, Bool, true, false, cond, ◌||◌, ◌&&◌, ◌==◌, nat_lt, List, [], ◌∷◌, ◌++◌, length, slice_index, Option, Some, None, codes, flat_map, bytes_eq, take, drop, decimal, refl, sym, ap, ◌∙◌, subst, append_assoc, arith}
+use Rattle.std.proofs.Common.{◌≡◌, ℕ, suc, zero, ◌+◌, ◌/◌, ◌%◌, ◌<◌, Bool, true, false, cond, ◌&&◌, ◌==◌, nat_lt, List, [], ◌∷◌, ◌++◌, length, slice_index, Option, Some, None, codes, flat_map, bytes_eq, take, drop, decimal, refl, sym, ap, ◌∙◌, subst, append_assoc, arith}
 use Rattle.std.specs.List.{list_any, slice_split, onto_first, AllByRecursion}
 use Rattle.std.specs.Fmt.{digits_onto, digit_glyph, digits}
-use Rattle.std.proofs.lemmas.Bool.{ne_eqb}
+use Rattle.std.proofs.lemmas.Bool.{ne_eqb, or_parts, or_from}
 use Rattle.std.proofs.lemmas.Bool.Decides.{nat_tests}
 use Rattle.memchr.specs.Find.{IsFirstByte, is_byte}
 use Rattle.hex.specs.Hex.{upper_digits, encode_with, encode_upper}
 use Rattle.rbc_text.specs.BatchText.{is_line_feed, without_empty_end, lines_of}
 use Rattle.rbc_explain.specs.Marked.{ended, IsLine, IsPlain, unmarked}
 
-pub both_false : (a b : Bool) → (a || b) ≡ false → (a ≡ false) × (b ≡ false)
-both_false true b is = let bad : true ≡ false = is in absurd cc
-both_false false b is = (refl, is)
-
-pub or_false : (a b : Bool) → a ≡ false → b ≡ false → (a || b) ≡ false
-or_false a b one two = ap (λ (t : Bool). t || b) one ∙ two
-
 -- what is in neither of two texts is not in both together
 pub none_in_both : (p : ℕ → Bool) (xs ys : List ℕ) → list_any p xs ≡ false → list_any p ys ≡ false → list_any p (xs ++ ys) ≡ false
 none_in_both p [] ys one two = two
 none_in_both p (x ∷ xs) ys one two =
-    let both = both_false (p x) (list_any p xs) one in
-    or_false (p x) (list_any p (xs ++ ys)) both.0 (none_in_both p xs ys both.1 two)
+    let both = or_parts (p x) (list_any p xs) one in
+    or_from (p x) (list_any p (xs ++ ys)) both.0 (none_in_both p xs ys both.1 two)
 
 -- what is not in two texts together is not in the first
 pub none_in_first : (p : ℕ → Bool) (xs ys : List ℕ) → list_any p (xs ++ ys) ≡ false → list_any p xs ≡ false
 none_in_first p [] ys none = refl
 none_in_first p (x ∷ xs) ys none =
-    let both = both_false (p x) (list_any p (xs ++ ys)) none in
-    or_false (p x) (list_any p xs) both.0 (none_in_first p xs ys both.1)
+    let both = or_parts (p x) (list_any p (xs ++ ys)) none in
+    or_from (p x) (list_any p xs) both.0 (none_in_first p xs ys both.1)
 
 -- two parts of a line are one
 pub line_then : (xs ys : List ℕ) → IsLine xs → IsLine ys → IsLine (xs ++ ys)
@@ -37,8 +30,8 @@ line_then xs ys one two = none_in_both is_line_feed xs ys one two
 -- what is not in a text is in none of its pieces
 onto_first_none : (p : ℕ → Bool) (x : ℕ) (pieces : List (List ℕ)) → p x ≡ false → AllByRecursion (λ piece. list_any p piece ≡ false) pieces
     → AllByRecursion (λ piece. list_any p piece ≡ false) (onto_first x pieces)
-onto_first_none p x [] is none = (or_false (p x) false is refl, tt)
-onto_first_none p x (piece ∷ pieces) is none = (or_false (p x) (list_any p piece) is none.0, none.1)
+onto_first_none p x [] is none = (or_from (p x) false is refl, tt)
+onto_first_none p x (piece ∷ pieces) is none = (or_from (p x) (list_any p piece) is none.0, none.1)
 
 split_none : (p : ℕ → Bool) (x : ℕ) (feed : Bool) (pieces : List (List ℕ)) → p x ≡ false → AllByRecursion (λ piece. list_any p piece ≡ false) pieces
     → AllByRecursion (λ piece. list_any p piece ≡ false) (cond feed ([] ∷ pieces) (onto_first x pieces))
@@ -48,7 +41,7 @@ split_none p x false pieces is none = onto_first_none p x pieces is none
 pub none_in_pieces : (p : ℕ → Bool) (text : List ℕ) → list_any p text ≡ false → AllByRecursion (λ piece. list_any p piece ≡ false) (slice_split is_line_feed text)
 none_in_pieces p [] none = (refl, tt)
 none_in_pieces p (x ∷ text) none =
-    let both = both_false (p x) (list_any p text) none in
+    let both = or_parts (p x) (list_any p text) none in
     split_none p x (is_line_feed x) (slice_split is_line_feed text) both.0 (none_in_pieces p text both.1)
 
 -- the pieces of a text are lines
@@ -91,7 +84,7 @@ first_piece (x ∷ text) = first_or_more x (is_line_feed x) (slice_split is_line
 split_behind : (line text : List ℕ) → IsLine line → slice_split is_line_feed (line ++ 10 ∷ text) ≡ line ∷ slice_split is_line_feed text
 split_behind [] text is = refl
 split_behind (x ∷ line) text is =
-    let both = both_false (is_line_feed x) (list_any is_line_feed line) is in
+    let both = or_parts (is_line_feed x) (list_any is_line_feed line) is in
     let rest = slice_split is_line_feed (line ++ 10 ∷ text) in
     ap (λ (b : Bool). cond b ([] ∷ rest) (onto_first x rest)) both.0 ∙ ap (onto_first x) (split_behind line text both.1)
 
@@ -138,7 +131,7 @@ no_mark x line is = ap (λ (b : Bool). cond (b && bytes_eq (take 1 line) (32 ∷
 pub none_at_all : (p : ℕ → Bool) (text : List ℕ) → ((k : ℕ) → k < length text → ¬ (p (slice_index text k) ≡ true)) → list_any p text ≡ false
 none_at_all p [] none = refl
 none_at_all p (x ∷ text) none =
-    or_false (p x) (list_any p text) (refused (p x) (none 0 (omega arith))) (none_at_all p text (λ k below. none (suc k) (omega (arith, below)))) where
+    or_from (p x) (list_any p text) (refused (p x) (none 0 (omega arith))) (none_at_all p text (λ k below. none (suc k) (omega (arith, below)))) where
       refused : (b : Bool) → ¬ (b ≡ true) → b ≡ false
       refused true never = absurd (never refl)
       refused false never = refl
@@ -159,7 +152,7 @@ other_glyph d false = ne_eqb (87 + d) 10 (λ e. absurd (omega (arith, e)))
 digits_are_line : (k n : ℕ) (behind : List ℕ) → IsLine behind → IsLine (digits_onto k 10 false n behind)
 digits_are_line zero n behind is = is
 digits_are_line (suc k) n behind is =
-    let next = or_false (digit_glyph false (n % 10) == 10) (list_any is_line_feed behind) (other_glyph (n % 10) (nat_lt (n % 10) 10)) is in
+    let next = or_from (digit_glyph false (n % 10) == 10) (list_any is_line_feed behind) (other_glyph (n % 10) (nat_lt (n % 10) 10)) is in
     let text = digit_glyph false (n % 10) ∷ behind in
     by_test (n / 10 == 0) text (digits_onto k 10 false (n / 10) text) next (digits_are_line k (n / 10) text next) where
       by_test : (is_last : Bool) (last more : List ℕ) → IsLine last → IsLine more → IsLine (cond is_last last more)
@@ -172,14 +165,14 @@ decimal_is_line n = digits_are_line 64 n [] refl
 
 none_at : (text : List ℕ) (k : ℕ) → IsLine text → (slice_index text k == 10) ≡ false
 none_at [] k is = refl
-none_at (x ∷ text) zero is = (both_false (is_line_feed x) (list_any is_line_feed text) is).0
-none_at (x ∷ text) (suc k) is = none_at text k (both_false (is_line_feed x) (list_any is_line_feed text) is).1
+none_at (x ∷ text) zero is = (or_parts (is_line_feed x) (list_any is_line_feed text) is).0
+none_at (x ∷ text) (suc k) is = none_at text k (or_parts (is_line_feed x) (list_any is_line_feed text) is).1
 
 hex_is_line : (table bytes : List ℕ) → IsLine table → IsLine (encode_with table bytes)
 unfolding encode_with
 hex_is_line table [] is = refl
 hex_is_line table (x ∷ bytes) is =
-    or_false _ _ (none_at table (x / 16) is) (or_false _ _ (none_at table (x % 16) is) (hex_is_line table bytes is))
+    or_from _ _ (none_at table (x / 16) is) (or_from _ _ (none_at table (x % 16) is) (hex_is_line table bytes is))
 
 pub upper_is_line : (bytes : List ℕ) → IsLine (encode_upper bytes)
 upper_is_line bytes = hex_is_line upper_digits bytes refl

@@ -3,10 +3,11 @@ use Rattle.std.proofs.Common.{◌≡◌, ◌==◌, ℕ, Bool, true, false, List,
 use Rattle.std.specs.List.{cons_option, slice_split, list_any, AllByRecursion}
 use Rattle.std.proofs.lemmas.List.Concat.{flat_map-append}
 use Rattle.std.proofs.lemmas.List.Elements.{filter_map-append}
+use Rattle.std.proofs.lemmas.Bool.{or_parts}
 use Rattle.rbc_text.specs.BatchText.{is_line_feed, lines_of}
 use Rattle.rbc_explain.specs.Marked.{ended, indent_of, IsLine, IsPlain, shown, unmarked, AreAdded, IsToldOn}
 use Rattle.rbc_explain.specs.Telling.{HasText, IsSaidOn}
-use Rattle.rbc_explain.proofs.Lines.{both_false, line_then, none_in_first, none_in_pieces, pieces_are_lines, lines_are_lines, lines_of_all, ended_pieces, no_mark}
+use Rattle.rbc_explain.proofs.Lines.{none_in_first, none_in_pieces, pieces_are_lines, lines_are_lines, lines_of_all, ended_pieces, no_mark}
 
 each_then : (P : List ℕ → Type 0) (lines more : List (List ℕ)) → AllByRecursion P lines → AllByRecursion P more → AllByRecursion P (lines ++ more)
 each_then P [] more one two = two
@@ -31,10 +32,6 @@ added_then lines more first second third one two = record {
 -- a log to which nothing is added
 pub told_none : (log : List ℕ) → IsToldOn [] log log
 told_none log = ([], added_none log, refl)
-
--- a line of the output is added
-pub added_marked : (line old new : List ℕ) → new ≡ old ++ ended (codes "= " ++ line) → IsLine line → AreAdded ((codes "= " ++ line) ∷ []) old new
-added_marked line old new e is = added_one (codes "= " ++ line) old new (line_then (codes "= ") line refl is) e
 
 pub told_marked : (line old new : List ℕ) → AreAdded ((codes "= " ++ line) ∷ []) old new → IsToldOn (line ∷ []) old new
 told_marked line old new added = ((codes "= " ++ line) ∷ [], added, refl)
@@ -70,7 +67,7 @@ shown_are_lines (line ∷ lines) each = (shown_is_line line each.0, shown_are_li
 shown_as_it_is : (line : List ℕ) → list_any (λ byte. byte == 61) line ≡ false → shown line ≡ line
 shown_as_it_is [] none = refl
 shown_as_it_is (first ∷ line) none =
-    ap (λ (test : Bool). (if test then codes " " else []) ++ first ∷ line) (both_false (first == 61) (list_any (λ byte. byte == 61) line) none).0
+    ap (λ (test : Bool). (if test then codes " " else []) ++ first ∷ line) (or_parts (first == 61) (list_any (λ byte. byte == 61) line) none).0
 
 all_as_they_are : (lines : List (List ℕ)) → AllByRecursion (λ line. list_any (λ byte. byte == 61) line ≡ false) lines → map shown lines ≡ lines
 all_as_they_are [] none = refl

@@ -1,5 +1,5 @@
 -- What is put in words of a message is what the message says.
-use Rattle.std.proofs.Common.{◌≡◌, ℕ, ◌+◌, ◌*◌, ◌<◌, Bool, true, false, List, [], ◌∷◌, refl, sym, ap, ◌∙◌, subst, Option, Some, None, IfSome, ℤ, pos, arith}
+use Rattle.std.proofs.Common.{◌≡◌, ℕ, ◌+◌, ◌*◌, Bool, false, List, [], ◌∷◌, refl, sym, ap, ◌∙◌, subst, Option, Some, None, IfSome, ℤ, pos}
 use Rattle.std.specs.Option.{unwrap_or}
 use Rattle.ertms_codec.specs.declared.packets.Part.{Part}
 use Rattle.ertms_codec.specs.declared.packets.Part.TheVariants as packet
@@ -12,7 +12,7 @@ use Rattle.rbc_track.specs.declared.group.Way.{Way}
 use Rattle.rbc_track.specs.declared.group.Way.TheVariants.{Up, Down}
 use Rattle.rbc_place.specs.Reach.{IsAhead}
 use Rattle.rbc_rule.specs.Saying as rule
-use Rattle.rbc_rule.specs.Saying.{CountsFrom, IsSpotTold}
+use Rattle.rbc_rule.specs.Saying.{CountsFrom}
 use Rattle.rbc_explain.specs.declared.said.Origin.{Origin}
 use Rattle.rbc_explain.specs.declared.said.Spot.{Spot}
 use Rattle.rbc_explain.specs.declared.said.Spoken.{Spoken}
@@ -109,10 +109,6 @@ no_way plan lrbg dir scale group found is told none line at way unit counts =
     let same = same_group plan lrbg group counts.group (sym is) counts.known in
     let bad : None ≡ Some way = sym none ∙ told ∙ ap (λ (g : Group). rule.way_told g.nominal dir) same ∙ counts.one_way in cc
 
-pub no_unit : (plan : Plan) (lrbg dir scale : ℕ) (found : Option ℕ) → found ≡ rule.unit_told scale → found ≡ None → (line at : ℕ) (way : Way) (unit : ℕ)
-    → CountsFrom plan lrbg dir scale line at way unit → ⊥
-no_unit plan lrbg dir scale found told none line at way unit counts = let bad : None ≡ Some unit = sym none ∙ told ∙ counts.in_units in cc
-
 -- distances count from one origin alone, one way on
 same_at : (plan : Plan) (lrbg dir scale : ℕ) (line at line2 at2 : ℕ) (way way2 : Way) (unit unit2 : ℕ) → CountsFrom plan lrbg dir scale line at way unit
     → CountsFrom plan lrbg dir scale line2 at2 way2 unit2 → (at ≡ at2) × (way ≡ way2) × (unit ≡ unit2)
@@ -122,21 +118,6 @@ same_at plan lrbg dir scale line at line2 at2 way way2 unit unit2 one two =
       ap (λ (w : Option Way). unwrap_or w way) (sym one.one_way ∙ ap (λ (g : Group). rule.way_told g.nominal dir) same ∙ two.one_way),
       ap (λ (u : Option ℕ). unwrap_or u unit) (sym one.in_units ∙ two.in_units),
     )
-
--- what lies before the beginning of the line is no place that is told
-pub not_told_before : (plan : Plan) (lrbg dir scale distance : ℕ) (origin : Origin) (before : Bool) (units : ℕ) (spot : rule.Spot) → IsOriginOf plan lrbg dir scale origin
-    → IsSpotTold plan lrbg dir scale distance spot → before ≡ true → IsSpotAhead origin.way origin.at (distance * origin.unit) before units
-    → (before ≡ true → origin.at < distance * origin.unit) → ⊥
-not_told_before plan lrbg dir scale distance origin before units spot counts told is ahead behind =
-    let same = same_at plan lrbg dir scale origin.line origin.at spot.line spot.origin origin.way spot.way origin.unit spot.unit counts told.counts in
-    let place : IsAhead origin.way origin.at (distance * origin.unit) spot.place =
-    subst (λ (w : Way). IsAhead w origin.at (distance * origin.unit) spot.place) (sym same.1)
-    (subst (λ (n : ℕ). IsAhead spot.way n (distance * origin.unit) spot.place) (sym same.0)
-    (subst (λ (n : ℕ). IsAhead spot.way spot.origin (distance * n) spot.place) (sym same.2) told.ahead)) in
-    never origin.way origin.at (distance * origin.unit) spot.place units (subst (λ (b : Bool). IsSpotAhead origin.way origin.at (distance * origin.unit) b units) is ahead) place (behind is) where
-      never : (way : Way) (from by place units : ℕ) → IsSpotAhead way from by true units → IsAhead way from by place → from < by → ⊥
-      never Up from by place units ahead there behind = ahead
-      never Down from by place units ahead there behind = omega (arith, there, behind)
 
 -- a message on several restrictions, or on one, says nothing of a stop
 pub not_on_stop : (plan : Plan) (lrbg : ℕ) (packets : List Part) (said : rule.Said) → IsOnStop said → rule.PacketsSay plan lrbg packets (said ∷ []) → ⊥

@@ -1,5 +1,5 @@
 -- Sentences among the lines of a log.
-use Rattle.std.proofs.Common.{◌≡◌, ℕ, ◌+◌, ◌<◌, ◌≤◌, Bool, true, is_some, List, [], ◌∷◌, ◌++◌, length, get_or, drop, map, codes, flat_map, filter_map, Option, Some, None, refl, sym, ap, subst, ◌∙◌, append_assoc, append-nil, Result, Ok, Err, OnOk, is_ok, if◌then◌else◌, arith}
+use Rattle.std.proofs.Common.{◌≡◌, ℕ, ◌+◌, ◌<◌, ◌≤◌, Bool, List, [], ◌∷◌, ◌++◌, length, get_or, drop, map, codes, flat_map, filter_map, Option, Some, None, refl, sym, ap, subst, ◌∙◌, append_assoc, append-nil, Result, Ok, Err, OnOk, is_ok, if◌then◌else◌, arith}
 use Rattle.std.specs.Prelude.{slice_get}
 use Rattle.std.specs.List.{cons_option}
 use Rattle.std.proofs.lemmas.List.{drop_all, drop_more}
@@ -13,7 +13,6 @@ use Rattle.rbc_track.specs.Plan.{Plan}
 use Rattle.rbc_place.specs.Placing.{Place}
 use Rattle.rbc_settle.specs.declared.sent.Sent.{Sent}
 use Rattle.rbc_rule.specs.declared.outcome.Reply.{Reply}
-use Rattle.rbc_rule.specs.Saying.{Said, Says, PacketSays}
 use Rattle.rbc_text.specs.BatchText.{lines_of}
 use Rattle.rbc_text.specs.OutputText.{answer_of, sent_line}
 use Rattle.rbc_account.specs.declared.told.Told.{Told}
@@ -21,7 +20,7 @@ use Rattle.rbc_account.specs.declared.told.ToldWhat.{ToldWhat}
 use Rattle.rbc_account.specs.declared.told.ToldRestriction.{ToldRestriction}
 use Rattle.rbc_explain.specs.declared.said.Spoken.{Spoken}
 use Rattle.rbc_explain.specs.Sentences.{stop_sentence, restriction_sentence, packet_sentence}
-use Rattle.rbc_explain.specs.Said.{IsOnStop, IsRevokedAs, IsSpokenBy, IsSpokenByPacket, IsStopSentence, IsRestrictionSentence, IsPacketSentence}
+use Rattle.rbc_explain.specs.Said.{IsRevokedAs, IsSpokenBy, IsSpokenByPacket, IsStopSentence, IsRestrictionSentence, IsPacketSentence}
 use Rattle.rbc_explain.specs.Marked.{ended, shown, unmarked, AreAdded, IsToldOn}
 use Rattle.rbc_explain.specs.Reasons.{packet_text, single_text, several_text}
 use Rattle.rbc_explain.specs.Telling.{HasSentence, HasText, TellsStop, TellsStopWhy, TellsPacket, TellsPacketWhy, TellsEach, TellsPackets, TellsRestrictions, TellsAll, Tells, IsSaidOn, IsBlockOn}
@@ -68,17 +67,6 @@ restriction_said T E (Ok done) plan lrbg engine number packet words text old new
     (said.0, said.1, said.2, λ one says. said.3)
 restriction_said T E (Err fault) plan lrbg engine number packet words text old new spoken is e = tt
 
--- a message, or a packet, that says nothing
-pub no_stop_said : (plan : Plan) (sent : Sent) (number : ℕ) (unanswered : Bool) (found : Option Spoken) (log : List ℕ) → found ≡ None
-    → ((one : Said) → IsOnStop one → Says plan sent.message (one ∷ []) → is_some found ≡ true) → IsSaidOn (TellsStop plan sent number unanswered) log log
-no_stop_said plan sent number unanswered found log none all =
-    ([], added_none log, refl, λ one on says. let bad = sym (ap is_some none) ∙ all one on says in absurd cc)
-
-pub no_packet_said : (plan : Plan) (lrbg : ℕ) (packet : Part) (Is : List ℕ → Type 0) (found : Option Spoken) (log : List ℕ) → found ≡ None
-    → ((one : Said) → PacketSays plan lrbg packet one → is_some found ≡ true) → IsSaidOn (TellsPacket plan lrbg packet Is) log log
-no_packet_said plan lrbg packet Is found log none all =
-    ([], added_none log, refl, λ one says. let bad = sym (ap is_some none) ∙ all one says in absurd cc)
-
 -- ---- sentences and words
 
 -- what is said stays, where more is added behind it
@@ -96,7 +84,7 @@ has_still Is lines more has =
     (has.0, has.1 ++ more, has.2, ap (λ (ls : List (List ℕ)). ls ++ more) has.3 ∙ append_assoc has.0 (has.2 ∷ has.1) more, has.4)
 
 -- the lines of a text stand there behind others too
-text_behind : (text : List ℕ) (front lines : List (List ℕ)) → HasText text lines → HasText text (front ++ lines)
+pub text_behind : (text : List ℕ) (front lines : List (List ℕ)) → HasText text lines → HasText text (front ++ lines)
 text_behind text front lines has =
     (front ++ has.0, has.1, ap (λ (ls : List (List ℕ)). front ++ ls) has.2 ∙ sym (append_assoc front has.0 (map shown (lines_of text) ++ has.1)))
 

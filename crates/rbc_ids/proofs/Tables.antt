@@ -5,13 +5,12 @@ use Rattle.std.specs.Option.{option_map}
 use Rattle.std.proofs.lemmas.Bool.{cases_lt, or_parts, or_left, or_right, or_cases, and_parts, and_from, leb-true, ltb-true, ltb-false, eqb-true, eq-eqb, ne_eqb, false≢true}
 use Rattle.std.proofs.lemmas.Bool.Decides.{nat_tests}
 use Rattle.std.proofs.lemmas.List.Elements.{All-cons, All-head, All-tail}
-use Rattle.std.proofs.lemmas.Option.{same_Some}
 use Rattle.rbc_maps.specs.Maps.{has, index_for, keys, rises_from, value_of, with_value, without}
 use Rattle.rbc_maps.proofs.MapPlaces.{has_is, has_here, has_past, rises-with_value}
 use Rattle.rbc_maps.proofs.MapEdits.{inserted, position_or_len_le, written}
 use Rattle.rbc_maps.proofs.MapFacts.{rises_from-lower}
 use Rattle.rbc_ids.specs.declared.slot.Slot.{Slot}
-use Rattle.rbc_ids.specs.Table.{Slots, IsTable, TellsApart, tells, is_told, is_used, is_used_at, identifier_of, after_report, acked_slot, acked_slots}
+use Rattle.rbc_ids.specs.Table.{Slots, IsTable, TellsApart, tells, is_told, identifier_of, after_report, acked_slot, acked_slots}
 use Rattle.rbc_ids.proofs.Lacking.{absent_below, without_absent}
 use Rattle.rbc_ids.proofs.Once.{once-filter, once-with, once-reported, keys-reported, once-acked}
 
@@ -277,21 +276,3 @@ not_told (held ∷ slots) number none =
       | true ↦ λ e. absurd (let bad : Some held.0 ≡ None = e in cc)
       | false ↦ λ e. not_told slots number e
     ]) none
-
--- an identifier without a slot is free
-pub free_where_none : (slots : Slots) (id : ℕ) → value_of slots id ≡ None → has slots id ≡ false
-free_where_none [] id none = refl
-free_where_none (held ∷ slots) id none =
-    (elim (eqb held.0 id) as (λ b. cond b (Some held.1) (value_of slots id) ≡ None → (b || has slots id) ≡ false) [
-      | true ↦ λ e. absurd (let bad : Some held.1 ≡ None = e in cc)
-      | false ↦ λ e. free_where_none slots id e
-    ]) none
-
--- an identifier whose slot is used is used
-pub used_at : (slots : Slots) (id : ℕ) (slot : Slot) → value_of slots id ≡ Some slot → is_used slot ≡ true → is_used_at slots id ≡ true
-used_at [] id slot found used = absurd (let bad : None ≡ Some slot = found in cc)
-used_at (held ∷ slots) id slot found used =
-    (elim (eqb held.0 id) as (λ b. cond b (Some held.1) (value_of slots id) ≡ Some slot → ((b && is_used held.1) || is_used_at slots id) ≡ true) [
-      | true ↦ λ e. or_left (is_used held.1) (is_used_at slots id) (ap is_used (let same : Some held.1 ≡ Some slot = e in same_Some held.1 slot same) ∙ used)
-      | false ↦ λ e. used_at slots id slot e used
-    ]) found

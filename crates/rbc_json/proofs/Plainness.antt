@@ -3,39 +3,36 @@ use Rattle.std.proofs.Common.{◌≡◌, ◌∙◌, ℕ, ◌+◌, ◌-◌, ◌/�
 use Rattle.std.specs.Fmt.{decimal, signed_decimal}
 use Rattle.std.proofs.lemmas.Fmt.{decimal_by_steps}
 use Rattle.std.proofs.lemmas.List.Folds.{list_all-append}
+use Rattle.std.proofs.lemmas.Bool.{and_from}
 use Rattle.rbc_json.specs.Json.{Json, Null, Truth, Number, Text, Array, Object, Values, NoValue, Value, Fields, NoField, Field}
 use Rattle.rbc_json.specs.Json.{json_text, values_text, fields_text, characters_text, character_text, unit_text, hex_digit}
 use Rattle.rbc_json.specs.Plain.{is_plain, are_plain, IsShort, AreShort, HaveShort}
 
-both : (a b : Bool) → a ≡ true → b ≡ true → (a && b) ≡ true
-both true b one two = two
-both false b one two = one
-
 appended : (xs ys : List ℕ) → are_plain xs ≡ true → are_plain ys ≡ true → are_plain (xs ++ ys) ≡ true
-appended xs ys one two = list_all-append is_plain xs ys ∙ both (are_plain xs) (are_plain ys) one two
+appended xs ys one two = list_all-append is_plain xs ys ∙ and_from (are_plain xs) (are_plain ys) one two
 
 within : (byte : ℕ) → 32 ≤ byte → byte ≤ 126 → is_plain byte ≡ true
 within byte low high = grind arith
 
 one_byte : (byte : ℕ) → 32 ≤ byte → byte ≤ 126 → are_plain (byte ∷ []) ≡ true
-one_byte byte low high = both (is_plain byte) true (within byte low high) refl
+one_byte byte low high = and_from (is_plain byte) true (within byte low high) refl
 
 hex_plain : (n : ℕ) → n < 16 → is_plain (hex_digit n) ≡ true
 hex_plain n small = grind arith
 
 unit_plain : (n : ℕ) → are_plain (unit_text n) ≡ true
 unit_plain n =
-    both (is_plain (hex_digit (n / 4096 % 16))) _ (hex_plain (n / 4096 % 16) (omega arith))
-    (both (is_plain (hex_digit (n / 256 % 16))) _ (hex_plain (n / 256 % 16) (omega arith))
-    (both (is_plain (hex_digit (n / 16 % 16))) _ (hex_plain (n / 16 % 16) (omega arith))
-    (both (is_plain (hex_digit (n % 16))) true (hex_plain (n % 16) (omega arith)) refl)))
+    and_from (is_plain (hex_digit (n / 4096 % 16))) _ (hex_plain (n / 4096 % 16) (omega arith))
+    (and_from (is_plain (hex_digit (n / 256 % 16))) _ (hex_plain (n / 256 % 16) (omega arith))
+    (and_from (is_plain (hex_digit (n / 16 % 16))) _ (hex_plain (n / 16 % 16) (omega arith))
+    (and_from (is_plain (hex_digit (n % 16))) true (hex_plain (n % 16) (omega arith)) refl)))
 
 -- by what a character is
 chosen : (c : ℕ) (is_marked is_shown is_short : Bool) → is_marked ≡ (c == 34 || c == 92) → is_shown ≡ (nat_le 32 c && nat_le c 126)
     → are_plain (if is_marked then 92 ∷ c ∷ [] else if is_shown then c ∷ [] else if is_short then unit_text c
     else unit_text (55296 + (c - 65536) / 1024) ++ unit_text (56320 + (c - 65536) % 1024)) ≡ true
-chosen c true is_shown is_short marked shown = let high : is_plain c ≡ true = grind arith in both (is_plain c) true high refl
-chosen c false true is_short marked shown = both (is_plain c) true (sym shown) refl
+chosen c true is_shown is_short marked shown = let high : is_plain c ≡ true = grind arith in and_from (is_plain c) true high refl
+chosen c false true is_short marked shown = and_from (is_plain c) true (sym shown) refl
 chosen c false false true marked shown = unit_plain c
 chosen c false false false marked shown = appended (unit_text (55296 + (c - 65536) / 1024)) (unit_text (56320 + (c - 65536) % 1024)) (unit_plain (55296 + (c - 65536) / 1024)) (unit_plain (56320 + (c - 65536) % 1024))
 

@@ -9,7 +9,7 @@ use Rattle.rbc_rule.specs.Saying as rule
 use Rattle.rbc_rule.specs.Saying.{Said, Says, PacketSays}
 use Rattle.rbc_explain.specs.declared.said.Spoken.{Spoken}
 use Rattle.rbc_explain.specs.declared.said.Spoken.TheVariants as spoken
-use Rattle.rbc_explain.specs.Said.{IsSpokenBy, IsSpokenByPacket, IsSpoken}
+use Rattle.rbc_explain.specs.Said.{IsSpokenBy, IsSpoken}
 use Rattle.rbc_json.specs.declared.message.PlaceTold.{PlaceTold}
 use Rattle.rbc_json.specs.Messages.{IsBefore, place_in}
 use Rattle.rbc_account.specs.declared.told.RestrictionTold.{RestrictionTold}
@@ -20,11 +20,6 @@ use Rattle.rbc_json.specs.Packets.{IsRestriction, IsOf}
 abbrev IsOther : Spoken → Type 0
 IsOther (spoken.StopBefore line place) = ⊥
 IsOther _ = Unit
-
--- words that tell no restriction
-abbrev IsNoStretch : Spoken → Type 0
-IsNoStretch (spoken.Restriction line from to speed) = ⊥
-IsNoStretch _ = Unit
 
 -- what is said of a message that tells a place is the place
 one_said : (said other : Said) → said ∷ [] ≡ other ∷ [] → said ≡ other
@@ -57,36 +52,10 @@ says_place plan (message.General head (packet.Lift dir id ∷ more)) said other 
 pub no_other_words : (plan : Plan) (m : ToTrain) (said : Said) (words : Spoken) → IsBefore said → Says plan m (said ∷ []) → IsSpokenBy plan m words → IsOther words → ⊥
 no_other_words plan m said words before says is other = places_only is.0 words (says_place plan m said is.0 before says is.1) is.2 other
 
-stretches_only : (said : Said) (words : Spoken) → IsRestriction said → IsSpoken said words → IsNoStretch words → ⊥
-stretches_only (rule.Restricts id stretch front speed) (spoken.Restriction line from to kmh) restricts is other = other
-stretches_only (rule.Restricts id stretch front speed) (spoken.StopBefore line place) restricts is other = is
-stretches_only (rule.Restricts id stretch front speed) spoken.StopAtOnce restricts is other = is
-stretches_only (rule.Restricts id stretch front speed) spoken.StopRevoked restricts is other = is
-stretches_only (rule.Restricts id stretch front speed) (spoken.IdentifierRevoked id') restricts is other = is
-stretches_only (rule.Restricts id stretch front speed) spoken.RestrictionRevoked restricts is other = is
-stretches_only (rule.StopsBefore id spot) words restricts is other = restricts
-stretches_only (rule.StopsAtOnce id) words restricts is other = restricts
-stretches_only (rule.RevokesStop id) words restricts is other = restricts
-stretches_only (rule.RevokesLimit id) words restricts is other = restricts
-
--- a packet of which a restriction is said has nothing else said of it
-says_stretch : (plan : Plan) (lrbg : ℕ) (p : Part) (said other : Said) → IsRestriction said → PacketSays plan lrbg p said → PacketSays plan lrbg p other → IsRestriction other
-says_stretch plan lrbg (packet.Restrict dir scale id start length front speed) said other restricts one two = subst IsRestriction (sym two.1.1) tt
-says_stretch plan lrbg (packet.Lift dir id) said other restricts one two = absurd (subst IsRestriction one.1 restricts)
-
--- the words of a packet that tells a restriction are that restriction
-pub no_other_stretch : (plan : Plan) (lrbg : ℕ) (p : Part) (said : Said) (words : Spoken) → IsRestriction said → PacketSays plan lrbg p said → IsSpokenByPacket plan lrbg p words
-    → IsNoStretch words → ⊥
-no_other_stretch plan lrbg p said words restricts says is other = stretches_only is.0 words (says_stretch plan lrbg p said is.0 restricts says is.1) is.2 other
-
 -- what a packet 65 says is a restriction
 pub says_restriction : (plan : Plan) (lrbg dir scale id start length speed : ℕ) (front : Bool) (said : Said)
     → PacketSays plan lrbg (packet.Restrict dir scale id start length front speed) said → IsRestriction said
 says_restriction plan lrbg dir scale id start length speed front said says = subst IsRestriction (sym says.1.1) tt
-
--- what a message 15 says is a place
-pub says_before : (plan : Plan) (m : ToTrain) (said : Said) → Says plan m (said ∷ []) → (place : Said) → IsBefore place → Says plan m (place ∷ []) → IsBefore said
-says_before plan m said says place before one = says_place plan m place said before one says
 
 -- a value is that of a packet, by which packet it is and what is told of it
 pub packet_carried : (plan : Plan) (lrbg : ℕ) (p q : Part) (restriction : ℕ) (w v : RestrictionTold) (value : Json) → p ≡ q → w ≡ v → IsOf plan lrbg q restriction v value

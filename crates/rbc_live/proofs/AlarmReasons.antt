@@ -1,7 +1,7 @@
 -- Each alarm has its reason, and nothing that concerns a train is missed.
 use Rattle.std.proofs.Common.{◌≡◌, ◌⊎◌, ℕ, Bool, true, false, ◌==◌, ◌&&◌, ◌||◌, cond, if◌then◌else◌, List, [], ◌∷◌, ◌++◌, map, Option, Some, None, is_some, option_map, refl, ap, ◌∙◌, inl, inr}
 use Rattle.std.specs.List.{filter, list_any, All, AllByRecursion}
-use Rattle.std.proofs.lemmas.Bool.{eq-eqb}
+use Rattle.std.proofs.lemmas.Bool.{eq-eqb, or_right, or_left}
 use Rattle.std.proofs.lemmas.List.Elements.{All-from_recursion, All-nil, All-cons, All-append, All-map, All-weaker}
 use Rattle.rbc_place.specs.Placing.{Place}
 use Rattle.rbc_zones.specs.declared.segment.Segment.{Segment}
@@ -56,14 +56,6 @@ each_alarm_has_reason plan w good =
 
 same_as_itself : (alarm : Alarm) → same_alarm alarm alarm ≡ true
 same_as_itself alarm = ap (λ b. b && ((rank alarm).1 == (rank alarm).1)) (eq-eqb (rank alarm).0 (rank alarm).0 refl) ∙ eq-eqb (rank alarm).1 (rank alarm).1 refl
-
-or_right : (a b : Bool) → b ≡ true → (a || b) ≡ true
-or_right true b is = refl
-or_right false b is = is
-
-or_left : (a b : Bool) → a ≡ true → (a || b) ≡ true
-or_left true b is = refl
-or_left false b is = absurd (let bad : false ≡ true = is in cc)
 
 any_behind : {X : Type 0} (test : X → Bool) (xs ys : List X) → list_any test ys ≡ true → list_any test (xs ++ ys) ≡ true
 any_behind test [] ys is = is

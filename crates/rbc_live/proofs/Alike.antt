@@ -1,5 +1,5 @@
 -- Lines that go on alike, and what they lead to.
-use Rattle.std.proofs.Common.{◌≡◌, ℕ, ◌<◌, ◌≤◌, true, false, List, [], ◌∷◌, ◌++◌, length, Option, Some, None, Bor, refl, sym, ap, ◌∙◌, subst, append_assoc, append-nil, arith, length-append}
+use Rattle.std.proofs.Common.{◌≡◌, ℕ, ◌<◌, ◌≤◌, true, false, List, [], ◌∷◌, ◌++◌, length, Option, Some, None, Bor, refl, sym, ap, ◌∙◌, subst, append-nil, arith, length-append}
 use Rattle.std.specs.Prelude.{codes, IfNone}
 use Rattle.std.specs.Str.{bytes_eq}
 use Rattle.std.proofs.lemmas.Slice.Eq.{bytes_eq-Decides}
@@ -11,12 +11,13 @@ use Rattle.rbc_rule.specs.declared.input.Input.TheVariants.{Bad}
 use Rattle.rbc_rule.specs.declared.outcome.Reply.{Reply}
 use Rattle.rbc_text.specs.BatchText.{Line, Spelled, is_space, words_of, message_of, line_of, IsInput}
 use Rattle.ertms_codec.specs.Pieces.{pieces_behind}
+use Rattle.ertms_codec.proofs.Cuts.{split_is_cons}
 use Rattle.rbc_live.specs.History.{IsFed}
 use Rattle.rbc_live.specs.GoingOn.{ActsAs, GoesOnAs}
 use Rattle.rbc_live.specs.UnderWay.{Shows}
 use Rattle.rbc_text.specs.EndedLines.{joined}
 use Rattle.rbc_live.specs.declared.line.UnfinishedLine.{UnfinishedLine}
-use Rattle.rbc_text.proofs.LinePieces.{first_piece, one_piece_more}
+use Rattle.rbc_text.proofs.LinePieces.{one_piece_more}
 use Rattle.rbc_live.proofs.Words.{room_of, room_of_pieces, long_words, spells_nothing}
 
 -- the same line
@@ -29,12 +30,6 @@ acts_at kept line other_kept other_line k l acts =
 
 on_itself : (line : List ℕ) → GoesOnAs line line
 on_itself line = λ more. acts_same (line_of (line ++ more)) (line_of (line ++ more)) refl
-
--- both go on
-on_more : (kept line more : List ℕ) → GoesOnAs kept line → GoesOnAs (kept ++ more) (line ++ more)
-on_more kept line more alike = λ further.
-    acts_at (line_of ((kept ++ more) ++ further)) (line_of ((line ++ more) ++ further)) (line_of (kept ++ (more ++ further))) (line_of (line ++ (more ++ further)))
-    (ap line_of (append_assoc kept more further)) (ap line_of (append_assoc line more further)) (alike (more ++ further))
 
 through : (short kept line : List ℕ) → GoesOnAs short kept → GoesOnAs kept line → GoesOnAs short line
 through short kept line first second = λ more input is.
@@ -52,48 +47,6 @@ shows_nothing kept none = record {
   within = subst (λ (bytes : List ℕ). length bytes ≤ 0) (sym none) (omega arith);
   few = subst (λ (bytes : List ℕ). length bytes ≤ 65536) (sym none) (omega arith);
 }
-
-some_more : (kept line more : List ℕ) → (1 ≤ length line → 1 ≤ length kept) → 1 ≤ length (line ++ more) → 1 ≤ length (kept ++ more)
-some_more (byte ∷ kept) line more some is = omega arith
-some_more [] [] more some is = is
-some_more [] (byte ∷ line) more some is = let never = some (omega arith) in absurd (omega (arith, never))
-
--- more bytes are kept as they are
-pub shows_more : (line more : List ℕ) (before after : UnfinishedLine) → Shows line before → after.bytes.items ≡ before.bytes.items ++ more → length after.bytes.items ≤ 65536 → Shows (line ++ more) after
-shows_more line more before after shows is few =
-    let old = before.bytes.items in
-    let whole = length-append line more in
-    let part = length-append old more in
-    let within = shows.within in
-    record {
-      alike = subst (λ (bytes : List ℕ). GoesOnAs bytes (line ++ more)) (sym is) (on_more old line more shows.alike);
-      some = λ some. subst (λ (bytes : List ℕ). 1 ≤ length bytes) (sym is) (some_more old line more shows.some some);
-      within = subst (λ (bytes : List ℕ). length bytes ≤ length (line ++ more)) (sym is) (omega (arith, whole, part, within));
-      few = few;
-    }
-
--- a short line stands in for them
-pub shows_short : (line more bytes : List ℕ) (before after : UnfinishedLine) → Shows line before → bytes ≡ before.bytes.items ++ more → GoesOnAs after.bytes.items bytes → 65536 < length bytes
-    → 1 ≤ length after.bytes.items → length after.bytes.items ≤ 65536 → Shows (line ++ more) after
-shows_short line more bytes before after shows is alike long some few =
-    let old = before.bytes.items in
-    let whole = length-append line more in
-    let part = length-append old more in
-    let within = shows.within in
-    let bytes_are = ap length is in
-    record {
-      alike = through after.bytes.items (old ++ more) (line ++ more) (subst (λ (b : List ℕ). GoesOnAs after.bytes.items b) is alike) (on_more old line more shows.alike);
-      some = λ _. some;
-      within = omega (arith, whole, part, within, bytes_are, long, few);
-      few = few;
-    }
-
-pub nothing_shown : (line : List ℕ) (kept : UnfinishedLine) → Shows line kept → kept.bytes.items ≡ [] → line ≡ []
-nothing_shown [] kept shows none = refl
-nothing_shown (byte ∷ line) kept shows none =
-    let some = shows.some (omega arith) in
-    let length_of = ap length none in
-    absurd (omega (arith, some, length_of))
 
 -- what is fed in place of a line leads to what the line does
 pub fed_alike : (plan : Plan) (kept line : List ℕ) (old new : List (Key × Rec)) (reply : Reply) (messages : List Sent) → GoesOnAs kept line → IsFed plan kept old new reply messages
@@ -120,7 +73,7 @@ room_of_line line more words long e =
 -- one long word
 pub one_long_word : (kept line : List ℕ) → kept ≡ 32 ∷ [] → 65536 < length line → words_of line ≡ line ∷ [] → GoesOnAs kept line
 one_long_word kept line is long one = bad_whatever_follows kept line is (λ more.
-    let behind = first_piece is_space more in
+    let behind = split_is_cons is_space more in
     let word = line ++ behind.0 in
     let words = one_piece_more is_space line more [] line one ∙ ap (joined line) behind.2 in
     let lengths = length-append line behind.0 in
@@ -138,13 +91,13 @@ two_words (a ∷ b ∷ more) others first word behind e = refl
 pub more_than_recv : (front command : List ℕ) (behind : Option (Bor (List ℕ))) → IfNone behind (command ≡ front) → bytes_eq front (codes "recv") ≡ false → bytes_eq command (codes "recv") ≡ true
     → (first : List ℕ) × (more : List (List ℕ)) × (pieces_behind 32 behind ≡ first ∷ more)
 more_than_recv front command None whole other same = absurd (let bad : true ≡ false = sym same ∙ ap (λ (word : List ℕ). bytes_eq word (codes "recv")) whole ∙ other in cc)
-more_than_recv front command (Some more) whole other same = first_piece is_space more.now
+more_than_recv front command (Some more) whole other same = split_is_cons is_space more.now
 
 -- words behind the name of a command that is no stop, and no message of one word
 pub other_command : (kept line front word command : List ℕ) (more : List (List ℕ)) → kept ≡ 32 ∷ [] → 65536 < length line → words_of line ≡ words_of front ++ word ∷ [] → words_of front ≡ command ∷ more
     → bytes_eq command (codes "stop") ≡ false → (bytes_eq command (codes "recv") ≡ true → (first : List ℕ) × (behind : List (List ℕ)) × (more ≡ first ∷ behind)) → GoesOnAs kept line
 other_command kept line front word command more is long e parts no_stop no_message = bad_whatever_follows kept line is (λ further.
-    let next = first_piece is_space further in
+    let next = split_is_cons is_space further in
     let words = one_piece_more is_space line further (words_of front) word e ∙ ap (λ (ws : List (List ℕ)). ws ++ joined word (words_of further)) parts
     ∙ ap (λ (ws : List (List ℕ)). (command ∷ more) ++ joined word ws) next.2 in
     let arguments = more ++ (word ++ next.0) ∷ next.1 in

@@ -1,5 +1,5 @@
 -- How the calls of a reader stand at the end.
-use Rattle.std.proofs.Common.{◌≡◌, ℕ, ◌≤◌, ◌⊎◌, Bool, true, false, not, ◌&&◌, nat_lt, List, Option, Result, Ok, Err, inl, inr, refl, subst, sym, arith}
+use Rattle.std.proofs.Common.{◌≡◌, ℕ, false, not, List, Option, Result, Ok, Err, subst, sym}
 use Rattle.std.specs.Prelude.{IsErrAnd}
 use Rattle.rbc_track.specs.Plan.{Plan}
 use Rattle.rbc_live.specs.declared.wanted.Wanted.{Wanted}

@@ -1,10 +1,9 @@
 -- What waits at a train that is up to date waits for want of an identifier.
 use Rattle.std.proofs.Common.{◌≡◌, ◌⊎◌, ℕ, ◌≤◌, Bool, true, false, ◌==◌, ◌&&◌, ◌||◌, cond, if◌then◌else◌, List, [], ◌∷◌, ◌++◌, length, Option, Some, None, is_some, option_map, refl, sym, ap, ◌∙◌, subst, inl, inr}
 use Rattle.std.specs.List.{filter, fold, list_any, All, AllByRecursion}
-use Rattle.std.proofs.lemmas.Bool.{eq-eqb, eqb-true, and_parts}
+use Rattle.std.proofs.lemmas.Bool.{eq-eqb, eqb-true, and_parts, or_right}
 use Rattle.std.proofs.lemmas.List.Elements.{All-from_recursion, recursion_from_All, All-nil, All-cons, All-append, All-map, All-weaker}
 use Rattle.rbc_track.specs.Plan.{Plan}
-use Rattle.rbc_place.specs.Placing.{Place}
 use Rattle.rbc_maps.specs.Maps.{has}
 use Rattle.rbc_ids.specs.declared.slot.Slot.{Slot}
 use Rattle.rbc_ids.specs.declared.slot.Slot.TheVariants.{Used, Revoking}
@@ -15,12 +14,13 @@ use Rattle.rbc_zones.specs.declared.stop_meaning.Concern.TheVariants as concern
 use Rattle.rbc_zones.specs.Limits.{Limit}
 use Rattle.rbc_settle.specs.declared.train.TrainRec.{TrainRec}
 use Rattle.rbc_settle.specs.declared.change.ToldStop.{ToldStop}
-use Rattle.rbc_settle.specs.Told.{Part}
 use Rattle.rbc_settle.specs.Actions.{Action}
-use Rattle.rbc_settle.specs.Settling.{Stops, Limits, last_stamp, carried_out, settled, actions_with_stamp, told_stop, concern_to, stop_to_tell, limit_told_to, limit_to_tell, due_number}
+use Rattle.rbc_settle.specs.Settling.{Stops, Limits, last_stamp, carried_out, settled, actions_with_stamp, told_stop, concern_to, stop_to_tell, limit_to_tell, due_number}
 use Rattle.rbc_settle.proofs.ToTell.{stop_told_already, limit_told_already}
 use Rattle.rbc_settle.specs.UpToDate.{IsToldIfItCan, IsLimitToldIfItCan, IsUpToDateOrAtTheEnd}
 use Rattle.rbc_settle.proofs.Achieves.{up_to_date}
+use Rattle.rbc_settle.proofs.NothingLeft.{told_as_nothing}
+use Rattle.rbc_settle.proofs.OneLine.{untold_limit}
 use Rattle.rbc_rule.specs.WellFormed.{IsGoodTrain}
 use Rattle.rbc_live.specs.declared.waiting.Waiting.{Waiting}
 use Rattle.rbc_live.specs.declared.waiting.Waits.TheVariants.{Stop, Restriction, Again}
@@ -43,17 +43,13 @@ any_of : {X : Type 0} (P : X → Type 0) → ((x : X) → P x) → (xs : List X)
 any_of P each [] = tt
 any_of P each (x ∷ xs) = (each x, any_of P each xs)
 
-or_true : (a b : Bool) → b ≡ true → (a || b) ≡ true
-or_true true b e = refl
-or_true false b e = e
-
 -- a list has each number of its pairs
 each_there : {V : Type 0} (pairs : List (ℕ × V)) → All (λ pair. has pairs pair.0 ≡ true) pairs
 each_there [] = All-nil _
 each_there (pair ∷ pairs) =
     All-cons (λ other. has (pair ∷ pairs) other.0 ≡ true) pair pairs
     (ap (λ b. b || has pairs pair.0) (eq-eqb pair.0 pair.0 refl))
-    (All-weaker (λ other. has pairs other.0 ≡ true) (λ other. has (pair ∷ pairs) other.0 ≡ true) (λ other there. or_true (pair.0 == other.0) (has pairs other.0) there) pairs (each_there pairs))
+    (All-weaker (λ other. has pairs other.0 ≡ true) (λ other. has (pair ∷ pairs) other.0 ≡ true) (λ other there. or_right (pair.0 == other.0) (has pairs other.0) there) pairs (each_there pairs))
 
 -- ---- a cause is true
 
@@ -90,20 +86,11 @@ both_none : {A : Type 0} (b : Bool) → cond {A = Option A} b None None ≡ None
 both_none true = refl
 both_none false = refl
 
-told_none : (place : Option Place) → told_stop place concern.None ≡ None
-told_none None = refl
-told_none (Some p) = refl
-
 nothing_to_tell : (train : TrainRec) (stop : ℕ × List Segment) → concern_to train stop ≡ concern.None → stop_to_tell train stop ≡ None
 nothing_to_tell train stop none =
     ap (λ (c : Concern). if is_told train.stops stop.0 then None else option_map (λ (told : ToldStop). (stop.0, told)) (told_stop train.place c)) none
-    ∙ ap (λ (told : Option ToldStop). if is_told train.stops stop.0 then None else option_map (λ (told : ToldStop). (stop.0, told)) told) (told_none train.place)
+    ∙ ap (λ (told : Option ToldStop). if is_told train.stops stop.0 then None else option_map (λ (told : ToldStop). (stop.0, told)) told) (told_as_nothing train.place)
     ∙ both_none (is_told train.stops stop.0)
-
-pub no_limit_to_tell : (horizon : ℕ) (train : TrainRec) (limit : ℕ × Limit) → limit_told_to horizon train.place limit.1 ≡ None → limit_to_tell horizon train limit ≡ None
-no_limit_to_tell horizon train limit none =
-    ap (λ (told : Option Part). if is_told train.limits limit.0 then None else option_map (λ (told : Part). (limit.0, told)) told) none
-    ∙ both_none (is_told train.limits limit.0)
 
 pub none_waits : {A : Type 0} (found : Option A) → found ≡ None → is_some found ≡ true → ⊥
 none_waits None e waits = absurd (cc waits)
@@ -120,7 +107,7 @@ stop_full train stop told waits = elim told [
 
 limit_full : (horizon : ℕ) (train : TrainRec) (limit : ℕ × Limit) → IsLimitToldIfItCan horizon train limit → limit_waits horizon train limit ≡ true → length train.limits ≡ 255
 limit_full horizon train limit told waits = elim told [
-  | inl none ↦ absurd (none_waits (limit_to_tell horizon train limit) (no_limit_to_tell horizon train limit none) waits)
+  | inl none ↦ absurd (none_waits (limit_to_tell horizon train limit) (untold_limit horizon train limit none) waits)
   | inr rest ↦ elim rest [
     | inl is ↦ absurd (none_waits (limit_to_tell horizon train limit) (limit_told_already horizon train limit is) waits)
     | inr full ↦ full

@@ -6,18 +6,11 @@ use Rattle.rbc_live.specs.declared.alarm.Alarm.{Alarm}
 use Rattle.rbc_live.specs.declared.alarm.Change.{Change}
 use Rattle.rbc_live.specs.declared.alarm.Change.TheVariants.{Raised}
 use Rattle.rbc_live.specs.Alarms.{and_then, change_line, changes}
+use Rattle.rbc_settle.proofs.SettleLoop.{left_at}
 
 module _ (input engine : ℕ) where
   abbrev pub lines : List Change → List ℕ
   lines all = flat_map (change_line input engine) all
-
-drop_here : {X : Type 0} (xs : List X) (i : ℕ) (x : X) → i < length xs → x ≡ get_or xs i x → drop i xs ≡ x ∷ drop (i + 1) xs
-drop_here [] i x within is = absurd (omega (arith, within))
-drop_here {X} (y ∷ xs) zero x within is = ap (λ (z : X). z ∷ xs) (sym is)
-drop_here {X} (y ∷ xs) (suc i) x within is = drop_here xs i x (omega (arith, within)) is ∙ ap (λ n. x ∷ drop n (y ∷ xs)) (one_on i)
-  where
-    one_on : (n : ℕ) → suc (n + 1) ≡ suc n + 1
-    one_on n = omega arith
 
 drop_past : {X : Type 0} (xs : List X) (i : ℕ) → length xs ≤ i → drop i xs ≡ []
 drop_past [] zero past = refl
@@ -32,7 +25,7 @@ module _ (input engine : ℕ) (old : List Alarm) (i : ℕ) (all : List ℕ) wher
       → text ++ lines input engine (changes (drop i old) left) ≡ all → new ++ lines input engine (changes (drop (i + 1) old) now) ≡ all
   one_more_changed d text new left now within each before =
       each (changes (drop (i + 1) old))
-      ∙ ap (λ (rest : List Alarm). text ++ lines input engine (changes rest left)) (sym (drop_here old i (get_or old i d) within (get_or_default old i d (get_or old i d) within))) ∙ before
+      ∙ ap (λ (rest : List Alarm). text ++ lines input engine (changes rest left)) (sym (left_at old i (get_or old i d) within (get_or_default old i d (get_or old i d) within))) ∙ before
 
   -- nothing that stood is left
   pub all_changed : (text new : List ℕ) (left : List Alarm) → length old ≤ i → new ≡ text ++ lines input engine (map Raised left)

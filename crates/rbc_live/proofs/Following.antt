@@ -44,21 +44,6 @@ any_next {X} test xs i x there =
     ap (list_any test) (take_more xs i x (slice_get_within xs i x there) ∙ ap (λ (y : X). take i xs ++ y ∷ []) (get_or_from_slice_get xs i x x there))
     ∙ any_more test (take i xs) x
 
--- what is there passes
-pub any_at : {X : Type 0} (test : X → Bool) (xs : List X) (i : ℕ) (x : X) → slice_get xs i ≡ Some x → test x ≡ true → list_any test xs ≡ true
-any_at test [] i x there passes = absurd (let within = slice_get_within [] i x there in omega (arith, within))
-any_at {X} test (y ∷ xs) zero x there passes =
-    let same : y ≡ x = get_or_from_slice_get (y ∷ xs) 0 x x there in
-    ap (λ b. b || list_any test xs) (ap test same ∙ passes)
-any_at {X} test (y ∷ xs) (suc i) x there passes =
-    ap (λ b. test y || b) (any_at test xs i x (slice_get_behind y xs i x there) passes) ∙ or_true (test y) where
-      or_true : (b : Bool) → (b || true) ≡ true
-      or_true true = refl
-      or_true false = refl
-
-      slice_get_behind : (y : X) (xs : List X) (i : ℕ) (x : X) → slice_get (y ∷ xs) (suc i) ≡ Some x → slice_get xs i ≡ Some x
-      slice_get_behind y xs i x there = there
-
 -- ---- numbers of an ascending list
 
 at_least : (least : ℕ) (xs : List ℕ) (i d : ℕ) → rises_from least xs ≡ true → i < length xs → least ≤ get_or xs i d

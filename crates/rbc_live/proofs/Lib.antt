@@ -6,7 +6,7 @@ mod Words
 mod Alike
 mod LongMessages
 mod LongStops
-mod Writing
+pub mod Writing
 mod Taking
 mod Cutting
 mod Ending

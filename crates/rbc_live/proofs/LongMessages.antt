@@ -16,6 +16,7 @@ use Rattle.ertms_codec.specs.Layout.{value_at}
 use Rattle.ertms_codec.specs.Refusals.{HasItsLength}
 use Rattle.ertms_codec.proofs.Fields.{at_below}
 use Rattle.ertms_codec.proofs.FromTrainAgain.{again}
+use Rattle.ertms_codec.proofs.Cuts.{split_is_cons}
 use Rattle.rbc_rule.specs.declared.input.Input.{Input}
 use Rattle.rbc_rule.specs.declared.input.Input.TheVariants.{Enrol, Withdraw, Stop, Release, Restrict, Lift, Received, Bad}
 use Rattle.rbc_rule.specs.Codes.{code_of}
@@ -23,7 +24,7 @@ use Rattle.rbc_rule.specs.Step.{step}
 use Rattle.rbc_text.specs.BatchText.{Line, Spelled, Heard, is_space, words_of, is_hex_word, line_of_hex, message_of, line_of_words, line_of, refusal_of, AreHeard}
 use Rattle.rbc_live.specs.GoingOn.{ActsAs, GoesOnAs}
 use Rattle.rbc_text.specs.EndedLines.{joined}
-use Rattle.rbc_text.proofs.LinePieces.{first_piece, one_piece_more}
+use Rattle.rbc_text.proofs.LinePieces.{one_piece_more}
 use Rattle.rbc_live.proofs.Words.{digits_are_one}
 use Rattle.rbc_live.proofs.Alike.{acts_same, acts_at, bad_whatever_follows}
 
@@ -119,7 +120,7 @@ by_first kept word first (second ∷ rest) same acts = acts_same (Spelled (Bad 1
 messages_alike : (short line kept word : List ℕ) → words_of short ≡ codes "recv" ∷ kept ∷ [] → words_of line ≡ codes "recv" ∷ word ∷ []
     → ((first : List ℕ) → (is_hex_word (kept ++ first) ≡ is_hex_word (word ++ first)) × ActsAs (line_of_hex (decode_of (kept ++ first))) (line_of_hex (decode_of (word ++ first)))) → GoesOnAs short line
 messages_alike short line kept word k l alike = λ more.
-    let next = first_piece is_space more in
+    let next = split_is_cons is_space more in
     let to : List ℕ → List (List ℕ) → Line = λ w ws. unwrap_or (message_of (joined w ws)) (Spelled (Bad 1)) in
     let at = alike next.0 in
     acts_at (line_of (short ++ more)) (line_of (line ++ more)) (to kept (next.0 ∷ next.1)) (to word (next.0 ∷ next.1))
@@ -132,7 +133,7 @@ never_hex word first (second ∷ rest) bad = refl
 -- a word with a carriage return in it
 pub with_return : (kept line word : List ℕ) → kept ≡ 32 ∷ [] → words_of line ≡ codes "recv" ∷ word ∷ [] → list_all (λ byte. cond (eqb byte 13) false true) word ≡ false → GoesOnAs kept line
 with_return kept line word is e bad = bad_whatever_follows kept line is (λ more.
-    let next = first_piece is_space more in
+    let next = split_is_cons is_space more in
     message_line line word more e ∙ ap (λ (words : List (List ℕ)). unwrap_or (message_of (joined word words)) (Spelled (Bad 1))) next.2 ∙ never_hex word next.0 next.1 (stops word next.0 bad))
 
 all_of_both : (word first : List ℕ) → list_all is_hex_digit word ≡ false → list_all is_hex_digit (word ++ first) ≡ false

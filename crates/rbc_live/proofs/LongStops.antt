@@ -19,10 +19,11 @@ use Rattle.rbc_rule.specs.Step.{after, step}
 use Rattle.rbc_text.specs.BatchText.{Line, Spelled, is_space, words_of, decimal_of, segment_of, onto_all, segments_of, stop_from, stop_of, line_of_words, line_of, IsInput}
 use Rattle.rbc_live.specs.GoingOn.{ActsAs, GoesOnAs, is_stop}
 use Rattle.rbc_text.specs.EndedLines.{joined}
-use Rattle.rbc_text.proofs.LinePieces.{first_piece, one_piece_more}
+use Rattle.rbc_text.proofs.LinePieces.{one_piece_more}
 use Rattle.rbc_text.proofs.LastSpaces.{at_space}
 use Rattle.rbc_live.proofs.Words.{room_of, room_of_pieces, long_decimal, long_segment}
 use Rattle.rbc_live.proofs.Alike.{acts_same, acts_at, bad_whatever_follows}
+use Rattle.ertms_codec.proofs.Cuts.{split_is_cons}
 
 -- ---- the rule
 
@@ -183,7 +184,7 @@ stop_line line word more front arguments e is =
 pub no_stop : (kept line front word : List ℕ) (arguments : List (List ℕ)) → kept ≡ 32 ∷ [] → words_of line ≡ words_of front ++ word ∷ [] → words_of front ≡ codes "stop" ∷ arguments
     → ((first : List ℕ) (more : List (List ℕ)) → stop_of (arguments ++ (word ++ first) ∷ more) ≡ None) → GoesOnAs kept line
 no_stop kept line front word arguments is e parts never = bad_whatever_follows kept line is (λ more.
-    let next = first_piece is_space more in
+    let next = split_is_cons is_space more in
     stop_line line word more (words_of front) arguments e parts
     ∙ ap (λ (words : List (List ℕ)). unwrap_or (option_map Spelled (stop_of (arguments ++ joined word words))) (Spelled (Bad 1))) next.2
     ∙ ap (λ (o : Option Input). unwrap_or (option_map Spelled o) (Spelled (Bad 1))) (never next.0 next.1))

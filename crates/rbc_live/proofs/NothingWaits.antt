@@ -3,7 +3,7 @@ use Rattle.std.proofs.Common.{◌≡◌, ℕ, ◌≤◌, Bool, true, false, ◌=
 use Rattle.std.proofs.Math.Logic.{∥∥₁_elim}
 use mathlib.Core.HLevel.{⊥_prop}
 use Rattle.std.specs.List.{All}
-use Rattle.std.proofs.lemmas.Bool.{eq-eqb, eqb-true, le-leb}
+use Rattle.std.proofs.lemmas.Bool.{eq-eqb, eqb-true, le-leb, or_parts}
 use Rattle.std.proofs.lemmas.List.Elements.{All-head}
 use Rattle.rbc_track.specs.Plan.{Plan}
 use Rattle.rbc_maps.specs.Maps.{value_of}
@@ -35,11 +35,7 @@ use Rattle.rbc_live.proofs.Causing.{each_cause_is_true}
 
 -- ---- no cause is true of such a train
 
-both_false : (a b : Bool) → (a || b) ≡ false → (a ≡ false) × (b ≡ false)
-both_false true b e = absurd (let bad : true ≡ false = e in cc)
-both_false false b e = (refl, e)
-
-one_only : (b : Bool) → b ≡ true → b ≡ false → ⊥
+pub one_only : (b : Bool) → b ≡ true → b ≡ false → ⊥
 one_only b is other = let bad : true ≡ false = sym is ∙ other in cc
 
 module _ (train : TrainRec) (stops : (length train.stops == 15) ≡ false) (limits : (length train.limits == 255) ≡ false) (stamps : leb last_stamp train.stamp ≡ false) where
@@ -53,8 +49,8 @@ module _ (train : TrainRec) (stops : (length train.stops == 15) ≡ false) (limi
 
 lacks_nothing : (train : TrainRec) (what : Waits) (cause : Cause) → lacks_something train ≡ false → IsCauseOf train what cause → ⊥
 lacks_nothing train what cause none is =
-    let stops = both_false (length train.stops == 15) (length train.limits == 255 || leb last_stamp train.stamp) none in
-    let others = both_false (length train.limits == 255) (leb last_stamp train.stamp) stops.1 in
+    let stops = or_parts (length train.stops == 15) (length train.limits == 255 || leb last_stamp train.stamp) none in
+    let others = or_parts (length train.limits == 255) (leb last_stamp train.stamp) stops.1 in
     no_cause train stops.0 others.0 others.1 what cause is
 
 -- ---- what the records of a world say

@@ -41,10 +41,6 @@ has_place : (place : Option Place) → is_none place ≡ false → place_alarm p
 has_place None none = absurd (let bad : true ≡ false = none in cc)
 has_place (Some p) none = refl
 
-neither : (a b : Bool) → (a || b) ≡ false → (a ≡ false) × (b ≡ false)
-neither true b e = absurd (let bad : true ≡ false = e in cc)
-neither false b e = (refl, e)
-
 module _ (plan : Plan) (records : List (Key × Rec)) (w : World) (are : AreRecordsOf plan (record_in records) w) where
   stops_are : active_stops records ≡ w.stops.active
   stops_are = ap (λ r. (stops_of r).active) (are.same key.Stops) ∙ stops_there w.stops are.well_formed.stops.numbered
@@ -62,7 +58,7 @@ module _ (plan : Plan) (records : List (Key × Rec)) (w : World) (are : AreRecor
       → or_none (cond b (Some (alarms_at plan.horizon (active_stops records) (active_limits records) train)) None) ≡ alarms_at plan.horizon (active_stops records) (active_limits records) train) [
         | true ↦ λ may. refl
         | false ↦ λ may_not.
-            let parts = neither (is_none train.place) (lacks_something train) may_not in
+            let parts = or_parts (is_none train.place) (lacks_something train) may_not in
             sym (ap (λ (front : List Alarm). front ++ map (λ (waiting : Waiting). Untold waiting.what) (waiting_at plan.horizon records train)) (has_place train.place parts.0)
             ∙ ap (λ (all : List Waiting). map (λ (waiting : Waiting). Untold waiting.what) all) (nothing_waits_in plan records engine train there parts.1 w are))
       ]) refl

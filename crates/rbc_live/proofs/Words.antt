@@ -1,5 +1,5 @@
 -- The words of a line that goes on, and how long they are.
-use Rattle.std.proofs.Common.{◌≡◌, ℕ, suc, ◌+◌, ◌<◌, ◌≤◌, Bool, true, false, cond, List, [], ◌∷◌, ◌++◌, length, take, drop, Option, Some, None, ◌⊎◌, inl, inr, eqb, refl, sym, ap, ◌∙◌, subst, append-nil, arith, length-take, length-drop}
+use Rattle.std.proofs.Common.{◌≡◌, ℕ, suc, ◌+◌, ◌<◌, ◌≤◌, Bool, true, false, cond, List, [], ◌∷◌, length, take, drop, Option, Some, None, ◌⊎◌, inl, inr, eqb, refl, sym, ap, ◌∙◌, subst, arith, length-take, length-drop}
 use Rattle.std.specs.Prelude.{codes, nat_le, ◌&&◌, option_map}
 use Rattle.std.specs.List.{slice_split, onto_first, before_first, after_first, list_all, position_or_len}
 use Rattle.std.specs.Str.{bytes_eq}
@@ -15,7 +15,7 @@ use Rattle.rbc_zones.specs.declared.limit.Dirs.TheVariants.{Up, Down, Both}
 use Rattle.rbc_rule.specs.declared.input.Input.{Input}
 use Rattle.rbc_rule.specs.declared.input.Input.TheVariants.{Bad}
 use Rattle.rbc_text.specs.BatchText.{is_space, is_colon, is_dash, is_digit, words_of, value_of, decimal_of, segment_from, segment_of, enrolment_from, enrolment_of, withdrawal_from, withdrawal_of, number_of, dirs_of, front_of, restriction_from, restriction_of, Line, Spelled, message_of, stop_of, line_of_words, line_of}
-use Rattle.rbc_text.proofs.LinePieces.{first_piece}
+use Rattle.ertms_codec.proofs.Cuts.{split_is_cons}
 
 -- ---- pieces
 
@@ -34,7 +34,7 @@ piece_step {X} p x xs first begun more rest false is split whole e =
 pub first_is_whole : {X : Type 0} (p : X → Bool) (xs first : List X) (more : List (List X)) → slice_split p xs ≡ first ∷ more → slice_split p first ≡ first ∷ []
 first_is_whole {X} p [] first more e = subst (λ (piece : List X). slice_split p piece ≡ piece ∷ []) (ap first_of e) refl
 first_is_whole p (x ∷ xs) first more e =
-    let is = first_piece p xs in
+    let is = split_is_cons p xs in
     piece_step p x xs first is.0 more is.1 (p x) refl is.2 (first_is_whole p xs is.0 is.1 is.2) e
 
 abbrev second_of : List (List ℕ) → List ℕ
@@ -64,7 +64,7 @@ room_onto x (piece ∷ pieces) first more e = omega arith
 pub room_of_pieces : (p : ℕ → Bool) (text : List ℕ) → room_of (slice_split p text) ≡ suc (length text)
 room_of_pieces p [] = refl
 room_of_pieces p (x ∷ xs) =
-    let is = first_piece p xs in
+    let is = split_is_cons p xs in
     let rest = room_of_pieces p xs in
     elim (p x) as (λ b. room_of (cond b ([] ∷ slice_split p xs) (onto_first x (slice_split p xs))) ≡ suc (suc (length xs))) [
       | true ↦ omega (arith, rest)

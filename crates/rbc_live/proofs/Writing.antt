@@ -1,6 +1,6 @@
 -- What is out, and what is left to be written.
-use Rattle.std.proofs.Common.{◌≡◌, ℕ, ◌+◌, ◌≤◌, List, [], ◌++◌, length, take, Option, Result, Ok, Err, is_err, is_ok, if◌then◌else◌, false, refl, sym, ap, ◌∙◌, subst, append_assoc, append-nil, arith, length-append}
-use Rattle.std.specs.Prelude.{OnOk, IfErr, IsErrAnd}
+use Rattle.std.proofs.Common.{◌≡◌, ℕ, ◌+◌, ◌≤◌, List, [], ◌++◌, length, take, Option, Result, Ok, Err, is_err, is_ok, if◌then◌else◌, false, sym, ap, ◌∙◌, subst, append_assoc, append-nil, arith, length-append}
+use Rattle.std.specs.Prelude.{OnOk, IsErrAnd}
 use Rattle.std.specs.Io.KnownBytes.{Appends, Keeps}
 use Rattle.std.proofs.Math.Seq.{take-append-add, take-length}
 use Rattle.std.proofs.KnownBytes.{Appends-trans, Appends-kept}
@@ -66,7 +66,7 @@ ended_of_more plan wanted lines more all old new (Write sent) e is = (is.0, firs
 pub memory_refused : (plan : Plan) (wanted : Wanted) (lines : List (List ℕ)) (old new : Option (List ℕ)) → IsDone plan wanted lines old new → IsEnded plan wanted lines old new Memory
 memory_refused plan wanted lines old new is = (is.0, first_of_all plan wanted lines is.0 is.1, is.2)
 
-counted_on : (a b count : ℕ) → count ≡ count_of a → count_of (count + b) ≡ count_of (a + b)
+pub counted_on : (a b count : ℕ) → count ≡ count_of a → count_of (count + b) ≡ count_of (a + b)
 counted_on a b count e = rw e (grind arith)
 
 -- the writer failed after a part of the text

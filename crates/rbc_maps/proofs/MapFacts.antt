@@ -5,7 +5,7 @@ use Rattle.std.proofs.lemmas.Bool.{cases_lt, or_parts, eqb-false, ne_eqb, le-ltb
 use Rattle.std.proofs.lemmas.Bool.Decides.{nat_tests}
 use Rattle.rbc_maps.specs.Maps.{has, with_value, rises_from}
 
-or_swap : (a b c : Bool) → (a || (b || c)) ≡ (b || (a || c))
+pub or_swap : (a b c : Bool) → (a || (b || c)) ≡ (b || (a || c))
 or_swap true true c = refl
 or_swap true false c = refl
 or_swap false b c = refl
@@ -45,15 +45,6 @@ rises_from-filter test least (suc count) =
       | true ↦ and_from (leb least least) (rises_from (least + 1) (filter test (range_with_len (least + 1) count))) (le-leb least least (omega arith)) rest
       | false ↦ rises_from-lower least (least + 1) _ (omega arith) rest
     ]
-
--- nothing passes where each that passed another test fails this one, and so do those that failed it
-pub filter_none : {X : Type 0} (before after : X → Bool) (xs : List X) → AllByRecursion (λ x. after x ≡ false) (filter before xs) → ((x : X) → before x ≡ false → after x ≡ false) → filter after xs ≡ []
-filter_none before after [] passed failed = refl
-filter_none {X} before after (x ∷ xs) passed failed =
-    (elim (before x) as (λ b. before x ≡ b → AllByRecursion (λ y. after y ≡ false) (cond b (x ∷ filter before xs) (filter before xs)) → cond (after x) (x ∷ filter after xs) (filter after xs) ≡ []) [
-      | true ↦ λ e h. rw h.0 (filter_none before after xs h.1 failed)
-      | false ↦ λ e h. rw (failed x e) (filter_none before after xs h failed)
-    ]) refl passed
 
 -- where nothing passes, each fails
 pub each_fails : {X : Type 0} (test : X → Bool) (xs : List X) → filter test xs ≡ [] → AllByRecursion (λ x. test x ≡ false) xs

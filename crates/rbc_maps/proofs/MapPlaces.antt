@@ -6,7 +6,7 @@ use Rattle.std.proofs.lemmas.Bool.Decides.{nat_tests}
 use Rattle.std.proofs.lemmas.List.Sums.{position_or_len_is}
 use Rattle.rbc_maps.specs.Maps.{has, index_for, keys, rises_from, value_or, with_value}
 
-and_true : (a b : Bool) → a ≡ true → (a && b) ≡ b
+pub and_true : (a b : Bool) → a ≡ true → (a && b) ≡ b
 and_true true b e = refl
 and_true false b e = absurd (let bad : false ≡ true = e in cc)
 

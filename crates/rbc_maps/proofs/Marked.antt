@@ -1,19 +1,17 @@
 -- From a value in the chain of a mark the next one is reached.
-use Rattle.std.proofs.Common.{◌≡◌, ℕ, suc, ◌+◌, ◌<◌, ◌≤◌, Bool, true, false, not, cond, ◌||◌, ◌==◌, List, [], ◌∷◌, map, length, drop, get_or, slice_index, refl, sym, ap, ◌∙◌, subst, arith}
+use Rattle.std.proofs.Common.{◌≡◌, ℕ, suc, ◌+◌, ◌<◌, ◌≤◌, true, false, not, cond, ◌||◌, ◌==◌, List, [], ◌∷◌, map, length, drop, get_or, slice_index, refl, sym, ap, ◌∙◌, subst, arith}
 use Rattle.std.specs.List.{position_or_len}
 use Rattle.std.proofs.lemmas.List.{drop_all, drop_more, drop-drop, drop-map, get_or-map, length-map}
+use Rattle.std.proofs.lemmas.Bool.{false_from_ne_true}
 use Rattle.memchr.specs.Find.{Nowhere, is_byte, Passes}
 use Rattle.rbc_maps.specs.OnLines.{has_mark, marked}
 use Rattle.rbc_maps.specs.Chains.{first_with, entry, AreChained, IsInChain}
-
-is_false : (b : Bool) → (b ≡ true → ⊥) → b ≡ false
-is_false b never = (elim b as (λ b. (b ≡ true → ⊥) → b ≡ false) [ true ↦ λ never. absurd (never refl) | false ↦ λ never. refl ]) never
 
 -- a mark that stands nowhere is not among them
 stands_nowhere : (mark : ℕ) (marks : List ℕ) → ((k : ℕ) → k < length marks → Passes (is_byte mark) marks k → ⊥) → has_mark mark marks ≡ false
 stands_nowhere mark [] none = refl
 stands_nowhere mark (m ∷ marks) none =
-    ap (λ b. b || has_mark mark marks) (is_false (m == mark) (none 0 (omega arith))) ∙ stands_nowhere mark marks (λ k within. none (suc k) (omega (arith, within)))
+    ap (λ b. b || has_mark mark marks) (false_from_ne_true (m == mark) (none 0 (omega arith))) ∙ stands_nowhere mark marks (λ k within. none (suc k) (omega (arith, within)))
 
 one_more : (k : ℕ) → 1 + k ≡ suc k
 one_more k = omega arith

@@ -22,10 +22,6 @@ stand_then (text ∷ texts) more first second one two = (
   stand_then texts more one.1 second one.3 two,
 )
 
--- a document to which nothing is added
-pub shown_none : (document : List ℕ) → IsShownOn [] document document
-shown_none document = ([], sym (append-nil document), tt)
-
 -- a document that is added to twice
 pub shown_then : (texts more : List (List ℕ)) (first second third : List ℕ) → IsShownOn texts first second → IsShownOn more second third → IsShownOn (texts ++ more) first third
 shown_then texts more first second third one two =
@@ -135,13 +131,6 @@ pub more_behind : {A : Type 0} (f : A → List (List ℕ)) (items : List A) (ind
     → IsShownOn (flat_map f (take (index + 1) items)) old new
 more_behind f items index item old now mid new next one piece two =
     more_texts f items index item old mid new next (then_piece (flat_map f (take index items)) old now mid one piece) two
-
--- texts behind which nothing follows
-pub none_follow : {A : Type 0} (f : A → List (List ℕ)) (items : List A) (texts : List (List ℕ)) (old new : List ℕ) → items ≡ []
-    → IsShownOn texts old new → IsShownOn (texts ++ flat_map f items) old new
-none_follow f items texts old new none shown =
-    subst (λ (ts : List (List ℕ)). IsShownOn ts old new)
-    (sym (ap (λ all. texts ++ flat_map f all) none ∙ append-nil texts)) shown
 
 -- texts, a piece, and texts that may lack memory
 pub then_more : {T E : Type 0} (r : Result T E) (texts more : List (List ℕ)) (first second third last : List ℕ)

@@ -11,12 +11,12 @@ use Rattle.rbc_records.specs.Notes.{record_in, same_key}
 use Rattle.rbc_records.proofs.Keys.{eq_is, lookup_is, same_key_own, same_key_is}
 
 -- a test that was made is not made again
-made_once : (b : Bool) (x y rest : Option Rec) → cond b x rest ≡ cond b x (cond b y rest)
+pub made_once : (b : Bool) (x y rest : Option Rec) → cond b x rest ≡ cond b x (cond b y rest)
 made_once true x y rest = refl
 made_once false x y rest = refl
 
 -- of two tests that never both pass, either may come first
-either_first : (a b : Bool) (x y rest : Option Rec) → (a ≡ true → b ≡ true → ⊥) → cond a x (cond b y rest) ≡ cond b y (cond a x rest)
+pub either_first : (a b : Bool) (x y rest : Option Rec) → (a ≡ true → b ≡ true → ⊥) → cond a x (cond b y rest) ≡ cond b y (cond a x rest)
 either_first true true x y rest apart = absurd (apart refl refl)
 either_first true false x y rest apart = refl
 either_first false b x y rest apart = refl

@@ -17,8 +17,8 @@ use Rattle.rbc_records.specs.declared.record.Rec.TheVariants as rec
 use Rattle.rbc_records.specs.Notes.{same_key}
 use Rattle.rbc_records.specs.Writes.{written, write_over}
 use Rattle.rbc_rule.specs.Right.{messages_to}
-use Rattle.rbc_rule.proofs.WorldMaps.{eqb_turned}
 use Rattle.rbc_rule.proofs.WorldSettling.{messages_to-engine}
+use Rattle.rbc_track.proofs.Entries.{eqb_turned}
 
 -- the first key does not stand among the others
 first_absent : {V : Type 0} (least : ℕ) (pair : ℕ × V) (pairs : List (ℕ × V)) (key : ℕ) → rises_from least (keys (pair ∷ pairs)) ≡ true → eqb pair.0 key ≡ true → has pairs key ≡ false

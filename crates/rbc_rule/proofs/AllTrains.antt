@@ -1,5 +1,5 @@
 -- The step of an input that changes the stops or the restrictions: each train is settled, and one more record is written.
-use Rattle.std.proofs.Common.{◌≡◌, ℕ, suc, ◌+◌, ◌≤◌, Bool, true, false, not, cond, eqb, leb, List, [], ◌∷◌, ◌++◌, map, length, flat_map, Option, Some, None, option_map, Result, Ok, Err, All, refl, sym, ap, subst, ◌∙◌, arith, zero-add}
+use Rattle.std.proofs.Common.{◌≡◌, ℕ, suc, ◌+◌, ◌≤◌, Bool, true, false, not, cond, eqb, leb, List, [], ◌∷◌, ◌++◌, map, length, Option, Some, None, option_map, Result, Ok, Err, All, refl, sym, ap, subst, ◌∙◌, arith, zero-add}
 use Rattle.std.specs.List.{AllByRecursion}
 use Rattle.std.specs.Option.{option_map_or}
 use Rattle.rbc_place.specs.Placing.{Place}
@@ -12,7 +12,6 @@ use Rattle.rbc_maps.specs.Numbered.{Numbered, AreNumbered}
 use Rattle.rbc_zones.specs.declared.segment.Segment.{Segment}
 use Rattle.rbc_zones.specs.declared.limit.Dirs.{Dirs}
 use Rattle.rbc_settle.specs.declared.train.TrainRec.{TrainRec}
-use Rattle.rbc_settle.specs.declared.sent.Sent.{Sent}
 use Rattle.rbc_settle.specs.Settling.{Stops, Limits, actions_with_stamp, settled, messages_of}
 use Rattle.rbc_settle.proofs.NumberLists.{without-absent}
 use Rattle.rbc_records.specs.declared.record.Key.{Key}
@@ -31,7 +30,7 @@ use Rattle.rbc_rule.specs.Step.{settled_trains, settle_all, sent_to, count_sent}
 use Rattle.rbc_rule.specs.Records.{engines_record, engines_listed, list_of, record_of}
 use Rattle.rbc_rule.specs.WellFormed.{IsGoodTrain, IsWellFormed}
 use Rattle.rbc_rule.specs.Right.{IsStep, messages_to}
-use Rattle.rbc_rule.specs.Gathered.{forgotten, is_forced_by, is_same, settled_train, write_at, sent_at, writes_of, all_sent, settled_outcome, IsEnough}
+use Rattle.rbc_rule.specs.Gathered.{forgotten, is_forced_by, is_same, settled_train, writes_of, all_sent, settled_outcome}
 use Rattle.rbc_rule.proofs.WorldMaps.{keys-map, value_of-map}
 use Rattle.rbc_rule.proofs.WorldSettling.{settled_same, taken}
 use Rattle.rbc_rule.proofs.AllGathered.{written-append, changed, changes_stay, changes_at, changed_records, messages_at, messages_count}
@@ -206,7 +205,7 @@ module _ (plan : Plan) (input : Input) (w : World) (released : Option ℕ) (well
 above_last : (last number : ℕ) → leb number last ≡ false → eqb number 0 ≡ false
 above_last last number e = grind (arith, nat_tests)
 
-one_or_more : (n : ℕ) → 1 ≤ n → eqb n 0 ≡ false
+pub one_or_more : (n : ℕ) → 1 ≤ n → eqb n 0 ≡ false
 one_or_more n h = grind (arith, nat_tests)
 
 module _ {V : Type 0} where
@@ -287,13 +286,3 @@ module _ (plan : Plan) (w : World) (number : ℕ) where
       (removing_above number w.limits new well.limits.numbered (sym new_is))
 
 -- ---- what was gathered, by engines
-
--- the outcome of what was gathered from the trains of engines that are enough
-pub gathered_outcome : (plan : Plan) (stops : Stops) (limits : Limits) (released : Option ℕ) (w : World) (k : Key) (new : Rec) (outcome : Outcome) (made after : List (Key × Option Rec)) (sent : List Sent) (engines : List ℕ)
-    → outcome ≡ record { result = Done (length sent); writes = after; messages = sent } → after ≡ made ++ (k, Some new) ∷ []
-    → made ≡ flat_map (write_at plan stops limits released w.trains) engines → sent ≡ flat_map (sent_at plan stops limits released w.trains) engines → IsEnough plan stops limits released w.trains engines
-    → outcome ≡ settled_outcome plan stops limits released w.trains k new
-gathered_outcome plan stops limits released w k new outcome made after sent engines is after_is made_is sent_is enough =
-    let made_now : made ≡ writes_of plan stops limits released w.trains = made_is ∙ enough.writes in
-    let sent_now : sent ≡ all_sent plan stops limits released w.trains = sent_is ∙ enough.sent in
-    is ∙ (λ i. record { result = Done (length (sent_now i)); writes = (after_is ∙ ap (λ xs. xs ++ (k, Some new) ∷ []) made_now) i; messages = sent_now i })

@@ -1,9 +1,8 @@
 -- The engines that were read are enough for what begins or ends.
-use Rattle.std.proofs.Common.{◌≡◌, inl, ℕ, ◌≤◌, ◌+◌, ◌*◌, true, false, leb, List, length, Option, Some, None, Bor, option_copied, All, refl, sym, ap, ◌∙◌, arith}
+use Rattle.std.proofs.Common.{◌≡◌, inl, ℕ, ◌≤◌, ◌+◌, ◌*◌, true, false, leb, List, length, Option, Some, None, Bor, option_copied, refl, sym, ap, ◌∙◌, arith}
 use Rattle.std.specs.List.{list_any, list_all}
 use Rattle.std.specs.Option.{option_map_or}
 use Rattle.std.proofs.lemmas.Bool.{or_parts, and_parts, leb-true}
-use Rattle.std.proofs.lemmas.List.Sums.{AllPass-from_list_all}
 use Rattle.rbc_track.specs.Plan.{Plan}
 use Rattle.rbc_place.specs.Placing.{Place}
 use Rattle.rbc_maps.specs.Maps.{value_of}
@@ -31,10 +30,6 @@ use Rattle.rbc_rule.proofs.Elsewhere.{stop_elsewhere, limit_elsewhere, limit_now
 use Rattle.rbc_rule.proofs.Engines.{stands_in, enough, line_has}
 use Rattle.rbc_rule.proofs.Begun.{stop_changed}
 use Rattle.rbc_rule.proofs.Seeking.{sought_enough}
-
--- the segments of a good area are good, and not too many
-pub good_lines : (plan : Plan) (segments : List Segment) → is_good_area plan segments ≡ true → All (λ segment. is_good_segment plan segment ≡ true) segments
-good_lines plan segments good = AllPass-from_list_all (is_good_segment plan) segments (and_parts (leb (length segments) 8) (list_all (is_good_segment plan) segments) good).1
 
 pub few_lines : (plan : Plan) (segments : List Segment) (engines : List ℕ) → is_good_area plan segments ≡ true → length engines ≤ (length segments + 1) * max_trains → length engines ≤ 9 * max_trains
 few_lines plan segments engines good few =

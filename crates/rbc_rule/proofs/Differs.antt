@@ -18,6 +18,7 @@ use Rattle.rbc_rule.specs.Lists.{engines_in}
 use Rattle.rbc_rule.specs.Gathered.{is_forced_by, is_same, settled_train}
 use Rattle.rbc_rule.specs.Touching.{HasBegun}
 use Rattle.rbc_rule.proofs.AllTrains.{forgotten_same}
+use Rattle.rbc_rule.proofs.Engines.{engines_in_record}
 
 -- ---- what settling does
 
@@ -53,14 +54,9 @@ with_differs n ns same = not_longer (length ns) (sym (length_with n ns) ∙ ap l
 pub without_differs : (n : ℕ) (ns : List ℕ) → has_number ns n ≡ true → without_number n ns ≡ ns → ⊥
 without_differs n ns there same = both_ways (has_number ns n) (sym (ap (λ (ms : List ℕ). has_number ms n) same) ∙ none_without n ns) there
 
--- a record of engines has them
-engines_back : (engines : List ℕ) → engines_in (engines_record engines) ≡ engines
-engines_back [] = refl
-engines_back (engine ∷ engines) = refl
-
 -- one record of engines is that of one list
 same_engines : (ns ms : List ℕ) → engines_record ns ≡ engines_record ms → ns ≡ ms
-same_engines ns ms same = sym (engines_back ns) ∙ ap engines_in same ∙ engines_back ms
+same_engines ns ms same = sym (engines_in_record ns) ∙ ap engines_in same ∙ engines_in_record ms
 
 -- so the record of a list with one more number is another one
 pub record_with_differs : (n : ℕ) (ns : List ℕ) → engines_record (with_number n ns) ≡ engines_record ns → ⊥

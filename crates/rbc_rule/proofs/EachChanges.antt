@@ -12,6 +12,7 @@ use Rattle.rbc_settle.specs.declared.train.TrainRec.{TrainRec}
 use Rattle.rbc_settle.specs.Numbers.{has_number, with_number, without_number}
 use Rattle.rbc_settle.specs.Trains.{new_train}
 use Rattle.rbc_settle.specs.Settling.{settled}
+use Rattle.rbc_settle.proofs.Concerned.{not_none}
 use Rattle.rbc_records.specs.declared.record.Key.{Key}
 use Rattle.rbc_records.specs.declared.record.Key.TheVariants as key
 use Rattle.rbc_records.specs.declared.record.Rec.{Rec}
@@ -31,9 +32,6 @@ use Rattle.rbc_rule.specs.Gathered.{enrolled_outcome, withdrawn_outcome, heard_o
 use Rattle.rbc_rule.proofs.WorldMaps.{has_keys, has_value}
 use Rattle.rbc_rule.proofs.Engines.{list_record, line_has, unplaced_has, stands_in}
 use Rattle.rbc_rule.proofs.Differs.{record_with_differs, record_without_differs}
-
-some_is_none : {A : Type 0} (x : A) → Some x ≡ None → ⊥
-some_is_none x e = cc
 
 -- a list of a line, or of the trains without a place
 is_train_list : (train : TrainRec) → is_list (list_of train) ≡ true
@@ -61,7 +59,7 @@ stands_there w engine train rises found = by train.place refl
 
 -- ---- one train
 
-one_of : {X : Type 0} (P : X → Type 0) (a : X) → P a → All P (a ∷ [])
+pub one_of : {X : Type 0} (P : X → Type 0) (a : X) → P a → All P (a ∷ [])
 one_of P a p = All-cons P a [] p (All-nil P)
 
 two_of : {X : Type 0} (P : X → Type 0) (a b : X) → P a → P b → All P (a ∷ b ∷ [])
@@ -85,7 +83,7 @@ module _ (plan : Plan) (w : World) (engine : ℕ) where
       let train : Key × Option Rec = (key.Train engine, Some (rec.Train after)) in
       let unplaced : Key × Option Rec = (key.Unplaced, engines_record (with_number engine (engines_at w key.Unplaced))) in
       let in_roster : IsChange w roster = λ same. record_with_differs engine (keys w.trains) (sym same) in
-      let in_train : IsChange w train = λ same. some_is_none (rec.Train after) (sym same ∙ ap (option_map rec.Train) (value_of-absent engine w.trains new)) in
+      let in_train : IsChange w train = λ same. not_none (rec.Train after) (sym same ∙ ap (option_map rec.Train) (value_of-absent engine w.trains new)) in
       let in_unplaced : IsChange w unplaced = with_changes w engine key.Unplaced refl in
       subst (λ (o : Outcome). All (IsFit w input) o.writes) (sym is)
       (three_of (IsFit w input) roster train unplaced (inl in_roster) (inl in_train) (inl in_unplaced))
@@ -99,7 +97,7 @@ module _ (plan : Plan) (w : World) (engine : ℕ) where
       let gone : Key × Option Rec = (key.Train engine, None) in
       let list : Key × Option Rec = (list_of train, engines_record (without_number engine (engines_at w (list_of train)))) in
       let in_roster : IsChange w roster = λ same. record_without_differs engine (keys w.trains) (has_keys w.trains engine ∙ has_value w.trains engine train found) (sym same) in
-      let in_train : IsChange w gone = λ same. some_is_none (rec.Train train) (sym (ap (option_map rec.Train) found) ∙ same) in
+      let in_train : IsChange w gone = λ same. not_none (rec.Train train) (sym (ap (option_map rec.Train) found) ∙ same) in
       let in_list : IsChange w list = without_changes w engine (list_of train) (is_train_list train) (stands_there w engine train rises found) in
       subst (λ (o : Outcome). All (IsFit w input) o.writes) (sym is)
       (three_of (IsFit w input) roster gone list (inl in_roster) (inl in_train) (inl in_list))

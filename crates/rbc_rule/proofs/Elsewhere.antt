@@ -1,7 +1,7 @@
 -- A train on another line is not touched by a stop or a restriction that begins.
 use Rattle.std.proofs.Common.{◌≡◌, ℕ, ◌<◌, Bool, false, not, cond, ◌&&◌, ◌||◌, ◌==◌, if◌then◌else◌, ltb, List, [], ◌∷◌, length, map, Some, None, is_some, refl, ap, ◌∙◌, arith}
 use Rattle.std.specs.List.{All, filter, list_any}
-use Rattle.std.proofs.lemmas.Bool.{false_from_ne_true, ne_eqb, eqb-false, or_parts, and_right}
+use Rattle.std.proofs.lemmas.Bool.{false_from_ne_true, or_parts, and_right}
 use Rattle.rbc_track.specs.Plan.{Plan}
 use Rattle.rbc_track.specs.declared.group.Way.{Way}
 use Rattle.rbc_track.specs.declared.group.Way.TheVariants.{Up, Down}
@@ -23,7 +23,7 @@ use Rattle.rbc_rule.specs.Touching.{is_stop_for, is_limit_for, HasBegun}
 -- ---- a stop
 
 -- nothing is left of a list in which no element passes
-none_left : {A : Type 0} (test : A → Bool) (xs : List A) → list_any test xs ≡ false → filter test xs ≡ []
+pub none_left : {A : Type 0} (test : A → Bool) (xs : List A) → list_any test xs ≡ false → filter test xs ≡ []
 none_left test [] e = refl
 none_left test (x ∷ xs) e =
     let parts = or_parts (test x) (list_any test xs) e in
@@ -84,10 +84,3 @@ limit_elsewhere horizon train limit p at other =
     and_right (ltb (length train.limits) 255) (is_some (limit_told_to horizon train.place limit))
     (ap (λ place. is_some (limit_told_to horizon place limit)) at
     ∙ ap (λ b. is_some (cond b (Some (told_limit limit p)) None)) (not_concerned horizon limit p other))
-
--- the same, from the train's line
-pub limit_elsewhere_turned : (horizon : ℕ) (train : TrainRec) (limit : Limit) (p : Place) → train.place ≡ Some p
-    → (p.line == limit.segment.line) ≡ false → is_limit_for horizon train limit ≡ false
-limit_elsewhere_turned horizon train limit p at other =
-    let apart = eqb-false p.line limit.segment.line other in
-    limit_elsewhere horizon train limit p at (ne_eqb limit.segment.line p.line (λ same. absurd (omega (arith, same, apart))))

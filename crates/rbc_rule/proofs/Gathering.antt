@@ -1,10 +1,8 @@
 -- What settling one train gathers.
-use Rattle.std.proofs.Common.{◌≡◌, ℕ, suc, ◌+◌, ◌≤◌, ◌&&◌, Bool, true, false, not, cond, eqb, List, [], ◌∷◌, ◌++◌, length, Option, Some, None, IfSome, subst, append-nil, refl, sym, ap, ◌∙◌, arith}
+use Rattle.std.proofs.Common.{◌≡◌, ℕ, suc, ◌+◌, ◌≤◌, ◌&&◌, Bool, true, false, not, cond, eqb, List, [], ◌∷◌, ◌++◌, length, Option, Some, None, IfSome, subst, append-nil, refl, sym, ap, ◌∙◌}
 use Rattle.std.specs.List.{fold, scan}
 use Rattle.std.specs.Option.{IfNone}
 use Rattle.std.proofs.lemmas.Bool.{or_parts, and_from, and_right}
-use Rattle.std.proofs.lemmas.Bool.Decides.{nat_tests}
-use Rattle.std.proofs.lemmas.List.{length-append}
 use Rattle.ertms_codec.specs.declared.to_train.ToTrain.{ToTrain}
 use Rattle.rbc_track.specs.Plan.{Plan}
 use Rattle.rbc_maps.specs.Numbered.{AreNumbered}
@@ -26,16 +24,11 @@ use Rattle.rbc_rule.specs.World.{World}
 use Rattle.rbc_rule.specs.Gathered.{forgotten, is_forced_by, is_same, write_of, sent_of, is_same_by, write_by, sent_by}
 use Rattle.rbc_rule.specs.Touching.{HasChanged, released_by}
 use Rattle.rbc_rule.proofs.OneAction.{one_action}
+use Rattle.rbc_rule.proofs.AllTrains.{forgotten_same, one_or_more}
 
 length-to_engine : (engine : ℕ) (messages : List ToTrain) → length (to_engine engine messages) ≡ length messages
 length-to_engine engine [] = refl
 length-to_engine engine (message ∷ messages) = ap suc (length-to_engine engine messages)
-
--- so many more
-pub few_more : (most : ℕ) (old new sent : List Sent) → new ≡ old ++ sent → length sent ≤ most → length new ≤ length old + most
-few_more most old new sent is few =
-    let count : length new ≡ length old + length sent = ap length is ∙ length-append old sent in
-    omega (arith, count, few)
 
 -- the outcome of messages to one engine
 pub done_is : (engine : ℕ) (messages : List ToTrain) (sent : List Sent) (found writes : List (Key × Option Rec)) (outcome : Outcome)
@@ -51,14 +44,6 @@ without-absent n (first ∷ rest) absent =
     let parts = or_parts (eqb first n) (has_number rest n) absent in
     ap (λ b. cond (not b) (first ∷ without_number n rest) (without_number n rest)) parts.0 ∙ ap (λ (ns : List ℕ). first ∷ ns) (without-absent n rest parts.1)
 
--- a train that does not stop at once for a released stop stays as it is
-pub nothing_forgotten : (released : Option ℕ) (train : TrainRec) → is_forced_by released train ≡ false → forgotten released train ≡ train
-nothing_forgotten None train e = refl
-nothing_forgotten (Some number) train e = ap (λ (forced : List ℕ). record train { forced = forced }) (without-absent number train.forced e)
-
-positive : (n : ℕ) → 1 ≤ n → eqb n 0 ≡ false
-positive n h = grind (arith, nat_tests)
-
 module _ (plan : Plan) (changed : Change) (train : TrainRec) where
   abbrev record_after : TrainRec → List (Key × Option Rec)
   record_after after = (key.Train train.engine, Some (rec.Train after)) ∷ []
@@ -69,7 +54,7 @@ module _ (plan : Plan) (changed : Change) (train : TrainRec) where
 
   module _ (unforced : is_forced_by (released_by changed) train ≡ false) where
     same_start : start ≡ train
-    same_start = nothing_forgotten (released_by changed) train unforced
+    same_start = forgotten_same (released_by changed) train unforced
 
     -- a train that changes is written
     pub changed_written : (found : Option TrainRec) (after : TrainRec) → found ≡ Some after
@@ -78,7 +63,7 @@ module _ (plan : Plan) (changed : Change) (train : TrainRec) where
     changed_written found after is acts same =
         let some : 1 ≤ length (actions_for plan changed train) = subst (λ (o : Option TrainRec). IfSome o (λ _. 1 ≤ length (actions_for plan changed train))) is acts in
         let end : after ≡ fold carried_out train (actions_for plan changed train) = subst (λ (o : Option TrainRec). IfSome o (λ t. t ≡ fold carried_out train (actions_for plan changed train))) is same in
-        let differs : is_same_by plan changed train ≡ false = and_right (not (is_forced_by (released_by changed) train)) (eqb (length (actions_for plan changed train)) 0) (positive (length (actions_for plan changed train)) some) in
+        let differs : is_same_by plan changed train ≡ false = and_right (not (is_forced_by (released_by changed) train)) (eqb (length (actions_for plan changed train)) 0) (one_or_more (length (actions_for plan changed train)) some) in
         ap record_after (end ∙ ap (λ (t : TrainRec). fold carried_out t (actions_for plan changed t)) (sym same_start))
         ∙ sym (ap (λ b. cond b [] (record_after (fold carried_out start (actions_for plan changed start)))) differs)
 
@@ -105,7 +90,7 @@ module _ (plan : Plan) (changed : Change) (train : TrainRec) where
     same_flag : (forced : Bool) → is_forced_by (released_by changed) train ≡ forced → is_same_by plan changed train ≡ is_same plan stops limits (released_by changed) train
     same_flag true e = ap (λ b. not b && eqb (length (actions_for plan changed train)) 0) e ∙ sym (ap (λ b. not b && eqb (length (actions_with_stamp plan stops limits train)) 0) e)
     same_flag false e =
-        let same = nothing_forgotten (released_by changed) train e in
+        let same = forgotten_same (released_by changed) train e in
         ap (λ (acts : List Action). not (is_forced_by (released_by changed) train) && eqb (length acts) 0)
         (ap (λ (t : TrainRec). actions_for plan changed t) (sym same) ∙ sym same_actions ∙ ap (λ (t : TrainRec). actions_with_stamp plan stops limits t) same)
 

@@ -4,7 +4,7 @@ use Rattle.std.specs.List.{insert, remove}
 use Rattle.std.specs.Option.{option_map_or}
 use Rattle.std.proofs.lemmas.Bool.{cases_lt, both_ways, or_from, or_left, and_parts, and_from, leb-true, eqb-true, eq-eqb, ne_eqb}
 use Rattle.rbc_maps.specs.Maps.{IsMap, has, keys, rises_from, value_of, with_value, without}
-use Rattle.rbc_maps.proofs.MapFacts.{rises_from-lower}
+use Rattle.rbc_maps.proofs.MapFacts.{rises_from-lower, or_swap}
 use Rattle.rbc_maps.proofs.MapPlaces.{absent_below, rises-with_value}
 use Rattle.rbc_maps.proofs.MapValues.{value_of-absent}
 use Rattle.rbc_settle.specs.Numbers.{AreNumbers, has_number, with_number, without_number}
@@ -69,12 +69,6 @@ pub same_numbers : (xs ys : List ℕ) → AreNumbers xs → AreNumbers ys → ((
 same_numbers xs ys rises rises' same = same_from 0 0 xs ys rises rises' same
 
 -- ---- members of a list with a number more, and with one less
-
--- the order of the first two does not matter
-or_swap : (a b c : Bool) → (a || (b || c)) ≡ (b || (a || c))
-or_swap true true c = refl
-or_swap true false c = refl
-or_swap false b c = refl
 
 -- the new number is a member, and so are the others
 pub has-with_number : (n : ℕ) (xs : List ℕ) (m : ℕ) → has_number (with_number n xs) m ≡ (eqb n m || has_number xs m)

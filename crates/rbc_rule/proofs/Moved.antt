@@ -15,10 +15,11 @@ use Rattle.rbc_records.proofs.Keys.{same_key_sym, same_key_is}
 use Rattle.rbc_rule.specs.World.{World}
 use Rattle.rbc_rule.specs.Records.{engines_record, engines_listed, list_of, record_of}
 use Rattle.rbc_rule.specs.Lists.{engines_at, engines_in, moves}
-use Rattle.rbc_rule.proofs.WorldMaps.{eqb_turned, keys-new, keys-old, keys-without, value_of-with_value, value_of-without}
+use Rattle.rbc_rule.proofs.WorldMaps.{keys-new, keys-old, keys-without, value_of-with_value, value_of-without}
 use Rattle.rbc_rule.proofs.Listed.{listed_new, listed_stays, listed_comes, listed_goes, listed_without, listed_without_other}
 use Rattle.rbc_rule.proofs.AllGathered.{written-append}
 use Rattle.rbc_rule.proofs.Engines.{engines_in_record, stands_in}
+use Rattle.rbc_track.proofs.Entries.{eqb_turned}
 
 map_either : {A B : Type 0} (f : A → B) (b : Bool) (x y : Option A) → cond b (option_map f x) (option_map f y) ≡ option_map f (cond b x y)
 map_either f true x y = refl

@@ -35,6 +35,7 @@ use Rattle.rbc_rule.specs.Effect.{with_next, with_less, forget}
 use Rattle.rbc_rule.specs.Gathered.{forgotten}
 use Rattle.rbc_rule.specs.Touching.{HasChanged, released_by}
 use Rattle.rbc_rule.proofs.Untouched.{not_empty, IsNothingOrTold, value_of-without, none_gone_still, kept_begun, stop_gone, done_before}
+use Rattle.rbc_rule.proofs.Elsewhere.{none_left}
 
 -- ---- what is told
 
@@ -111,18 +112,12 @@ module _ {X T : Type 0} (slots : Slots) (what : ℕ × X → Option T) where
 
 -- ---- what is revoked
 
-none_kept : {A : Type 0} (test : A → Bool) (xs : List A) → list_any test xs ≡ false → filter test xs ≡ []
-none_kept test [] none = refl
-none_kept test (x ∷ xs) none =
-    let parts = or_parts (test x) (list_any test xs) none in
-    ap (λ (b : Bool). cond b (x ∷ filter test xs) (filter test xs)) parts.0 ∙ none_kept test xs parts.1
-
 -- a number is told by one slot
 told_once : (number : ℕ) (slots : Slots) → TellsOnce slots → filter (λ held. tells number held.1) slots ≡ cons_option (find (λ held. tells number held.1) slots) []
 told_once number [] once = refl
 told_once number (held ∷ slots) once =
     (elim (tells number held.1) as (λ b. tells number held.1 ≡ b → cond b (held ∷ filter (λ (other : ℕ × Slot). tells number other.1) slots) (filter (λ (other : ℕ × Slot). tells number other.1) slots) ≡ cons_option (cond b (Some held) (find (λ (other : ℕ × Slot). tells number other.1) slots)) []) [
-      | true ↦ λ told. ap (λ (rest : Slots). held ∷ rest) (none_kept (λ (other : ℕ × Slot). tells number other.1) slots (once.0 number told))
+      | true ↦ λ told. ap (λ (rest : Slots). held ∷ rest) (none_left (λ (other : ℕ × Slot). tells number other.1) slots (once.0 number told))
       | false ↦ λ untold. told_once number slots once.1
     ]) refl
 
@@ -203,7 +198,7 @@ module _ (train : TrainRec) (number : ℕ) (old : Stops) (done : IsDone 15 (is_s
       let still = none_gone_still (λ n. is_none (value_of old.active n)) (λ n. is_none (value_of new.active n)) train.stops (λ n told there. kept_begun 15 is_none refl (told_as train.place train.forced) train.stops number old area numbered above n there) before in
       let after : list_any (λ held. is_used_by (is_stop_gone new) held.1) train.stops ≡ false = sym (ap (λ (gone : ℕ → Bool). list_any (λ held. is_used_by gone held.1) train.stops) (stop_gone new)) ∙ still in
       let revoked : stops_revoked [] new train ≡ [] =
-      ap (λ (gone : ℕ → Bool). map (revoke_stop []) (filter (λ held. is_used_by gone held.1) train.stops)) (revoked_as_gone new) ∙ ap (map (revoke_stop [])) (none_kept (λ (held : ℕ × Slot). is_used_by (is_stop_gone new) held.1) train.stops after) in
+      ap (λ (gone : ℕ → Bool). map (revoke_stop []) (filter (λ held. is_used_by gone held.1) train.stops)) (revoked_as_gone new) ∙ ap (map (revoke_stop [])) (none_left (λ (held : ℕ × Slot). is_used_by (is_stop_gone new) held.1) train.stops after) in
       let told = begun_told train.stops (told_as train.place train.forced) number area tell_stop 15 old.active done.none_left in
       (λ i. stops_revoked (escalated_none i) new train ++ stops_told (escalated_none i) new train)
       ∙ (λ i. revoked i ++ told i)
@@ -249,7 +244,7 @@ module _ (horizon : ℕ) (train : TrainRec) (number : ℕ) (old : Limits) (done 
   limit_begun limit numbered above =
       let new = with_next number limit old in
       let after = none_gone_still (is_limit_gone old train.place) (is_limit_gone new train.place) train.limits (λ n told there. kept_begun 255 judged refl (limit_as horizon train.place) train.limits number old limit numbered above n there) done.none_gone in
-      let revoked : limits_revoked new train ≡ [] = ap (λ (held : Slots). map limit_change.Revoke (map (λ (one : ℕ × Slot). one.0) held)) (none_kept (λ (held : ℕ × Slot). is_used_by (is_limit_gone new train.place) held.1) train.limits after) in
+      let revoked : limits_revoked new train ≡ [] = ap (λ (held : Slots). map limit_change.Revoke (map (λ (one : ℕ × Slot). one.0) held)) (none_left (λ (held : ℕ × Slot). is_used_by (is_limit_gone new train.place) held.1) train.limits after) in
       let told = begun_told train.limits (limit_as horizon train.place) number limit tell_limit 255 old.active done.none_left in
       λ i. revoked i ++ told i
 

@@ -1,16 +1,15 @@
 -- The trains among which are all that a command seeks are enough for it.
-use Rattle.std.proofs.Common.{◌≡◌, ℕ, Bool, true, false, List, Option, Some, None, is_some, option_map, IsTrue, refl, sym, ap, ◌∙◌}
+use Rattle.std.proofs.Common.{◌≡◌, ℕ, Bool, true, false, List, Option, Some, None, is_some, option_map, refl, sym, ap, ◌∙◌}
 use Rattle.std.specs.Option.{option_map_or}
 use Rattle.rbc_track.specs.Plan.{Plan}
 use Rattle.rbc_maps.specs.Maps.{value_of}
 use Rattle.rbc_settle.specs.declared.train.TrainRec.{TrainRec}
 use Rattle.rbc_settle.specs.Numbers.{AreNumbers, has_number}
 use Rattle.rbc_settle.specs.Settling.{Stops, Limits}
-use Rattle.rbc_settle.proofs.Labels.{all_from}
 use Rattle.rbc_records.specs.declared.record.Key.TheVariants as key
 use Rattle.rbc_records.specs.declared.record.Rec.TheVariants as rec
 use Rattle.rbc_records.specs.declared.search.Sought.{Sought}
-use Rattle.rbc_records.specs.Notes.{Notes, knows}
+use Rattle.rbc_records.specs.Notes.{Notes}
 use Rattle.rbc_records.specs.SoughtTrains.{is_sought}
 use Rattle.rbc_records.specs.Seeking.{AreFound}
 use Rattle.rbc_settle.specs.declared.single_change.Change.{Change}
@@ -18,16 +17,13 @@ use Rattle.rbc_rule.specs.World.{World}
 use Rattle.rbc_rule.specs.Right.{MayBe}
 use Rattle.rbc_rule.specs.WellFormed.{IsGoodTrain, IsWellFormed}
 use Rattle.rbc_rule.specs.Touching.{touches, HasChanged, released_by}
-use Rattle.rbc_rule.specs.Lists.{AreTrainsKnown, HaveSought, engines_at}
+use Rattle.rbc_rule.specs.Lists.{HaveSought, engines_at}
 use Rattle.rbc_rule.specs.Gathered.{IsEnough}
 use Rattle.rbc_rule.proofs.KeepsLists.{All-value_of}
 use Rattle.rbc_rule.proofs.GatherReading.{has_value}
 use Rattle.rbc_rule.proofs.Engines.{enough, is_there, roster_has, roster_is}
 
 -- ---- what was found
-
-pub found_known : (notes : Notes) (what : Sought) (engines : List ℕ) → AreFound notes what engines → AreTrainsKnown notes engines
-found_known notes what engines found = all_from (λ n. IsTrue (knows notes (key.Train n))) engines (λ n there. found.all_known (key.Train n))
 
 enrolled_record : (found : Option TrainRec) → is_some (option_map rec.Train found) ≡ true → option_map_or (λ (train : TrainRec). true) found false ≡ true
 enrolled_record None bad = bad

@@ -9,7 +9,7 @@ use Rattle.rbc_settle.specs.Settling.{Stops, Limits, carried_out, actions_with_s
 use Rattle.rbc_rule.specs.Gathered.{forgotten, settled_train}
 
 -- actions leave a train at its place
-place_after : (acts : List Action) (train : TrainRec) → (fold carried_out train acts).place ≡ train.place
+pub place_after : (acts : List Action) (train : TrainRec) → (fold carried_out train acts).place ≡ train.place
 place_after [] train = refl
 place_after (ChangesStop (stop_change.Revoke id number) ∷ acts) train = place_after acts (carried_out train (ChangesStop (stop_change.Revoke id number)))
 place_after (ChangesStop (stop_change.Tell id number told) ∷ acts) train = place_after acts (carried_out train (ChangesStop (stop_change.Tell id number told)))

@@ -1,6 +1,6 @@
 -- Nothing is to be done to a train that was settled before a change that does not touch it.
 use Rattle.std.proofs.Common.{◌≡◌, ℕ, zero, suc, ◌-◌, ◌<◌, ◌≤◌, ◌⊎◌, Bool, true, false, not, cond, ◌&&◌, eqb, ltb, List, [], ◌∷◌, ◌++◌, length, map, take, drop, Option, Some, None, is_none, is_some, All, refl, sym, ap, ◌∙◌, subst, arith, inl, inr}
-use Rattle.std.specs.List.{filter, filter_map, cons_option, list_any, zip, scan, slice_get, AllByRecursion}
+use Rattle.std.specs.List.{filter, filter_map, cons_option, list_any, zip, scan, AllByRecursion}
 use Rattle.std.specs.Option.{option_map, option_map_or}
 use Rattle.std.proofs.lemmas.Bool.{cases_eq, cases_lt, le-ltb, lt-ltb, or_from, or_left, or_right, or_parts, and_from, eq-eqb, ne_eqb, eqb-true}
 use Rattle.std.proofs.lemmas.List.Elements.{All-head, All-tail}
@@ -35,6 +35,7 @@ use Rattle.rbc_settle.proofs.Achieves.{AreDone, revoked_as_gone, no_actions}
 use Rattle.rbc_settle.proofs.Judging.{value_is_none}
 use Rattle.rbc_settle.specs.declared.single_change.Change.{Change}
 use Rattle.rbc_settle.specs.declared.single_change.Change.TheVariants as change
+use Rattle.rbc_settle.proofs.NothingLeft.{none_passes, empty}
 use Rattle.rbc_rule.specs.World.{World}
 use Rattle.rbc_rule.specs.Effect.{with_next, with_less}
 use Rattle.rbc_rule.specs.Gathered.{is_forced_by, is_same, sent_of}
@@ -47,11 +48,11 @@ use Rattle.rbc_rule.proofs.AllTrains.{forgotten_same}
 pub not_empty : {A : Type 0} (x : A) (xs : List A) → x ∷ xs ≡ [] → ⊥
 not_empty x xs e = cc
 
-both_empty : {A : Type 0} (xs ys : List A) → xs ++ ys ≡ [] → (xs ≡ []) × (ys ≡ [])
+pub both_empty : {A : Type 0} (xs ys : List A) → xs ++ ys ≡ [] → (xs ≡ []) × (ys ≡ [])
 both_empty [] ys e = (refl, e)
 both_empty (x ∷ xs) ys e = absurd (not_empty x (xs ++ ys) e)
 
-empty_mapped : {A B : Type 0} (f : A → B) (xs : List A) → map f xs ≡ [] → xs ≡ []
+pub empty_mapped : {A B : Type 0} (f : A → B) (xs : List A) → map f xs ≡ [] → xs ≡ []
 empty_mapped f [] e = refl
 empty_mapped f (x ∷ xs) e = absurd (not_empty (f x) (map f xs) e)
 
@@ -87,11 +88,6 @@ nothing_taken (suc room) (action ∷ old) new e h = absurd (not_empty action (ta
 
 -- ---- a table for which there was nothing to do
 
--- no slot passes where each fails
-none_used : (gone : ℕ → Bool) (slots : Slots) → AllByRecursion (λ held. is_used_by gone held.1 ≡ false) slots → list_any (λ held. is_used_by gone held.1) slots ≡ false
-none_used gone [] all = refl
-none_used gone (held ∷ slots) all = or_from (is_used_by gone held.1) (list_any (λ other. is_used_by gone other.1) slots) all.0 (none_used gone slots all.1)
-
 -- what is told under a number is none where nothing is told, or where that is held back
 none_or_true : {T : Type 0} (number : ℕ) (b : Bool) (o : Option T) → cond {A = Option (ℕ × T)} b None (option_map {U = ℕ × T} (λ told. (number, told)) o) ≡ None → (o ≡ None) ⊎ (b ≡ true)
 none_or_true number true o e = inr refl
@@ -118,7 +114,7 @@ module _ {X T : Type 0} (count : ℕ) (gone : ℕ → Bool) (active : List (ℕ 
   done_where_none : IsTable count slots → to_revoke gone slots ≡ [] → zip (wanted_of slots what active) (free_identifiers count slots) ≡ [] → IsDone count gone active what slots
   done_where_none table revoked told = record {
     table = table;
-    none_gone = none_used gone slots (each_fails (λ held. is_used_by gone held.1) slots (empty_mapped (λ (held : ℕ × Slot). held.0) (filter (λ held. is_used_by gone held.1) slots) revoked));
+    none_gone = none_passes gone slots (each_fails (λ held. is_used_by gone held.1) slots (empty_mapped (λ (held : ℕ × Slot). held.0) (filter (λ held. is_used_by gone held.1) slots) revoked));
     none_left = elim (empty_zipped (wanted_of slots what active) (free_identifiers count slots) told) [
       | inl none_wanted ↦ inr (each_nothing_or_told slots what active (each_gives_none (to_tell slots what) active none_wanted))
       | inr none_free ↦ inl none_free
@@ -164,7 +160,7 @@ module _ (stops : Stops) (train : TrainRec) (table : IsTable 15 train.stops) (nu
       )
 
 -- no group, no item
-no_groups : {X : Type 0} (items : List X) → groups items ≡ [] → items ≡ []
+pub no_groups : {X : Type 0} (items : List X) → groups items ≡ [] → items ≡ []
 no_groups [] none = refl
 no_groups {X} (x ∷ xs) none = absurd (let bad : take 100 (x ∷ xs) ∷ groups (drop 100 (x ∷ xs)) ≡ [] = sym (groups_cons x xs) ∙ none in cc)
 
@@ -189,7 +185,7 @@ done_before plan stops limits train tables numbered none =
 -- ---- entries and values after a change
 
 -- a number above all keys is no key
-absent_above : {V : Type 0} (last number : ℕ) (pairs : List (ℕ × V)) → All (λ n. n ≤ last) (keys pairs) → last < number → has pairs number ≡ false
+pub absent_above : {V : Type 0} (last number : ℕ) (pairs : List (ℕ × V)) → All (λ n. n ≤ last) (keys pairs) → last < number → has pairs number ≡ false
 absent_above last number [] within above = refl
 absent_above last number (pair ∷ pairs) within above =
     let below : pair.0 ≤ last = All-head (λ n. n ≤ last) pair.0 (keys pairs) within in
@@ -304,16 +300,12 @@ module _ {X T : Type 0} (count : ℕ) (judge : Option X → Bool) (judged_none :
 
 -- ---- the stops and the restrictions of a train
 
-first_of_some : (xs : List ℕ) → slice_get xs 0 ≡ None → xs ≡ []
-first_of_some [] e = refl
-first_of_some (x ∷ xs) e = absurd (let bad : Some x ≡ None = e in cc)
-
 -- no identifier is free where all are held
 pub none_free : (count : ℕ) (slots : Slots) → IsTable count slots → count ≤ length slots → free_identifiers count slots ≡ []
 none_free count slots table full =
     let most : length slots ≤ count = few count slots table in
     let all : run 0 slots ≡ count = run_is_all count slots table (omega (arith, full, most)) in
-    first_of_some (free_identifiers count slots) (least_free-run count slots table ∙ ap (λ (b : Bool). cond b (Some (run 0 slots)) None) (le-ltb (run 0 slots) count (omega (arith, all))))
+    empty (free_identifiers count slots) (least_free-run count slots table ∙ ap (λ (b : Bool). cond b (Some (run 0 slots)) None) (le-ltb (run 0 slots) count (omega (arith, all))))
 
 -- what fails where an identifier has to be free fails itself, or none is free
 no_room_or_fails : (count : ℕ) (slots : Slots) (b : Bool) → IsTable count slots → (ltb (length slots) count && b) ≡ false → (free_identifiers count slots ≡ []) ⊎ (b ≡ false)

@@ -6,10 +6,6 @@ use Rattle.rbc_maps.specs.Maps.{has, value_of, with_value, without, keys, rises_
 use Rattle.rbc_maps.proofs.MapPlaces.{absent_below}
 use Rattle.rbc_settle.specs.Numbers.{has_number, with_number, without_number}
 
--- the order in which two numbers are compared is free
-pub eqb_turned : (a b : ℕ) → eqb a b ≡ eqb b a
-eqb_turned a b = grind (arith, nat_tests)
-
 -- two tests that do not both pass can be made in any order
 swapped : {A : Type 0} (b c : Bool) (x y z : A) → (b ≡ true → c ≡ true → ⊥) → cond c y (cond b x z) ≡ cond b x (cond c y z)
 swapped true true x y z h = absurd (h refl refl)

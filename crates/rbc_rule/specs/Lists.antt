@@ -1,7 +1,7 @@
 -- The lists of engines, as they are read (own rule).
 use Rattle.std.specs.Prelude.{◌≡◌, ℕ, ◌||◌, if◌then◌else◌, Bool, true, false, List, [], ◌∷◌, Option, Some, IsTrue}
 use Rattle.std.specs.List.{list_any, All}
-use Rattle.std.specs.Option.{unwrap_or, option_map_or}
+use Rattle.std.specs.Option.{option_map_or}
 use Rattle.rbc_maps.specs.Maps.{value_of, keys}
 use Rattle.rbc_zones.specs.declared.segment.Segment.{Segment}
 use Rattle.rbc_settle.specs.declared.train.TrainRec.{TrainRec}
@@ -15,10 +15,6 @@ use Rattle.rbc_records.specs.Notes.{Notes, knows, same_key}
 use Rattle.rbc_records.specs.SoughtTrains.{is_sought}
 use Rattle.rbc_rule.specs.World.{World}
 use Rattle.rbc_rule.specs.Records.{engines_record, list_of, record_of}
-
--- without a record, a list of engines is empty
-abbrev pub or_nobody : Option (List ℕ) → List ℕ
-or_nobody engines = unwrap_or engines []
 
 -- the engines in a record
 abbrev pub engines_in : Option Rec → List ℕ
@@ -46,10 +42,6 @@ AreEnginesOf is_one w engines = (engine : ℕ) → has_number engines engine ≡
 abbrev pub may_stop : List Segment → TrainRec → Bool
 may_stop segments train =
     same_key key.Unplaced (list_of train) || list_any (λ segment. same_key (key.Line segment.line) (list_of train)) segments
-
--- a restriction that begins can concern a train: it stands on the line of the segment
-abbrev pub may_limit : ℕ → TrainRec → Bool
-may_limit line train = same_key (key.Line line) (list_of train)
 
 -- the train of each of these engines was read
 abbrev pub AreTrainsKnown : Notes → List ℕ → Type 0

@@ -63,7 +63,7 @@ reported_kind : (is_kind : Kind → Bool) (slot : Slot) → has_kind is_kind (re
 reported_kind is_kind (Revoking stamp) = refl
 reported_kind is_kind (Used used) = elim (is_unanswered used) as (λ b. has_kind is_kind (cond b (Used (record used { count = min (used.count + 1) 3 })) (Used used)) ≡ is_kind used.kind) [ true ↦ refl | false ↦ refl ]
 
-reported_number : (slot : Slot) → number_in (reported_slot slot) ≡ number_in slot
+pub reported_number : (slot : Slot) → number_in (reported_slot slot) ≡ number_in slot
 reported_number (Revoking stamp) = refl
 reported_number (Used used) = elim (is_unanswered used) as (λ b. number_in (cond b (Used (record used { count = min (used.count + 1) 3 })) (Used used)) ≡ Some used.number) [ true ↦ refl | false ↦ refl ]
 

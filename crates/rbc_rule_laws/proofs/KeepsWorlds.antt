@@ -1,6 +1,6 @@
 -- Each input that is not refused leaves a world that settling makes well-formed.
 use Rattle.std.proofs.Common.{◌≡◌, ℕ, suc, ◌<◌, ◌≤◌, Bool, true, false, not, cond, eqb, leb, List, [], ◌∷◌, length, map, Option, Some, None, Result, Ok, Err, refl, sym, ap, ◌∙◌, subst, arith, IsTrue}
-use Rattle.std.specs.List.{All, fold, scan}
+use Rattle.std.specs.List.{All, scan}
 use Rattle.std.proofs.lemmas.Bool.{leb-false}
 use Rattle.std.proofs.lemmas.List.Elements.{All-nil, All-cons, All-head, All-tail, All-weaker, All-filter, All-map}
 use Rattle.ertms_codec.specs.declared.from_train.FromTrain.{FromTrain}
@@ -13,7 +13,7 @@ use Rattle.rbc_zones.specs.declared.segment.Segment.{Segment}
 use Rattle.rbc_zones.specs.Segments.{is_good_area}
 use Rattle.rbc_zones.specs.Limits.{Limit, is_good_limit}
 use Rattle.rbc_settle.specs.declared.train.TrainRec.{TrainRec}
-use Rattle.rbc_settle.specs.Actions.{Action, ChangesStop, ChangesLimits}
+use Rattle.rbc_settle.specs.Actions.{Action}
 use Rattle.rbc_settle.specs.declared.change.StopChange.TheVariants as stop_change
 use Rattle.rbc_settle.specs.Trains.{new_train}
 use Rattle.rbc_settle.specs.Settling.{Stops, Limits, carried_out, message_of, actions_with_stamp, settled}
@@ -29,6 +29,7 @@ use Rattle.rbc_rule.specs.WellFormed.{IsGoodStop, AreGoodStops, AreGoodLimits, I
 use Rattle.rbc_rule.proofs.KeepsLists.{length-filter, All-with_value, length-with_value, All-value_of, map-replaced}
 use Rattle.rbc_rule_laws.proofs.KeepsTrains.{well_later, well_new, well_forgotten, WellIfOk, well_heard}
 use Rattle.rbc_settle.specs.Trains.{max_engine, max_train_length}
+use Rattle.rbc_settle.proofs.SettleLoop.{same_engine_after}
 use Rattle.rbc_rule.specs.Bounds.{max_trains, max_stops, max_limits}
 use Rattle.rbc_rule.specs.Codes.{code_of}
 use Rattle.rbc_rule.specs.declared.refuse.Refusal.TheVariants.{AlreadyEnrolled, TooManyTrains, StopsOutstanding, NumberUsed, BadArea, TooManyActive, NoSuchNumber}
@@ -81,12 +82,6 @@ abbrev pub ReadyIfOk : Plan → Result World ℕ → Type 0
 ReadyIfOk plan (Ok w) = IsReady plan w
 ReadyIfOk plan (Err code) = Unit
 
-engine_after : (train : TrainRec) (acts : List Action) → (fold carried_out train acts).engine ≡ train.engine
-engine_after train [] = refl
-engine_after train (ChangesStop (stop_change.Revoke id number) ∷ acts) = engine_after (carried_out train (ChangesStop (stop_change.Revoke id number))) acts
-engine_after train (ChangesStop (stop_change.Tell id number told) ∷ acts) = engine_after (carried_out train (ChangesStop (stop_change.Tell id number told))) acts
-engine_after train (ChangesLimits changes ∷ acts) = engine_after (carried_out train (ChangesLimits changes)) acts
-
 -- no message, no action
 none_sent : (train : TrainRec) (acts : List Action) → scan carried_out message_of train acts ≡ [] → acts ≡ []
 none_sent train [] e = refl
@@ -96,7 +91,7 @@ module _ (plan : Plan) where
   good_settled : SettlingKeepsTrains → (stops : Stops) (limits : Limits) → AreNumbered stops → AreNumbered limits → (train : ℕ × TrainRec) → IsKept plan stops limits train
       → IsGoodTrain plan stops limits (train.0, settled plan stops limits train.1)
   good_settled keeps stops limits h k train kept = record {
-    engine = engine_after train.1 (actions_with_stamp plan stops limits train.1) ∙ kept.engine;
+    engine = same_engine_after train.1 (actions_with_stamp plan stops limits train.1) ∙ kept.engine;
     well_formed = keeps plan stops limits train.1 h k kept.well_formed;
     settled = none_sent (settled plan stops limits train.1) (actions_with_stamp plan stops limits (settled plan stops limits train.1))
         (settled_twice plan stops limits train.1 kept.well_formed.tables h k).nothing;

@@ -1,15 +1,15 @@
 -- Packets that can be put into a message can be sent in one.
-use Rattle.std.proofs.Common.{ℕ, ◌*◌, ◌<◌, ◌≤◌, Bool, true, false, List, [], ◌∷◌, ◌++◌, length, arith}
+use Rattle.std.proofs.Common.{ℕ, ◌<◌, ◌≤◌, Bool, true, false, List, [], ◌∷◌, ◌++◌, length, arith}
 use Rattle.std.specs.List.{AllByRecursion, flat_map}
-use Rattle.std.proofs.lemmas.List.Sums.{sum_by-append}
 use Rattle.ertms_codec.specs.declared.packets.Part.{Part}
 use Rattle.ertms_codec.specs.declared.packets.Part.TheVariants.{Restrict, Lift}
 use Rattle.ertms_codec.specs.declared.to_train.Head.{Head}
 use Rattle.ertms_codec.specs.declared.to_train.ToTrain.TheVariants as message
-use Rattle.ertms_codec.specs.Layout.{Field, width_of, HoldsValue, HoldValues}
+use Rattle.ertms_codec.specs.Layout.{Field, HoldsValue, HoldValues}
 use Rattle.ertms_codec.specs.Variables.{m_ack, q_front}
 use Rattle.ertms_codec.specs.PacketsToTrain.{fields_of_packet, PacketFits, most_packets}
 use Rattle.ertms_codec.specs.ToTrain as codec
+use Rattle.ertms_codec.proofs.PacketFields.{packets_width}
 use Rattle.rbc_rule.specs.SaidFor.{IsSendable}
 
 -- a packet can be put into a message: each variable is in its range, and wide enough for its value
@@ -51,19 +51,6 @@ each_holds (part ∷ packets) each = hold_both (fields_of_packet part) (flat_map
 pub each_fits : (packets : List Part) → AllByRecursion CanBePacked packets → AllByRecursion PacketFits packets
 each_fits [] each = tt
 each_fits (part ∷ packets) each = (each.0.fits, each_fits packets each.1)
-
--- a packet takes 71 bits at most
-packet_width : (part : Part) → width_of (fields_of_packet part) ≤ 71
-packet_width (Restrict dir scale id start length front speed) = omega arith
-packet_width (Lift dir id) = omega arith
-
-pub packets_width : (packets : List Part) → width_of (flat_map fields_of_packet packets) ≤ 71 * length packets
-packets_width [] = omega arith
-packets_width (part ∷ packets) =
-    let both = sum_by-append (λ (f : Field). f.width) (fields_of_packet part) (flat_map fields_of_packet packets) in
-    let first = packet_width part in
-    let rest = packets_width packets in
-    omega (arith, both, first, rest)
 
 -- so 100 of them have room in a message
 pub general_holds : (head : Head) (packets : List Part) → head.stamp < 4294967296 → head.lrbg ≤ 16777215 → length packets ≤ most_packets → HoldValues (flat_map fields_of_packet packets)

@@ -30,11 +30,6 @@ faced line lrbg at false Down lo hi = refl
 pub unit_is : (scale : ℕ) → scale ≤ 2 → unit_told scale ≡ Some (10 ^ scale)
 unit_is scale most = ap (λ (b : Bool). cond b (Some (10 ^ scale)) None) (le-leb scale 2 most)
 
--- no place of a line is farther from a balise group than a line is long
-pub distance_within : (way : Way) (at edge : ℕ) → at ≤ 3000000 → edge ≤ 3000000 → distance_to way at edge ≤ 3000000
-distance_within Up at edge h k = omega arith
-distance_within Down at edge h k = omega arith
-
 -- the place that lies no farther on than an edge ahead lies so far ahead
 pub lies_ahead : (way : Way) (at edge by : ℕ) → by ≤ distance_to way at edge → IsAhead way at by (onward way at by)
 lies_ahead Up at edge by h = refl

@@ -22,7 +22,7 @@ use Rattle.rbc_zones.specs.declared.stop_meaning.Concern.TheVariants as concern
 use Rattle.rbc_zones.specs.Segments.{IsSegment}
 use Rattle.rbc_zones.specs.Concerns.{concern_at, concern_of, told_distance, distance_to}
 use Rattle.rbc_zones.specs.Limits.{Limit, IsLimit, is_good_limit, concerns, told_part}
-use Rattle.rbc_zones.proofs.StopLaw.{edge_in_range}
+use Rattle.rbc_zones.proofs.StopLaw.{edge_in_range, distance_within}
 use Rattle.rbc_zones.proofs.ToldLimits.{each_limit_is_told_rightly}
 use Rattle.rbc_zones.proofs.ToldStops.{told_rightly}
 use Rattle.rbc_settle.specs.declared.train.TrainRec.{TrainRec}
@@ -48,7 +48,7 @@ use Rattle.rbc_rule.specs.Saying.{Said, StopsAtOnce, StopsBefore, Restricts, Rev
 use Rattle.rbc_rule.specs.SaidFor.{IsEdgeSaid, IsConcernSaid, IsLimitSaid, IsChangeSaid, AreChangesSaid, IsSendable, asks_for_answer, as_told, SaysFor, AllSay}
 use Rattle.rbc_rule_laws.proofs.Packets.{CanBePacked}
 use Rattle.rbc_rule_laws.proofs.Sendable.{revoked_below, free_stop_ids, free_limit_ids, group_within, direction_within, restriction, restriction_packed, revocation_packed, revoke_stop, stop_at_once, stop_before, general}
-use Rattle.rbc_rule_laws.proofs.SaysPlaces.{faced, unit_is, distance_within, lies_ahead, whole_fives, sound, good_area, good_limit}
+use Rattle.rbc_rule_laws.proofs.SaysPlaces.{faced, unit_is, lies_ahead, whole_fives, sound, good_area, good_limit}
 
 -- ---- the list of what is told
 

@@ -1,7 +1,6 @@
 -- What follows of worked worlds, and of what was read of one.
 use Rattle.std.proofs.Common.{◌≡◌, ◌⊎◌, ◌||◌, ℕ, ◌<◌, ◌≤◌, true, false, cond, List, [], ◌∷◌, Option, Some, None, inl, inr, refl, sym, ap, arith}
-use Rattle.std.specs.List.{All}
-use Rattle.std.proofs.lemmas.List.Elements.{All-nil, All-cons, All-head}
+use Rattle.std.proofs.lemmas.List.Elements.{All-head}
 use Rattle.rbc_settle.specs.declared.train.TrainRec.{TrainRec}
 use Rattle.rbc_settle.specs.Settling.{Stops, Limits, last_stamp}
 use Rattle.rbc_settle.specs.UpToDate.{IsUpToDate}
@@ -15,10 +14,6 @@ use Rattle.rbc_rule.specs.Records.{record_of, Agrees}
 use Rattle.rbc_rule.specs.WellFormed.{IsWellFormed, IsGoodTrain}
 use Rattle.rbc_rule.specs.Told.{EachTrainIsUpToDate}
 use Rattle.rbc_rule_laws.specs.Witnesses.{track_a, world_of}
-
--- what holds of one holds of all of a list of it alone
-pub only : {X : Type 0} (P : X → Type 0) (x : X) → P x → All P (x ∷ [])
-only P x h = All-cons P x [] h (All-nil P)
 
 -- a train that has stamps left is up to date
 pub now_up_to_date : (train : TrainRec) (stops : Stops) (limits : Limits) → train.stamp < last_stamp → EachTrainIsUpToDate track_a (world_of train stops limits)

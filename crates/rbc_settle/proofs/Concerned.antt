@@ -80,7 +80,7 @@ limits_stay horizon limits place numbered = each limits.active (each_value 1 lim
     each (limit ∷ some) h = (limit_stays horizon limits place limit h.0, each some h.1)
 
 -- some is not none
-not_none : {A : Type 0} (x : A) → Some x ≡ None → ⊥
+pub not_none : {A : Type 0} (x : A) → Some x ≡ None → ⊥
 not_none x e = cc
 
 -- a stop of which nothing is told is nothing to the train

@@ -1,10 +1,8 @@
 -- What is found in a table decides what is told and what is revoked.
-use Rattle.std.proofs.Common.{◌≡◌, ℕ, Bool, true, false, not, ◌||◌, cond, eqb, List, [], ◌∷◌, map, Option, Some, None, is_none, is_some, option_map, option_copied, Bor, refl, sym, ap}
-use Rattle.std.specs.List.{find, zip}
+use Rattle.std.proofs.Common.{◌≡◌, ℕ, Bool, true, false, not, ◌||◌, cond, eqb, List, [], ◌∷◌, map, Option, Some, None, is_none, is_some, option_copied, Bor, refl, sym, ap}
+use Rattle.std.specs.List.{zip}
 use Rattle.std.specs.Prelude.{slice_get}
 use Rattle.rbc_maps.specs.Maps.{has, value_of}
-use Rattle.rbc_ids.specs.Table.{Slots, tells, is_told, identifier_of}
-use Rattle.rbc_ids.specs.declared.slot.Slot.{Slot}
 
 none_next : {V : Type 0} (here : Bool) (value : V) (rest : Option V) (more : Bool) → is_none rest ≡ not more → is_none (cond here (Some value) rest) ≡ not (here || more)
 none_next true value rest more e = refl
@@ -23,15 +21,6 @@ some_behind false value rest more e = e
 pub value_is_some : {V : Type 0} (pairs : List (ℕ × V)) (key : ℕ) → is_some (value_of pairs key) ≡ has pairs key
 value_is_some [] key = refl
 value_is_some (pair ∷ pairs) key = some_behind (eqb pair.0 key) pair.1 (value_of pairs key) (has pairs key) (value_is_some pairs key)
-
-some_next : (here : Bool) (held : ℕ × Slot) (rest : Option (ℕ × Slot)) (more : Bool) → is_some (option_map (λ (held : ℕ × Slot). held.0) rest) ≡ more → is_some (option_map (λ (held : ℕ × Slot). held.0) (cond here (Some held) rest)) ≡ (here || more)
-some_next true held rest more e = refl
-some_next false held rest more e = e
-
--- an identifier is found where the number is told
-pub identifier_is_some : (slots : Slots) (number : ℕ) → is_some (identifier_of slots number) ≡ is_told slots number
-identifier_is_some [] number = refl
-identifier_is_some (held ∷ slots) number = some_next (tells number held.1) held (find (λ other. tells number other.1) slots) (is_told slots number) (identifier_is_some slots number)
 
 -- nothing is paired where there is no first identifier
 none_zipped : {A K : Type 0} (make : K × ℕ → A) (wanted : List K) (free : List ℕ) → None ≡ slice_get free 0 → [] ≡ map make (zip wanted free)

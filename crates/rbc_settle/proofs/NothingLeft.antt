@@ -18,7 +18,7 @@ use Rattle.rbc_settle.proofs.Achieves.{no_actions}
 use Rattle.rbc_settle.proofs.Concerned.{told_as, limit_as}
 
 -- a list without a first one is empty
-empty : (xs : List ℕ) → slice_get xs 0 ≡ None → xs ≡ []
+pub empty : (xs : List ℕ) → slice_get xs 0 ≡ None → xs ≡ []
 empty [] e = refl
 empty (x ∷ xs) e = absurd (let bad : Some x ≡ None = e in cc)
 
@@ -35,7 +35,7 @@ nothing_free make wanted count slots table full =
     none_paired make wanted (free_identifiers count slots) None true refl refl (sym (ap (λ (xs : List ℕ). slice_get xs 0) (none_free count slots table full)))
 
 -- where each slot fails a test none passes it
-none_passes : (gone : ℕ → Bool) (slots : Slots) → AllByRecursion (λ held. is_used_by gone held.1 ≡ false) slots → list_any (λ held. is_used_by gone held.1) slots ≡ false
+pub none_passes : (gone : ℕ → Bool) (slots : Slots) → AllByRecursion (λ held. is_used_by gone held.1 ≡ false) slots → list_any (λ held. is_used_by gone held.1) slots ≡ false
 none_passes gone [] all = refl
 none_passes gone (held ∷ slots) all = or_from (is_used_by gone held.1) (list_any (λ other. is_used_by gone other.1) slots) all.0 (none_passes gone slots all.1)
 
@@ -65,7 +65,7 @@ module _ {X T : Type 0} (count : ℕ) (gone : ℕ → Bool) (active : List (ℕ 
   }
 
 -- a stop that is nothing to the train is not told
-told_as_nothing : (place : Option Place) → told_stop place concern.None ≡ None
+pub told_as_nothing : (place : Option Place) → told_stop place concern.None ≡ None
 told_as_nothing None = refl
 told_as_nothing (Some p) = refl
 

@@ -8,14 +8,11 @@ use Rattle.std.proofs.lemmas.List.Sums.{position_or_len_is}
 use Rattle.rbc_ids.specs.Maps.{rises_from}
 use Rattle.rbc_ids.proofs.MapFacts.{rises_from-lower}
 use Rattle.rbc_settle.specs.Numbers.{has_number, with_number, without_number}
+use Rattle.rbc_maps.proofs.MapPlaces.{and_true}
 
 -- where a number stands, or would stand
 abbrev pub place : ℕ → List ℕ → ℕ
 place n xs = position_or_len (λ other. leb n other) xs
-
-and_true : (a b : Bool) → a ≡ true → (a && b) ≡ b
-and_true true b e = refl
-and_true false b e = absurd (let bad : false ≡ true = e in cc)
 
 pub rising : (least x : ℕ) (xs : List ℕ) → rises_from least (x ∷ xs) ≡ true → (least ≤ x) × (rises_from (x + 1) xs ≡ true)
 rising least x xs rises =

@@ -39,7 +39,7 @@ untold_stop train stop e =
       | false ↦ ap (option_map (λ (told : ToldStop). (stop.0, told))) e
     ]
 
-untold_limit : (horizon : ℕ) (train : TrainRec) (limit : ℕ × Limit) → limit_told_to horizon train.place limit.1 ≡ None → limit_to_tell horizon train limit ≡ None
+pub untold_limit : (horizon : ℕ) (train : TrainRec) (limit : ℕ × Limit) → limit_told_to horizon train.place limit.1 ≡ None → limit_to_tell horizon train limit ≡ None
 untold_limit horizon train limit e =
     elim (is_told train.limits limit.0) as (λ b. cond {A = Option (ℕ × Part)} b None (option_map (λ (told : Part). (limit.0, told)) (limit_told_to horizon train.place limit.1)) ≡ None) [
       | true ↦ refl

@@ -1,7 +1,7 @@
 -- Carrying out actions, one after another: what was done so far, and what is left, is what was to be done.
 use Rattle.std.proofs.Common.{◌≡◌, ℕ, suc, ◌+◌, ◌-◌, ◌<◌, ◌≤◌, min, List, [], ◌∷◌, ◌++◌, length, map, take, drop, get_or, Option, Some, None, IfSome, IfNone, refl, sym, ap, ◌∙◌, subst, arith, drop-cons}
 use Rattle.std.specs.List.{All, fold, scan}
-use Rattle.std.proofs.lemmas.List.{length-map, length-take, length-append, take_all, take_min, drop_min, take-append-le, append_assoc, append-nil, map-append}
+use Rattle.std.proofs.lemmas.List.{length-map, length-take, length-append, take_min, drop_min, append_assoc, append-nil, map-append}
 use Rattle.std.proofs.lemmas.List.Sums.{fold-append}
 use Rattle.std.proofs.lemmas.List.Elements.{All-push}
 use Rattle.ertms_codec.specs.declared.to_train.ToTrain.{ToTrain}
@@ -30,7 +30,7 @@ same_engine train (ChangesStop (stop_change.Revoke id number)) = refl
 same_engine train (ChangesStop (stop_change.Tell id number told)) = refl
 same_engine train (ChangesLimits changes) = refl
 
-same_engine_after : (train : TrainRec) (acts : List Action) → (fold carried_out train acts).engine ≡ train.engine
+pub same_engine_after : (train : TrainRec) (acts : List Action) → (fold carried_out train acts).engine ≡ train.engine
 same_engine_after train [] = refl
 same_engine_after train (action ∷ acts) = same_engine_after (carried_out train action) acts ∙ same_engine train action
 
@@ -89,9 +89,6 @@ all_taken train stops its_stops limits its_limits middle now before between sent
     taken_both train middle now (map ChangesStop stops) (map ChangesLimits (groups limits)) before between sent
     (subst (λ (cs : List StopChange). HasTaken train (map ChangesStop cs) before middle between) same_stops one)
     (subst (λ (cs : List LimitChange). HasTaken middle (map ChangesLimits (groups cs)) between now sent) same_limits other)
-
-pub behind_both : (before between sent : List Sent) → AreBehind before between → AreBehind between sent → AreBehind before sent
-behind_both before between sent one other = record { more = one.more ++ other.more; is = other.is ∙ ap (λ (sents : List Sent). sents ++ other.more) one.is ∙ append_assoc before one.more other.more }
 
 -- ---- the loops
 
@@ -183,12 +180,6 @@ arrives start all before now sent left none way =
 pub are_behind : (start : TrainRec) (all : List Action) (before : List Sent) (now : TrainRec) (sent : List Sent) (left : List Action) → IsOnTheWay start all before now sent left → AreBehind before sent
 are_behind start all before now sent left way = record { more = to_engine start.engine way.done; is = way.sent_is }
 
--- cut back to its former length, a list that grew is what it was
-pub cut_back : (before now : List Sent) → AreBehind before now → (n : ℕ) → n ≡ length before → (cut : List Sent) → cut ≡ take n now → cut ≡ before
-cut_back before now grown n count cut is =
-    let within : n ≤ length before = omega (arith, count) in
-    is ∙ ap (λ (sents : List Sent). take n sents) grown.is ∙ take-append-le n before grown.more within ∙ take_all n before (omega (arith, count))
-
 -- ---- settling
 
 module _ (plan : Plan) (stops : Stops) (limits : Limits) (train : TrainRec) (tables : HasTables train) (numbered : AreNumbered stops × AreNumbered limits) where
@@ -238,9 +229,3 @@ stays_settled plan stops limits train now found is same nothing =
 -- changes that make no message are none
 pub no_message : (stops : List StopChange) (limits : List LimitChange) → stops ≡ [] → limits ≡ [] → in_messages stops limits ≡ []
 no_message stops limits no_stop no_limit = λ i. in_messages (no_stop i) (no_limit i)
-
-pub some_message : (stops : List StopChange) (limits : List LimitChange) → 1 ≤ length stops + length limits → 1 ≤ length (in_messages stops limits)
-some_message (stop ∷ stops) limits some = omega arith
-some_message [] [] some = absurd (omega (arith, some))
-some_message [] (limit ∷ limits) some =
-    subst (λ (gs : List (List LimitChange)). 1 ≤ length (map ChangesLimits gs)) (sym (groups_cons limit limits)) (omega arith)

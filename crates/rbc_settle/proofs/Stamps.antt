@@ -135,7 +135,3 @@ module _ (last : ℕ) (stops limits : Slots) where
           good.limits_within;
       apart = good.apart;
     }
-
--- one restriction alone is told or revoked with the next stamp
-pub stamps_with_limit : (last : ℕ) (stops limits : Slots) → AreGoodStamps last stops limits → (id : ℕ) (slot : Slot) → stamp_of slot ≡ last + 1 → AreGoodStamps (last + 1) stops (with_value id slot limits)
-stamps_with_limit last stops limits good id slot next = stamps_end last stops (with_value id slot limits) (stamps_go_on last stops limits (stamps_begin last stops limits good) id slot next)

@@ -1,5 +1,5 @@
 mod LineWords
-mod Texts
+pub mod Texts
 pub mod Calling
 pub mod LineFits
 pub mod LastSpaces
@@ -8,7 +8,6 @@ pub mod ResultLines
 pub mod HexDigits
 pub mod HexWords
 pub mod Ranges
-pub mod Transfers
 pub use Rattle.rbc_desk.proofs.Begins
 pub use Rattle.rbc_desk.proofs.Mails
 pub use Rattle.rbc_desk.proofs.Posts

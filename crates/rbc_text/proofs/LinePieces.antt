@@ -3,14 +3,7 @@ use Rattle.std.proofs.Common.{◌≡◌, ℕ, ◌≤◌, Bool, true, false, cond
 use Rattle.std.specs.List.{slice_split, onto_first}
 use Rattle.rbc_text.specs.BatchText.{without_empty_end}
 use Rattle.rbc_text.specs.EndedLines.{but_last, joined}
-
--- there is always a first piece
-pub first_piece : {X : Type 0} (p : X → Bool) (xs : List X) → (first : List X) × (rest : List (List X)) × (slice_split p xs ≡ first ∷ rest)
-first_piece p [] = ([], [], refl)
-first_piece {X} p (x ∷ xs) = elim (p x) as (λ b. (first : List X) × (rest : List (List X)) × (cond b ([] ∷ slice_split p xs) (onto_first x (slice_split p xs)) ≡ first ∷ rest)) [
-  | true ↦ ([], slice_split p xs, refl)
-  | false ↦ let tail = first_piece p xs in (x ∷ tail.0, tail.1, ap (onto_first x) tail.2)
-]
+use Rattle.ertms_codec.proofs.Cuts.{split_is_cons}
 
 -- the last piece goes on in others
 abbrev pub glued : {X : Type 0} → List (List X) → List (List X) → List (List X)
@@ -36,9 +29,9 @@ glued_onto x (last ∷ other ∷ front) pieces first more e = refl
 
 -- the pieces of a text behind another
 pub split_glued : {X : Type 0} (p : X → Bool) (xs ys : List X) → slice_split p (xs ++ ys) ≡ glued (slice_split p xs) (slice_split p ys)
-split_glued p [] ys = let is = first_piece p ys in sym (glued_empty (slice_split p ys) is.0 is.1 is.2)
+split_glued p [] ys = let is = split_is_cons p ys in sym (glued_empty (slice_split p ys) is.0 is.1 is.2)
 split_glued p (x ∷ xs) ys =
-    let is = first_piece p xs in
+    let is = split_is_cons p xs in
     elim (p x) as (λ b. cond b ([] ∷ slice_split p (xs ++ ys)) (onto_first x (slice_split p (xs ++ ys))) ≡ glued (cond b ([] ∷ slice_split p xs) (onto_first x (slice_split p xs))) (slice_split p ys)) [
       | true ↦ ap (λ pieces. [] ∷ pieces) (split_glued p xs ys) ∙ sym (glued_behind [] (slice_split p xs) (slice_split p ys) is.0 is.1 is.2)
       | false ↦ ap (onto_first x) (split_glued p xs ys) ∙ glued_onto x (slice_split p xs) (slice_split p ys) is.0 is.1 is.2

@@ -7,7 +7,7 @@ use Rattle.hex.specs.Hex.{encode_with, encode_lower, encode_upper, lower_digits,
 use Rattle.rbc_text.specs.BatchText.{is_line_feed, without_empty_end, lines_of}
 use Rattle.ertms_codec.proofs.Cuts.{split_is_cons}
 
-keeps_first : (line : List ℕ) (pieces : List (List ℕ)) (first : List ℕ) (rest : List (List ℕ)) → pieces ≡ first ∷ rest → without_empty_end (line ∷ pieces) ≡ line ∷ without_empty_end pieces
+pub keeps_first : (line : List ℕ) (pieces : List (List ℕ)) (first : List ℕ) (rest : List (List ℕ)) → pieces ≡ first ∷ rest → without_empty_end (line ∷ pieces) ≡ line ∷ without_empty_end pieces
 keeps_first [] [] first rest e = absurd (let bad : [] ≡ first ∷ rest = e in cc)
 keeps_first [] (piece ∷ pieces) first rest e = refl
 keeps_first (byte ∷ line) pieces first rest e = refl

@@ -6,6 +6,7 @@ use Rattle.std.specs.Map.{lookup, keys_of}
 use Rattle.std.specs.Ordering.{match_ordering}
 use Rattle.std.proofs.lemmas.Bool.{cases_lt, cases_eq, cases_Bool, lt-ltb, le-ltb, eq-eqb, ne_eqb, eqb-true}
 use Rattle.rbc_track.specs.declared.group.Group.{Group}
+use Rattle.rbc_maps.proofs.MapFacts.{or_swap}
 
 -- two numbers are in the order `Equal` exactly where they are equal
 pub at_is : (q k : ℕ) → is_eq (nat_cmp q k) ≡ eqb q k
@@ -23,12 +24,6 @@ same_from_equal q k o is equal = eqb-true q k (sym (at_is q k) ∙ ap is_eq (sym
 or_same : (a b : Bool) → (a || b) ≡ (a || (a || b))
 or_same true b = refl
 or_same false b = refl
-
-or_swap : (a b c : Bool) → (a || (b || c)) ≡ (b || (a || c))
-or_swap true true c = refl
-or_swap true false c = refl
-or_swap false true c = refl
-or_swap false false c = refl
 
 any_put : (p : ℕ → Bool) (o : Ordering) (e : ℕ × Group) (es : List (ℕ × Group)) (k : ℕ) (v : Group) → (o ≡ Equal → k ≡ e.0)
     → list_any p (keys_of (insert_entry nat_cmp es k v)) ≡ (p k || list_any p (keys_of es))
@@ -48,7 +43,7 @@ found_or true false v rest any same e = absurd (cc)
 found_or false true v rest any same e = absurd (cc)
 found_or false false v rest any same e = e
 
-eqb_turned : (a b : ℕ) → eqb a b ≡ eqb b a
+pub eqb_turned : (a b : ℕ) → eqb a b ≡ eqb b a
 eqb_turned a b = elim (cases_eq a b) [
   | inl same ↦ rw (eq-eqb a b same, eq-eqb b a (sym same))
   | inr other ↦ rw (ne_eqb a b other, ne_eqb b a (λ same. other (sym same)))

@@ -4,6 +4,7 @@ use Rattle.std.proofs.lemmas.List.{at_drop_more}
 use Rattle.std.proofs.lemmas.List.Elements.{All-nil, All-cons, All-head, All-tail}
 use Rattle.std.proofs.lemmas.Option.{get_or_from_slice_get}
 use Rattle.std.specs.Option.{option_map}
+use Rattle.std.proofs.lemmas.Bool.{or_parts}
 use Rattle.indexmap.specs.IndexMap.{insert_entry}
 use Rattle.rbc_records.proofs.Keys.{same_key_is, same_key_sym}
 use Rattle.rbc_records.specs.declared.record.Key.{Key}
@@ -22,15 +23,11 @@ written_at [] one other k same = same
 written_at (note ∷ notes) one other k same =
     written_at notes (write_over note one) (write_over note other) k (ap (λ (rec : Option Rec). cond (same_key k note.0) note.1 rec) same)
 
-neither : (b c : Bool) → (b || c) ≡ false → (b ≡ false) × (c ≡ false)
-neither true c h = cc
-neither false c h = (refl, h)
-
 -- and a key that is not named keeps what stood there
 written_elsewhere : (notes : List Note) (records : Key → Option Rec) (k : Key) → is_noted notes k ≡ false → written notes records k ≡ records k
 written_elsewhere [] records k absent = refl
 written_elsewhere (note ∷ notes) records k absent =
-    let parts = neither (same_key k note.0) (is_noted notes k) absent in
+    let parts = or_parts (same_key k note.0) (is_noted notes k) absent in
     written_elsewhere notes (write_over note records) k parts.1 ∙ ap (λ b. cond b note.1 (records k)) parts.0
 
 -- the first entry is replaced
@@ -66,7 +63,7 @@ written_put (note ∷ notes) k rec records q once = by (same_key k note.0) refl 
 not_put : (notes : List Note) (k : Key) (rec : Option Rec) (q : Key) → is_noted notes q ≡ false → same_key q k ≡ false → is_noted (insert_entry same_key notes k rec) q ≡ false
 not_put [] k rec q absent differ = ap (λ b. b || false) differ
 not_put (note ∷ notes) k rec q absent differ =
-    let parts = neither (same_key q note.0) (is_noted notes q) absent in
+    let parts = or_parts (same_key q note.0) (is_noted notes q) absent in
     by (same_key k note.0) parts.0 parts.1 (not_put notes k rec q parts.1 differ)
   where
     by : (b : Bool) → same_key q note.0 ≡ false → is_noted notes q ≡ false → is_noted (insert_entry same_key notes k rec) q ≡ false

@@ -8,6 +8,7 @@ use Rattle.rbc_records.specs.contracts.record.KeyPartialEq.TheImpl.{eq-value}
 use Rattle.rbc_records.specs.Notes.{same_key}
 use Rattle.rbc_records.specs.Writes.{written, write_over}
 use Rattle.rbc_records.proofs.Keys.{eq_is, same_key_sym, same_key_is}
+use Rattle.rbc_records.proofs.Replacing.{made_once, either_first}
 use Rattle.rbc_rule.specs.Records.{engines_record}
 use Rattle.rbc_rule.specs.Lists.{engines_in}
 use Rattle.rbc_rule.proofs.Engines.{engines_in_record}
@@ -27,18 +28,6 @@ abbrev pub stands_under : Key → Keyed → Bool
 stands_under key list = same_key list.0 key
 
 -- ---- tests
-
--- a test that was made is not made again
-made_once : (b : Bool) (x y rest : Option Rec) → cond b x rest ≡ cond b x (cond b y rest)
-made_once true x y rest = refl
-made_once false x y rest = refl
-
--- of two tests that never both pass, either may come first
-either_first : (a b : Bool) (x y rest : Option Rec) → (a ≡ true → b ≡ true → ⊥)
-    → cond a x (cond b y rest) ≡ cond b y (cond a x rest)
-either_first true true x y rest apart = absurd (apart refl refl)
-either_first true false x y rest apart = refl
-either_first false b x y rest apart = refl
 
 -- no test both passes and fails
 not_both : (b : Bool) → b ≡ true → b ≡ false → ⊥

@@ -22,12 +22,13 @@ use Rattle.rbc_rule.specs.Records.{engines_record, list_of}
 use Rattle.rbc_rule.specs.Lists.{is_list, engines_in}
 use Rattle.rbc_rule.specs.Gathered.{heard_outcome, AreSendable}
 use Rattle.rbc_rule.proofs.AllGathered.{written-append}
-use Rattle.rbc_rule.proofs.WorldMaps.{eqb_turned, value_of-with_value}
+use Rattle.rbc_rule.proofs.WorldMaps.{value_of-with_value}
 use Rattle.rbc_window.specs.declared.kept.Kept.{Kept}
 use Rattle.rbc_window.specs.Messages.{Records, Setting, train_in, moves_in, outcome_of_train, outcome_of_message, outcome_of, refused, next_records}
 use Rattle.rbc_window.specs.Kept.{IsAnswerOf, IsKept}
 use Rattle.rbc_window.specs.Hearing.{IsHeard, IsRefused}
 use Rattle.rbc_window.specs.Shares.{train_or, Changes, IsTakenBy}
+use Rattle.rbc_track.proofs.Entries.{eqb_turned}
 
 -- ---- lists and trains have different keys
 

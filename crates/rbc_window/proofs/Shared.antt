@@ -20,13 +20,13 @@ use Rattle.rbc_rule.specs.Effect.{engine_of}
 use Rattle.rbc_rule.specs.Records.{list_of}
 use Rattle.rbc_rule.specs.Lists.{is_list}
 use Rattle.rbc_rule.proofs.AllGathered.{written-append}
-use Rattle.rbc_rule.proofs.WorldMaps.{eqb_turned}
 use Rattle.rbc_window.specs.declared.share.Share.{Share}
 use Rattle.rbc_window.specs.Messages.{Records, Setting, next_records, records_after}
 use Rattle.rbc_window.specs.Kept.{share_of}
 use Rattle.rbc_window.specs.Shares.{train_or, train_write, train_writes}
 use Rattle.rbc_window.proofs.Hearings.{stays}
 use Rattle.rbc_window.specs.Gathering.{HaveTrains}
+use Rattle.rbc_track.proofs.Entries.{eqb_turned}
 
 -- what all shares write
 abbrev pub all_train_writes : List Share → List (Key × Option Rec)

@@ -1,9 +1,8 @@
 -- How lines that were read come to their end.
-use Rattle.std.proofs.Common.{◌≡◌, ℕ, ◌≤◌, ◌⊎◌, Bool, true, false, not, ◌&&◌, nat_lt, List, [], ◌∷◌, ◌++◌, Option, Result, Ok, Err, inl, inr, refl, sym, ap, ◌∙◌, subst, append-nil, arith}
+use Rattle.std.proofs.Common.{◌≡◌, ℕ, false, not, List, [], ◌∷◌, ◌++◌, Option, Result, Ok, Err, refl, sym, ap, ◌∙◌, subst, append-nil}
 use Rattle.std.specs.Prelude.{IsErrAnd}
 use Rattle.std.specs.List.{slice_split}
 use Rattle.std.specs.Io.KnownBytes.{Consumes, Appends}
-use Rattle.std.proofs.lemmas.Bool.Decides.{nat_tests}
 use Rattle.rbc_text.specs.BatchText.{is_line_feed, without_empty_end, lines_of}
 use Rattle.rbc_text.specs.Streams.{IsAllRead}
 use Rattle.rbc_text.specs.EndedLines.{but_last}
@@ -18,10 +17,6 @@ use Rattle.rbc_words.specs.declared.filter.FilterError.TheVariants.{Read, Memory
 use Rattle.rbc_text.proofs.LinePieces.{but_one}
 use Rattle.rbc_words.proofs.Turning.{all_passed}
 use Rattle.rbc_words.proofs.Delivered.{pending_out}
-
-last_behind : (line : List ℕ) (pieces : List (List ℕ)) (first : List ℕ) (more : List (List ℕ)) → pieces ≡ first ∷ more → last_of (line ∷ pieces) ≡ last_of pieces
-last_behind line [] first more e = cc
-last_behind line (other ∷ pieces) first more e = refl
 
 last_one : (ended : List (List ℕ)) (rest : List ℕ) → last_of (ended ++ rest ∷ []) ≡ rest
 last_one [] rest = refl

@@ -14,16 +14,16 @@ use Rattle.ertms_codec.specs.Refusals.{HasItsLength}
 use Rattle.ertms_codec.proofs.Fields.{at_below}
 use Rattle.ertms_codec.proofs.FromTrainAgain as from_train
 use Rattle.ertms_codec.proofs.ToTrainAgain as to_train
+use Rattle.ertms_codec.proofs.Cuts.{split_is_cons}
 use Rattle.rbc_text.specs.BatchText.{is_space, is_digit, words_of, decimal_of, is_decimal, value_of}
 use Rattle.rbc_words.specs.Lines.{last_of}
 use Rattle.rbc_words.specs.Decoding.{Decodes, EndsInMessage, HasText, Says, digits_in, is_to_train}
 use Rattle.rbc_words.specs.declared.decode.Direction.{Direction}
 use Rattle.rbc_words.specs.declared.decode.Direction.TheVariants as ways
-use Rattle.rbc_text.proofs.LinePieces.{first_piece}
 
 -- ---- words
 
-last_behind : (word : List ℕ) (words : List (List ℕ)) (first : List ℕ) (more : List (List ℕ)) → words ≡ first ∷ more → last_of (word ∷ words) ≡ last_of words
+pub last_behind : (word : List ℕ) (words : List (List ℕ)) (first : List ℕ) (more : List (List ℕ)) → words ≡ first ∷ more → last_of (word ∷ words) ≡ last_of words
 last_behind word [] first more e = cc
 last_behind word (other ∷ words) first more e = refl
 
@@ -38,17 +38,17 @@ one_piece p (byte ∷ line) first e = by (p byte) (one_piece p line) e
     onto (word ∷ other ∷ words) next more e one is = cc
 
     by : (b : Bool) → ((one : List ℕ) → slice_split p line ≡ one ∷ [] → line ≡ one) → cond b ([] ∷ slice_split p line) (onto_first byte (slice_split p line)) ≡ first ∷ [] → byte ∷ line ≡ first
-    by true one e = let next = first_piece p line in absurd (empty (slice_split p line) next.0 next.1 next.2 e)
+    by true one e = let next = split_is_cons p line in absurd (empty (slice_split p line) next.0 next.1 next.2 e)
       where
         empty : (words : List (List ℕ)) (next : List ℕ) (more : List (List ℕ)) → words ≡ next ∷ more → [] ∷ words ≡ first ∷ [] → ⊥
         empty words next more e is = cc
-    by false one e = let next = first_piece p line in onto (slice_split p line) next.0 next.1 next.2 one e
+    by false one e = let next = split_is_cons p line in onto (slice_split p line) next.0 next.1 next.2 one e
 
 -- a line ends in its last word
 pub ends_in_word : (p : ℕ → Bool) (line : List ℕ) → ((front : List ℕ) × (line ≡ front ++ last_of (slice_split p line)))
 ends_in_word p [] = ([], refl)
 ends_in_word p (byte ∷ line) =
-    let next = first_piece p line in
+    let next = split_is_cons p line in
     let behind = ends_in_word p line in
     elim (p byte) as (λ b. (front : List ℕ) × (byte ∷ line ≡ front ++ last_of (cond b ([] ∷ slice_split p line) (onto_first byte (slice_split p line))))) [
       | true ↦ (byte ∷ behind.0, ap (λ (l : List ℕ). byte ∷ l) (behind.1 ∙ ap (λ (w : List ℕ). behind.0 ++ w) (sym (last_behind [] (slice_split p line) next.0 next.1 next.2))))
@@ -69,7 +69,7 @@ total (word ∷ words) = suc (length word) + total words
 pub total_of_line : (p : ℕ → Bool) (line : List ℕ) → total (slice_split p line) ≡ length line + 1
 total_of_line p [] = refl
 total_of_line p (byte ∷ line) =
-    let next = first_piece p line in
+    let next = split_is_cons p line in
     let behind = total_of_line p line in
     elim (p byte) as (λ b. total (cond b ([] ∷ slice_split p line) (onto_first byte (slice_split p line))) ≡ length (byte ∷ line) + 1) [
       | true ↦ omega (arith, behind)
@@ -159,10 +159,6 @@ front_is line digits direction e =
     let is = ends_in_word is_space line in
     (is.0, is.1 ∙ ap (λ (word : List ℕ). is.0 ++ word) (word_is_last (words_of line) digits direction e).0)
 
--- no word may be digits
-pub no_digits : (line : List ℕ) → digits_in (words_of line) ≡ None → Decodes line line
-no_digits line none = inr ((λ front text ends. let word = ends.word in let no = sym none ∙ word in cc), refl)
-
 -- the digits spell no message
 pub no_message : (line digits : List ℕ) (direction : Direction) → digits_in (words_of line) ≡ Some (digits, direction) → ((text : List ℕ) → HasText direction digits text → ⊥) → Decodes line line
 no_message line digits direction word none = inr ((λ front text ends. none text (same ends.digits ends.direction text (sym ends.word ∙ word) ends.says)), refl)
@@ -185,5 +181,5 @@ with_message line digits text direction front word has is =
 -- there are four words or more
 pub too_many_words : (line first second third behind : List ℕ) → words_of line ≡ first ∷ second ∷ third ∷ words_of behind → None ≡ digits_in (words_of line)
 too_many_words line first second third behind e =
-    let next = first_piece is_space behind in
+    let next = split_is_cons is_space behind in
     sym (ap digits_in (e ∙ ap (λ (words : List (List ℕ)). first ∷ second ∷ third ∷ words) next.2))

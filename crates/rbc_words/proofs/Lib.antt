@@ -10,7 +10,6 @@ mod Passing
 mod Refused
 mod Settled
 mod ShortWords
-mod Transfers
 mod Turning
 mod WordsAt
 pub mod SameTexts

@@ -6,6 +6,7 @@ use Rattle.std.specs.Str.{bytes_eq}
 use Rattle.std.proofs.lemmas.Slice.Eq.{bytes_eq-Decides}
 use Rattle.ertms_codec.specs.Grammar.{FirstWrong, from_train, Stops}
 use Rattle.ertms_codec.specs.declared.wrong_word.WrongWord.{WrongWord}
+use Rattle.ertms_codec.proofs.Cuts.{split_is_cons}
 use Rattle.rbc_track.specs.Plan.{Plan}
 use Rattle.rbc_text.specs.BatchText.{is_space, words_of}
 use Rattle.rbc_words.specs.Rules.{Foretells, StaysItself}
@@ -19,7 +20,7 @@ use Rattle.rbc_words.specs.declared.line_fault.LineFault.TheVariants.{Word}
 use Rattle.rbc_words.specs.declared.report.Report.{Report}
 use Rattle.rbc_words.specs.declared.rule.Outlook.{Outlook}
 use Rattle.rbc_words.specs.declared.rule.Outlook.TheVariants.{Open, Itself, Wrong}
-use Rattle.rbc_text.proofs.LinePieces.{first_piece, one_piece_more, glued, split_glued}
+use Rattle.rbc_text.proofs.LinePieces.{one_piece_more, glued, split_glued}
 use Rattle.rbc_words.proofs.LastWords.{total, total_of_line}
 use Rattle.rbc_words.proofs.FirstWrongWord.{stops_before, stops_at}
 use Rattle.rbc_words.proofs.Settled.{report_keeps}
@@ -38,7 +39,7 @@ said_itself (Err fault) other e = sym e
 goes_on : (line more : List ℕ) (front : List (List ℕ)) (last : List ℕ) → words_of line ≡ front ++ last ∷ []
     → (first : List ℕ) × (rest : List (List ℕ)) × (words_of (line ++ more) ≡ front ++ (last ++ first) ∷ rest)
 goes_on line more front last e =
-    let next = first_piece is_space more in
+    let next = split_is_cons is_space more in
     (next.0, next.1, one_piece_more is_space line more front last e ∙ ap (λ (words : List (List ℕ)). front ++ joined last words) next.2)
 
 -- ---- texts
@@ -176,8 +177,8 @@ other_kept (command ∷ word ∷ third ∷ words) first more e long text report 
 -- a line that is neither a text nor a report is neither however it goes on, if more of it has come than a command
 pub other_outlook : (track : Option Plan) (begun : List ℕ) → IsOther begun → 16 < length begun → StaysItself (Encodes track) begun
 other_outlook track begun other long = λ more.
-    let words = first_piece is_space begun in
-    let pieces = first_piece is_space more in
+    let words = split_is_cons is_space begun in
+    let pieces = split_is_cons is_space more in
     let all = total_of_line is_space begun in
     let whole = split_glued is_space begun more in
     let kept = other_kept (words_of begun) words.0 words.1 words.2 (omega (arith, all, long)) other.no_text other.no_report (words_of more) pieces.0 pieces.1 pieces.2 in

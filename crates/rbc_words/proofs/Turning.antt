@@ -1,15 +1,10 @@
 -- What lines become, line after line.
 use Rattle.std.proofs.Common.{◌≡◌, ℕ, ◌≤◌, List, [], ◌∷◌, ◌++◌, length, refl, sym, ap, ◌∙◌, subst, inl, inr, append_assoc, append-nil, arith}
 use Rattle.rbc_text.specs.BatchText.{without_empty_end}
+use Rattle.rbc_text.proofs.Texts.{keeps_first}
 use Rattle.rbc_words.specs.Filters.{AreTurned, AreFirstTurned, IsBegun, IsPassedOn, IsFirstWrong}
 use Rattle.rbc_words.specs.UnderWay.{IsShownBy, passed_on}
 use Rattle.rbc_words.specs.declared.line.UnfinishedLine.{UnfinishedLine}
-
--- an empty last piece is no line
-end_behind : (piece : List ℕ) (pieces : List (List ℕ)) (first : List ℕ) (more : List (List ℕ)) → pieces ≡ first ∷ more → without_empty_end (piece ∷ pieces) ≡ piece ∷ without_empty_end pieces
-end_behind piece [] first more e = cc
-end_behind [] (other ∷ pieces) first more e = refl
-end_behind (byte ∷ piece) (other ∷ pieces) first more e = refl
 
 never_empty : (front : List (List ℕ)) (piece : List ℕ) (more : List (List ℕ)) → (first : List ℕ) × (rest : List (List ℕ)) × (front ++ piece ∷ more ≡ first ∷ rest)
 never_empty [] piece more = (piece, more, refl)
@@ -19,7 +14,7 @@ pub end_front : (front : List (List ℕ)) (piece : List ℕ) (more : List (List 
 end_front [] piece more = refl
 end_front (line ∷ front) piece more =
     let is = never_empty front piece more in
-    end_behind line (front ++ piece ∷ more) is.0 is.1 is.2 ∙ ap (λ (all : List (List ℕ)). line ∷ all) (end_front front piece more)
+    keeps_first line (front ++ piece ∷ more) is.0 is.1 is.2 ∙ ap (λ (all : List (List ℕ)). line ∷ all) (end_front front piece more)
 
 pub end_of_some : (piece : List ℕ) (more : List (List ℕ)) → 1 ≤ length piece → without_empty_end (piece ∷ more) ≡ piece ∷ without_empty_end more
 end_of_some [] more some = absurd (omega (arith, some))

@@ -1,5 +1,5 @@
 -- What is out where lines go through a filter as they come.
-use Rattle.std.specs.Prelude.{◌≡◌, ◌⊎◌, ◌≤◌, ◌-◌, ◌+◌, ◌^◌, ℕ, min, List, [], ◌∷◌, ◌++◌, Option, Result, Ok, Err, take, length}
+use Rattle.std.specs.Prelude.{◌≡◌, ◌⊎◌, ◌+◌, ℕ, List, [], ◌∷◌, ◌++◌, Option, Result, Ok, Err, length}
 use Rattle.std.specs.Io.KnownBytes.{Appends, Consumes}
 use Rattle.rbc_text.specs.BatchText.{lines_of}
 use Rattle.rbc_text.specs.EndedLines.{ended_lines_of}

@@ -15,12 +15,12 @@ use Rattle.rbc_zones.specs.Concerns.{on_its_line, meets, edge_of, is_ahead, near
 use Rattle.rbc_zones.specs.Nearer.{first_of, nearer}
 
 -- the nearest of one edge and of further ones
-joined : Way → Option ℕ → List ℕ → Option ℕ
+pub joined : Way → Option ℕ → List ℕ → Option ℕ
 joined way None edges = nearest way edges
 joined Up (Some edge) edges = Some (fold min edge edges)
 joined Down (Some edge) edges = Some (fold max edge edges)
 
-joined_next : (way : Way) (found : Option ℕ) (edge : ℕ) (edges : List ℕ) (ahead : Bool)
+pub joined_next : (way : Way) (found : Option ℕ) (edge : ℕ) (edges : List ℕ) (ahead : Bool)
     → joined way found (cond ahead (edge ∷ edges) edges) ≡ joined way (cond ahead (Some (option_map_or (λ other. first_of way other edge) found edge)) found) edges
 unfolding joined
 joined_next way found edge edges false = refl
@@ -29,7 +29,7 @@ joined_next Down None edge edges true = refl
 joined_next Up (Some other) edge edges true = refl
 joined_next Down (Some other) edge edges true = refl
 
-joined_none : (way : Way) (found : Option ℕ) → joined way found [] ≡ found
+pub joined_none : (way : Way) (found : Option ℕ) → joined way found [] ≡ found
 unfolding joined
 joined_none Up None = refl
 joined_none Down None = refl

@@ -35,7 +35,7 @@ ends_before Down at edge told unit ahead most near =
     let ahead' : edge ≤ at = grind (arith, common_steps) in
     record { place = at - told; ahead = omega arith; not_beyond = omega arith; near = omega arith }
 
-distance_within : (way : Way) (at edge : ℕ) → at ≤ 3000000 → edge ≤ 3000000 → distance_to way at edge ≤ 3000000
+pub distance_within : (way : Way) (at edge : ℕ) → at ≤ 3000000 → edge ≤ 3000000 → distance_to way at edge ≤ 3000000
 distance_within Up at edge h k = omega arith
 distance_within Down at edge h k = omega arith
 

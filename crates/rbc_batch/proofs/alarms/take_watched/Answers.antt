@@ -4,7 +4,8 @@ use Rattle.rbc_desk.proofs.Stands.{taken_in}
 use Rattle.rbc_engine.specs.Held.{Held, Holds, Standing, after_outcome, standing}
 use Rattle.rbc_engine.specs.Serial as serial
 use Rattle.rbc_live.specs.Watching.{IsWatch}
-use Rattle.rbc_batch.proofs.Watched.{appended, followed, in_any_case, one_watched, seen_between}
+use Rattle.rbc_live.proofs.Writing.{appended, in_any_case}
+use Rattle.rbc_batch.proofs.Watched.{followed, one_watched, seen_between}
 use Rattle.rbc_batch.proofs.alarms.take_watched.Goals as goal
 
 pub returns-clause-taken : goal.returns-clause-taken

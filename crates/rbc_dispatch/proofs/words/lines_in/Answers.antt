@@ -1,9 +1,8 @@
-use Rattle.std.proofs.Common.{◌≡◌, ◌∙◌, sym, ap, ℕ, List, [], ◌∷◌, Option, None, Some, filter_map, map, option_map, unwrap_or, refl, codes}
-use Rattle.std.specs.Prelude.{IfOk}
+use Rattle.std.proofs.Common.{◌≡◌, ◌∙◌, sym, ap, List, [], ◌∷◌, Option, None, Some, filter_map, map, option_map, unwrap_or, refl, codes}
 use denote.Ref.{Bor}
 use Rattle.std.proofs.lemmas.Result.{IfOk-weaker}
 use Rattle.clap.specs.Matches.{found_of}
-use Rattle.clap.specs.Walk.{Text, rows_of}
+use Rattle.clap.specs.Walk.{Text}
 use Rattle.clap.proofs.WalkLemmas.{raw_values-rows}
 use Rattle.rbc_dispatch.specs.Words.{number_in, numbers_in}
 use Rattle.rbc_dispatch.proofs.words.lines_in.Goals as goal

@@ -1,8 +1,8 @@
 use Rattle.std.proofs.Common.{rules, ◌+◌, ◌≤◌, length, Ok, Err, sym, subst}
 use Rattle.rbc_core.specs.Held.{max_results}
 use Rattle.rbc_engine.specs.Answers.{AreFew, IsFinished, MayWork}
-use Rattle.rbc_engine.proofs.Ends.{opened}
-use Rattle.rbc_engine.proofs.Stretches.{AreDone, run_of, admitted, finished_run, rest_can_be_run, more_done, refused_in, all_done}
+use Rattle.rbc_engine.proofs.Ends.{opened, ran}
+use Rattle.rbc_engine.proofs.Stretches.{AreDone, run_of, admitted, rest_can_be_run, more_done, refused_in, all_done}
 use Rattle.rbc_engine.proofs.workers.run_admitted.Goals as goal
 
 -- the rest can be run from the desk that the stretches before it left
@@ -28,7 +28,7 @@ returns-in-Err-clause-run g c =
     let are_few : AreFew (run_of c.args.track.now c.args.desk.now c.args.inputs.now) = search rules in
     let new = c.run_stretch.new.desk in
     let finished = subst (λ e. IsFinished (run_of c.args.track.now c.args.desk.now c.args.inputs.now) (Err e) new) (sym c.behind.ensures) (refused_in (run_of c.args.track.now c.args.desk.now c.args.inputs.now) c.loop-all.all c.loop-all.desk good c.loop-all.invariant c.in-Err.error new c.in-Err.ensures) in
-    finished_run (run_of c.args.track.now c.args.desk.now c.args.inputs.now) _ (Err c.behind.result) new may are_few finished
+    ran (run_of c.args.track.now c.args.desk.now c.args.inputs.now) _ (Err c.behind.result) new may are_few finished
 
 -- a run can go on from the desk that it left
 pub returns-in-Err-clause-opening : goal.returns-in-Err-clause-opening

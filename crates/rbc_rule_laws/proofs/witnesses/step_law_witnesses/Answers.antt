@@ -10,8 +10,9 @@ use Rattle.rbc_zones.specs.Limits.{Limit, is_good_limit}
 use Rattle.rbc_settle.specs.Actions.{Action}
 use Rattle.rbc_settle.specs.WellFormed.{IsGiven, has_kind, has_count, is_stop_kind, is_limit_kind, IsPlaceOn, IsWellFormedTrain}
 use Rattle.rbc_rule.specs.WellFormed.{IsGoodStop, AreGoodStops, AreGoodLimits, IsGoodTrain}
+use Rattle.rbc_rule.proofs.EachChanges.{one_of}
 use Rattle.rbc_rule_laws.specs.Witnesses.{track_a, facing_up, on_line_0, train_7, stop_1, told_as_0}
-use Rattle.rbc_rule_laws.proofs.WitnessWorlds.{only, good_train}
+use Rattle.rbc_rule_laws.proofs.WitnessWorlds.{good_train}
 use Rattle.rbc_rule_laws.proofs.witnesses.step_law_witnesses.Goals as goal
 
 pub returns-clause-after_stop : goal.returns-clause-after_stop
@@ -28,9 +29,9 @@ no_limits = record {
 -- stop 1 is good
 good_stops : AreGoodStops track_a (stop_1 (on_line_0 20000 21000))
 good_stops = record {
-  numbered = record { ascending = refl; within = only (λ (number : ℕ). number ≤ 1) 1 (omega arith) };
+  numbered = record { ascending = refl; within = one_of (λ (number : ℕ). number ≤ 1) 1 (omega arith) };
   few = omega arith;
-  good = only (IsGoodStop track_a) (1, on_line_0 20000 21000 ∷ []) (record { some = omega arith; good = refl });
+  good = one_of (IsGoodStop track_a) (1, on_line_0 20000 21000 ∷ []) (record { some = omega arith; good = refl });
 }
 
 -- balise group 5 and the interval are on line 0
@@ -46,18 +47,18 @@ well_formed_train = record {
   forced_ascend = refl;
   forced = All-nil (IsGiven 1);
   tables = record {
-    stops = record { small = omega arith; ascending = refl; below = only (λ (id : ℕ). id < 15) 0 (omega arith); once = ((λ n told. refl), tt) };
+    stops = record { small = omega arith; ascending = refl; below = one_of (λ (id : ℕ). id < 15) 0 (omega arith); once = ((λ n told. refl), tt) };
     limits = record { small = omega arith; ascending = refl; below = All-nil (λ (id : ℕ). id < 255); once = tt };
   };
   stop_slots = record {
-    kinds = only (λ (held : ℕ × Slot). has_kind is_stop_kind held.1 ≡ true) (0, told_now 1 1001 Conditional) refl;
-    counts = only (λ (held : ℕ × Slot). has_count held.1 ≡ true) (0, told_now 1 1001 Conditional) refl;
-    given = only (IsGiven 1) 1 (omega arith, omega arith);
+    kinds = one_of (λ (held : ℕ × Slot). has_kind is_stop_kind held.1 ≡ true) (0, told_now 1 1001 Conditional) refl;
+    counts = one_of (λ (held : ℕ × Slot). has_count held.1 ≡ true) (0, told_now 1 1001 Conditional) refl;
+    given = one_of (IsGiven 1) 1 (omega arith, omega arith);
     once = (refl, tt);
   };
   limit_slots = record { kinds = All-nil (λ (held : ℕ × Slot). has_kind is_limit_kind held.1 ≡ true); counts = All-nil (λ (held : ℕ × Slot). has_count held.1 ≡ true); given = All-nil (IsGiven 0); once = tt };
   stamp = omega arith;
-  stamps_within = only (λ (s : ℕ). s ≤ 1001) 1001 (omega arith);
+  stamps_within = one_of (λ (s : ℕ). s ≤ 1001) 1001 (omega arith);
   stamps_apart = (refl, refl, tt);
 }
 
@@ -71,7 +72,7 @@ returns-clause-well_formed c =
       limits = no_limits;
       ascending = refl;
       few = omega arith;
-      trains = only (IsGoodTrain track_a stops none_numbered) (7, train) good;
+      trains = one_of (IsGoodTrain track_a stops none_numbered) (7, train) good;
     }
 
 pub returns-clause-told_twice : goal.returns-clause-told_twice

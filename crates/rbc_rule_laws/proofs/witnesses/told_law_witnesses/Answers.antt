@@ -11,8 +11,9 @@ use Rattle.rbc_settle.specs.Told.{Part}
 use Rattle.rbc_settle.specs.UpToDate.{IsToldIfItCan, IsLimitToldIfItCan, IsUpToDate, IsUpToDateOrAtTheEnd}
 use Rattle.rbc_rule_laws.specs.Witnesses.{track_a, facing_up, on_line_0, train_7, stop_1, limit_80, restriction_1, told_as_0, slot_of}
 use Rattle.rbc_rule_laws.proofs.WitnessSays.{differ}
-use Rattle.rbc_rule_laws.proofs.WitnessWorlds.{only, now_up_to_date}
+use Rattle.rbc_rule_laws.proofs.WitnessWorlds.{now_up_to_date}
 use Rattle.rbc_rule_laws.proofs.witnesses.told_law_witnesses.Goals as goal
+use Rattle.rbc_rule.proofs.EachChanges.{one_of}
 
 -- what is promised of each train of a world
 abbrev IsNow : Stops → Limits → ℕ × TrainRec → Type 0
@@ -23,19 +24,19 @@ returns-clause-told c =
     let train = train_7 (Some facing_up) 1001 (told_as_0 1) in
     let stops = stop_1 (on_line_0 20000 21000) in
     let now : IsUpToDate track_a stops none_numbered train = record {
-      told = only (IsToldIfItCan train) (1, on_line_0 20000 21000 ∷ []) (inr (inl refl));
+      told = one_of (IsToldIfItCan train) (1, on_line_0 20000 21000 ∷ []) (inr (inl refl));
       limits_told = All-nil (IsLimitToldIfItCan 100000 train);
-      no_stop_gone = only (λ (held : ℕ × Slot). is_used_by (is_stop_gone stops) held.1 ≡ false) (0, told_now 1 1001 Conditional) refl;
+      no_stop_gone = one_of (λ (held : ℕ × Slot). is_used_by (is_stop_gone stops) held.1 ≡ false) (0, told_now 1 1001 Conditional) refl;
       no_limit_gone = All-nil (λ (held : ℕ × Slot). is_used_by (is_limit_gone none_numbered (Some facing_up)) held.1 ≡ false);
-      none_due = inl (only (λ (held : ℕ × Slot). due_number stops held.1 ≡ None) (0, told_now 1 1001 Conditional) refl);
+      none_due = inl (one_of (λ (held : ℕ × Slot). due_number stops held.1 ≡ None) (0, told_now 1 1001 Conditional) refl);
     } in
-    only (IsNow stops none_numbered) (7, train) (inr now)
+    one_of (IsNow stops none_numbered) (7, train) (inr now)
 
 pub returns-clause-stamps_ended : goal.returns-clause-stamps_ended
 returns-clause-stamps_ended c =
     let train = train_7 (Some facing_up) last_stamp [] in
     let ended : last_stamp ≤ train.stamp = omega arith in
-    only (IsNow (stop_1 (on_line_0 20000 21000)) none_numbered) (7, train) (inl ended)
+    one_of (IsNow (stop_1 (on_line_0 20000 21000)) none_numbered) (7, train) (inl ended)
 
 -- what is nothing to the train, or told, or finds no identifier, is neither of these
 neither : {A : Type 0} (x y : A) (count most : ℕ) → (x ≡ y → ⊥) → (count ≡ most → ⊥) → (x ≡ y) ⊎ ((false ≡ true) ⊎ (count ≡ most)) → ⊥

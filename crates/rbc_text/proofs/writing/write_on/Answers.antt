@@ -2,7 +2,7 @@ use Rattle.std.proofs.Common.{◌≡◌, ◌∙◌, ◌+◌, ◌-◌, ◌≤◌,
 use Rattle.std.specs.Io.KnownBytes.{Appends}
 use Rattle.std.proofs.Math.Seq.{take-add}
 use Rattle.std.proofs.lemmas.List.{take_all}
-use Rattle.rbc_text.proofs.Transfers.{appends_more}
+use Rattle.std.proofs.KnownBytes.{Appends-trans}
 use Rattle.rbc_text.proofs.writing.write_on.Goals as goal
 
 pub loop-sent-preserved-in-Ok : goal.loop-sent-preserved-in-Ok
@@ -17,6 +17,6 @@ loop-sent-preserved-in-Ok g c =
     ap (λ (xs : List ℕ). take sent text ++ take count xs) rest ∙ sym (take-add sent count text) in
     record {
       within = omega (arith, left, bound, c.loop-sent.invariant.within);
-      out = subst (Appends (g.W.Write.contents c.args.writer.now) (g.W.Write.contents c.write.new.self)) parts (appends_more (g.W.Write.contents c.args.writer.now) (g.W.Write.contents c.loop-sent.writer) (g.W.Write.contents c.write.new.self) (take sent text) _ c.loop-sent.invariant.out c.in-Ok.ensures.bytes);
+      out = subst (Appends (g.W.Write.contents c.args.writer.now) (g.W.Write.contents c.write.new.self)) parts (Appends-trans (g.W.Write.contents c.args.writer.now) (g.W.Write.contents c.loop-sent.writer) (g.W.Write.contents c.write.new.self) (take sent text) _ c.loop-sent.invariant.out c.in-Ok.ensures.bytes);
       interruptions = c.loop-sent.invariant.interruptions;
     }

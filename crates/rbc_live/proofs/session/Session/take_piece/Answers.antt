@@ -2,7 +2,8 @@ use Rattle.std.proofs.Common.{rules, ◌≡◌, ◌<◌, ◌++◌, ◌∷◌, �
 use Rattle.std.specs.Prelude.{IfSome}
 use Rattle.rbc_text.specs.BatchText.{is_line_feed}
 use Rattle.ertms_codec.specs.Pieces.{pieces_behind, text_behind}
-use Rattle.rbc_text.proofs.LinePieces.{first_piece, joined_whole, line_more, last_more}
+use Rattle.ertms_codec.proofs.Cuts.{split_is_cons}
+use Rattle.rbc_text.proofs.LinePieces.{joined_whole, line_more, last_more}
 use Rattle.rbc_live.proofs.Writing.{pending}
 use Rattle.rbc_live.proofs.Cutting.{fault_before_more, fault_at_last, piece_taken, hands_on}
 use Rattle.rbc_live.proofs.session.Session.take_piece.Goals as goal
@@ -12,7 +13,7 @@ pub returns-in_err-end_line-in-Some-behind-clause-taken : goal.returns-in_err-en
 returns-in_err-end_line-in-Some-behind-clause-taken g c = λ plan wanted old ended rest is.
     let now = c.loop-left.invariant.taken plan wanted old ended rest is in
     let behind = c.in-Some-behind.field-0.now in
-    let left = first_piece is_line_feed behind in
+    let left = split_is_cons is_line_feed behind in
     let fault = c.in_err-end_line-in-Some-behind.field-0.0 in
     hands_on plan wanted old (g.W.Write.contents c.end_line.new.writer) c.end_line.new.self _ c.from_residual.result fault c.from_residual.ensures.1
     (fault_before_more plan wanted old (g.W.Write.contents c.end_line.new.writer) now.0 now.1 c.cut.result.0.now _ (pieces_behind 10 c.loop-left.left) (pieces_behind 10 c.cut.result.1) left.0 left.1 fault
@@ -32,7 +33,7 @@ returns-in_err-go_on_line-in-None-clause-taken g c = λ plan wanted old ended re
 -- a line was taken
 pub loop-left-preserved-in_ok-end_line-in-Some-behind : goal.loop-left-preserved-in_ok-end_line-in-Some-behind
 loop-left-preserved-in_ok-end_line-in-Some-behind g c =
-    let left = first_piece is_line_feed c.in-Some-behind.field-0.now in
+    let left = split_is_cons is_line_feed c.in-Some-behind.field-0.now in
     let pieces = pieces_behind 10 c.cut.result.1 in
     let shorter : length c.in-Some-behind.field-0.now < length c.in-Some.bytes.now =
     subst (λ (o : Option (Bor (List ℕ))). IfSome o (λ behind. length behind.now < length c.in-Some.bytes.now)) c.in-Some-behind.is c.cut.ensures.shorter in

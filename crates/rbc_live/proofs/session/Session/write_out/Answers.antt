@@ -1,7 +1,6 @@
-use Rattle.std.proofs.Common.{rules, ◌≡◌, ◌+◌, ap, ◌∙◌, List, ℕ, length, refl, subst}
+use Rattle.std.proofs.Common.{rules, ◌≡◌, ◌+◌, ◌∙◌, List, ℕ, length, refl, subst}
 use Rattle.std.specs.Io.KnownBytes.{Appends}
 use Rattle.rbc_text.specs.Streams.{IsCutShort, count_of}
-use Rattle.rbc_live.specs.UnderWay.{IsEnded}
 use Rattle.rbc_live.specs.declared.prompt.PromptError.TheVariants.{Write}
 use Rattle.rbc_live.proofs.Writing.{all_out, cut_short, not_flushed, goes_on, handed_on}
 use Rattle.rbc_live.proofs.session.Session.write_out.Goals as goal
