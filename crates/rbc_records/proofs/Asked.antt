@@ -40,7 +40,7 @@ reached p area false e h = let bad : true ≡ false = sym h ∙ unreached p area
 
 -- and a new stop that concerns a train may be told to it
 pub asked_by_place : (number : ℕ) (area : List Segment) (train : TrainRec)
-    → (nat_lt (length train.stops) 15 && is_concern (concern_of area (has_number train.forced number) train.place)) ≡ true → meet (extent_of_area area) (extent_of_train train) ≡ true
+    → (nat_lt (length train.stops) 15 && is_concern (concern_of area (has_number train.forced number) train.place)) ≡ true → meet (extent_of_area area) (extent_of_train train).least (extent_of_train train).most ≡ true
 asked_by_place number area train h = by (nat_lt (length train.stops) 15) (nat_lt 0 (length train.forced)) (has_number train.forced number) refl refl train.place h
   where
     extent_by : Bool → Bool → Option Place → Extent
@@ -48,7 +48,7 @@ asked_by_place number area train h = by (nat_lt (length train.stops) 15) (nat_lt
         if free then (if rejected then everywhere else option_map_or (λ (p : Place). ahead_of p.facing p) place everywhere) else nowhere
 
     by : (free rejected forced : Bool) → nat_lt 0 (length train.forced) ≡ rejected → has_number train.forced number ≡ forced → (place : Option Place)
-        → (free && is_concern (concern_of area forced place)) ≡ true → meet (extent_of_area area) (extent_by free rejected place) ≡ true
+        → (free && is_concern (concern_of area forced place)) ≡ true → meet (extent_of_area area) (extent_by free rejected place).least (extent_by free rejected place).most ≡ true
     by false rejected forced some is place h = cc
     by true true forced some is place h = met_anywhere area
     by true false true some is place h = let bad : true ≡ false = sym (not_empty train.forced number is) ∙ some in cc

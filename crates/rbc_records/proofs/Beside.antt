@@ -1,10 +1,11 @@
 -- Columns that stay beside the records they tell of.
-use Rattle.std.proofs.Common.{◌≡◌, ℕ, ◌+◌, ◌-◌, ◌<◌, ◌≤◌, Bool, true, false, not, cond, if◌then◌else◌, List, [], ◌∷◌, ◌++◌, Some, map, length, get_or, set, take, suc, refl, sym, ap, ◌∙◌, arith}
+use Rattle.std.proofs.Common.{◌≡◌, ℕ, ◌+◌, ◌-◌, ◌<◌, ◌≤◌, Bool, true, false, not, cond, if◌then◌else◌, List, [], ◌∷◌, ◌++◌, Some, map, length, get_or, set, slice_get, take, suc, refl, sym, ap, ◌∙◌, arith}
 use Rattle.std.proofs.lemmas.List.{take-map, get_or-map, length-map, map-set}
 use Rattle.std.proofs.lemmas.List.Quantifiers.{position-Some}
+use Rattle.std.proofs.lemmas.Option.{slice_get-map, get_or_from_slice_get}
 use Rattle.std.proofs.lemmas.Map.Entries.{length-keys_of}
 use Rattle.std.specs.List.{position, position_or_len, swap_remove}
-use Rattle.std.specs.Option.{option_map_or}
+use Rattle.std.specs.Option.{option_map, option_map_or}
 use Rattle.std.specs.Map.{keys_of}
 use Rattle.indexmap.specs.IndexMap.{insert_entry, swap_remove_entry}
 use Rattle.rbc_records.specs.declared.record.Key.{Key}
@@ -71,43 +72,62 @@ found_within test (entry ∷ entries) index at =
     let place = position-Some test (keys_of (entry ∷ entries)) index entry.0 at in
     omega (arith, place.0, length-keys_of (entry ∷ entries))
 
-module _ (entries : List (Key × Rec)) (bits : List ToldBits) (extents : List Extent) (beside : AreBeside entries bits extents) where
-  -- a column is as long as the list of the records
-  pub bits_as_long : length bits ≡ length entries
-  bits_as_long = ap length beside.bits_are ∙ length-map entries (λ (entry : Key × Rec). told_bits_of entry.1)
+-- a column is as long as the list of the records
+pub as_long : {B : Type 0} (f : Rec → B) (entries : List (Key × Rec)) (column : List B) → column ≡ column_of f entries → length column ≡ length entries
+as_long f entries column are = ap length are ∙ length-map entries (λ (entry : Key × Rec). f entry.1)
 
-  pub extents_as_long : length extents ≡ length entries
-  extents_as_long = ap length beside.extents_are ∙ length-map entries (λ (entry : Key × Rec). extent_of entry.1)
+-- what a column tells at the index of an entry
+pub told_there : {B : Type 0} (f : Rec → B) (entries : List (Key × Rec)) (told : List B) → told ≡ column_of f entries
+    → (index : ℕ) (entry : Key × Rec) → slice_get entries index ≡ Some entry → (d : B) → get_or told index d ≡ f entry.1
+told_there f entries told are index entry at d =
+    let tell = λ (e : Key × Rec). f e.1 in
+    let there : slice_get (column_of f entries) index ≡ Some (f entry.1) = slice_get-map tell entries index ∙ ap (λ found. option_map tell found) at in
+    ap (λ (all : List _). get_or all index d) are ∙ get_or_from_slice_get (column_of f entries) index (f entry.1) d there
 
-module _ (entries new : List (Key × Rec)) (bits : List ToldBits) (extents : List Extent) (beside : AreBeside entries bits extents) where
-  module _ (k : Key) (rec : Rec) (put : new ≡ insert_entry eq-value.it entries k rec)
-      (index : ℕ) (place : index ≡ position_or_len (eq-value.it k) (keys_of entries))
-      (told : ToldBits) (told_is : told ≡ told_bits_of rec) (extent : Extent) (extent_is : extent ≡ extent_of rec) where
-    pub put_over : index < length bits → AreBeside new (set bits index told) (set extents index extent)
-    put_over within =
-        let old : index < length entries = omega (arith, bits_as_long entries bits extents beside) in
-        let held = rw place at old in
-        record {
-          bits_are = (λ j. set (beside.bits_are j) (place j) (told_is j)) ∙ sym (over eq-value.it told_bits_of k rec entries held) ∙ ap (column_of told_bits_of) (sym put);
-          extents_are = (λ j. set (beside.extents_are j) (place j) (extent_is j)) ∙ sym (over eq-value.it extent_of k rec entries held) ∙ ap (column_of extent_of) (sym put);
-        }
+module _ (entries new : List (Key × Rec)) where
+  module _ (k : Key) (rec : Rec) (put : new ≡ insert_entry eq-value.it entries k rec) (index : ℕ) (place : index ≡ position_or_len (eq-value.it k) (keys_of entries)) where
+    -- what a column tells of a record put there
+    set_over : {B : Type 0} (f : Rec → B) (column : List B) → column ≡ column_of f entries → index < length entries → (x : B) → x ≡ f rec → set column index x ≡ column_of f new
+    set_over f column are within x is =
+        let held = rw place at within in
+        (λ j. set (are j) (place j) (is j)) ∙ sym (over eq-value.it f k rec entries held) ∙ ap (column_of f) (sym put)
 
-    pub put_behind : length bits ≤ index → AreBeside new (bits ++ told ∷ []) (extents ++ extent ∷ [])
-    put_behind beyond =
-        let old : length entries ≤ index = omega (arith, bits_as_long entries bits extents beside) in
-        let held = rw place at old in
-        record {
-          bits_are = (λ j. beside.bits_are j ++ told_is j ∷ []) ∙ sym (behind eq-value.it told_bits_of k rec entries held) ∙ ap (column_of told_bits_of) (sym put);
-          extents_are = (λ j. beside.extents_are j ++ extent_is j ∷ []) ∙ sym (behind eq-value.it extent_of k rec entries held) ∙ ap (column_of extent_of) (sym put);
-        }
+    set_behind : {B : Type 0} (f : Rec → B) (column : List B) → column ≡ column_of f entries → length entries ≤ index → (x : B) → x ≡ f rec → column ++ x ∷ [] ≡ column_of f new
+    set_behind f column are beyond x is =
+        let held = rw place at beyond in
+        (λ j. are j ++ is j ∷ []) ∙ sym (behind eq-value.it f k rec entries held) ∙ ap (column_of f) (sym put)
 
-  pub taken_out : (test : Key → Bool) (index : ℕ) (told : ToldBits) (extent : Extent) → Some index ≡ position test (keys_of entries) → new ≡ swap_remove_entry test entries
-      → AreBeside new (swap_remove bits index told) (swap_remove extents index extent)
-  taken_out test index told extent at taken =
-      let within = found_within test entries index (sym at) in
-      let left = left_by test entries index (sym at) in
-      let now : new ≡ swap_remove entries index left.0 = taken ∙ left.1 in
-      record {
-        bits_are = ap (λ (all : List ToldBits). swap_remove all index told) beside.bits_are ∙ sym (removed eq-value.it told_bits_of entries index left.0 told within) ∙ ap (column_of told_bits_of) (sym now);
-        extents_are = ap (λ (all : List Extent). swap_remove all index extent) beside.extents_are ∙ sym (removed eq-value.it extent_of entries index left.0 extent within) ∙ ap (column_of extent_of) (sym now);
+    module _ (stops limits least most : List ℕ) (beside : AreBeside entries stops limits least most)
+        (told : ToldBits) (told_is : told ≡ told_bits_of rec) (extent : Extent) (extent_is : extent ≡ extent_of rec) where
+      pub put_over : index < length entries → AreBeside new (set stops index told.stops) (set limits index told.limits) (set least index extent.least) (set most index extent.most)
+      put_over within = record {
+        stops_are = set_over (λ (r : Rec). (told_bits_of r).stops) stops beside.stops_are within told.stops (ap (λ (t : ToldBits). t.stops) told_is);
+        limits_are = set_over (λ (r : Rec). (told_bits_of r).limits) limits beside.limits_are within told.limits (ap (λ (t : ToldBits). t.limits) told_is);
+        least_are = set_over (λ (r : Rec). (extent_of r).least) least beside.least_are within extent.least (ap (λ (e : Extent). e.least) extent_is);
+        most_are = set_over (λ (r : Rec). (extent_of r).most) most beside.most_are within extent.most (ap (λ (e : Extent). e.most) extent_is);
       }
+
+      pub put_behind : length entries ≤ index → AreBeside new (stops ++ told.stops ∷ []) (limits ++ told.limits ∷ []) (least ++ extent.least ∷ []) (most ++ extent.most ∷ [])
+      put_behind beyond = record {
+        stops_are = set_behind (λ (r : Rec). (told_bits_of r).stops) stops beside.stops_are beyond told.stops (ap (λ (t : ToldBits). t.stops) told_is);
+        limits_are = set_behind (λ (r : Rec). (told_bits_of r).limits) limits beside.limits_are beyond told.limits (ap (λ (t : ToldBits). t.limits) told_is);
+        least_are = set_behind (λ (r : Rec). (extent_of r).least) least beside.least_are beyond extent.least (ap (λ (e : Extent). e.least) extent_is);
+        most_are = set_behind (λ (r : Rec). (extent_of r).most) most beside.most_are beyond extent.most (ap (λ (e : Extent). e.most) extent_is);
+      }
+
+  module _ (test : Key → Bool) (index : ℕ) (at : Some index ≡ position test (keys_of entries)) (taken : new ≡ swap_remove_entry test entries) where
+    -- what a column tells of what is left
+    without : {B : Type 0} (f : Rec → B) (column : List B) → column ≡ column_of f entries → (x : B) → swap_remove column index x ≡ column_of f new
+    without f column are x =
+        let within = found_within test entries index (sym at) in
+        let left = left_by test entries index (sym at) in
+        ap (λ (all : List _). swap_remove all index x) are ∙ sym (removed eq-value.it f entries index left.0 x within) ∙ ap (column_of f) (sym (taken ∙ left.1))
+
+    pub taken_out : (stops limits least most : List ℕ) (beside : AreBeside entries stops limits least most) (a b c d : ℕ)
+        → AreBeside new (swap_remove stops index a) (swap_remove limits index b) (swap_remove least index c) (swap_remove most index d)
+    taken_out stops limits least most beside a b c d = record {
+      stops_are = without (λ (r : Rec). (told_bits_of r).stops) stops beside.stops_are a;
+      limits_are = without (λ (r : Rec). (told_bits_of r).limits) limits beside.limits_are b;
+      least_are = without (λ (r : Rec). (extent_of r).least) least beside.least_are c;
+      most_are = without (λ (r : Rec). (extent_of r).most) most beside.most_are d;
+    }

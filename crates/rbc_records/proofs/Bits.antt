@@ -1,9 +1,8 @@
 -- The bits of numbers: a bit that is not set tells that no such number is among them.
-use Rattle.std.proofs.Common.{◌≡◌, ℕ, ◌-◌, ◌<◌, ◌^◌, ◌%◌, Bool, true, false, not, ◌||◌, ◌==◌, nat_lt, if◌then◌else◌, List, [], ◌∷◌, fold, length, refl, sym, ap, ◌∙◌, arith, eq-eqb}
+use Rattle.std.proofs.Common.{◌≡◌, ℕ, ◌-◌, ◌<◌, ◌^◌, ◌%◌, Bool, true, false, ◌||◌, ◌==◌, nat_lt, if◌then◌else◌, List, [], ◌∷◌, fold, length, refl, sym, ap, ◌∙◌, arith, eq-eqb}
 use Rattle.std.proofs.lemmas.Bool.Decides.{Decides-eqb}
-use Rattle.std.proofs.lemmas.Nat.Bits.{bit_at_and, bit_at_or, bit_at-zero, bit_at-lt, bit_at-pow_same, bit_at_ones}
+use Rattle.std.proofs.lemmas.Nat.Bits.{bit_at_or, bit_at-lt, bit_at-pow_same, bit_at_ones}
 use Rattle.std.specs.Int.{bit_at}
-use Rattle.std.specs.Int.Bits.{bit_and}
 use Rattle.std.specs.List.{list_any}
 use Rattle.rbc_settle.specs.Table.{Slots, tells, is_told}
 use Rattle.rbc_settle.specs.Slot.{Slot}
@@ -79,16 +78,3 @@ few_bit slots n h = by (nat_lt 16 (length slots))
     by : (b : Bool) → has_bit (if b then 2 ^ 64 - 1 else bits_of_slots slots) n ≡ true
     by true = every_bit n
     by false = told_bit slots n h
-
--- numbers with a set bit in common
-pub shared_bit : (a b n : ℕ) → has_bit a n ≡ true → has_bit b n ≡ true → not (bit_and a b == 0) ≡ true
-shared_bit a b n in_a in_b = by (bit_and a b == 0) refl
-  where
-    by : (none : Bool) → (bit_and a b == 0) ≡ none → not none ≡ true
-    by false e = refl
-    by true e =
-        let of_a : bit_at a (n % 64) ≡ 1 = (Decides-eqb _ _).0 in_a in
-        let of_b : bit_at b (n % 64) ≡ 1 = (Decides-eqb _ _).0 in_b in
-        let nothing : bit_and a b ≡ 0 = (Decides-eqb _ _).0 e in
-        let zero_bit : bit_at (bit_and a b) (n % 64) ≡ 0 = ap (λ (k : ℕ). bit_at k (n % 64)) nothing ∙ bit_at-zero (n % 64) in
-        absurd (omega (arith, bit_at_and a b (n % 64), zero_bit, of_a, of_b))

@@ -1,5 +1,5 @@
 -- What is kept beside the records, so that a search can skip most trains without looking them up (own rule).
-use Rattle.std.specs.Prelude.{◌≡◌, ℕ, Bool, false, ◌==◌, ◌&&◌, List, map}
+use Rattle.std.specs.Prelude.{◌≡◌, ℕ, Bool, false, ◌==◌, ◌&&◌, List, map, slice_get, Some}
 use Rattle.std.specs.List.{list_any}
 use Rattle.rbc_settle.specs.Numbers.{has_number}
 use Rattle.rbc_records.specs.declared.told_bits.ToldBits.{ToldBits}
@@ -30,9 +30,11 @@ abbrev pub column_of : {T : Type 0} → (Rec → T) → List (Key × Rec) → Li
 column_of {T} f entries = map {B = T} (λ (entry : Key × Rec). f entry.1) entries
 
 -- The columns of a table stand beside its records, index by index.
-pub record AreBeside (entries : List (Key × Rec)) (bits : List ToldBits) (extents : List Extent) : Type 0 where
-  pub bits_are : bits ≡ column_of told_bits_of entries
-  pub extents_are : extents ≡ column_of extent_of entries
+pub record AreBeside (entries : List (Key × Rec)) (stops limits least most : List ℕ) : Type 0 where
+  pub stops_are : stops ≡ column_of (λ rec. (told_bits_of rec).stops) entries
+  pub limits_are : limits ≡ column_of (λ rec. (told_bits_of rec).limits) entries
+  pub least_are : least ≡ column_of (λ rec. (extent_of rec).least) entries
+  pub most_are : most ≡ column_of (λ rec. (extent_of rec).most) entries
 
 -- the records of a table, and how many more it can take without taking memory
 pub record Kept : Type 0 where
@@ -54,3 +56,7 @@ is_of_train engine key.Unplaced rec = false
 -- the engines are those of the trains whose records pass a test
 abbrev pub ArePassing : (Rec → Bool) → List (Key × Rec) → List ℕ → Type 0
 ArePassing passes entries engines = (engine : ℕ) → has_number engines engine ≡ list_any (λ entry. is_of_train engine entry.0 entry.1 && passes entry.1) entries
+
+-- what is said of the index of an entry is what a test says of its record
+abbrev pub Tells : (ℕ → Bool → Type 0) → (Rec → Bool) → List (Key × Rec) → Type 0
+Tells says test entries = (index : ℕ) (answer : Bool) (entry : Key × Rec) → says index answer → slice_get entries index ≡ Some entry → answer ≡ test entry.1

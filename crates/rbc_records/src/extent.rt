@@ -1,35 +1,42 @@
 //! Where a new stop has to lie to concern a train, in few bytes, so that a search can skip most trains.
 
 ghost use Rattle.std.specs.Prelude.{◌≡◌};
-ghost use Rattle.rbc_records.specs.Extents.{extent_of_train, ahead_of, extent_of_area, with_segment, meet};
+ghost use Rattle.rbc_records.specs.Extents.{extent_of_train, ahead_of, extent_of_area, with_segment, meet, site_on};
 
-use crate::told_bits::with_bit;
 use rbc_settle::{Area, Place, STOP_IDENTIFIERS, Segment, TrainRec, Way};
 
-/// Places on some lines, from the least to the greatest, both included.
+/// How many sites each line has: more than the greatest length of a line, in units of 10 cm.
+const SITES: u32 = 1 << 22;
+
+/// Places of the track, from the least to the greatest, both included. Each is a number, its site: the sites of a line
+/// follow those of the line before it.
 #[derive(Clone, Copy)]
 pub struct Extent {
-    /// The lines, by bits: bit `n % 64` stands for line n. Without any line there is no place.
-    pub lines: u64,
-    /// In units of 10 cm from the lower end of a line.
+    /// The least site.
     pub least: u32,
-    /// In the same units.
+    /// The greatest site.
     pub most: u32,
 }
 
 /// No place.
 pub const NOWHERE: Extent = Extent {
-    lines: 0,
     least: u32::MAX,
     most: 0,
 };
 
 /// All places.
 const EVERYWHERE: Extent = Extent {
-    lines: u64::MAX,
     least: 0,
     most: u32::MAX,
 };
+
+/// The site of a place on a line, which is in units of 10 cm. Lines whose numbers are a multiple of 64 apart, and all
+/// places beyond the longest line, share sites; a track has neither.
+fn site_on(line: u32, place: u32) -> u32
+    ensures { result ≡ site_on line place }
+{
+    line % 64 * SITES + place.min(SITES - 1)
+}
 
 impl Extent {
     /// Where a new stop has to lie if a train may have to be told of it: nowhere if it has no free stop identifier
@@ -53,23 +60,21 @@ impl Extent {
     fn ahead_of(place: &Place) -> Self
         ensures { result ≡ ahead_of place.now.facing place.now }
     {
-        let lines = with_bit(0, u32::from(place.line()));
+        let line = u32::from(place.line());
         match place.facing() {
             Way::Up => Extent {
-                lines,
-                least: place.lo().min(place.hi()),
-                most: u32::MAX,
+                least: site_on(line, place.lo().min(place.hi())),
+                most: site_on(line, u32::MAX),
             },
             Way::Down => Extent {
-                lines,
-                least: 0,
-                most: place.lo().max(place.hi()),
+                least: site_on(line, 0),
+                most: site_on(line, place.lo().max(place.hi())),
             },
         }
     }
 
-    /// The extent of an area: on all lines of its segments, from the least end to the greatest. An area without
-    /// segments extends everywhere.
+    /// The extent of an area: from the least end of its segments to the greatest. It has the lines between them as well.
+    /// An area without segments extends everywhere.
     pub fn of_area(area: &Area) -> Self
         ensures { result ≡ extent_of_area area.now }
     {
@@ -87,18 +92,21 @@ impl Extent {
         ensures { result ≡ with_segment self segment.now }
     {
         Extent {
-            lines: with_bit(self.lines, segment.line),
-            least: self.least.min(segment.from.min(segment.to)),
-            most: self.most.max(segment.from.max(segment.to)),
+            least: self
+                .least
+                .min(site_on(segment.line, segment.from.min(segment.to))),
+            most: self
+                .most
+                .max(site_on(segment.line, segment.from.max(segment.to))),
         }
     }
 
-    /// Whether both are on a line of the same bit, and have a place in common. It has no branch for each kind of
-    /// extent, because each new stop asks it of every train.
+    /// Whether this extent has a place in common with the one from `least` to `most`. It has no branch, so that a scan
+    /// takes several of them at once.
     #[inline(always)]
-    pub fn meets(&self, other: &Extent) -> bool
-        ensures { result ≡ meet self.now other.now }
+    pub fn meets(&self, least: u32, most: u32) -> bool
+        ensures { result ≡ meet self.now least most }
     {
-        self.lines & other.lines != 0 && self.least <= other.most && other.least <= self.most
+        (self.least <= most) & (least <= self.most)
     }
 }

@@ -1,9 +1,8 @@
 //! A table of records, with what a search reads of them beside it.
 //!
-//! A search scans one of two columns that stand beside the records. told_bits.rt has one bit for each remainder of 64
-//! of the numbers that a train was told (a train with more than 16 restriction identifiers held counts as told of all);
-//! extent.rt has where a new stop must lie to be told to a train. No record that is sought is missed
-//! (proofs/Asked.antt).
+//! A search scans columns that stand beside the records. told_bits.rt has one bit for each remainder of 64 of the numbers
+//! that a train was told (a train with more than 16 restriction identifiers held counts as told of all); extent.rt has
+//! where a new stop must lie to be told to a train. No record that is sought is missed (proofs/Asked.antt).
 
 ghost use Rattle.std.specs.Prelude.{◌≡◌, ◌+◌, ◌<◌, ◌≤◌, [], length, slice_get, Some, None, is_some, IsTrue, IsFalse};
 ghost use Rattle.std.specs.Prelude.{OnOk, IfOk, IfSome, option_copied};
@@ -23,13 +22,19 @@ use std::alloc::{AllocError, Global};
 use std::marker::Model;
 use std::mem;
 
-/// Records by their keys. Two columns, whose entries have the indices of the records, hold the little of each that a
+/// Records by their keys. Four columns, whose entries have the indices of the records, hold the little of each that a
 /// search reads, so that it goes over contiguous memory.
 #[derive(Drop)]
 pub struct Table {
     entries: IndexMap<Key, Rec>,
-    bits: Vec<ToldBits>,
-    extents: Vec<Extent>,
+    /// The stops that each was told.
+    stops: Vec<u64>,
+    /// The restrictions that each was told.
+    limits: Vec<u64>,
+    /// The least site of each extent.
+    least: Vec<u32>,
+    /// The greatest site of each extent.
+    most: Vec<u32>,
 }
 
 impl Model for Table {
@@ -41,11 +46,13 @@ impl Model for Table {
 
     ghost view = { λ table. record {
       entries = table.entries.entries;
-      room = min (spare table.entries)
-          (min (vec_capacity table.bits - vec_len table.bits) (vec_capacity table.extents - vec_len table.extents));
+      room = min (spare table.entries) (min
+          (min (vec_capacity table.stops - vec_len table.stops) (vec_capacity table.limits - vec_len table.limits))
+          (min (vec_capacity table.least - vec_len table.least) (vec_capacity table.most - vec_len table.most)));
     } };
 
-    ghost invariant = { λ table. AreBeside table.entries.entries table.bits.items table.extents.items };
+    ghost invariant = { λ table. AreBeside table.entries.entries
+        table.stops.items table.limits.items table.least.items table.most.items };
 }
 
 impl Table {
@@ -55,8 +62,10 @@ impl Table {
     {
         Table {
             entries: IndexMap::new(alloc),
-            bits: Vec::new(alloc),
-            extents: Vec::new(alloc),
+            stops: Vec::new(alloc),
+            limits: Vec::new(alloc),
+            least: Vec::new(alloc),
+            most: Vec::new(alloc),
         }
     }
 
@@ -88,8 +97,10 @@ impl Table {
         ensures entries { self.new.entries ≡ self.old.entries }
         ensures ok { OnOk result (additional ≤ self.new.room) }
     {
-        self.bits.reserve(additional)?;
-        self.extents.reserve(additional)?;
+        self.stops.reserve(additional)?;
+        self.limits.reserve(additional)?;
+        self.least.reserve(additional)?;
+        self.most.reserve(additional)?;
         self.entries.reserve(additional)
     }
 
@@ -101,15 +112,19 @@ impl Table {
         ensures replaced { result ≡ record_in self.old.entries key }
         ensures room { self.old.room ≤ self.new.room + 1 }
     {
-        let bits = told_bits_of(&rec);
+        let told = told_bits_of(&rec);
         let extent = extent_of(&rec);
         let (index, old) = self.entries.insert_full(key, rec).unwrap();
-        if index < self.bits.len() {
-            self.bits[index] = bits;
-            self.extents[index] = extent;
+        if index < self.stops.len() {
+            self.stops[index] = told.stops;
+            self.limits[index] = told.limits;
+            self.least[index] = extent.least;
+            self.most[index] = extent.most;
         } else {
-            self.bits.push(bits).unwrap();
-            self.extents.push(extent).unwrap();
+            self.stops.push(told.stops).unwrap();
+            self.limits.push(told.limits).unwrap();
+            self.least.push(extent.least).unwrap();
+            self.most.push(extent.most).unwrap();
         }
         old
     }
@@ -127,8 +142,12 @@ impl Table {
         let Some(index) = self.entries.get_index_of(&key) else {
             return false;
         };
-        self.bits[index] = told_bits_of(rec);
-        self.extents[index] = extent_of(rec);
+        let told = told_bits_of(rec);
+        let extent = extent_of(rec);
+        self.stops[index] = told.stops;
+        self.limits[index] = told.limits;
+        self.least[index] = extent.least;
+        self.most[index] = extent.most;
         mem::swap(self.entries.get_index_mut(index).unwrap(), rec);
         true
     }
@@ -141,8 +160,10 @@ impl Table {
         ensures room { self.old.room ≤ self.new.room }
     {
         let (index, _, rec) = self.entries.swap_remove_full(&key)?;
-        let _ = self.bits.swap_remove(index);
-        let _ = self.extents.swap_remove(index);
+        let _ = self.stops.swap_remove(index);
+        let _ = self.limits.swap_remove(index);
+        let _ = self.least.swap_remove(index);
+        let _ = self.most.swap_remove(index);
         Some(rec)
     }
 
@@ -152,22 +173,21 @@ impl Table {
         ensures { IfOk result (λ found. IfSome found (AreFound (Whole self.now.entries) sought.entry)) }
     {
         let entries = &self.entries;
-        let bits = self.bits.as_slice();
         match sought {
             Sought::ToldOfStop(number) => {
-                passing(alloc, entries, bits, |told| has_bit(told.stops, number))
+                let stops = self.stops.as_slice();
+                passing(alloc, entries, |index| has_bit(stops[index], number))
             }
             Sought::ToldOfLimit(number) => {
-                passing(alloc, entries, bits, |told| has_bit(told.limits, number))
+                let limits = self.limits.as_slice();
+                passing(alloc, entries, |index| has_bit(limits[index], number))
             }
             Sought::Stoppable(_, area) => {
                 let of_area = Extent::of_area(area);
-                passing(
-                    alloc,
-                    entries,
-                    self.extents.as_slice(),
-                    |extent| of_area.meets(&extent),
-                )
+                let (least, most) = (self.least.as_slice(), self.most.as_slice());
+                passing(alloc, entries, |index| {
+                    of_area.meets(least[index], most[index])
+                })
             }
         }
     }

@@ -1,10 +1,11 @@
 //! Searches for trains, each by a scan of one column.
 
-ghost use Rattle.std.specs.Prelude.{◌≡◌, ℕ, ◌<◌, ◌||◌, Bool, length, slice_get, Some, IfOk, IfSome, IsTrue};
+ghost use Rattle.std.specs.Prelude.{◌≡◌, ℕ, ◌<◌, ◌≤◌, ◌||◌, Bool, false, length, take, slice_get, Some, IfOk, IfSome};
+ghost use Rattle.std.specs.Prelude.{IsTrue, IsFalse};
 ghost use Rattle.rbc_settle.specs.Numbers.{has_number};
 ghost use Rattle.rbc_records.specs.declared.record.Key.{Key};
 ghost use Rattle.rbc_records.specs.declared.record.Rec.{Rec};
-ghost use Rattle.rbc_records.specs.Columns.{column_of, is_of_train, ArePassing};
+ghost use Rattle.rbc_records.specs.Columns.{is_of_train, ArePassing, Tells};
 
 use crate::record::{Key, Rec};
 use indexmap::IndexMap;
@@ -25,26 +26,69 @@ pub enum Sought<'a> {
 /// The most trains that a search returns. For more, going through all trains is as fast.
 const MAX_FOUND: usize = 256;
 
-/// The engines of the trains whose entries in a column pass a test. `None` if there are too many.
-pub fn passing<T: Copy, F: Fn(T) -> bool>(
+/// How many entries a search tests at once.
+const BLOCK: usize = 32;
+
+/// The engines of the trains at the indices that pass a test. `None` if there are too many.
+pub fn passing<F: Fn(usize) -> bool>(
     alloc: Global,
     entries: &IndexMap<Key, Rec>,
-    column: &[T],
     passes: F,
 ) -> Result<Option<Numbers>, AllocError>
-    requires beside { length column.now ≡ length entries.now.entries }
-    requires calls { F.IsAlwaysCallable passes }
-    ensures { (of : Rec → T) (test : T → Bool) → column.now ≡ column_of of entries.now.entries
-        → ((entry : T) (answer : Bool) → F.post passes entry answer → answer ≡ test entry)
-        → IfOk result (λ found. IfSome found (ArePassing (λ rec. test (of rec)) entries.now.entries)) }
+    requires { (index : ℕ) → index < length entries.now.entries → F.pre passes index }
+    ensures { (test : Rec → Bool) → Tells (F.post passes) test entries.now.entries
+        → IfOk result (λ found. IfSome found (ArePassing test entries.now.entries)) }
 {
     let mut found = Numbers::new(alloc);
-    for (index, entry) in column.iter().enumerate() {
-        if passes(*entry) && !add_train(entries, index, &mut found)? {
+    let mut begin = 0;
+    while begin < entries.len() {
+        let end = begin + BLOCK.min(entries.len() - begin);
+        if any_passes(begin, end, &passes)
+            && !add_passing(entries, begin, end, &passes, &mut found)?
+        {
             return Ok(None);
         }
+        begin = end;
     }
     Ok(Some(found))
+}
+
+/// Whether one of the indices from `begin` to before `end` passes. It asks all of them without a branch, so that the
+/// processor takes several at once.
+#[inline(always)]
+fn any_passes<F: Fn(usize) -> bool>(begin: usize, end: usize, passes: &F) -> bool
+    requires { (index : ℕ) → begin ≤ index → index < end → F.pre passes.now index }
+    ensures { IsFalse result → (index : ℕ) → begin ≤ index → index < end → F.post passes.now index false }
+{
+    let mut any = false;
+    for index in begin..end {
+        any |= passes(index);
+    }
+    any
+}
+
+/// Adds the engines of the trains at the indices from `begin` to before `end` that pass. Returns whether there was room
+/// for all of them.
+fn add_passing<F: Fn(usize) -> bool>(
+    entries: &IndexMap<Key, Rec>,
+    begin: usize,
+    end: usize,
+    passes: &F,
+    found: &mut Numbers,
+) -> Result<bool, AllocError>
+    requires order { begin ≤ end }
+    requires within { end ≤ length entries.now.entries }
+    requires calls { (index : ℕ) → begin ≤ index → index < end → F.pre passes.now index }
+    ensures { (test : Rec → Bool) → Tells (F.post passes.now) test entries.now.entries
+        → IfOk result (λ fits. IsTrue fits → ArePassing test (take begin entries.now.entries) found.old
+        → ArePassing test (take end entries.now.entries) found.new) }
+{
+    for index in begin..end {
+        if passes(index) && !add_train(entries, index, found)? {
+            return Ok(false);
+        }
+    }
+    Ok(true)
 }
 
 /// Adds the engine at an index if a train stands there, unless it is among the engines already. Returns whether there

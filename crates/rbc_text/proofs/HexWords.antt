@@ -1,12 +1,10 @@
 -- Hexadecimal digits are one word, and have no carriage return.
-use Rattle.std.proofs.Common.{◌≡◌, ℕ, ◌<◌, true, false, cond, ◌==◌, List, [], ◌∷◌, length, Some, None, Ok, Err, Result, refl, sym, ap, ◌∙◌, arith}
+use Rattle.std.proofs.Common.{◌≡◌, ℕ, ◌<◌, true, false, cond, ◌==◌, List, [], ◌∷◌, length, Some, None, Ok, refl, sym, ap, ◌∙◌, arith}
 use Rattle.std.specs.List.{list_all, slice_split, onto_first, AllPass}
 use Rattle.std.specs.Option.{unwrap_or}
-use Rattle.std.specs.Prelude.{MatchResult}
 use Rattle.std.proofs.lemmas.Bool.{ne_eqb, and_from}
 use Rattle.std.proofs.lemmas.List.Elements.{All-head, All-tail}
-use Rattle.hex.specs.Hex.{decode_of, decode_sized, is_hex_digit}
-use Rattle.hex.proofs.HexLemmas.{IsOk-decode_sized, decode_sized-twice}
+use Rattle.hex.specs.Hex.{decode_of, is_hex_digit}
 use Rattle.rbc_rule.specs.declared.input.Input.TheVariants.{Bad}
 use Rattle.rbc_text.specs.BatchText.{is_space, words_of, is_hex_word, message_of, line_of_hex, Spelled, Heard}
 
@@ -31,15 +29,9 @@ is_word : (text : List ℕ) → 0 < length text → AllPass is_hex_digit text �
 is_word [] some digits = absurd (omega (arith, some))
 is_word (c ∷ text) some digits = no_return (c ∷ text) digits
 
--- a text that is decoded and not empty is the message of its bytes
-pub digits_alone : (text bytes : List ℕ) (n : ℕ) → 0 < length text → decode_sized text n ≡ Ok bytes → unwrap_or (message_of (words_of text)) (Spelled (Bad 1)) ≡ Heard bytes
-digits_alone text bytes n some is =
-    let parts = (IsOk-decode_sized text n).0 (rw is refl) in
-    ap (λ words. unwrap_or (message_of words) (Spelled (Bad 1))) (one_word text parts.1)
-    ∙ ap (λ b. unwrap_or (cond b (Some (line_of_hex (decode_of text))) None) (Spelled (Bad 1))) (is_word text some parts.1)
-    ∙ ap line_of_hex (sym (decode_sized-twice text n parts.0) ∙ is)
-
--- what was decoded is what the text spells
-pub decoded : {E : Type 0} (spelled : Result (List ℕ) E) (answer : Result Unit E) (bytes : List ℕ) (u : Unit) → MatchResult spelled (λ its. (answer ≡ Ok tt) × (bytes ≡ its)) (λ e. answer ≡ Err e) → answer ≡ Ok u → spelled ≡ Ok bytes
-decoded (Ok its) answer bytes u h is = ap Ok (sym h.1)
-decoded {E} (Err e) answer bytes u h is = let bad = sym h ∙ is in absurd cc
+-- a text of digits that is not empty is the message of its bytes
+pub digits_alone : (text bytes : List ℕ) → 0 < length text → AllPass is_hex_digit text → decode_of text ≡ Ok bytes → unwrap_or (message_of (words_of text)) (Spelled (Bad 1)) ≡ Heard bytes
+digits_alone text bytes some digits is =
+    ap (λ words. unwrap_or (message_of words) (Spelled (Bad 1))) (one_word text digits)
+    ∙ ap (λ b. unwrap_or (cond b (Some (line_of_hex (decode_of text))) None) (Spelled (Bad 1))) (is_word text some digits)
+    ∙ ap line_of_hex is

@@ -7,6 +7,7 @@ pub mod LinePieces
 pub mod ResultLines
 pub mod HexDigits
 pub mod HexWords
+pub mod DigitValues
 pub mod Ranges
 pub use Rattle.rbc_desk.proofs.Begins
 pub use Rattle.rbc_desk.proofs.Mails

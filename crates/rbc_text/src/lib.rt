@@ -14,6 +14,7 @@
 #![tactic(auto)]
 
 mod calls;
+mod digits;
 mod line;
 mod messages;
 mod outlet;

@@ -8,6 +8,7 @@ ghost use Rattle.rbc_rule.specs.declared.input.Input.TheVariants.{Bad};
 ghost use Rattle.rbc_text.specs.BatchText.{Spelled, is_hex_word, line_of_hex, message_of, words_of, refusal_of};
 ghost use Rattle.rbc_text.specs.BatchText.{AreHeard, IsInput};
 
+use crate::digits::bytes_of_digits;
 use crate::line::{bad_hex, bad_line};
 use ertms_codec::{DecodeError, cut, read_from_train};
 use hex::FromHexError;
@@ -60,14 +61,15 @@ fn is_hex_word(word: &[u8]) -> bool
 fn short_message(text: &[u8]) -> Option<Input>
     ensures { IfSome result (λ input. IsInput (unwrap_or (message_of (words_of text.now)) (Spelled (Bad 1))) input) }
 {
-    if text.is_empty() || text.len() > 2 * SHORT_MESSAGE {
+    if text.is_empty() || text.len() % 2 != 0 || text.len() > 2 * SHORT_MESSAGE {
         return None;
     }
     let mut buffer = [0u8; SHORT_MESSAGE];
     let bytes = &mut buffer[..text.len() / 2];
-    match hex::decode_to_slice(text, bytes) {
-        Ok(()) => Some(heard(bytes)),
-        Err(_) => None,
+    if bytes_of_digits(text, bytes) {
+        Some(heard(bytes))
+    } else {
+        None
     }
 }
 

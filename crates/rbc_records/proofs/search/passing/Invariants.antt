@@ -1,10 +1,13 @@
-use Rattle.std.proofs.Common.{◌≡◌, Bool, take}
+use Rattle.std.proofs.Common.{◌≤◌, ◌-◌, Bool, length, take}
 use Rattle.rbc_records.specs.declared.record.Rec.{Rec}
-use Rattle.rbc_records.specs.Columns.{column_of, ArePassing}
+use Rattle.rbc_records.specs.Columns.{ArePassing, Tells}
 use Rattle.rbc_records.proofs.search.passing.Given as goal
 
--- whatever the column tells and the test answers, the engines are those of the entries so far
-abbrev pub invariant-loop-index : goal.invariant-loop-index
-invariant-loop-index g l =
-    (of : Rec → _) (test : _ → Bool) → l.column ≡ column_of of l.entries.entries → ((entry : _) (answer : Bool) → goal.F-post g l.passes entry answer → answer ≡ test entry)
-    → ArePassing (λ rec. test (of rec)) (take l.index l.entries.entries) l.found
+-- whatever the test is, the engines are those of the entries so far
+abbrev pub invariant-loop-begin : goal.invariant-loop-begin
+invariant-loop-begin g l =
+    (l.begin ≤ length l.entries.entries)
+    × ((test : Rec → Bool) → Tells (goal.F-post g l.passes) test l.entries.entries → ArePassing test (take l.begin l.entries.entries) l.found)
+
+abbrev pub decreases-loop-begin : goal.decreases-loop-begin
+decreases-loop-begin g l = length l.entries.entries - l.begin

@@ -8,8 +8,9 @@ use Rattle.rbc_records.proofs.record_table.Table.remove.Goals as goal
 
 pub invariant_of-self-2 : goal.invariant_of-self-2
 invariant_of-self-2 c =
-    let beside = taken_out _ _ _ _ c.self.invariant (eq-value.it c.args.key) _ c.swap_remove.result c.swap_remove-2.result c.in_ok-index.ensures.index c.swap_remove_full.ensures.entries in
-    rw (c.swap_remove.ensures.items, c.swap_remove-2.ensures.items) beside
+    let beside = taken_out _ _ (eq-value.it c.args.key) _ c.in_ok-index.ensures.index c.swap_remove_full.ensures.entries _ _ _ _ c.self.invariant
+    c.swap_remove.result c.swap_remove-2.result c.swap_remove-3.result c.swap_remove-4.result in
+    rw (c.swap_remove.ensures.items, c.swap_remove-2.ensures.items, c.swap_remove-3.ensures.items, c.swap_remove-4.ensures.items) beside
 
 pub returns-in_err-index-clause-records : goal.returns-in_err-index-clause-records
 returns-in_err-index-clause-records c = λ q.

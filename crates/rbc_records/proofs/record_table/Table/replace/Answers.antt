@@ -1,4 +1,4 @@
-use Rattle.std.proofs.Common.{◌≡◌, ◌<◌, ◌∙◌, ap, sym, arith, cond, is_some, length, position, Some}
+use Rattle.std.proofs.Common.{◌≡◌, ◌∙◌, ap, sym, cond, is_some, position, Some}
 use Rattle.std.specs.Map.{keys_of}
 use Rattle.std.specs.Option.{option_copied_mut}
 use Rattle.indexmap.specs.IndexMap.{set_value_at}
@@ -6,7 +6,7 @@ use Rattle.rbc_records.specs.declared.record.Rec.{Rec}
 use Rattle.rbc_records.specs.contracts.record.KeyPartialEq.TheImpl.{eq-value}
 use Rattle.rbc_records.specs.Columns.{Kept}
 use Rattle.rbc_records.specs.Notes.{record_in, same_key}
-use Rattle.rbc_records.proofs.Beside.{put_over, bits_as_long}
+use Rattle.rbc_records.proofs.Beside.{put_over}
 use Rattle.rbc_records.proofs.Keys.{lookup_is}
 use Rattle.rbc_records.proofs.Replacing.{exchanged_is_put, record_in_exchanged, stands_within, stands_first, stands_at}
 use Rattle.rbc_records.proofs.record_table.Table.replace.Goals as goal
@@ -22,8 +22,8 @@ invariant_of-self c =
     let index = c.in-Some.index in
     let at : position (eq-value.it c.args.key) (keys_of entries) ≡ Some index = sym c.in-Some.ensures.index in
     let put = ap (λ (rec : Rec). set_value_at entries index rec) c.swap.ensures.x_after ∙ exchanged_is_put c.args.key c.args.rec.now entries index at in
-    let within : index < length c.self.inside.bits.items = omega (arith, stands_within c.args.key entries index at, bits_as_long entries _ _ c.self.invariant) in
-    put_over entries _ _ _ c.self.invariant c.args.key c.args.rec.now put index (stands_first c.args.key entries index at) _ c.told_bits_of.ensures _ c.extent_of.ensures within
+    put_over entries _ c.args.key c.args.rec.now put index (stands_first c.args.key entries index at) _ _ _ _ c.self.invariant _ c.told_bits_of-told.ensures _ c.extent_of-extent.ensures
+    (stands_within c.args.key entries index at)
 
 pub returns-clause-held : goal.returns-clause-held
 returns-clause-held c =
