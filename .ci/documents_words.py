@@ -24,12 +24,12 @@ PORTED = "anyhow boxcar clap crossbeam_queue hex indexmap itoa memchr rayon this
 
 # of rt and of the scripts here, and of the folders and files that they know
 TOOL = """
-bash python3 Prelude ci must-fail edits check doc fail fmt lemma must plant program proofs specs src test tests tidy tries try version rt allocations rlib jq PID RLIMIT_AS autogroup proc selftest golden SOURCES make install lib PREFIX
+bash python3 Prelude ci must-fail edits check doc fail fmt lemma must plant program proofs specs src test tests tidy tries try version rt allocations rlib jq PID RLIMIT_AS autogroup proc selftest golden SOURCES make install lib PREFIX cat
 """
 
 # of batches, outputs, tracks, texts of messages and command lines
 FORMATS = """
-AGAIN CODE COMMAND COUNT CRATE DOUBT ENGINE EXPECTED FILE FROM FRONT HEX INPUT LENGTH LINE MAX MODULE NAME NAME_tests NOT NUMBER PLACE SEGMENT SPEED STAMP TEXT TO TOLD WAY WAYS WORD
+AGAIN CODE COMMAND COUNT CRATE DOUBT ENGINE EXPECTED FILE FROM FRONT HEX INPUT LENGTH LINE LOG MAX MODULE NAME NAME_tests NOT NUMBER PLACE SEGMENT SPEED STAMP TEXT TO TOLD WAY WAYS WORD
 bad balise be both dispatch down em enrol fault group halt help horizon json lift line long many memory needs null or out recv refused release report restrict stop the too track tsr uXXXX unreadable up
 warning warnings withdraw write zz
 """
