@@ -6,6 +6,7 @@ use Rattle.rbc_text.specs.OutputText.{outbox_lines}
 use Rattle.rbc_batch.specs.Parts.{joined}
 use Rattle.rbc_batch.specs.Process.{AreRead, IsUncounted, IsWatchedRun, watched_text_of}
 use Rattle.rbc_batch.proofs.Answering.{handed_on_as, wrote_watched, wrote_watched_part}
+use Rattle.rbc_batch.specs.declared.batch.ProcessError.TheVariants.{Memory}
 use Rattle.rbc_batch.proofs.alarms.process_with_alarms.Goals as goal
 
 -- the batch was not read, or is refused before its lines are
@@ -37,3 +38,9 @@ returns-clause-answers g c =
     let few : c.in-Err.sent ≤ length text = search rules in
     let out : Appends (g.W.Write.contents c.args.writer.now) (g.W.Write.contents c.write_texts.new.writer) (take c.in-Err.sent text) = search rules in
     wrote_watched_part c.args.track.now c.args.workers _ _ _ _ inputs held c.in_ok-desk.results.items text read c.in_ok-inputs.ensures.may_work c.in_ok-inputs.ensures.few ran is c.in-Err.sent few out
+
+-- there was no memory for the texts
+pub returns-in_err-texts-clause-answers : goal.returns-in_err-texts-clause-answers
+returns-in_err-texts-clause-answers g c =
+    handed_on_as (watched_text_of c.args.track.now) IsUncounted c.args.track.now c.args.workers _ _ (g.W.Write.contents c.args.writer.now) c.from_residual-in_err-texts.result Memory
+    c.from_residual-in_err-texts.ensures.1 tt

@@ -5,6 +5,7 @@ use Rattle.rbc_text.specs.OutputText.{output_of}
 use Rattle.rbc_batch.specs.Parts.{joined}
 use Rattle.rbc_batch.specs.Process.{AreRead, IsRunOf}
 use Rattle.rbc_batch.proofs.Answering.{handed_on, wrote_all, wrote_part}
+use Rattle.rbc_batch.specs.declared.batch.ProcessError.TheVariants.{Memory}
 use Rattle.rbc_batch.proofs.batch.process_with_desk.Goals as goal
 
 -- the batch was not read, or is refused before its lines are
@@ -36,3 +37,8 @@ returns-in-Err-clause-answers g c =
     let few : c.in-Err.sent ≤ length text = search rules in
     let out : Appends (g.W.Write.contents c.args.writer.now) (g.W.Write.contents c.write_texts.new.writer) (take c.in-Err.sent text) = search rules in
     wrote_part c.args.track.now c.args.workers _ _ _ _ inputs held c.in_ok-desk.stats text c.in-Err.sent read ran is few out
+
+-- there was no memory for the texts
+pub returns-in_err-texts-clause-answers : goal.returns-in_err-texts-clause-answers
+returns-in_err-texts-clause-answers g c =
+    handed_on c.args.track.now c.args.workers _ _ (g.W.Write.contents c.args.writer.now) c.from_residual-in_err-texts.result Memory c.from_residual-in_err-texts.ensures.1 tt
