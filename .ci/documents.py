@@ -17,7 +17,8 @@ What is checked:
   its class belongs (documents_reach.py), and each word of the kit that these use and that is not of everyday use; they say how many
   lines there are of each class, and for `dispatch run`; and each other definition has a sentence above it in specs/;
 - docs/ASSESSMENT.md says how many faulty variants each crate has;
-- figures of speed, memory and tests are those of bench/RESULTS.md, and constants those of the sources (documents_figures.py);
+- figures of speed, memory and tests are those of bench/RESULTS.md, and constants those of the sources (documents_figures.py), also
+  where a document gives a limit without its constant (documents_limits.py);
 - the table of docs/ARCHITECTURE.md says what crates.txt says, and an output in README.md is that of its file;
 - no document is longer than MOST_LINES says, each subcommand `dispatch WORD` is one of SUBCOMMANDS, and no prose tells of machines or earlier versions;
 - each name of a rule, such as R-STOP-3, is defined once in docs/RULES.md, each rule is named by a definition, and no name stands above
@@ -34,6 +35,7 @@ sys.path.insert(0, str(Path(__file__).resolve().parent))
 sys.dont_write_bytecode = True
 
 import documents_figures
+import documents_limits
 import documents_model as model
 import documents_reach as reach
 import documents_rules as rules
@@ -300,6 +302,7 @@ def faults(root, world):
         for place, fault in found:
             yield document, whole, place, fault
     yield from documents_figures.faults(root, documents(root))
+    yield from documents_limits.faults(root, documents(root))
     for path, place, fault in citation_faults(root):
         yield path, path.read_text(), place, fault
     yield from rules.faults(root, texts(root))
