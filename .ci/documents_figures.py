@@ -17,7 +17,7 @@ WITH_FIGURES = {"README.md", "docs/GUIDE.md", "docs/INTEGRATION.md"}
 WITH_OPTIONS = WITH_FIGURES | {"docs/FORMATS.md", "docs/RULES.md", "docs/ASSESSMENT.md", "docs/DECISIONS.md"}
 UNITS = r"(?:(?:s|ms|us|ns|minutes?|hours?|KB|KiB|MB|GB|(?:million )?instructions|passed|times(?! NID_C))\b|%)"
 NUMBER = r"\d[\d,]*(?:\.\d+)?"
-FIGURE = re.compile(rf"(?<!units of )(?<![\w.,/:-])({NUMBER}(?: (?:to|and) {NUMBER})?) ({UNITS})")
+FIGURE = re.compile(rf"(?<![\w.,/:-]){NUMBER}(?:\s+(?:to|and)\s+{NUMBER})?\s+{UNITS}")
 CONSTANT = re.compile(r"^\s*(?:pub(?:\(crate\))? )?const ([A-Z][A-Z0-9_]*): \w+ = ([\d_]+);", re.M)
 NAMED = r"`([A-Z][A-Z0-9_]*)`"
 WIDTHS = "crates/ertms_codec/src/variable.rt"  # its constants have the names of variables, and say how wide these are
@@ -77,8 +77,10 @@ def figure_faults(results, name, text):
             elif heads[0] != GIVEN and re.search("[a-z]", cells[0]):
                 measured.setdefault(cells[0], []).append(row)
     missing = set(given)
-    for match in FIGURE.finditer(text.replace("\n", " ")):
-        figure = f"{match.group(1)} {match.group(2)}"
+    for match in FIGURE.finditer(text):
+        if re.search(r"units of\s+$", text[: match.start()]):
+            continue
+        figure = " ".join(match.group().split())
         missing.discard(figure)
         if figure not in given:
             yield match.start(), f"gives '{figure}', which bench/RESULTS.md does not have for it"
