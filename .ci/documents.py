@@ -20,7 +20,7 @@ What is checked:
 - figures of speed, memory and tests are those of bench/RESULTS.md, and constants those of the sources (documents_figures.py), also
   where a document gives a limit without its constant (documents_limits.py);
 - the table of docs/ARCHITECTURE.md says what crates.txt says, and an output in README.md is that of its file;
-- no document is longer than MOST_LINES says, with lines of MOST_COLUMNS, each subcommand `dispatch WORD` is one of SUBCOMMANDS, and no prose tells of machines or earlier versions;
+- no document is longer than MOST_LINES says, its prose is in lines of MOST_COLUMNS, each subcommand `dispatch WORD` is one of SUBCOMMANDS, and no prose tells of machines or earlier versions;
 - each name of a rule, such as R-STOP-3, is defined once in docs/RULES.md, each rule is named by a definition, and no name stands above
   nothing (documents_rules.py);
 - no file cites a paper, or a demand by its number.
@@ -50,7 +50,7 @@ CITED_IN = {".rt", ".antt", ".md", ".edit", ".txt", ".toml", ".sh", ".py", ".cpp
 NAME = re.compile(r"(?<!\w)[A-Za-z_][A-Za-z0-9_']*")
 CRATE = r"(?:rbc|ertms|test)_[a-z_]+"
 MOST_LINES = {"README.md": 100, "docs/GUIDE.md": 320, "docs/INTEGRATION.md": 200, "docs/C_LIBRARY.md": 160}
-MOST_COLUMNS = 120  # of their prose; rows of tables, images and fenced blocks may be wider
+MOST_COLUMNS = 120  # of prose; rows of tables, images and blocks may be wider
 SUBCOMMANDS = {"run", "live", "explain", "picture", "check", "encode", "decode", "codes", "help"}
 HISTORY = re.compile(r"\bon (?:[\w-]+ ){0,3}machines?\b|\bearlier versions?\b|\bprevious versions?\b", re.I)
 SUBCOMMAND = re.compile(r"(?<![\w/-])(?:\./)?dispatch ([a-z][\w-]*)")
@@ -247,13 +247,11 @@ def variant_faults(root, text):
 
 def length_faults(root, document, text):
     """A document with more lines than it may have, or with prose in wider ones: with such lines the number would mean nothing."""
-    name = document.relative_to(root).as_posix()
-    if name not in MOST_LINES:
-        return
+    most = MOST_LINES.get(document.relative_to(root).as_posix())
     lines = len(text.splitlines())
-    if lines > MOST_LINES[name]:
-        yield None, f"has {lines} lines, and may have {MOST_LINES[name]}"
-    for match in re.finditer(rf"^(?!\||!\[| *$).{{{MOST_COLUMNS + 1},}}$", without_blocks(text), flags=re.M):
+    if most is not None and lines > most:
+        yield None, f"has {lines} lines, and may have {most}"
+    for match in re.finditer(rf"^(?!\||!\[|    | *$).{{{MOST_COLUMNS + 1},}}$", without_blocks(text), flags=re.M):
         yield match.start(), f"has a line of {len(match.group())} columns, and may have {MOST_COLUMNS}"
 
 

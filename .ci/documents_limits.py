@@ -68,9 +68,10 @@ def faults(root, documents):
     values = {name: value_of(root, name) for name in FILES}
     for document in documents:
         text = document.read_text()
+        words = " ".join(re.sub(r"^> ", "", text, flags=re.M).split())
         for sentence in LIMITS.get(document.relative_to(root).as_posix(), ()):
             missing = [name for name in re.findall(r"\{(\w+)", sentence) if values[name] is None]
             if missing:
                 yield document, text, None, f"gives {missing[0]}, which {FILES[missing[0]]} does not have as a number"
-            elif " ".join(sentence.format(**values).split()) not in " ".join(text.split()):
+            elif " ".join(sentence.format(**values).split()) not in words:
                 yield document, text, None, f"does not say '{sentence.format(**values)}', with the numbers of the sources"
