@@ -1,5 +1,5 @@
 -- What the readers have found so far.
-use Rattle.std.specs.Prelude.{◌≡◌, ℕ, ◌+◌, ◌<◌, ◌≤◌, ◌^◌, List, length, drop}
+use Rattle.std.specs.Prelude.{◌≡◌, ℕ, ◌+◌, ◌<◌, ◌≤◌, ◌^◌, List, length, drop, if◌then◌else◌}
 use Rattle.ertms_bits.specs.Bits.{number_of, bits_of_bytes, AreBits}
 use Rattle.ertms_codec.specs.declared.to_train.ToTrain.{ToTrain}
 use Rattle.ertms_codec.specs.declared.error.DecodeError.{DecodeError}
@@ -11,7 +11,7 @@ use Rattle.ertms_codec.specs.declared.from_train.FromTrain.TheVariants.{Report, 
 use Rattle.ertms_codec.specs.Layout.{value_at}
 use Rattle.ertms_codec.specs.PacketsToTrain.{most_packets}
 use Rattle.ertms_codec.specs.Refusals.{Unless, Never, number_in, HasItsLength}
-use Rattle.ertms_codec.specs.FromTrain.{PositionFits}
+use Rattle.ertms_codec.specs.FromTrain.{PositionFits, has_length, has_system}
 use Rattle.ertms_codec.specs.RefusalsToTrain as to_train
 use Rattle.ertms_codec.specs.RefusalsFromTrain as from_train
 use Rattle.ertms_codec.specs.ToTrainAtPlaces as to_train_at
@@ -44,6 +44,12 @@ pub record IsReadToTrain (bytes : List ℕ) (m : ToTrain) : Type 0 where
 abbrev pub IsPacketsFault : List ℕ → ReadError → Type 0
 IsPacketsFault bits (Decode e) = (¬ to_train.ArePackets most_packets bits) × (e ≡ Packet)
 IsPacketsFault bits OutOfMemory = Unit {0}
+
+-- the bits that L_TRAININT and NID_NTC take, by Q_LENGTH and the bits after it
+abbrev pub train_more : ℕ → List ℕ → ℕ
+train_more integrity behind =
+    let long = if has_length integrity then 15 else 0 in
+    long + (if has_system (value_at (13 + long) 3 behind) then 8 else 0)
 
 -- the bits are packets to their end, and the position that they begin with has no spare value
 pub record ReadsPosition (bits : List ℕ) : Type 0 where

@@ -1,6 +1,8 @@
 //! The desk: everything that is known, every answer given, and every message sent.
 
 ghost use Rattle.std.specs.Prelude.{◌≡◌, ◌+◌, ◌<◌, ◌≤◌, [], length, IfOk, IfErr, OnOk, OnErr, Some, slice_get};
+ghost use Rattle.std.specs.Prelude.{IsTrue, IsFalse};
+ghost use Rattle.rbc_rule.specs.declared.input.Input.TheVariants.{Received};
 ghost use Rattle.std.specs.List.{All};
 ghost use Rattle.rbc_track.specs.Plan.{Plan, IsPlan};
 ghost use Rattle.rbc_maps.specs.Maps.{value_or};
@@ -16,8 +18,9 @@ ghost use Rattle.rbc_desk.specs.Sendable as mails;
 use crate::answer::Answer;
 use crate::answers::{post_answers, push_results, take_back_answers};
 use crate::outbox::{self, Mail, Outbox};
+use ertms_codec::FromTrain;
 use rbc_records::{PlainStore, Writes, exchange};
-use rbc_rule::{Input, Outcome, Reply, RuleFault, decide};
+use rbc_rule::{Input, Outcome, Reply, RuleFault, decide, hear_in_place};
 use rbc_track::Track;
 use std::alloc::{AllocError, Global};
 use std::marker::Model;
@@ -138,9 +141,38 @@ impl Desk {
         ensures err { OnErr result (standing self.new ≡ standing self.old) }
     {
         keeps(track);
+        if let Input::Received(message) = input
+            && self.take_in_place(alloc, track, message)?
+        {
+            return Ok(());
+        }
         let outcome = self.decide(alloc, track, input)?;
         self.take_over_alone(alloc, outcome)?;
         Ok(())
+    }
+
+    /// Takes a message in without an outcome, if it changes the record of its train alone, or nothing
+    /// ([`hear_in_place`]). There has to be room for one more result. Returns whether it did. If not, and after an
+    /// error, the desk is as before.
+    fn take_in_place(
+        &mut self,
+        alloc: Global,
+        track: &Track,
+        message: &FromTrain,
+    ) -> Result<bool, AllocError>
+        requires track { IsPlan track.now }
+        requires room { length self.old.results < MAX_RESULTS }
+        ensures taken { IfOk result (λ done. IsTrue done → IsTakenIn track.now (Received message.now)
+            (standing self.old) (standing self.new)) }
+        ensures same { IfOk result (λ done. IsFalse done → standing self.new ≡ standing self.old) }
+        ensures err { OnErr result (standing self.new ≡ standing self.old) }
+    {
+        self.results.reserve(1)?;
+        let Some(reply) = hear_in_place(alloc, track, message, &mut self.records)? else {
+            return Ok(false);
+        };
+        self.results.push_reserved(reply);
+        Ok(true)
     }
 
     /// Takes an outcome over, and keeps the replaced records, so that the next outcome can reuse their memory. An error

@@ -17,6 +17,6 @@ mod lookup;
 mod numbered;
 mod on_line;
 
-pub use lookup::{has, index_for, index_near, remove, value_of};
+pub use lookup::{has, index_for, index_near, remove, value_at, value_of};
 pub use numbered::Numbered;
 pub use on_line::{OnLine, OnLines, mark_of};

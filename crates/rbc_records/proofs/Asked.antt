@@ -10,10 +10,10 @@ use Rattle.rbc_settle.specs.declared.train.TrainRec.{TrainRec}
 use Rattle.rbc_settle.specs.Numbers.{has_number}
 use Rattle.rbc_records.specs.declared.extent.Extent.{Extent}
 use Rattle.rbc_records.specs.ToldBits.{has_bit, told_bits_of_train}
-use Rattle.rbc_records.specs.Extents.{nowhere, everywhere, ahead_of, extent_of_train, extent_of_area, meet}
+use Rattle.rbc_records.specs.Extents.{nowhere, everywhere, ahead_of, extent_of_train, extent_of_area, meet, is_one_met}
 use Rattle.rbc_records.specs.SoughtTrains.{is_concern}
 use Rattle.rbc_records.proofs.Reached.{reaches, unreached}
-use Rattle.rbc_records.proofs.Meeting.{met_anywhere, met_ahead}
+use Rattle.rbc_records.proofs.Meeting.{both, met_anywhere, one_met_anywhere, met_ahead, one_met_ahead}
 use Rattle.rbc_records.proofs.Bits.{told_bit, bits_kept, numbers_bit, few_bit}
 
 -- the bit of a stop is set in each train that was told of it or rejected it
@@ -39,18 +39,26 @@ reached p area true e h = refl
 reached p area false e h = let bad : true ≡ false = sym h ∙ unreached p area e in cc
 
 -- and a new stop that concerns a train may be told to it
-pub asked_by_place : (number : ℕ) (area : List Segment) (train : TrainRec)
-    → (nat_lt (length train.stops) 15 && is_concern (concern_of area (has_number train.forced number) train.place)) ≡ true → meet (extent_of_area area) (extent_of_train train).least (extent_of_train train).most ≡ true
+pub asked_by_place : (number : ℕ) (area : List Segment) (train : TrainRec) → (nat_lt (length train.stops) 15 && is_concern (concern_of area (has_number train.forced number) train.place)) ≡ true
+    → (meet (extent_of_area area) (extent_of_train train).least (extent_of_train train).most && is_one_met area (extent_of_train train).least (extent_of_train train).most) ≡ true
 asked_by_place number area train h = by (nat_lt (length train.stops) 15) (nat_lt 0 (length train.forced)) (has_number train.forced number) refl refl train.place h
   where
     extent_by : Bool → Bool → Option Place → Extent
     extent_by free rejected place =
         if free then (if rejected then everywhere else option_map_or (λ (p : Place). ahead_of p.facing p) place everywhere) else nowhere
 
+    IsMet : Extent → Type 0
+    IsMet extent = (meet (extent_of_area area) extent.least extent.most && is_one_met area extent.least extent.most) ≡ true
+
+    anywhere : IsMet everywhere
+    anywhere = both _ _ (met_anywhere area) (one_met_anywhere area)
+
     by : (free rejected forced : Bool) → nat_lt 0 (length train.forced) ≡ rejected → has_number train.forced number ≡ forced → (place : Option Place)
-        → (free && is_concern (concern_of area forced place)) ≡ true → meet (extent_of_area area) (extent_by free rejected place).least (extent_by free rejected place).most ≡ true
+        → (free && is_concern (concern_of area forced place)) ≡ true → IsMet (extent_by free rejected place)
     by false rejected forced some is place h = cc
-    by true true forced some is place h = met_anywhere area
+    by true true forced some is place h = anywhere
     by true false true some is place h = let bad : true ≡ false = sym (not_empty train.forced number is) ∙ some in cc
-    by true false false some is None h = met_anywhere area
-    by true false false some is (Some p) h = met_ahead p.facing p area (reached p area (list_any (reaches p.facing p) area) refl h)
+    by true false false some is None h = anywhere
+    by true false false some is (Some p) h =
+        let one = reached p area (list_any (reaches p.facing p) area) refl h in
+        both _ _ (met_ahead p.facing p area one) (one_met_ahead p.facing p area one)

@@ -3,6 +3,7 @@ use Rattle.std.proofs.Common.{◌≡◌, ℕ, ◌-◌, ◌<◌, ◌^◌, ◌%◌
 use Rattle.std.proofs.lemmas.Bool.Decides.{Decides-eqb}
 use Rattle.std.proofs.lemmas.Nat.Bits.{bit_at_or, bit_at-lt, bit_at-pow_same, bit_at_ones}
 use Rattle.std.specs.Int.{bit_at}
+use Rattle.std.specs.Int.Bits.{bit_or}
 use Rattle.std.specs.List.{list_any}
 use Rattle.rbc_settle.specs.Table.{Slots, tells, is_told}
 use Rattle.rbc_settle.specs.Slot.{Slot}
@@ -10,22 +11,38 @@ use Rattle.rbc_settle.specs.Slot.TheVariants.{Used, Revoking}
 use Rattle.rbc_settle.specs.Numbers.{has_number}
 use Rattle.rbc_records.specs.ToldBits.{has_bit, with_bit, with_slot, bits_of_slots, bits_of_few}
 
--- a set bit stays with one more number
-pub bit_kept : (n bits m : ℕ) → has_bit bits n ≡ true → has_bit (with_bit bits m) n ≡ true
-bit_kept n bits m h =
+-- a set bit stays with the bits of another word, and those of the other stay as well
+or_kept : (n bits more : ℕ) → has_bit bits n ≡ true → has_bit (bit_or bits more) n ≡ true
+or_kept n bits more h =
     let was : bit_at bits (n % 64) ≡ 1 = (Decides-eqb _ _).0 h in
-    let small : bit_at (2 ^ (m % 64)) (n % 64) < 2 = bit_at-lt (2 ^ (m % 64)) (n % 64) in
-    let is : bit_at (with_bit bits m) (n % 64) ≡ 1 = bit_at_or bits (2 ^ (m % 64)) (n % 64) ∙ omega arith in
+    let small : bit_at more (n % 64) < 2 = bit_at-lt more (n % 64) in
+    let is : bit_at (bit_or bits more) (n % 64) ≡ 1 = bit_at_or bits more (n % 64) ∙ omega arith in
     eq-eqb _ _ is
+
+or_set : (n bits more : ℕ) → has_bit more n ≡ true → has_bit (bit_or bits more) n ≡ true
+or_set n bits more h =
+    let own : bit_at more (n % 64) ≡ 1 = (Decides-eqb _ _).0 h in
+    let small : bit_at bits (n % 64) < 2 = bit_at-lt bits (n % 64) in
+    let is : bit_at (bit_or bits more) (n % 64) ≡ 1 = bit_at_or bits more (n % 64) ∙ omega arith in
+    eq-eqb _ _ is
+
+-- a bit that is not set in both together is set in neither
+pub in_neither : (n bits more : ℕ) → has_bit (bit_or bits more) n ≡ false → (has_bit bits n ≡ false) × (has_bit more n ≡ false)
+in_neither n bits more h = (unset (has_bit bits n) (or_kept n bits more), unset (has_bit more n) (or_set n bits more))
+  where
+    unset : (b : Bool) → (b ≡ true → has_bit (bit_or bits more) n ≡ true) → b ≡ false
+    unset true sets = let bad : true ≡ false = sym (sets refl) ∙ h in cc
+    unset false sets = refl
+
+-- so it stays with one more number
+pub bit_kept : (n bits m : ℕ) → has_bit bits n ≡ true → has_bit (with_bit bits m) n ≡ true
+bit_kept n bits m h = or_kept n bits (2 ^ (m % 64)) h
 
 -- and that number's bit is set
 pub bit_set : (n bits m : ℕ) → (m == n) ≡ true → has_bit (with_bit bits m) n ≡ true
 bit_set n bits m h =
     let same : m ≡ n = (Decides-eqb _ _).0 h in
-    let small : bit_at bits (m % 64) < 2 = bit_at-lt bits (m % 64) in
-    let own : bit_at (2 ^ (m % 64)) (m % 64) ≡ 1 = bit_at-pow_same (m % 64) in
-    let is : bit_at (with_bit bits m) (m % 64) ≡ 1 = bit_at_or bits (2 ^ (m % 64)) (m % 64) ∙ omega arith in
-    eq-eqb _ _ (ap (λ (k : ℕ). bit_at (with_bit bits m) (k % 64)) (sym same) ∙ is)
+    or_set n bits (2 ^ (m % 64)) (eq-eqb _ _ (ap (λ (k : ℕ). bit_at (2 ^ (m % 64)) (k % 64)) (sym same) ∙ bit_at-pow_same (m % 64)))
 
 -- the same of a slot, which tells one number or none
 slot_kept : (n bits : ℕ) (slot : Slot) → has_bit bits n ≡ true → has_bit (with_slot bits slot) n ≡ true

@@ -8,7 +8,7 @@ use Rattle.rbc_settle.specs.Way.TheVariants.{Up, Down}
 use Rattle.rbc_settle.specs.Placing.{Place}
 use Rattle.rbc_settle.specs.Segment.{Segment}
 use Rattle.rbc_records.specs.declared.extent.Extent.{Extent}
-use Rattle.rbc_records.specs.Extents.{site_on, nowhere, everywhere, ahead_of, with_segment, extent_of_area, meet}
+use Rattle.rbc_records.specs.Extents.{site_on, nowhere, everywhere, ahead_of, with_segment, extent_of_area, meet, is_met, is_one_met}
 use Rattle.rbc_records.proofs.Reached.{reaches}
 
 -- a place further along a line has no lesser site
@@ -47,7 +47,7 @@ begins : (extent : Extent) (area : List Segment) → (fold with_segment extent a
 begins extent [] = omega arith
 begins extent (segment ∷ area) = let rest = begins (with_segment extent segment) area in omega (arith, rest)
 
-both : (a b : Bool) → a ≡ true → b ≡ true → (a && b) ≡ true
+pub both : (a b : Bool) → a ≡ true → b ≡ true → (a && b) ≡ true
 both a b a_is b_is = (λ i. a_is i && b_is i)
 
 -- an area with segments lies where they lie
@@ -61,36 +61,61 @@ met_anywhere (first ∷ rest) =
     let least = begins nowhere (first ∷ rest) in
     ap (λ (e : Extent). meet e everywhere.least everywhere.most) (by_its_segments first rest) ∙ both _ _ (le-leb _ _ least) (le-leb _ _ (omega arith))
 
-module _ (p : Place) (area : List Segment) where
+-- one more segment of an area may be the one
+one_of : (test asked : Segment → Bool) → ((segment : Segment) → test segment ≡ true → asked segment ≡ true) → (area : List Segment) → list_any test area ≡ true → list_any asked area ≡ true
+one_of test asked each [] h = cc
+one_of test asked each (segment ∷ area) h = by (test segment) (asked segment) (each segment) h (one_of test asked each area)
+  where
+    by : (b c : Bool) → (b ≡ true → c ≡ true) → (b || list_any test area) ≡ true → (list_any test area ≡ true → list_any asked area ≡ true) → (c || list_any asked area) ≡ true
+    by b true here h rest = refl
+    by true false here h rest = let bad : false ≡ true = here refl in cc
+    by false false here h rest = rest h
+
+-- each segment meets what is everywhere
+pub one_met_anywhere : (area : List Segment) → is_one_met area everywhere.least everywhere.most ≡ true
+one_met_anywhere [] = refl
+one_met_anywhere (first ∷ rest) =
+    let here : meet (with_segment nowhere first) everywhere.least everywhere.most ≡ true = both _ _ (le-leb (with_segment nowhere first).least everywhere.most (omega arith)) (le-leb everywhere.least (with_segment nowhere first).most (omega arith)) in
+    ap (λ (b : Bool). if b then list_any (is_met everywhere.least everywhere.most) (first ∷ rest) else true) (lt-ltb 0 (suc (length rest)) (omega arith))
+    ∙ ap (λ (b : Bool). b || list_any (is_met everywhere.least everywhere.most) rest) here
+
+module _ (p : Place) where
   -- the parts of a test that a segment on the line of the train passes
   on_line : (segment : Segment) (b : Bool) → (eqb segment.line p.line && b) ≡ true → (segment.line ≡ p.line) × (b ≡ true)
   on_line segment b h = let parts = and_parts (eqb segment.line p.line) b h in ((Decides-eqb _ _).0 parts.0, parts.1)
 
-  met_by : (way : Way) → (segment : Segment) × (reaches way p segment ≡ true) × Covers (fold with_segment nowhere area) segment
-      → meet (fold with_segment nowhere area) (ahead_of way p).least (ahead_of way p).most ≡ true
-  met_by Up one =
-      let extent = fold with_segment nowhere area in
-      let on = on_line one.0 (leb (min p.lo p.hi) (max one.0.from one.0.to)) one.1 in
-      let reached : site_on p.line (min p.lo p.hi) ≤ site_on p.line (max one.0.from one.0.to) = in_order p.line (min p.lo p.hi) (max one.0.from one.0.to) (leb-true _ _ on.1) in
-      let begin : extent.least ≤ site_on p.line (min one.0.from one.0.to) = subst (λ (line : ℕ). extent.least ≤ site_on line (min one.0.from one.0.to)) on.0 one.2.least in
-      let end : site_on p.line (max one.0.from one.0.to) ≤ extent.most = subst (λ (line : ℕ). site_on line (max one.0.from one.0.to) ≤ extent.most) on.0 one.2.most in
+  -- an extent that covers a segment which reaches the train meets what lies ahead of the train
+  met_by : (way : Way) (extent : Extent) (segment : Segment) → reaches way p segment ≡ true → Covers extent segment → meet extent (ahead_of way p).least (ahead_of way p).most ≡ true
+  met_by Up extent segment h covers =
+      let on = on_line segment (leb (min p.lo p.hi) (max segment.from segment.to)) h in
+      let reached : site_on p.line (min p.lo p.hi) ≤ site_on p.line (max segment.from segment.to) = in_order p.line (min p.lo p.hi) (max segment.from segment.to) (leb-true _ _ on.1) in
+      let begin : extent.least ≤ site_on p.line (min segment.from segment.to) = subst (λ (line : ℕ). extent.least ≤ site_on line (min segment.from segment.to)) on.0 covers.least in
+      let end : site_on p.line (max segment.from segment.to) ≤ extent.most = subst (λ (line : ℕ). site_on line (max segment.from segment.to) ≤ extent.most) on.0 covers.most in
       let before : extent.least ≤ site_on p.line (2 ^ 32 - 1) = omega (arith, begin) in
       let behind : site_on p.line (min p.lo p.hi) ≤ extent.most = omega (arith, reached, end) in
       both _ _ (le-leb _ _ before) (le-leb _ _ behind)
-  met_by Down one =
-      let extent = fold with_segment nowhere area in
-      let on = on_line one.0 (leb (min one.0.from one.0.to) (max p.lo p.hi)) one.1 in
-      let reached : site_on p.line (min one.0.from one.0.to) ≤ site_on p.line (max p.lo p.hi) = in_order p.line (min one.0.from one.0.to) (max p.lo p.hi) (leb-true _ _ on.1) in
-      let begin : extent.least ≤ site_on p.line (min one.0.from one.0.to) = subst (λ (line : ℕ). extent.least ≤ site_on line (min one.0.from one.0.to)) on.0 one.2.least in
-      let end : site_on p.line (max one.0.from one.0.to) ≤ extent.most = subst (λ (line : ℕ). site_on line (max one.0.from one.0.to) ≤ extent.most) on.0 one.2.most in
+  met_by Down extent segment h covers =
+      let on = on_line segment (leb (min segment.from segment.to) (max p.lo p.hi)) h in
+      let reached : site_on p.line (min segment.from segment.to) ≤ site_on p.line (max p.lo p.hi) = in_order p.line (min segment.from segment.to) (max p.lo p.hi) (leb-true _ _ on.1) in
+      let begin : extent.least ≤ site_on p.line (min segment.from segment.to) = subst (λ (line : ℕ). extent.least ≤ site_on line (min segment.from segment.to)) on.0 covers.least in
+      let end : site_on p.line (max segment.from segment.to) ≤ extent.most = subst (λ (line : ℕ). site_on line (max segment.from segment.to) ≤ extent.most) on.0 covers.most in
       let before : extent.least ≤ site_on p.line (max p.lo p.hi) = omega (arith, reached, begin) in
       let behind : site_on p.line 0 ≤ extent.most = omega (arith, end) in
       both _ _ (le-leb _ _ before) (le-leb _ _ behind)
 
--- and what lies ahead of a train that one of its segments reaches
+-- an area meets what lies ahead of a train that one of its segments reaches
 pub met_ahead : (way : Way) (p : Place) (area : List Segment) → list_any (reaches way p) area ≡ true
     → meet (extent_of_area area) (ahead_of way p).least (ahead_of way p).most ≡ true
 met_ahead way p [] h = cc
 met_ahead way p (first ∷ rest) h =
+    let one = covered (reaches way p) nowhere (first ∷ rest) h in
     ap (λ (e : Extent). meet e (ahead_of way p).least (ahead_of way p).most) (by_its_segments first rest)
-    ∙ met_by p (first ∷ rest) way (covered (reaches way p) nowhere (first ∷ rest) h)
+    ∙ met_by p way (fold with_segment nowhere (first ∷ rest)) one.0 one.1 one.2
+
+-- and so does that segment by itself
+pub one_met_ahead : (way : Way) (p : Place) (area : List Segment) → list_any (reaches way p) area ≡ true → is_one_met area (ahead_of way p).least (ahead_of way p).most ≡ true
+one_met_ahead way p [] h = cc
+one_met_ahead way p (first ∷ rest) h =
+    let asked = is_met (ahead_of way p).least (ahead_of way p).most in
+    ap (λ (b : Bool). if b then list_any asked (first ∷ rest) else true) (lt-ltb 0 (suc (length rest)) (omega arith))
+    ∙ one_of (reaches way p) asked (λ segment is. met_by p way (with_segment nowhere segment) segment is (added nowhere segment)) (first ∷ rest) h

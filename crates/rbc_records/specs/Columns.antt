@@ -1,5 +1,5 @@
 -- What is kept beside the records, so that a search can skip most trains without looking them up (own rule).
-use Rattle.std.specs.Prelude.{◌≡◌, ℕ, Bool, false, ◌==◌, ◌&&◌, List, map, slice_get, Some}
+use Rattle.std.specs.Prelude.{◌≡◌, ℕ, ◌<◌, ◌≤◌, Bool, false, ◌==◌, ◌&&◌, List, map, slice_get, Some}
 use Rattle.std.specs.List.{list_any}
 use Rattle.rbc_settle.specs.Numbers.{has_number}
 use Rattle.rbc_records.specs.declared.told_bits.ToldBits.{ToldBits}
@@ -60,3 +60,8 @@ ArePassing passes entries engines = (engine : ℕ) → has_number engines engine
 -- what is said of the index of an entry is what a test says of its record
 abbrev pub Tells : (ℕ → Bool → Type 0) → (Rec → Bool) → List (Key × Rec) → Type 0
 Tells says test entries = (index : ℕ) (answer : Bool) (entry : Key × Rec) → says index answer → slice_get entries index ≡ Some entry → answer ≡ test entry.1
+
+-- what denies of the indices from one to before another that any passes is right by a test of their records
+abbrev pub Denies : (ℕ → ℕ → Bool → Type 0) → (Rec → Bool) → List (Key × Rec) → Type 0
+Denies says test entries =
+    (begin end index : ℕ) (entry : Key × Rec) → says begin end false → begin ≤ index → index < end → slice_get entries index ≡ Some entry → test entry.1 ≡ false

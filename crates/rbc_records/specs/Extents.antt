@@ -1,5 +1,6 @@
 -- Where a new stop has to lie for a train to be told of it, and where an area lies (own rule).
-use Rattle.std.specs.Prelude.{ℕ, ◌+◌, ◌-◌, ◌*◌, ◌%◌, ◌^◌, nat_lt, nat_le, min, max, Bool, ◌&&◌, if◌then◌else◌, List, fold, length}
+use Rattle.std.specs.Prelude.{ℕ, ◌+◌, ◌-◌, ◌*◌, ◌%◌, ◌^◌, nat_lt, nat_le, min, max, Bool, true, ◌&&◌, if◌then◌else◌, List, fold, length}
+use Rattle.std.specs.List.{list_any}
 use Rattle.std.specs.Option.{option_map_or}
 use Rattle.rbc_settle.specs.Segment.{Segment}
 use Rattle.rbc_settle.specs.Way.{Way}
@@ -45,3 +46,10 @@ extent_of_area area = if nat_lt 0 (length area) then fold with_segment nowhere a
 -- an extent has a place in common with the one from the least to the most
 abbrev pub meet : Extent → ℕ → ℕ → Bool
 meet a least most = nat_le a.least most && nat_le least a.most
+
+-- a segment has a place in common with an extent, and one of those of an area has. An area without segments is taken to lie everywhere.
+abbrev pub is_met : ℕ → ℕ → Segment → Bool
+is_met least most segment = meet (with_segment nowhere segment) least most
+
+abbrev pub is_one_met : List Segment → ℕ → ℕ → Bool
+is_one_met area least most = if nat_lt 0 (length area) then list_any (is_met least most) area else true

@@ -1,7 +1,9 @@
 //! Where a new stop has to lie to concern a train, in few bytes, so that a search can skip most trains.
 
-ghost use Rattle.std.specs.Prelude.{◌≡◌};
+ghost use Rattle.std.specs.Prelude.{◌≡◌, ℕ, ◌<◌, ◌≤◌, false, get_or, length, IsFalse};
 ghost use Rattle.rbc_records.specs.Extents.{extent_of_train, ahead_of, extent_of_area, with_segment, meet, site_on};
+ghost use Rattle.std.specs.List.{list_any};
+ghost use Rattle.rbc_records.specs.Extents.{is_met, is_one_met};
 
 use rbc_settle::{Area, Place, STOP_IDENTIFIERS, Segment, TrainRec, Way};
 
@@ -73,8 +75,8 @@ impl Extent {
         }
     }
 
-    /// The extent of an area: from the least end of its segments to the greatest. It has the lines between them as well.
-    /// An area without segments extends everywhere.
+    /// The extent of an area: from the least end of its segments to the greatest. It has the lines between them as
+    /// well. An area without segments extends everywhere.
     pub fn of_area(area: &Area) -> Self
         ensures { result ≡ extent_of_area area.now }
     {
@@ -109,4 +111,46 @@ impl Extent {
     {
         (self.least <= most) & (least <= self.most)
     }
+
+    /// Whether this extent has a place in common with one of those from `least` to `most` at the indices from `begin`
+    /// to before `end`. It asks all of them without a branch, so that the processor takes several at once.
+    #[inline(always)]
+    pub fn meets_some(&self, least: &[u32], most: &[u32], begin: usize, end: usize) -> bool
+        requires least { end ≤ length least.now }
+        requires most { end ≤ length most.now }
+        ensures { IsFalse result → (index : ℕ) → begin ≤ index → index < end
+            → meet self.now (get_or least.now index 0) (get_or most.now index 0) ≡ false }
+    {
+        let mut any = false;
+        for index in begin..end {
+            any |= self.meets(least[index], most[index]);
+        }
+        any
+    }
+}
+
+/// Whether a segment has a place in common with the extent from `least` to `most`.
+fn is_met(least: u32, most: u32, segment: &Segment) -> bool
+    ensures { result ≡ is_met least most segment.now }
+{
+    NOWHERE.with_segment(segment).meets(least, most)
+}
+
+/// Whether one of the segments of an area has a place in common with the extent from `least` to `most`. An area without
+/// segments counts as everywhere.
+pub fn is_one_met(area: &Area, least: u32, most: u32) -> bool
+    ensures { result ≡ is_one_met area.now least most }
+{
+    let segments = area.segments();
+    if segments.is_empty() {
+        return true;
+    }
+    has_met(segments, least, most)
+}
+
+/// Whether one of the segments has a place in common with the extent from `least` to `most`.
+fn has_met(segments: &[Segment], least: u32, most: u32) -> bool
+    ensures { result ≡ list_any (is_met least most) segments.now }
+{
+    segments.iter().any(|segment| is_met(least, most, segment))
 }

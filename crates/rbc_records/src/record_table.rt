@@ -1,23 +1,29 @@
 //! A table of records, with what a search reads of them beside it.
 //!
-//! A search scans columns that stand beside the records. told_bits.rt has one bit for each remainder of 64 of the numbers
-//! that a train was told (a train with more than 16 restriction identifiers held counts as told of all); extent.rt has
-//! where a new stop must lie to be told to a train. No record that is sought is missed (proofs/Asked.antt).
+//! A search scans columns that stand beside the records. told_bits.rt has one bit for each remainder of 64 of the
+//! numbers that a train was told (a train with more than 16 restriction identifiers held counts as told of all);
+//! extent.rt has where a new stop must lie to be told to a train. No record that is sought is missed
+//! (proofs/Asked.antt).
 
-ghost use Rattle.std.specs.Prelude.{◌≡◌, ◌+◌, ◌<◌, ◌≤◌, [], length, slice_get, Some, None, is_some, IsTrue, IsFalse};
+ghost use Rattle.std.specs.Prelude.{◌≡◌, ℕ, ◌+◌, ◌<◌, ◌≤◌, [], length, slice_get, Some, None, is_some, IsTrue, IsFalse};
 ghost use Rattle.std.specs.Prelude.{OnOk, IfOk, IfSome, option_copied};
+ghost use Rattle.rbc_settle.specs.declared.train.TrainRec.{TrainRec};
 ghost use Rattle.rbc_records.specs.declared.record.Key.{Key};
+ghost use Rattle.rbc_records.specs.declared.record.Key.TheVariants as key;
+ghost use Rattle.rbc_records.specs.declared.record.Rec.{Rec};
+ghost use Rattle.rbc_records.specs.declared.record.Rec.TheVariants as rec;
 ghost use Rattle.rbc_records.specs.Notes.{Whole, record_in};
-ghost use Rattle.rbc_records.specs.Columns.{told_bits_of, extent_of};
+ghost use Rattle.rbc_records.specs.Columns.{told_bits_of, extent_of, column_of, ArePassing};
+ghost use Rattle.rbc_records.specs.ToldBits.{has_bit};
 ghost use Rattle.rbc_records.specs.Seeking.{AreFound};
-ghost use Rattle.rbc_records.specs.Writes.{write_over};
+ghost use Rattle.rbc_records.specs.Writes.{write_over, IsAcknowledged};
 
-use crate::extent::{Extent, NOWHERE};
+use crate::extent::{Extent, NOWHERE, is_one_met};
 use crate::record::{Key, Rec};
 use crate::search::{Sought, passing};
-use crate::told_bits::{ToldBits, has_bit};
+use crate::told_bits::{ToldBits, has_bit, in_some};
 use indexmap::IndexMap;
-use rbc_settle::Numbers;
+use rbc_settle::{Numbers, Place};
 use std::alloc::{AllocError, Global};
 use std::marker::Model;
 use std::mem;
@@ -152,6 +158,55 @@ impl Table {
         true
     }
 
+    /// Gives a train another place and another stamp, if its record is there. Nothing else changes, and no room is
+    /// taken.
+    pub fn move_train(&mut self, engine: u32, place: Option<Place>, stamp: u32)
+        ensures moved { (train : TrainRec) → record_in self.old.entries (key.Train engine) ≡ Some (rec.Train train)
+            → (k : Key) → record_in self.new.entries k ≡ write_over
+            (key.Train engine, Some (rec.Train (record train { place = place; stamp = stamp })))
+            (record_in self.old.entries) k }
+        ensures room { self.old.room ≤ self.new.room }
+    {
+        let Some(index) = self.entries.get_index_of(&Key::Train(engine)) else {
+            return;
+        };
+        if let Rec::Train(train) = self.entries.get_index_mut(index).unwrap() {
+            train.place = place;
+            train.stamp = stamp;
+            let extent = Extent::of_train(train);
+            self.least[index] = extent.least;
+            self.most[index] = extent.most;
+        }
+    }
+
+    /// Takes a train's acknowledgement of the message with stamp `acked` into its record, if the record is there, and
+    /// gives the train the stamp `raised`. Returns whether there was something to acknowledge; if not, nothing changes.
+    /// No room is taken.
+    pub fn acknowledge(&mut self, engine: u32, acked: u32, raised: u32) -> bool
+        ensures acked { IsTrue result → (train : TrainRec)
+            → record_in self.old.entries (key.Train engine) ≡ Some (rec.Train train)
+            → IsAcknowledged engine acked raised train self.old.entries self.new.entries }
+        ensures nothing { IsFalse result → self.new.entries ≡ self.old.entries }
+        ensures room { self.old.room ≤ self.new.room }
+    {
+        let Some(index) = self.entries.get_index_of(&Key::Train(engine)) else {
+            return false;
+        };
+        let Rec::Train(train) = self.entries.get_index_mut(index).unwrap() else {
+            return false;
+        };
+        if !train.acknowledge(acked) {
+            return false;
+        }
+        train.stamp = raised;
+        let (told, extent) = (ToldBits::of(train), Extent::of_train(train));
+        self.stops[index] = told.stops;
+        self.limits[index] = told.limits;
+        self.least[index] = extent.least;
+        self.most[index] = extent.most;
+        true
+    }
+
     /// Removes the record under a key and returns it, or `None` if there is none.
     pub fn remove(&mut self, key: Key) -> Option<Rec>
         ensures records { (k : Key) → record_in self.new.entries k
@@ -174,23 +229,43 @@ impl Table {
     {
         let entries = &self.entries;
         match sought {
-            Sought::ToldOfStop(number) => {
-                let stops = self.stops.as_slice();
-                passing(alloc, entries, |index| has_bit(stops[index], number))
-            }
-            Sought::ToldOfLimit(number) => {
-                let limits = self.limits.as_slice();
-                passing(alloc, entries, |index| has_bit(limits[index], number))
-            }
+            Sought::ToldOfStop(number) => told(alloc, entries, &self.stops, number),
+            Sought::ToldOfLimit(number) => told(alloc, entries, &self.limits, number),
             Sought::Stoppable(_, area) => {
                 let of_area = Extent::of_area(area);
                 let (least, most) = (self.least.as_slice(), self.most.as_slice());
-                passing(alloc, entries, |index| {
-                    of_area.meets(least[index], most[index])
-                })
+                passing(
+                    alloc,
+                    entries,
+                    |begin, end| of_area.meets_some(least, most, begin, end),
+                    |index| {
+                        let (least, most) = (least[index], most[index]);
+                        of_area.meets(least, most) && is_one_met(area, least, most)
+                    },
+                )
             }
         }
     }
+}
+
+/// The engines of the trains that may have been told of a number, by the column of their bits. A block whose words have
+/// the number's bit nowhere is passed over.
+fn told(
+    alloc: Global,
+    entries: &IndexMap<Key, Rec>,
+    bits: &[u64],
+    number: u32,
+) -> Result<Option<Numbers>, AllocError>
+    requires { length bits.now ≡ length entries.now.entries }
+    ensures { (bits_of : Rec → ℕ) → bits.now ≡ column_of bits_of entries.now.entries → IfOk result
+        (λ found. IfSome found (ArePassing (λ rec. has_bit (bits_of rec) number) entries.now.entries)) }
+{
+    passing(
+        alloc,
+        entries,
+        |begin, end| in_some(bits, begin, end, number),
+        |index| has_bit(bits[index], number),
+    )
 }
 
 /// What the train of a record was told; nothing if the record is not of a train.

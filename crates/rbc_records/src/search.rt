@@ -1,11 +1,11 @@
 //! Searches for trains, each by a scan of one column.
 
 ghost use Rattle.std.specs.Prelude.{◌≡◌, ℕ, ◌<◌, ◌≤◌, ◌||◌, Bool, false, length, take, slice_get, Some, IfOk, IfSome};
-ghost use Rattle.std.specs.Prelude.{IsTrue, IsFalse};
+ghost use Rattle.std.specs.Prelude.{IsTrue};
 ghost use Rattle.rbc_settle.specs.Numbers.{has_number};
 ghost use Rattle.rbc_records.specs.declared.record.Key.{Key};
 ghost use Rattle.rbc_records.specs.declared.record.Rec.{Rec};
-ghost use Rattle.rbc_records.specs.Columns.{is_of_train, ArePassing, Tells};
+ghost use Rattle.rbc_records.specs.Columns.{is_of_train, ArePassing, Denies, Tells};
 
 use crate::record::{Key, Rec};
 use indexmap::IndexMap;
@@ -29,42 +29,30 @@ const MAX_FOUND: usize = 256;
 /// How many entries a search tests at once.
 const BLOCK: usize = 32;
 
-/// The engines of the trains at the indices that pass a test. `None` if there are too many.
-pub fn passing<F: Fn(usize) -> bool>(
+/// The engines of the trains at the indices that pass a test. `None` if there are too many. A block of which `may_pass`
+/// denies that any passes, from its first index to before its end, is passed over.
+pub fn passing<M: Fn(usize, usize) -> bool, F: Fn(usize) -> bool>(
     alloc: Global,
     entries: &IndexMap<Key, Rec>,
+    may_pass: M,
     passes: F,
 ) -> Result<Option<Numbers>, AllocError>
-    requires { (index : ℕ) → index < length entries.now.entries → F.pre passes index }
-    ensures { (test : Rec → Bool) → Tells (F.post passes) test entries.now.entries
+    requires blocks { (begin end : ℕ) → begin ≤ end → end ≤ length entries.now.entries → M.pre may_pass begin end }
+    requires calls { (index : ℕ) → index < length entries.now.entries → F.pre passes index }
+    ensures { (test : Rec → Bool) → Denies (M.post may_pass) test entries.now.entries
+        → Tells (F.post passes) test entries.now.entries
         → IfOk result (λ found. IfSome found (ArePassing test entries.now.entries)) }
 {
     let mut found = Numbers::new(alloc);
     let mut begin = 0;
     while begin < entries.len() {
         let end = begin + BLOCK.min(entries.len() - begin);
-        if any_passes(begin, end, &passes)
-            && !add_passing(entries, begin, end, &passes, &mut found)?
-        {
+        if may_pass(begin, end) && !add_passing(entries, begin, end, &passes, &mut found)? {
             return Ok(None);
         }
         begin = end;
     }
     Ok(Some(found))
-}
-
-/// Whether one of the indices from `begin` to before `end` passes. It asks all of them without a branch, so that the
-/// processor takes several at once.
-#[inline(always)]
-fn any_passes<F: Fn(usize) -> bool>(begin: usize, end: usize, passes: &F) -> bool
-    requires { (index : ℕ) → begin ≤ index → index < end → F.pre passes.now index }
-    ensures { IsFalse result → (index : ℕ) → begin ≤ index → index < end → F.post passes.now index false }
-{
-    let mut any = false;
-    for index in begin..end {
-        any |= passes(index);
-    }
-    any
 }
 
 /// Adds the engines of the trains at the indices from `begin` to before `end` that pass. Returns whether there was room

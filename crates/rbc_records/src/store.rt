@@ -1,17 +1,21 @@
 //! A store of all records.
 
 ghost use Rattle.std.specs.Prelude.{◌≡◌, ◌+◌, ◌<◌, ◌≤◌, [], length, slice_get, Some, OnOk, OnErr, IfOk, IfErr, IsOk};
+ghost use Rattle.std.specs.Prelude.{IsTrue, IsFalse};
 ghost use Rattle.std.specs.Prelude.{option_copied};
+ghost use Rattle.rbc_settle.specs.declared.train.TrainRec.{TrainRec};
 ghost use Rattle.rbc_records.specs.declared.record.Key.{Key};
+ghost use Rattle.rbc_records.specs.declared.record.Key.TheVariants as key;
+ghost use Rattle.rbc_records.specs.declared.record.Rec.TheVariants as rec;
 ghost use Rattle.rbc_records.specs.Notes.{record_in};
-ghost use Rattle.rbc_records.specs.Writes.{written, write_over, replaced};
+ghost use Rattle.rbc_records.specs.Writes.{written, write_over, replaced, IsAcknowledged};
 
 use crate::reader::{ReadFault, Reader};
 use crate::record::{Key, Rec};
 use crate::record_table::Table;
 use crate::search::Sought;
 use crate::writes::Writes;
-use rbc_settle::Numbers;
+use rbc_settle::{Numbers, Place};
 use std::alloc::{AllocError, Global};
 use std::marker::Model;
 
@@ -59,6 +63,26 @@ impl PlainStore {
         if replaced.len() == 1 {
             self.spare = Some(replaced);
         }
+    }
+
+    /// Gives a train another place and another stamp, if its record is there. Nothing else changes.
+    pub fn move_train(&mut self, engine: u32, place: Option<Place>, stamp: u32)
+        ensures { (train : TrainRec) → record_in self.old (key.Train engine) ≡ Some (rec.Train train)
+            → (k : Key) → record_in self.new k ≡ write_over
+            (key.Train engine, Some (rec.Train (record train { place = place; stamp = stamp })))
+            (record_in self.old) k }
+    {
+        self.records.move_train(engine, place, stamp);
+    }
+
+    /// Takes a train's acknowledgement of the message with stamp `acked` into its record, if the record is there, and
+    /// gives the train the stamp `raised`. Returns whether there was something to acknowledge; if not, nothing changes.
+    pub fn acknowledge(&mut self, engine: u32, acked: u32, raised: u32) -> bool
+        ensures acked { IsTrue result → (train : TrainRec) → record_in self.old (key.Train engine) ≡ Some (rec.Train train)
+            → IsAcknowledged engine acked raised train self.old self.new }
+        ensures nothing { IsFalse result → self.new ≡ self.old }
+    {
+        self.records.acknowledge(engine, acked, raised)
     }
 
     /// The number of records.

@@ -1,6 +1,6 @@
 //! The numbers that a train was told, in few bytes, so that a search can skip most trains.
 
-ghost use Rattle.std.specs.Prelude.{◌≡◌, fold};
+ghost use Rattle.std.specs.Prelude.{◌≡◌, ℕ, ◌<◌, ◌≤◌, false, fold, get_or, length, IsFalse};
 ghost use Rattle.rbc_records.specs.ToldBits.{has_bit, with_bit, with_slot, bits_of_slots, bits_of_few, told_bits_of_train};
 
 use rbc_settle::{IdTable, Slot, TrainRec};
@@ -37,6 +37,21 @@ pub fn has_bit(bits: u64, number: u32) -> bool
     ensures { result ≡ has_bit bits number }
 {
     bits >> (number % 64) & 1 == 1
+}
+
+/// Whether the bit of a number is set in one of the words from `begin` to before `end`. It has no branch for a word, so
+/// that the processor takes several at once.
+#[inline(always)]
+pub fn in_some(words: &[u64], begin: usize, end: usize, number: u32) -> bool
+    requires { end ≤ length words.now }
+    ensures { IsFalse result → (index : ℕ) → begin ≤ index → index < end
+        → has_bit (get_or words.now index 0) number ≡ false }
+{
+    let mut all = 0;
+    for index in begin..end {
+        all |= words[index];
+    }
+    has_bit(all, number)
 }
 
 /// Sets the bit of a number.

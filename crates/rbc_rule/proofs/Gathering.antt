@@ -1,5 +1,5 @@
 -- What settling one train gathers.
-use Rattle.std.proofs.Common.{◌≡◌, ℕ, suc, ◌+◌, ◌≤◌, ◌&&◌, Bool, true, false, not, cond, eqb, List, [], ◌∷◌, ◌++◌, length, Option, Some, None, IfSome, subst, append-nil, refl, sym, ap, ◌∙◌}
+use Rattle.std.proofs.Common.{◌≡◌, ℕ, suc, ◌≤◌, ◌&&◌, Bool, true, false, not, cond, eqb, List, [], ◌∷◌, ◌++◌, length, Option, Some, None, IfSome, subst, append-nil, refl, sym, ap, ◌∙◌}
 use Rattle.std.specs.List.{fold, scan}
 use Rattle.std.specs.Option.{IfNone}
 use Rattle.std.proofs.lemmas.Bool.{or_parts, and_from, and_right}

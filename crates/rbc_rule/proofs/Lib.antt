@@ -25,3 +25,4 @@ pub mod Untouched
 pub mod WorldMaps
 pub mod WorldSettling
 pub mod Worlds
+pub mod InPlace

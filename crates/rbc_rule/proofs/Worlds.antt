@@ -26,7 +26,7 @@ may_have_been more m = record {
   agrees = λ k known. sym (more.stays_noted k known) ∙ m.agrees k (more.stays_known k known);
 }
 
-refused_is_step : (plan : Plan) (input : Input) (w : World) (code : ℕ) → effect plan input w ≡ Err code → IsStep plan input w (Refused code) [] []
+pub refused_is_step : (plan : Plan) (input : Input) (w : World) (code : ℕ) → effect plan input w ≡ Err code → IsStep plan input w (Refused code) [] []
 refused_is_step plan input w code e = record {
   after = λ k. ap (λ r. record_of (after plan w r).world k) (sym e);
   answer = ap (λ r. (after plan w r).reply) (sym e);

@@ -16,3 +16,4 @@ pub mod Saying
 pub mod SaidFor
 pub mod Told
 pub mod Laws
+pub mod InPlace

@@ -15,6 +15,7 @@ mod begin_and_end;
 mod commands;
 mod enrol;
 mod fetch;
+mod in_place;
 mod input;
 mod lists;
 mod maxima;
@@ -28,6 +29,7 @@ mod touched_trains;
 mod train_message;
 mod withdraw;
 
+pub use in_place::hear_in_place;
 pub use input::{Input, Segments};
 pub use lists::{engines_record, list_of};
 pub use maxima::{

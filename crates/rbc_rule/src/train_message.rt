@@ -9,7 +9,7 @@ use crate::maxima::MAX_STAMP;
 use crate::refuse::{NotChanged, Refusal};
 use ertms_codec::{FromTrain, Position};
 use rbc_place::place_of;
-use rbc_settle::{IdAck, StampAck, TrainRec};
+use rbc_settle::{IdAck, TrainRec};
 use rbc_track::Track;
 use std::alloc::Global;
 
@@ -39,7 +39,7 @@ fn stamp_of(message: &FromTrain) -> u32
 }
 
 /// Whether T_TRAIN leaves no room for later messages. An unknown one does not count.
-fn is_too_high(stamp: u32) -> bool
+pub(crate) fn is_too_high(stamp: u32) -> bool
     ensures { result ≡ is_too_high stamp }
 {
     stamp != UNKNOWN_STAMP && stamp > MAX_STAMP
@@ -67,12 +67,10 @@ fn acknowledged(train: TrainRec, acked: u32) -> Result<TrainRec, NotChanged>
     ensures err { IfErr result (λ why. IsReason (acknowledged acked train) why) }
 {
     let mut train = train;
-    match train.stops.ack_stamp(acked) {
-        StampAck::Answered { .. } => Ok(train),
-        StampAck::Nothing => match train.limits.ack_stamp(acked) {
-            StampAck::Answered { .. } => Ok(train),
-            StampAck::Nothing => Err(NotChanged::Refused(Refusal::NothingToAcknowledge)),
-        },
+    if train.acknowledge(acked) {
+        Ok(train)
+    } else {
+        Err(NotChanged::Refused(Refusal::NothingToAcknowledge))
     }
 }
 

@@ -1,5 +1,7 @@
 -- What is known of one train (own rule).
-use Rattle.std.specs.Prelude.{ℕ, [], None}
+use Rattle.std.specs.Prelude.{ℕ, [], Option, Some, None, option_map}
+use Rattle.std.specs.Option.{option_map_or}
+use Rattle.rbc_ids.specs.Table.{after_stamp_ack}
 use Rattle.rbc_settle.specs.declared.train.TrainRec.{TrainRec}
 
 -- R-IDENTIFIER-1: how many stop identifiers a train has (NID_EM): 0 to 14
@@ -21,3 +23,9 @@ max_train_length = 40000
 -- R-INPUT-2: a train without a place, to which nothing was told
 abbrev pub new_train : ℕ → ℕ → ℕ → TrainRec
 new_train engine length stamp = record { engine = engine; length = length; stamp = stamp; place = None; forced = []; stops = []; limits = [] }
+
+-- R-INPUT-7: a train after it has acknowledged the message with this stamp, which is looked up among its stops first, and then among its
+-- restrictions
+abbrev pub after_ack : ℕ → TrainRec → Option TrainRec
+after_ack stamp train =
+    option_map_or (λ slots. Some (record train { stops = slots })) (after_stamp_ack train.stops stamp) (option_map (λ slots. record train { limits = slots }) (after_stamp_ack train.limits stamp))

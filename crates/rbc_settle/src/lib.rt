@@ -31,7 +31,7 @@ pub use numbers::Numbers;
 pub use rbc_ids::{IdAck, IdTable, Slot, StampAck};
 pub use rbc_zones::{Area, Limits, Place, Segment, Stops, Way};
 pub use sent::Sent;
-pub use settling::{settle, settled};
+pub use settling::{is_settled, settle, settled};
 pub use single_change::{Change, settled_after};
 pub use telling::{limit_to_tell, stop_to_tell};
 pub use train::{LIMIT_IDENTIFIERS, STOP_IDENTIFIERS, TrainRec};

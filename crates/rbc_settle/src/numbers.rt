@@ -107,6 +107,9 @@ impl Numbers {
         ensures err { OnErr result (self.new ≡ []) }
     {
         self.all.clear();
+        if other.all.is_empty() {
+            return Ok(());
+        }
         self.all.extend_from_slice(other.all.as_slice())
     }
 

@@ -58,6 +58,24 @@ pub fn settled(
     Ok(Some(after))
 }
 
+/// Whether a train is settled: nothing has to be told to it or revoked, or no stamp is left. Takes memory only if it is
+/// not settled.
+pub fn is_settled(
+    alloc: Global,
+    track: &Track,
+    stops: &Stops,
+    limits: &Limits,
+    train: &TrainRec,
+) -> Result<bool, AllocError>
+    ensures settled { IfOk result (λ is. IsTrue is
+        → actions_with_stamp track.now stops.now limits.now train.now ≡ []) }
+    ensures unsettled { IfOk result (λ is. is ≡ false
+        → 1 ≤ length (actions_with_stamp track.now stops.now limits.now train.now)) }
+{
+    let changes = changes(alloc, track, stops, limits, train)?;
+    Ok(are_none(&changes))
+}
+
 /// Whether there is nothing to change.
 fn are_none(changes: &Changes) -> bool
     ensures none { IsTrue result → in_messages changes.now.stops.items changes.now.limits.items ≡ [] }

@@ -1,14 +1,14 @@
 //! What is known of one train, and a change to its stops.
 
-ghost use Rattle.std.specs.Prelude.{◌≡◌, ◌+◌, ◌^◌, ◌<◌, IfOk, OnOk, OnErr};
+ghost use Rattle.std.specs.Prelude.{◌≡◌, ◌+◌, ◌^◌, ◌<◌, IfOk, OnOk, OnErr, IsTrue, IsFalse, Some, None};
 ghost use Rattle.rbc_settle.specs.Actions.{ChangesStop};
 ghost use Rattle.rbc_settle.specs.Following.{Allows};
 ghost use Rattle.rbc_settle.specs.Settling.{kind_of, and_forced, carried_out};
-ghost use Rattle.rbc_settle.specs.Trains.{new_train};
+ghost use Rattle.rbc_settle.specs.Trains.{after_ack, new_train};
 
 use crate::change::{StopChange, ToldStop};
 use crate::numbers::Numbers;
-use rbc_ids::{IdTable, Kind};
+use rbc_ids::{IdTable, Kind, StampAck};
 use rbc_zones::Place;
 use std::alloc::{AllocError, Global};
 
@@ -88,6 +88,23 @@ impl TrainRec {
             stops: copy.stops,
             limits: copy.limits,
         })
+    }
+
+    /// Takes the train's acknowledgement of the message with this stamp (own rule). It is looked up among the stops
+    /// first, and then among the restrictions. Returns whether there was something to acknowledge; if not, nothing
+    /// changes.
+    pub fn acknowledge(&mut self, stamp: u32) -> bool
+        ensures acked { IsTrue result → after_ack stamp self.old ≡ Some self.new }
+        ensures nothing { IsFalse result → self.new ≡ self.old }
+        ensures refused { IsFalse result → after_ack stamp self.old ≡ None }
+    {
+        match self.stops.ack_stamp(stamp) {
+            StampAck::Answered { .. } => true,
+            StampAck::Nothing => match self.limits.ack_stamp(stamp) {
+                StampAck::Answered { .. } => true,
+                StampAck::Nothing => false,
+            },
+        }
     }
 
     /// Makes a change to the stops, under the identifier that it names.

@@ -1,9 +1,7 @@
--- Lines and hexadecimal digits.
-use Rattle.std.proofs.Common.{◌≡◌, ℕ, zero, suc, ◌/◌, ◌%◌, cond, List, [], ◌∷◌, ◌++◌, map, slice_index, Result, Ok, Err, is_ok, refl, ap, ap₂, ◌∙◌}
+-- Lines.
+use Rattle.std.proofs.Common.{◌≡◌, ℕ, cond, List, [], ◌∷◌, ◌++◌, Result, Ok, Err, is_ok, refl, ap, ◌∙◌}
 use Rattle.std.specs.Prelude.{OnOk}
 use Rattle.std.specs.List.{slice_split}
-use Rattle.std.specs.Char.{to_ascii_uppercase}
-use Rattle.hex.specs.Hex.{encode_with, encode_lower, encode_upper, lower_digits, upper_digits}
 use Rattle.rbc_text.specs.BatchText.{is_line_feed, without_empty_end, lines_of}
 use Rattle.ertms_codec.proofs.Cuts.{split_is_cons}
 
@@ -17,33 +15,6 @@ pub first_of_lines : (text line behind : List ℕ) → slice_split is_line_feed 
 first_of_lines text line behind e =
     let more = split_is_cons is_line_feed behind in
     ap without_empty_end e ∙ keeps_first line (slice_split is_line_feed behind) more.0 more.1 more.2
-
-upper_digit : (n : ℕ) → to_ascii_uppercase (slice_index lower_digits n) ≡ slice_index upper_digits n
-upper_digit zero = refl
-upper_digit (suc zero) = refl
-upper_digit (suc (suc zero)) = refl
-upper_digit (suc (suc (suc zero))) = refl
-upper_digit (suc (suc (suc (suc zero)))) = refl
-upper_digit (suc (suc (suc (suc (suc zero))))) = refl
-upper_digit (suc (suc (suc (suc (suc (suc zero)))))) = refl
-upper_digit (suc (suc (suc (suc (suc (suc (suc zero))))))) = refl
-upper_digit (suc (suc (suc (suc (suc (suc (suc (suc zero)))))))) = refl
-upper_digit (suc (suc (suc (suc (suc (suc (suc (suc (suc zero))))))))) = refl
-upper_digit (suc (suc (suc (suc (suc (suc (suc (suc (suc (suc zero)))))))))) = refl
-upper_digit (suc (suc (suc (suc (suc (suc (suc (suc (suc (suc (suc zero))))))))))) = refl
-upper_digit (suc (suc (suc (suc (suc (suc (suc (suc (suc (suc (suc (suc zero)))))))))))) = refl
-upper_digit (suc (suc (suc (suc (suc (suc (suc (suc (suc (suc (suc (suc (suc zero))))))))))))) = refl
-upper_digit (suc (suc (suc (suc (suc (suc (suc (suc (suc (suc (suc (suc (suc (suc zero)))))))))))))) = refl
-upper_digit (suc (suc (suc (suc (suc (suc (suc (suc (suc (suc (suc (suc (suc (suc (suc zero))))))))))))))) = refl
-upper_digit (suc (suc (suc (suc (suc (suc (suc (suc (suc (suc (suc (suc (suc (suc (suc (suc n)))))))))))))))) = refl
-
--- upper case digits are the lower case ones in upper case
-pub upper_of_lower : (bytes : List ℕ) → map to_ascii_uppercase (encode_lower bytes) ≡ encode_upper bytes
-unfolding encode_with
-upper_of_lower [] = refl
-upper_of_lower (byte ∷ bytes) =
-    ap₂ (λ (h l : ℕ). h ∷ l ∷ map to_ascii_uppercase (encode_with lower_digits bytes)) (upper_digit (byte / 16)) (upper_digit (byte % 16))
-    ∙ ap (λ (rest : List ℕ). slice_index upper_digits (byte / 16) ∷ slice_index upper_digits (byte % 16) ∷ rest) (upper_of_lower bytes)
 
 -- what a call that appends where it succeeds leaves
 pub appended : {E : Type 0} (result : Result (Unit {0}) E) (new old more wanted : List ℕ) → new ≡ cond (is_ok result) (old ++ more) old → more ≡ wanted → OnOk result (new ≡ old ++ wanted)

@@ -32,6 +32,9 @@ const MAX_GROUPS: usize = 8_000;
 /// The greatest length of a line, in units of 10 cm.
 pub const MAX_LENGTH: u32 = 3_000_000;
 
+/// How many hints a track has: one for each balise group of a country or region (NID_BG has 14 bits).
+const HINTS: usize = 1 << 14;
+
 /// A track: its lines, its balise groups, and its horizon, which is how far ahead of a train a restriction concerns
 /// it.
 #[derive(Drop)]
@@ -40,6 +43,8 @@ pub struct Track {
     lines: Vec<u32>,
     /// The balise groups with their numbers, in ascending order of the number.
     groups: Vec<(u32, Group)>,
+    /// Where in `groups` a number may stand, by its low 14 bits (NID_BG). It is looked at first.
+    hints: Vec<u16>,
 }
 
 impl Model for Track {
@@ -85,10 +90,12 @@ impl Track {
             return Err(TrackError::GroupOffLine);
         }
         let groups = in_a_row(alloc, by_number(alloc, sites)?)?;
+        let hints = hints_of(alloc, groups.as_slice()).map_err(|_| TrackError::OutOfMemory)?;
         Ok(Track {
             horizon,
             lines,
             groups,
+            hints,
         })
     }
 
@@ -97,7 +104,11 @@ impl Track {
         ensures value { result ≡ group_of self.now nid }
         ensures placed { IfSome result (IsPlaced self.now nid) }
     {
-        rbc_maps::value_of(&self.groups, nid).copied()
+        let hint = self.hints.get(nid as usize % HINTS).copied().unwrap_or(0);
+        match rbc_maps::value_at(&self.groups, nid, usize::from(hint)) {
+            Some(group) => Some(*group),
+            None => rbc_maps::value_of(&self.groups, nid).copied(),
+        }
     }
 
     /// The balise group that a train at a place of a line has passed last, with its number: the nearest one at the
@@ -194,6 +205,23 @@ fn in_a_row(alloc: Global, groups: BTreeMap<u32, Group>) -> Result<Vec<(u32, Gro
         .into_iter()
         .collect(alloc)
         .map_err(|_: AllocError| TrackError::OutOfMemory)
+}
+
+/// Where each number stands among the groups, by its low 14 bits. Of two with the same low bits, it is the place of the
+/// later one. Fails only for lack of memory.
+fn hints_of(alloc: Global, groups: &[(u32, Group)]) -> Result<Vec<u16>, AllocError> {
+    let mut hints = vec![in alloc; 0u16; HINTS]?;
+    note_hints(groups, &mut hints);
+    Ok(hints)
+}
+
+/// Notes where the groups stand.
+fn note_hints(groups: &[(u32, Group)], hints: &mut [u16]) {
+    for (place, group) in groups.iter().enumerate() {
+        if let Some(hint) = hints.get_mut(group.0 as usize % HINTS) {
+            *hint = (place % 65_536) as u16;
+        }
+    }
 }
 
 /// Reads a track file, which is a TOML document. Lengths and places are in units of 10 cm. Keys other than these

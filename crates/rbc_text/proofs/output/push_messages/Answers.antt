@@ -1,7 +1,10 @@
 use Rattle.std.proofs.Common.{◌≡◌, ◌+◌, ◌++◌, ◌∙◌, List, ℕ, refl, sym, ap, append_assoc, take}
-use Rattle.std.specs.Prelude.{slice_get, Some}
+use Rattle.std.specs.Prelude.{codes, slice_get, Some}
+use Rattle.std.specs.Fmt.{decimal}
 use Rattle.std.specs.List.{flat_map}
 use Rattle.std.proofs.lemmas.Option.{slice_get_within, get_or_from_slice_get}
+use Rattle.hex.specs.Hex.{encode_upper}
+use Rattle.ertms_codec.specs.ToTrain.{spelling_of}
 use Rattle.rbc_settle.specs.declared.sent.Sent.{Sent}
 use Rattle.rbc_rule.proofs.GatherReading.{one_more_gathered}
 use Rattle.rbc_text.specs.OutputText.{sent_line}
@@ -17,4 +20,7 @@ one_more line before all i one old new there so_far now =
 
 pub loop-index-preserved : goal.loop-index-preserved
 loop-index-preserved c =
-    one_more (sent_line c.args.input) c.args.text.now.items c.args.messages.now c.loop-index.index c.at-sent.result.now _ _ c.at-sent.ensures c.loop-index.invariant c.in_ok-push_message.ensures
+    let sent = c.at-sent.result.now in
+    let behind : List ℕ → List ℕ = λ label. label ++ codes " " ++ decimal c.args.input ++ codes " " ++ encode_upper (spelling_of sent.message) ++ codes "\n" in
+    one_more (sent_line c.args.input) c.args.text.now.items c.args.messages.now c.loop-index.index sent c.loop-index.text.items _ c.at-sent.ensures c.loop-index.invariant
+    (c.in_ok-push_sent.ensures ∙ ap (λ (label : List ℕ). c.loop-index.text.items ++ behind label) c.format-label.ensures.text)
