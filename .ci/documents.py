@@ -3,7 +3,7 @@
 
     python3 .ci/documents.py            prints each fault on a line, and one line of summary; status 1 where there is a fault
     python3 .ci/documents.py --count    also lists the definitions of each class (documents_reach.py), with the number of their lines
-    python3 .ci/documents.py --write    first puts into MODEL.md and TEXTS.md how many lines have to be believed, and into ASSESSMENT.md
+    python3 .ci/documents.py --write    first puts into MODEL.md and TEXTS.md how many lines have to be believed, and into EVIDENCE.md
                                         how many faulty variants each crate has
     python3 .ci/documents.py --rules    prints for each rule of docs/RULES.md where its definitions, tests and faulty variants
                                         stand, and checks nothing
@@ -16,7 +16,8 @@ What is checked:
 - docs/MODEL.md and docs/TEXTS.md name each definition that has to be believed or that a law uses, in the part and the section where
   its class belongs (documents_reach.py), and each word of the kit that these use and that is not of everyday use; they say how many
   lines there are of each class, and for `dispatch run`; and each other definition has a sentence above it in specs/;
-- docs/ASSESSMENT.md says how many faulty variants each crate has;
+- bench/EVIDENCE.md says how many faulty variants each crate has, and docs/ASSESSMENT.md how many there are; each still fits the
+  file that it edits;
 - figures of speed, memory and tests are those of bench/RESULTS.md, and constants those of the sources (documents_figures.py), also
   where a document gives a limit without its constant (documents_limits.py);
 - the table of docs/ARCHITECTURE.md says what crates.txt says, and an output in README.md is that of its file;
@@ -227,12 +228,18 @@ def output_faults(root, text):
 VARIANTS = re.compile(r"^Faulty variants by crate, [^\n]*(?:\n[^\n]+)*", flags=re.M)
 
 
-def variants(root):
-    """The paragraph that says how many faulty variants each crate has: those of the gate, and those that are tried by hand."""
+def variant_counts(root):
+    """How many faulty variants each crate has: those of the gate, and those that are tried by hand."""
     counts = {}
     for at, name in enumerate(("must-fail", "edits")):
         for edit in root.glob(f"crates/*/{name}/*.edit"):
             counts.setdefault(edit.parts[-3], [0, 0])[at] += 1
+    return counts
+
+
+def variants(root):
+    """The paragraph that lists these counts."""
+    counts = variant_counts(root)
     listed = ", ".join(f"{crate} {gate} and {hand}" for crate, (gate, hand) in sorted(counts.items()))
     gate, hand = map(sum, zip(*counts.values()))
     text = f"Faulty variants by crate, in the gate and by hand: {listed}; {gate} and {hand} in all."
@@ -243,6 +250,29 @@ def variant_faults(root, text):
     said = VARIANTS.search(text)
     if said is None or said.group() != variants(root):
         yield said and said.start(), f"does not say: {variants(root)}"
+
+
+def variant_total_faults(root, text):
+    gate, hand = map(sum, zip(*variant_counts(root).values()))
+    total = f"{gate} are for the gate, {hand} for use by hand"
+    if total not in " ".join(text.split()):
+        yield None, f"does not say of the faulty variants: {total}"
+
+
+def edit_faults(root):
+    """Faulty variants that no longer fit: each text that one replaces has to stand once in its file."""
+    for edit in sorted(root.glob("crates/*/*/*.edit")):
+        text = old = ""
+        for line in edit.read_text().splitlines():
+            word, _, rest = line.partition(": ")
+            if word == "file":
+                text = (edit.parent.parent / rest).read_text()
+            elif word == "old":
+                old = rest
+                if text.count(old) != 1:
+                    yield edit, f"replaces a text that stands {text.count(old)} times: {old}"
+            elif word == "new":
+                text = text.replace(old, rest)
 
 
 def length_faults(root, document, text):
@@ -298,8 +328,10 @@ def faults(root, world):
         found += [*length_faults(root, document, whole), *command_faults(whole), *history_faults(text)]
         if document.name in model.DOCUMENTS:
             found += model.faults(world, document.name, whole)
-        if document.name == "ASSESSMENT.md":
+        if document.name == "EVIDENCE.md":
             found += variant_faults(root, whole)
+        if document.name == "ASSESSMENT.md":
+            found += variant_total_faults(root, whole)
         if document.name == "ARCHITECTURE.md":
             found += table_faults(root, whole)
         for place, fault in found:
@@ -308,6 +340,8 @@ def faults(root, world):
     yield from documents_limits.faults(root, documents(root))
     for path, place, fault in citation_faults(root):
         yield path, path.read_text(), place, fault
+    for path, fault in edit_faults(root):
+        yield path, "", None, fault
     yield from rules.faults(root, texts(root))
 
 
@@ -320,8 +354,8 @@ def main():
     world = reach.World(root)
     if "--write" in sys.argv[1:]:
         model.write(world, root / "docs")
-        assessment = root / "docs" / "ASSESSMENT.md"
-        assessment.write_text(VARIANTS.sub(lambda _: variants(root), assessment.read_text()))
+        evidence = root / "bench" / "EVIDENCE.md"
+        evidence.write_text(VARIANTS.sub(lambda _: variants(root), evidence.read_text()))
     if "--count" in sys.argv[1:]:
         model.count(world)
     broken = 0
