@@ -8,6 +8,7 @@ import re
 RULE, SETTLE, TRACK, ZONES = (f"crates/rbc_{name}/src/" for name in ("rule", "settle", "track", "zones"))
 FILES = {
     "MAX_BYTES": "crates/rbc_batch/src/streams.rt",
+    "MAX_CALLS": "crates/rbc_batch/src/streams.rt",
     "MAX_INPUTS": RULE + "maxima.rt",
     "MAX_TRAINS": RULE + "maxima.rt",
     "MAX_STOPS": RULE + "maxima.rt",
@@ -25,6 +26,7 @@ FILES = {
     "MAX_SPEED": ZONES + "limit.rt",
     "MAX_KEPT": "crates/rbc_live/src/line.rt",
     "MAX_WORKERS": "crates/rbc_engine/src/workers.rt",
+    "most_messages": "crates/rbc_settle/specs/Settling.antt",
 }
 LIMITS = {
     "README.md": ("N from 2 to {MAX_WORKERS}",),
@@ -53,19 +55,28 @@ LIMITS = {
     "docs/ASSESSMENT.md": (
         "`MayWork`: 1 to {MAX_WORKERS}; others are refused",
         "the number of workers is 0 or above {MAX_WORKERS}.",
+        "A batch over {MAX_BYTES:,} bytes or {MAX_INPUTS:,} inputs is a fault.",
+        "a read failed or {MAX_CALLS:,} reads did not reach the end",
+    ),
+    "docs/C_LIBRARY.md": (
+        "For {MAX_TRAINS:,} trains, room for {MOST_AT_ONCE:,} messages ({most_messages} per train;",
     ),
 }
 
 
 def value_of(root, name):
-    """The value of a constant; nothing, if its file has none of this name that is a number."""
-    found = re.search(rf"^\s*(?:pub(?:\(crate\))? )?const {name}: \w+ = ([\d_]+);", (root / FILES[name]).read_text(), re.M)
+    """The value of a constant of code or of a definition; nothing, if its file has none of this name that is a number."""
+    declared = rf"^\s*(?:pub(?:\(crate\))? )?const {name}: \w+ = ([\d_]+);"
+    defined = rf"^{name} = (\d+)$"
+    file = root / FILES[name]
+    found = re.search(defined if file.suffix == ".antt" else declared, file.read_text(), re.M)
     return found and int(found.group(1).replace("_", ""))
 
 
 def faults(root, documents):
     """The faults of all documents: of each the document, its text, the place and what is wrong."""
     values = {name: value_of(root, name) for name in FILES}
+    values["MOST_AT_ONCE"] = (values["MAX_TRAINS"] or 0) * (values["most_messages"] or 0)
     for document in documents:
         text = document.read_text()
         words = " ".join(re.sub(r"^> ", "", text, flags=re.M).split())
